@@ -1,0 +1,14 @@
+pub mod Tables
+pub mod Sides
+pub mod Past
+pub mod Looking
+pub mod Calls
+pub mod View
+pub mod Moves
+pub mod Decide
+pub mod Standard
+pub mod Layout
+pub mod Columns
+pub mod Cells
+pub mod Ranges
+pub mod Seen
