@@ -1,0 +1,3 @@
+pub mod Colours
+pub mod GoesOn
+pub mod First
