@@ -1,0 +1,10 @@
+pub mod Calls
+pub mod Colours
+pub mod Frames
+pub mod Opens
+pub mod Opposing
+pub mod Rings
+pub mod Seen
+pub mod Standard
+pub mod Turns
+pub mod Walks

@@ -1,0 +1,82 @@
+-- What the rings do at a tick, turn by turn.
+use Rattle.std.proofs.Common.{◌≡◌, ◌<◌, ◌≤◌, ℕ, Bool, true, false, not, ◌&&◌, if◌then◌else◌, List, [], ◌∷◌, nat_le, refl, sym, ◌∙◌, ap}
+use Rattle.std.proofs.lemmas.Bool.{false≢true, le-leb, lt-leb, leb-false}
+use Rattle.sig_types.specs.Phases.{all_phases, is_in}
+use Rattle.sig_types.specs.PhaseSet.{has, phases_of}
+use Rattle.sig_types.specs.declared.phase_set.PhaseSet.{PhaseSet}
+use Rattle.sig_types.specs.declared.frame.Mode.TheVariants.{Start, Free}
+use Rattle.sig_types.specs.Colour.{is_start}
+use Rattle.sig_types.proofs.Sets.{in-phases, those-same, listed-phase}
+use Rattle.sig_tables.specs.declared.tables.Tables.{Tables}
+use Rattle.sig_tables.specs.Tables.{starts_up}
+use Rattle.sig_tables.specs.Past.{Moment}
+use Rattle.sig_tables.specs.Looking.{start_run, last_frame}
+use Rattle.sig_tables.specs.View.{View}
+use Rattle.sig_tables.specs.Moves.{ring_moves}
+use Rattle.sig_tables.specs.Layout.{Has}
+use Rattle.sig_tables.specs.Decide.{Turn, Rest, StartUp, Rings, turn_of, first_turn, startup_phases, leaves_start, moves_of, mode_of}
+use Rattle.ring_barrier.specs.declared.view.Changes.{Changes}
+use Rattle.controller.specs.StandsFor.{AreMoves}
+
+-- which turn it is
+pub rests : (t : Tables) (past : List Moment) → is_start (last_frame past).mode ≡ true → start_run past < 60 → Rest ≡ turn_of t past
+rests t past s few = rw (s, lt-leb 60 (start_run past) few) refl
+
+pub starts : (t : Tables) (past : List Moment) → is_start (last_frame past).mode ≡ true → 60 ≤ start_run past
+    → first_turn (startup_phases t) ≡ turn_of t past
+starts t past s many = rw (s, le-leb 60 (start_run past) many) refl
+
+pub turns : (t : Tables) (past : List Moment) → is_start (last_frame past).mode ≡ false → Rings ≡ turn_of t past
+turns t past s = rw s refl
+
+pub none-up : (t : Tables) (s : PhaseSet) → Has s (starts_up t) → phases_of s ≡ [] → Rings ≡ first_turn (startup_phases t)
+none-up t s h e = ap first_turn (sym e ∙ those-same (has s) (starts_up t) all_phases (λ p i. h p (listed-phase p i)))
+
+pub some-up : (t : Tables) (s : PhaseSet) → Has s (starts_up t) → (phases_of s ≡ [] → ⊥) → StartUp ≡ first_turn (startup_phases t)
+some-up t s h ne = cons (phases_of s) ne ∙ ap first_turn (those-same (has s) (starts_up t) all_phases (λ p i. h p (listed-phase p i)))
+  where
+    cons : (xs : List ℕ) → (xs ≡ [] → ⊥) → StartUp ≡ first_turn xs
+    cons [] ne = absurd (ne refl)
+    cons (x ∷ xs) ne = refl
+
+-- and what comes of it
+pub rest-moves : (turn : Turn) (v : View) (changes : Changes) → Rest ≡ turn → ((p : ℕ) → has changes.ends p ≡ false) → ((p : ℕ) → has changes.begins p ≡ false)
+    → AreMoves changes (moves_of turn v)
+rest-moves turn v changes e none still = rw (← e) (record { ends = λ p h. none p; begins = λ p h. still p })
+
+pub up-moves : (turn : Turn) (v : View) (changes : Changes) → StartUp ≡ turn → ((p : ℕ) → has changes.ends p ≡ false) → Has changes.begins (starts_up v.tables)
+    → AreMoves changes (moves_of turn v)
+up-moves turn v changes e none up = rw (← e) (record { ends = λ p h. none p; begins = λ p h. up p h ∙ sym (in-phases (starts_up v.tables) p h) })
+
+pub ring-moves : (turn : Turn) (v : View) (changes : Changes) → Rings ≡ turn → Has changes.ends (is_in (ring_moves v).ends) → Has changes.begins (is_in (ring_moves v).begins)
+    → AreMoves changes (moves_of turn v)
+ring-moves turn v changes e ends begins = rw (← e) (record { ends = ends; begins = begins })
+
+-- whether Start goes on
+pub goes-on : (past : List Moment) (s : Bool) → s ≡ is_start (last_frame past).mode → s ≡ true → start_run past < 60
+    → true ≡ (is_start (last_frame past).mode && not (leaves_start past))
+goes-on past s e t few = rw (← e, t, lt-leb 60 (start_run past) few) refl
+
+pub leaves : (past : List Moment) (s : Bool) → s ≡ is_start (last_frame past).mode → s ≡ true → 60 ≤ start_run past
+    → false ≡ (is_start (last_frame past).mode && not (leaves_start past))
+leaves past s e t many = rw (← e, t, le-leb 60 (start_run past) many) refl
+
+pub is-over : (past : List Moment) (s : Bool) → s ≡ is_start (last_frame past).mode → s ≡ false
+    → false ≡ (is_start (last_frame past).mode && not (leaves_start past))
+is-over past s e f = rw (← e, f) refl
+
+pub mode-start : (past : List Moment) → (is_start (last_frame past).mode && not (leaves_start past)) ≡ true → Start ≡ mode_of past
+mode-start past e = rw e refl
+
+pub mode-free : (past : List Moment) → (is_start (last_frame past).mode && not (leaves_start past)) ≡ false → Free ≡ mode_of past
+mode-free past e = rw e refl
+
+-- a frame in Start follows one, and not for long
+pub start-from : (past : List Moment) → is_start (mode_of past) ≡ true → (is_start (last_frame past).mode ≡ true) × (start_run past < 60)
+start-from past e = split (is_start (last_frame past).mode) refl (nat_le 60 (start_run past)) refl e
+  where
+    split : (s : Bool) → is_start (last_frame past).mode ≡ s → (l : Bool) → nat_le 60 (start_run past) ≡ l
+        → is_start (if s && not l then Start else Free) ≡ true → (is_start (last_frame past).mode ≡ true) × (start_run past < 60)
+    split true s true l k = absurd (false≢true k)
+    split true s false l k = (s, leb-false 60 (start_run past) l)
+    split false s l m k = absurd (false≢true k)
