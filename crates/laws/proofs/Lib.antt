@@ -1,0 +1,11 @@
+pub mod Standing
+pub mod Rings
+pub mod GoalFits
+pub mod Apart
+pub mod Ends
+pub mod Follows
+pub mod Within
+pub mod Signals
+pub mod SignalWithin
+pub mod Search
+pub mod SoundTest

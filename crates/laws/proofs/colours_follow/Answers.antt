@@ -1,0 +1,5 @@
+use Rattle.laws.proofs.Follows.{each-follows}
+use Rattle.laws.proofs.colours_follow.Goals as goal
+
+pub returns : goal.returns
+returns c = λ h. each-follows h.tables h.events

@@ -1,0 +1,5 @@
+use Rattle.laws.proofs.Apart.{holds}
+use Rattle.laws.proofs.quiet_phases.Goals as goal
+
+pub returns : goal.returns
+returns c = λ h l. (holds h.tables h.events l).quiet

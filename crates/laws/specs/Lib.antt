@@ -1,0 +1,5 @@
+pub mod Rows
+pub mod Lawful
+pub mod Safe
+pub mod Walking
+pub mod Search
