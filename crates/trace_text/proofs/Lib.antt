@@ -1,0 +1,13 @@
+pub mod Endings
+pub mod Reading
+pub mod Digits
+pub mod BelowZero
+pub mod Letters
+pub mod Cuts
+pub mod RunWords
+pub mod Octets
+pub mod Journals
+pub mod Frames
+pub mod FirstWords
+pub mod Spaces
+pub mod Ends

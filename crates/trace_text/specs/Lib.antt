@@ -1,0 +1,5 @@
+pub mod Words
+pub mod Texts
+pub mod Line
+pub mod IsLine
+pub mod Reads

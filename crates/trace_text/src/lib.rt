@@ -1,0 +1,18 @@
+//! The lines of a trace: what each kind holds, its one text, and how a text is read back.
+//! A trace is kept, compared and checked by its text, so a line has exactly one.
+#![tactic(auto)]
+
+mod kinds;
+mod lines;
+mod numbers;
+mod pieces;
+mod read;
+mod signs;
+#[cfg(test)]
+mod tests;
+mod words;
+mod write;
+
+pub use lines::{Line, Runs, Text};
+pub use read::read_line;
+pub use write::write_line;

@@ -1,0 +1,97 @@
+//! Reading a line: its newline, its words, and by its first word its kind.
+
+ghost use Rattle.std.specs.Prelude.{◌≡◌, ◌≢◌, ◌↔◌, ◌∷◌, map, IfOk, IfSome, IsTrue, Option, Some, None, false};
+ghost use Rattle.trace_text.specs.IsLine.{IsLine, IsWorded};
+ghost use Rattle.trace_text.specs.Line.{line_text, line_words};
+ghost use Rattle.trace_text.specs.Reads.{Reads};
+ghost use Rattle.trace_text.specs.Words.{unended, Lacks};
+
+use crate::kinds::{end, frame, journal, load, master_note, reply, round};
+use crate::lines::{Line, Text};
+use crate::pieces::words_of;
+use sig_types::NoMemory;
+use std::alloc::{AllocError, Global};
+
+/// The line whose text these bytes are, to the last newline; none where they are no line's. `NoMemory` where memory was
+/// refused. It gives back what `write_line` wrote.
+pub fn read_line(alloc: Global, bytes: &[u8]) -> Result<Option<Line>, NoMemory>
+    ensures found { IfOk result (λ found. IfSome found (λ line. IsLine line × (bytes.now ≡ line_text line))) }
+    ensures only { (line : Line) → IsLine line → bytes.now ≡ line_text line → IfOk result (λ found. found ≡ Some line) }
+    ensures none { IfOk result (λ found. (found ≡ None) ↔ ((line : Line) → IsLine line → bytes.now ≢ line_text line)) }
+{
+    match ended_line(alloc, bytes) {
+        Ok(found) => Ok(found),
+        Err(_) => Err(NoMemory),
+    }
+}
+
+/// The line with its newline.
+fn ended_line(alloc: Global, bytes: &[u8]) -> Result<Option<Line>, AllocError>
+    ensures { IfOk result (Reads IsLine line_text bytes.now) }
+{
+    match bytes.strip_suffix(b"\n") {
+        Some(line) => unended_line(alloc, line),
+        None => Ok(None),
+    }
+}
+
+/// The line without its newline.
+fn unended_line(alloc: Global, bytes: &[u8]) -> Result<Option<Line>, AllocError>
+    ensures { IfOk result (Reads IsLine (λ line. unended (line_words line)) bytes.now) }
+{
+    match bytes.strip_prefix(b"S ") {
+        Some(json) => scenario(alloc, json),
+        None => worded_line(alloc, bytes),
+    }
+}
+
+/// The scenario's line, with what stands behind its letter and space.
+fn scenario(alloc: Global, json: &[u8]) -> Result<Option<Line>, AllocError>
+    ensures { IfOk result (Reads IsLine (λ line. unended (line_words line)) (83 ∷ 32 ∷ json.now)) }
+{
+    if has_newline(json) {
+        return Ok(None);
+    }
+    let bytes = json.to_vec(alloc)?;
+    Ok(Some(Line::S {
+        json: Text::new(bytes),
+    }))
+}
+
+fn has_newline(bytes: &[u8]) -> bool
+    ensures { (result ≡ false) ↔ Lacks 10 bytes.now }
+{
+    bytes.contains(&b'\n')
+}
+
+/// A line that isn't a scenario's, without its newline.
+fn worded_line(alloc: Global, bytes: &[u8]) -> Result<Option<Line>, AllocError>
+    ensures { IfOk result (Reads IsWorded (λ line. unended (line_words line)) bytes.now) }
+{
+    let words = words_of(alloc, bytes)?;
+    line_of_words(alloc, &words)
+}
+
+fn line_of_words(alloc: Global, words: &[&[u8]]) -> Result<Option<Line>, AllocError>
+    ensures { IfOk result (Reads IsWorded line_words (map (λ word. word.now) words.now)) }
+{
+    match words {
+        [kind, words @ ..] => line_of_kind(alloc, kind, words),
+        [] => Ok(None),
+    }
+}
+
+fn line_of_kind(alloc: Global, kind: &[u8], words: &[&[u8]]) -> Result<Option<Line>, AllocError>
+    ensures { IfOk result (Reads IsWorded line_words (kind.now ∷ map (λ word. word.now) words.now)) }
+{
+    match kind {
+        [b'F'] => Ok(frame(words)),
+        [b'R'] => Ok(round(words)),
+        [b'M'] => Ok(master_note(words)),
+        [b'J'] => journal(alloc, words),
+        [b'L'] => Ok(load(words)),
+        [b'A'] => reply(alloc, words),
+        [b'Z'] => Ok(end(words)),
+        _ => Ok(None),
+    }
+}
