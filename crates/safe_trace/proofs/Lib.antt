@@ -1,0 +1,11 @@
+pub mod SoFar
+pub mod Told
+pub mod Intervals
+pub mod AfterDont
+pub mod Versions
+pub mod Street
+pub mod Lasting
+pub mod Lines
+pub mod NoDownloads
+pub mod History
+pub mod Refused

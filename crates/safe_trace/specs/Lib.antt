@@ -1,0 +1,5 @@
+pub mod Safe
+pub mod Whole
+pub mod TraceText
+pub mod Written
+pub mod Rows
