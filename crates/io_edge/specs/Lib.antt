@@ -1,0 +1,4 @@
+pub mod Edge
+pub mod Calls
+pub mod Memory
+pub mod Standard

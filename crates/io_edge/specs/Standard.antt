@@ -1,0 +1,12 @@
+-- What contracts see of the adapters over std's readers and writers.
+use Rattle.std.specs.Prelude.{ℕ}
+use Rattle.io_edge.specs.declared.standard.StdSource.{StdSource}
+use Rattle.io_edge.specs.declared.standard.StdSink.{StdSink}
+
+-- how many reads failed
+abbrev pub reader_faults : {R : Type 0} → StdSource R → ℕ
+reader_faults s = s.faults
+
+-- how many writes failed
+abbrev pub writer_faults : {W : Type 0} → StdSink W → ℕ
+writer_faults s = s.faults
