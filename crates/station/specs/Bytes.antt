@@ -1,0 +1,29 @@
+-- What is read and written on the way.
+use Rattle.std.specs.Prelude.{◌≡◌, List, [], ℕ, ◌++◌, Option, Some, None}
+use Rattle.io_edge.specs.Edge.{Appends}
+
+-- the piece's bytes before the rest were appended
+abbrev pub AppendsSome : Option (List ℕ) → Option (List ℕ) → List ℕ → List ℕ → Type 0
+AppendsSome old new piece rest = (front : List ℕ) × (piece ≡ front ++ rest) × Appends old new front
+
+-- the piece's first bytes were appended to the bytes written
+abbrev pub AppendsFront : Option (List ℕ) → Option (List ℕ) → List ℕ → Type 0
+AppendsFront old new piece = (rest : List ℕ) × AppendsSome old new piece rest
+
+-- with a piece handed over behind what was held, all but what is held now was appended
+abbrev pub Puts : Option (List ℕ) → Option (List ℕ) → List ℕ → List ℕ → List ℕ → Type 0
+Puts old new held holds piece = AppendsSome old new (held ++ piece) holds
+
+-- a front of what was held with the piece behind it was appended
+abbrev pub PutsFront : Option (List ℕ) → Option (List ℕ) → List ℕ → List ℕ → Type 0
+PutsFront old new held piece = AppendsFront old new (held ++ piece)
+
+-- the bytes were taken from the front of those left
+abbrev pub LeavesAfter : Option (List ℕ) → Option (List ℕ) → List ℕ → Type 0
+LeavesAfter None new taken = new ≡ None
+LeavesAfter (Some bytes) new taken = (rest : List ℕ) × (new ≡ Some rest) × (bytes ≡ taken ++ rest)
+
+-- what a source that was read to its end has left: nothing, where it tells its bytes
+abbrev pub nothing_left : Option (List ℕ) → Option (List ℕ)
+nothing_left None = None
+nothing_left (Some bytes) = Some []
