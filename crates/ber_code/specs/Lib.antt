@@ -1,0 +1,5 @@
+pub mod Fields
+pub mod Lengths
+pub mod Integers
+pub mod Names
+pub mod Reading

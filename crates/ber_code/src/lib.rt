@@ -1,0 +1,21 @@
+//! The fields of an SNMP message as octets (ITU-T X.690, basic encoding rules): lengths, INTEGER,
+//! OCTET STRING and OBJECT IDENTIFIER, each read from the front of octets and written at the end of
+//! a frame. Nothing here takes memory.
+#![tactic(auto)]
+
+mod integers;
+mod laws;
+mod lengths;
+mod names;
+mod room;
+
+pub use integers::{int_size, read_int, write_int};
+pub use laws::{fields_stand_alone, shortest_texts_are_texts};
+pub use lengths::{
+    read_len, read_octets, read_tagged, tagged_size, write_head, write_len, write_octets,
+};
+pub use names::{Oid, oid_size, read_oid, write_oid};
+pub use room::Full;
+
+#[cfg(test)]
+mod tests;

@@ -1,0 +1,222 @@
+//! The OBJECT IDENTIFIER (ITU-T X.690, 8.19), a name of 2 to 32 arcs whose first two stand in one
+//! octet below 128.
+
+ghost use Rattle.std.specs.Prelude.{◌≡◌, ◌+◌, ◌*◌, ◌≤◌, ◌<◌, ◌↔◌, ◌∷◌, ◌++◌, length, IsOk, OnOk, OnErr, IfSome, IfNone, Some};
+ghost use Rattle.std.specs.List.{flat_map};
+ghost use Rattle.arrayvec.specs.ArrayVec.{array_vec_len};
+ghost use Rattle.ber_code.specs.Fields.{Begins, NothingBegins};
+ghost use Rattle.ber_code.specs.Names.{AreNameContents, IsName, IsWritable, arc_text, name_octets, name_text};
+ghost use Rattle.ber_code.specs.Reading.{Gives, ReadsEach, arc_at, arcs_of, name_at, root_of, with_later};
+
+use crate::lengths::{put_head, tagged_of, tagged_size};
+use crate::room::{Full, put, room_of};
+use arrayvec::ArrayVec;
+use sig_types::Octets;
+
+/// A name: its arcs, at most 32.
+pub type Oid = ArrayVec<u32, 32>;
+
+#[tactic(auto, unfolding(crate::specs::Reading::arc_at, crate::specs::Reading::arc_from))]
+fn arc_of(bytes: &[u8]) -> Option<(u32, &[u8])>
+    ensures { Gives (λ r. (r.0, r.1.now)) result (arc_at bytes.now) }
+{
+    if let [128, ..] = bytes {
+        return None;
+    }
+    let mut arc: u32 = 0;
+    let mut rest = bytes;
+    while let [octet, after @ ..] = rest {
+        if arc >= 33554432 {
+            return None;
+        }
+        arc = arc * 128 + u32::from(*octet % 128);
+        if *octet < 128 {
+            return Some((arc, after));
+        }
+        rest = after;
+    }
+    None
+}
+
+/// The first arc that an octet below 128 holds.
+fn root_in(first: u8) -> u8
+    ensures { result ≡ root_of first }
+{
+    if first < 40 {
+        0
+    } else if first < 80 {
+        1
+    } else {
+        2
+    }
+}
+
+#[tactic(auto, unfolding(crate::specs::Reading::arcs_of))]
+fn name_of(octets: &[u8]) -> Option<Oid>
+    ensures { Gives (λ o. o.items) result (arcs_of octets.now) }
+{
+    match octets {
+        [] => None,
+        [first, more @ ..] => {
+            if *first >= 128 {
+                return None;
+            }
+            let root = root_in(*first);
+            later_of(u32::from(root), u32::from(*first - 40 * root), more)
+        }
+    }
+}
+
+/// The name of two arcs and the arcs of the octets.
+fn later_of(first: u32, second: u32, octets: &[u8]) -> Option<Oid>
+    ensures { Gives (λ o. o.items) result (with_later first second octets.now) }
+{
+    let mut arcs = Oid::new();
+    arcs.push(first);
+    arcs.push(second);
+    let mut rest = octets;
+    for _ in 0..30u8 {
+        if rest.is_empty() {
+            return Some(arcs);
+        }
+        let (arc, after) = arc_of(rest)?;
+        arcs.push(arc);
+        rest = after;
+    }
+    if rest.is_empty() { Some(arcs) } else { None }
+}
+
+#[tactic(auto, unfolding(crate::specs::Reading::name_at))]
+fn oid_of(bytes: &[u8]) -> Option<(Oid, &[u8])>
+    ensures { Gives (λ r. (r.0.items, r.1.now)) result (name_at bytes.now) }
+{
+    let (octets, rest) = tagged_of(6, bytes)?;
+    let arcs = name_of(octets)?;
+    Some((arcs, rest))
+}
+
+/// Reads the OBJECT IDENTIFIER at the front.
+pub fn read_oid(bytes: &[u8]) -> Option<(Oid, &[u8])>
+    ensures found { IfSome result (λ r. Begins IsName bytes.now r.0.items r.1.now) }
+    ensures none { IfNone result (NothingBegins IsName bytes.now) }
+    ensures each { ReadsEach IsName (λ r. (r.0.items, r.1.now)) bytes.now result }
+    ensures reads { Gives (λ r. (r.0.items, r.1.now)) result (name_at bytes.now) }
+    // What is read can be written.
+    ensures writable { IfSome result (λ r. IsWritable r.0.items) }
+{
+    oid_of(bytes)
+}
+
+#[tactic(auto, unfolding(crate::specs::Names::arc_text))]
+fn arc_size(arc: u32) -> usize
+    ensures size { result ≡ length (arc_text arc) }
+    ensures small { result ≤ 5 }
+{
+    if arc < 128 {
+        1
+    } else if arc / 128 < 128 {
+        2
+    } else if arc / 128 / 128 < 128 {
+        3
+    } else if arc / 128 / 128 / 128 < 128 {
+        4
+    } else {
+        5
+    }
+}
+
+#[tactic(auto, unfolding(crate::specs::Names::arc_text))]
+fn put_arc(arc: u32, out: &mut Octets)
+    requires { array_vec_len out.old + length (arc_text arc) ≤ 1472 }
+    ensures { out.new.items ≡ out.old.items ++ arc_text arc }
+{
+    let last = (arc % 128) as u8;
+    let fourth = 128 + (arc / 128 % 128) as u8;
+    let third = 128 + (arc / 128 / 128 % 128) as u8;
+    let second = 128 + (arc / 128 / 128 / 128 % 128) as u8;
+    if arc < 128 {
+        put(&[arc as u8], out);
+    } else if arc / 128 < 128 {
+        put(&[128 + (arc / 128) as u8, last], out);
+    } else if arc / 128 / 128 < 128 {
+        put(&[128 + (arc / 128 / 128) as u8, fourth, last], out);
+    } else if arc / 128 / 128 / 128 < 128 {
+        put(
+            &[128 + (arc / 128 / 128 / 128) as u8, third, fourth, last],
+            out,
+        );
+    } else {
+        put(
+            &[
+                128 + (arc / 128 / 128 / 128 / 128) as u8,
+                second,
+                third,
+                fourth,
+                last,
+            ],
+            out,
+        );
+    }
+}
+
+fn arcs_size(arcs: &[u32]) -> usize
+    requires { length arcs.now ≤ 30 }
+    ensures size { result ≡ length (flat_map arc_text arcs.now) }
+    ensures small { result ≤ 150 }
+{
+    let mut size = 0;
+    for arc in arcs {
+        size += arc_size(*arc);
+    }
+    size
+}
+
+fn put_arcs(arcs: &[u32], out: &mut Octets)
+    requires { array_vec_len out.old + length (flat_map arc_text arcs.now) ≤ 1472 }
+    ensures { out.new.items ≡ out.old.items ++ flat_map arc_text arcs.now }
+{
+    for arc in arcs {
+        put_arc(*arc, out);
+    }
+}
+
+/// How many octets the contents of a name take.
+fn contents_size(arcs: &[u32]) -> usize
+    requires { IsWritable arcs.now }
+    ensures size { result ≡ length (name_octets arcs.now) }
+    ensures small { result ≤ 151 }
+    ensures contents { AreNameContents (name_octets arcs.now) arcs.now }
+{
+    1 + arcs_size(&arcs[2..])
+}
+
+/// How many octets the shortest text of a name takes.
+#[tactic(auto, unfolding(crate::specs::Names::name_text))]
+pub fn oid_size(o: &Oid) -> usize
+    requires { IsWritable o.now.items }
+    ensures size { result ≡ length (name_text o.now.items) }
+    ensures small { result ≤ 157 }
+    // Each name that can be written has such a text.
+    ensures text { IsName (name_text o.now.items) o.now.items }
+{
+    tagged_size(contents_size(o.as_slice()))
+}
+
+/// Writes an OBJECT IDENTIFIER in its shortest form.
+#[tactic(auto, unfolding(crate::specs::Names::name_text))]
+pub fn write_oid(o: &Oid, out: &mut Octets) -> Result<(), Full>
+    requires { IsWritable o.now.items }
+    ensures variant { IsOk result ↔ (array_vec_len out.old + length (name_text o.now.items) ≤ 1472) }
+    ensures ok { OnOk result (out.new.items ≡ out.old.items ++ name_text o.now.items) }
+    ensures full { OnErr result (out.new ≡ out.old) }
+{
+    let arcs = o.as_slice();
+    let size = contents_size(arcs);
+    if room_of(out) < tagged_size(size) {
+        return Err(Full);
+    }
+    put_head(6, size, out);
+    put(&[(40 * arcs[0] + arcs[1]) as u8], out);
+    put_arcs(&arcs[2..], out);
+    Ok(())
+}

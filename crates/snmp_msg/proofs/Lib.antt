@@ -1,0 +1,4 @@
+pub mod Rooms
+pub mod BindingLaws
+pub mod MessageLaws
+pub mod WrittenLaws

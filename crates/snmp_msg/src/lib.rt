@@ -1,0 +1,18 @@
+//! The messages of SNMP version 1 (RFC 1157), read and written: exactly the grammar is read, and
+//! the shortest text is written. Nothing here takes memory.
+#![tactic(auto)]
+
+mod laws;
+mod message;
+mod reading;
+mod writing;
+
+pub use laws::messages_stand_alone;
+pub use message::{Bind, Message, Pdu, TooLong, Value};
+pub use reading::read;
+pub use writing::write;
+
+#[cfg(test)]
+mod captured;
+#[cfg(test)]
+mod tests;
