@@ -1,7 +1,7 @@
 //! The OBJECT IDENTIFIER (ITU-T X.690, 8.19), a name of 2 to 32 arcs whose first two stand in one
 //! octet below 128.
 
-ghost use Rattle.std.specs.Prelude.{◌≡◌, ◌+◌, ◌*◌, ◌≤◌, ◌<◌, ◌↔◌, ◌∷◌, ◌++◌, length, IsOk, OnOk, OnErr, IfSome, IfNone, Some};
+ghost use Rattle.std.specs.Prelude.{◌≡◌, ◌+◌, ◌*◌, ◌≤◌, ◌<◌, ◌↔◌, ◌∷◌, [], ◌++◌, length, IsOk, OnOk, OnErr, IfSome, IfNone, Some};
 ghost use Rattle.std.specs.List.{flat_map};
 ghost use Rattle.arrayvec.specs.ArrayVec.{array_vec_len};
 ghost use Rattle.ber_code.specs.Fields.{Begins, NothingBegins};
@@ -52,8 +52,8 @@ fn root_in(first: u8) -> u8
 }
 
 #[tactic(auto, unfolding(crate::specs::Reading::arcs_of))]
-fn name_of(octets: &[u8]) -> Option<Oid>
-    ensures { Gives (λ o. o.items) result (arcs_of octets.now) }
+fn arcs_into(octets: &[u8], name: &mut Oid) -> Option<()>
+    ensures { Gives (λ _. name.new.items) result (arcs_of octets.now) }
 {
     match octets {
         [] => None,
@@ -62,37 +62,57 @@ fn name_of(octets: &[u8]) -> Option<Oid>
                 return None;
             }
             let root = root_in(*first);
-            later_of(u32::from(root), u32::from(*first - 40 * root), more)
+            later_into(u32::from(root), u32::from(*first - 40 * root), more, name)
         }
     }
 }
 
-/// The name of two arcs and the arcs of the octets.
-fn later_of(first: u32, second: u32, octets: &[u8]) -> Option<Oid>
-    ensures { Gives (λ o. o.items) result (with_later first second octets.now) }
+/// Reads the name of two arcs and the arcs of the octets.
+fn later_into(first: u32, second: u32, octets: &[u8], name: &mut Oid) -> Option<()>
+    ensures { Gives (λ _. name.new.items) result (with_later first second octets.now) }
 {
-    let mut arcs = Oid::new();
-    arcs.push(first);
-    arcs.push(second);
+    name.clear();
+    name.push(first);
+    name.push(second);
     let mut rest = octets;
     for _ in 0..30u8 {
         if rest.is_empty() {
-            return Some(arcs);
+            return Some(());
         }
         let (arc, after) = arc_of(rest)?;
-        arcs.push(arc);
+        name.push(arc);
         rest = after;
     }
-    if rest.is_empty() { Some(arcs) } else { None }
+    if rest.is_empty() { Some(()) } else { None }
 }
 
 #[tactic(auto, unfolding(crate::specs::Reading::name_at))]
-fn oid_of(bytes: &[u8]) -> Option<(Oid, &[u8])>
-    ensures { Gives (λ r. (r.0.items, r.1.now)) result (name_at bytes.now) }
+fn oid_into<'a>(bytes: &'a [u8], name: &mut Oid) -> Option<&'a [u8]>
+    ensures { Gives (λ rest. (name.new.items, rest.now)) result (name_at bytes.now) }
 {
     let (octets, rest) = tagged_of(6, bytes)?;
-    let arcs = name_of(octets)?;
-    Some((arcs, rest))
+    arcs_into(octets, name)?;
+    Some(rest)
+}
+
+/// Reads the OBJECT IDENTIFIER at the front into `name`, in place of what that held, and returns
+/// what follows. Where there is none, `name` is left empty.
+pub fn read_oid_into<'a>(bytes: &'a [u8], name: &mut Oid) -> Option<&'a [u8]>
+    ensures found { IfSome result (λ rest. Begins IsName bytes.now name.new.items rest.now) }
+    ensures none { IfNone result (NothingBegins IsName bytes.now) }
+    ensures empty { IfNone result (name.new.items ≡ []) }
+    ensures each { ReadsEach IsName (λ rest. (name.new.items, rest.now)) bytes.now result }
+    ensures reads { Gives (λ rest. (name.new.items, rest.now)) result (name_at bytes.now) }
+    // What is read can be written.
+    ensures writable { IfSome result (λ _. IsWritable name.new.items) }
+{
+    match oid_into(bytes, name) {
+        Some(rest) => Some(rest),
+        None => {
+            name.clear();
+            None
+        }
+    }
 }
 
 /// Reads the OBJECT IDENTIFIER at the front.
@@ -104,7 +124,9 @@ pub fn read_oid(bytes: &[u8]) -> Option<(Oid, &[u8])>
     // What is read can be written.
     ensures writable { IfSome result (λ r. IsWritable r.0.items) }
 {
-    oid_of(bytes)
+    let mut name = Oid::new();
+    let rest = read_oid_into(bytes, &mut name)?;
+    Some((name, rest))
 }
 
 #[tactic(auto, unfolding(crate::specs::Names::arc_text))]

@@ -9,11 +9,12 @@ ghost use Rattle.snmp_msg.specs.Shortest.{shortest, IsWritableMessage};
 ghost use Rattle.message_lines.specs.Words.{each_behind, pdu_word};
 ghost use Rattle.message_lines.specs.Line.{Write, message_line, field_words, none_line};
 
-use crate::words::{bindings, hexadecimal, number, pdu};
+use crate::words::{bindings, pdu};
 use hex::FromHexError;
 use sig_types::NoMemory;
 use snmp_msg::{Message, Pdu, read, write};
 use std::alloc::{AllocError, Global};
+use text_words::{hexadecimal, number};
 
 /// The line of the message whose octets the hexadecimal digits, of either case, write: its shortest
 /// text and its fields, without a newline. `none` where the octets are no message (RFC 1157, 4), and

@@ -4,41 +4,9 @@ ghost use Rattle.std.specs.Prelude.{◌≡◌, ◌++◌, ◌∷◌, OnOk, map, d
 ghost use Rattle.hex.specs.Hex.{encode_lower};
 ghost use Rattle.message_lines.specs.Words.{each_behind, pdu_word, name_word, value_word, binding_word};
 
-use itoa::{Buffer, Integer};
 use snmp_msg::{Bind, Pdu, Value};
 use std::alloc::{AllocError, Global};
-
-/// A space, and the word.
-pub fn word(out: &mut Vec<u8>, text: &[u8]) -> Result<(), AllocError>
-    ensures { OnOk result (out.new.items ≡ out.old.items ++ 32 ∷ text.now) }
-{
-    out.push(b' ')?;
-    out.extend_from_slice(text)
-}
-
-/// The number without leading zeros.
-fn digits<I: Integer>(out: &mut Vec<u8>, n: I) -> Result<(), AllocError>
-    ensures { OnOk result (out.new.items ≡ out.old.items ++ I.text n) }
-{
-    let mut buffer = Buffer::new();
-    out.extend_from_slice(buffer.format(n).as_bytes())
-}
-
-/// A space, and the number without leading zeros.
-pub fn number<I: Integer>(out: &mut Vec<u8>, n: I) -> Result<(), AllocError>
-    ensures { OnOk result (out.new.items ≡ out.old.items ++ 32 ∷ I.text n) }
-{
-    out.push(b' ')?;
-    digits(out, n)
-}
-
-/// The octets in lower-case hexadecimal.
-pub fn hexadecimal(alloc: Global, out: &mut Vec<u8>, octets: &[u8]) -> Result<(), AllocError>
-    ensures { OnOk result (out.new.items ≡ out.old.items ++ encode_lower octets.now) }
-{
-    let text = hex::encode(alloc, octets)?;
-    out.extend_from_slice(text.as_bytes())
-}
+use text_words::{digits, hexadecimal, word};
 
 /// A space, and the word of a kind.
 pub fn pdu(out: &mut Vec<u8>, pdu: Pdu) -> Result<(), AllocError>

@@ -2,3 +2,4 @@ pub mod Rooms
 pub mod BindingLaws
 pub mod MessageLaws
 pub mod WrittenLaws
+pub mod Least

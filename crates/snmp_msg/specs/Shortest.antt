@@ -1,6 +1,6 @@
 -- The shortest text of a message: each length and each INTEGER in as few octets as it takes.
-use Rattle.std.specs.Prelude.{ℕ, ℤ, pos, List, [], ◌++◌, All}
-use Rattle.std.specs.List.{flat_map}
+use Rattle.std.specs.Prelude.{ℕ, ◌<◌, ℤ, pos, List, [], ◌++◌, All}
+use Rattle.std.specs.List.{flat_map, AllByRecursion}
 use Rattle.ber_code.specs.Lengths.{tagged_text}
 use Rattle.ber_code.specs.Integers.{integer_text}
 use Rattle.ber_code.specs.Names.{name_text, IsWritable}
@@ -56,3 +56,7 @@ pub record IsWritableBind (bind : Bind) : Type 0 where
 -- each name of the message can be written
 abbrev pub IsWritableMessage : Message → Type 0
 IsWritableMessage m = All IsWritableBind m.binds.items
+
+-- each number is an octet
+abbrev pub AreOctets : List ℕ → Type 0
+AreOctets octets = AllByRecursion (λ octet. octet < 256) octets

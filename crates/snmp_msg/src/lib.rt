@@ -7,7 +7,7 @@ mod message;
 mod reading;
 mod writing;
 
-pub use laws::messages_stand_alone;
+pub use laws::{messages_stand_alone, shortest_text_is_least};
 pub use message::{Bind, Message, Pdu, TooLong, Value};
 pub use reading::read;
 pub use writing::write;

@@ -1,89 +1,92 @@
-//! Reading a message: once over the octets, field by field, with a slice of what is left.
+//! Reading a message: once over the octets, field by field, into the one message that is returned. A
+//! call that reads a part returns the octets after it; where it returns nothing, so does `read`, and
+//! what was read up to there is dropped.
 
-ghost use Rattle.std.specs.Prelude.{◌≡◌, List, IfSome, IfNone, Some};
+ghost use Rattle.std.specs.Prelude.{◌≡◌, ◌≤◌, List, [], length, IfSome, IfNone, Some};
+ghost use Rattle.arrayvec.specs.ArrayVec.{array_vec_len};
 ghost use Rattle.ber_code.specs.Reading.{Gives, all_at};
 ghost use Rattle.snmp_msg.specs.Messages.{IsMessage};
-ghost use Rattle.snmp_msg.specs.Shortest.{IsWritableMessage};
+ghost use Rattle.snmp_msg.specs.Shortest.{IsWritableMessage, shortest};
 ghost use Rattle.snmp_msg.specs.declared.message.Message.{Message};
 ghost use Rattle.snmp_msg.specs.Reading.{octets_at, null_at, value_at, binding_at, kind_of, fields_at, pdu_at, content_of, message_of};
 
 use crate::message::{Bind, Message, Pdu, SEQUENCE, Value, tag};
 use arrayvec::ArrayVec;
-use ber_code::{read_int, read_octets, read_oid, read_tagged};
+use ber_code::{Oid, read_int, read_octets, read_oid_into, read_tagged};
 
 #[tactic(auto, unfolding(crate::specs::Reading::octets_at))]
-fn octets_of(bytes: &[u8]) -> Option<(Value, &[u8])>
-    ensures { Gives (λ r. (r.0, r.1.now)) result (octets_at bytes.now) }
+fn octets_into<'a>(bytes: &'a [u8], value: &mut Value) -> Option<&'a [u8]>
+    ensures { Gives (λ rest. (value.new, rest.now)) result (octets_at bytes.now) }
 {
     let (octets, rest) = read_octets(bytes)?;
     if octets.len() > 64 {
         return None;
     }
-    let mut value = ArrayVec::new();
-    let _ = value.try_extend_from_slice(octets);
-    Some((Value::Octets(value), rest))
+    let mut held = ArrayVec::new();
+    let _ = held.try_extend_from_slice(octets);
+    *value = Value::Octets(held);
+    Some(rest)
 }
 
 #[tactic(auto, unfolding(crate::specs::Reading::null_at))]
-fn null_of(bytes: &[u8]) -> Option<(Value, &[u8])>
-    ensures { Gives (λ r. (r.0, r.1.now)) result (null_at bytes.now) }
+fn null_into<'a>(bytes: &'a [u8], value: &mut Value) -> Option<&'a [u8]>
+    ensures { Gives (λ rest. (value.new, rest.now)) result (null_at bytes.now) }
 {
     let (nothing, rest) = read_tagged(5, bytes)?;
-    if nothing.is_empty() {
-        Some((Value::Null, rest))
-    } else {
-        None
+    if !nothing.is_empty() {
+        return None;
     }
+    *value = Value::Null;
+    Some(rest)
 }
 
 #[tactic(auto, unfolding(crate::specs::Reading::value_at))]
-fn value_of(bytes: &[u8]) -> Option<(Value, &[u8])>
-    ensures { Gives (λ r. (r.0, r.1.now)) result (value_at bytes.now) }
+fn value_into<'a>(bytes: &'a [u8], value: &mut Value) -> Option<&'a [u8]>
+    ensures { Gives (λ rest. (value.new, rest.now)) result (value_at bytes.now) }
 {
     match bytes {
         [2, ..] => {
             let (number, rest) = read_int(bytes)?;
-            Some((Value::Int(number), rest))
+            *value = Value::Int(number);
+            Some(rest)
         }
-        [4, ..] => octets_of(bytes),
-        [5, ..] => null_of(bytes),
+        [4, ..] => octets_into(bytes, value),
+        [5, ..] => null_into(bytes, value),
         [6, ..] => {
-            let (name, rest) = read_oid(bytes)?;
-            Some((Value::Name(name), rest))
+            let mut name = Oid::new();
+            let rest = read_oid_into(bytes, &mut name)?;
+            *value = Value::Name(name);
+            Some(rest)
         }
         _ => None,
     }
 }
 
 #[tactic(auto, unfolding(crate::specs::Reading::binding_at))]
-fn binding_of(bytes: &[u8]) -> Option<(Bind, &[u8])>
-    ensures { Gives (λ r. (r.0, r.1.now)) result (binding_at bytes.now) }
+fn binding_into<'a>(bytes: &'a [u8], bind: &mut Bind) -> Option<&'a [u8]>
+    ensures { Gives (λ rest. (bind.new, rest.now)) result (binding_at bytes.now) }
 {
     let (content, after) = read_tagged(SEQUENCE, bytes)?;
-    let (name, rest) = read_oid(content)?;
-    let (value, rest) = value_of(rest)?;
-    if rest.is_empty() {
-        Some((Bind { name, value }, after))
-    } else {
-        None
-    }
+    let rest = read_oid_into(content, &mut bind.name)?;
+    let rest = value_into(rest, &mut bind.value)?;
+    if rest.is_empty() { Some(after) } else { None }
 }
 
-/// The bindings of a list, up to its end.
-fn bindings_of(bytes: &[u8]) -> Option<ArrayVec<Bind, 32>>
-    ensures { Gives (λ r. r.items) result (all_at binding_at 32 bytes.now) }
+/// Reads the bindings of a list, up to its end.
+fn bindings_into(bytes: &[u8], binds: &mut ArrayVec<Bind, 32>) -> Option<()>
+    requires { array_vec_len binds.old ≡ 0 }
+    ensures { Gives (λ _. binds.new.items) result (all_at binding_at 32 bytes.now) }
 {
-    let mut binds = ArrayVec::new();
     let mut rest = bytes;
     for _ in 0..32u8 {
         if rest.is_empty() {
-            return Some(binds);
+            return Some(());
         }
-        let (bind, after) = binding_of(rest)?;
+        let mut bind = Bind::default();
+        rest = binding_into(rest, &mut bind)?;
         binds.push(bind);
-        rest = after;
     }
-    if rest.is_empty() { Some(binds) } else { None }
+    if rest.is_empty() { Some(()) } else { None }
 }
 
 /// The kind that a tag names.
@@ -100,77 +103,84 @@ fn kind_of_tag(tag: u8) -> Option<Pdu>
     }
 }
 
-/// The message of a community and a PDU of this kind, and what follows it.
+/// Reads the PDU, of the kind that the message has, and the bindings of an empty list.
 #[tactic(auto, unfolding(crate::specs::Reading::fields_at))]
-fn fields_of(community: ArrayVec<u8, 32>, pdu: Pdu, bytes: &[u8]) -> Option<(Message, &[u8])>
-    ensures { Gives (λ r. (r.0, r.1.now)) result (fields_at community.items pdu bytes.now) }
+fn fields_into<'a>(bytes: &'a [u8], m: &mut Message) -> Option<&'a [u8]>
+    requires { array_vec_len m.old.binds ≡ 0 }
+    ensures { Gives (λ rest. (m.new, rest.now)) result (fields_at m.old.community.items m.old.pdu bytes.now) }
 {
-    let (content, after) = read_tagged(tag(pdu), bytes)?;
+    let (content, after) = read_tagged(tag(m.pdu), bytes)?;
     let (id, rest) = read_int(content)?;
     let (status, rest) = read_int(rest)?;
     let (index, rest) = read_int(rest)?;
     let (list, rest) = read_tagged(SEQUENCE, rest)?;
-    let binds = bindings_of(list)?;
-    if rest.is_empty() {
-        Some((
-            Message {
-                community,
-                pdu,
-                id,
-                status,
-                index,
-                binds,
-            },
-            after,
-        ))
-    } else {
-        None
-    }
+    bindings_into(list, &mut m.binds)?;
+    m.id = id;
+    m.status = status;
+    m.index = index;
+    if rest.is_empty() { Some(after) } else { None }
 }
 
-/// The same of a PDU of any kind.
+/// Reads the PDU of any kind.
 #[tactic(auto, unfolding(crate::specs::Reading::pdu_at))]
-fn pdu_of(community: ArrayVec<u8, 32>, bytes: &[u8]) -> Option<(Message, &[u8])>
-    ensures { Gives (λ r. (r.0, r.1.now)) result (pdu_at community.items bytes.now) }
+fn pdu_into<'a>(bytes: &'a [u8], m: &mut Message) -> Option<&'a [u8]>
+    requires { array_vec_len m.old.binds ≡ 0 }
+    ensures { Gives (λ rest. (m.new, rest.now)) result (pdu_at m.old.community.items bytes.now) }
 {
     match bytes {
         [] => None,
         [tag, ..] => {
-            let pdu = kind_of_tag(*tag)?;
-            fields_of(community, pdu, bytes)
+            m.pdu = kind_of_tag(*tag)?;
+            fields_into(bytes, m)
         }
     }
 }
 
-/// The message of what stands under its tag.
+/// A message without bindings, to be read into.
+fn blank() -> Message
+    ensures { (result.community.items ≡ []) × (result.binds.items ≡ []) }
+{
+    Message {
+        community: ArrayVec::new(),
+        pdu: Pdu::Get,
+        id: 0,
+        status: 0,
+        index: 0,
+        binds: ArrayVec::new(),
+    }
+}
+
+/// Reads what stands under the message's tag.
 #[tactic(auto, unfolding(crate::specs::Reading::content_of))]
-fn message_in(content: &[u8]) -> Option<Message>
-    ensures { result ≡ content_of content.now }
+fn content_into(content: &[u8], m: &mut Message) -> Option<()>
+    requires community { array_vec_len m.old.community ≡ 0 }
+    requires binds { array_vec_len m.old.binds ≡ 0 }
+    ensures { Gives (λ _. m.new) result (content_of content.now) }
 {
     let (version, rest) = read_int(content)?;
     let (octets, rest) = read_octets(rest)?;
     if version != 0 || octets.len() > 32 {
         return None;
     }
-    let mut community = ArrayVec::new();
-    let _ = community.try_extend_from_slice(octets);
-    let (message, rest) = pdu_of(community, rest)?;
-    if rest.is_empty() { Some(message) } else { None }
+    let _ = m.community.try_extend_from_slice(octets);
+    let rest = pdu_into(rest, m)?;
+    if rest.is_empty() { Some(()) } else { None }
 }
 
 #[tactic(auto, unfolding(crate::specs::Reading::message_of, crate::specs::Reading::framed_at))]
-fn message_in_frame(bytes: &[u8]) -> Option<Message>
-    ensures { result ≡ message_of bytes.now }
+fn message_into(bytes: &[u8], m: &mut Message) -> Option<()>
+    requires community { array_vec_len m.old.community ≡ 0 }
+    requires binds { array_vec_len m.old.binds ≡ 0 }
+    ensures { Gives (λ _. m.new) result (message_of bytes.now) }
 {
     if bytes.len() > 1472 {
         return None;
     }
     let (content, rest) = read_tagged(SEQUENCE, bytes)?;
-    if rest.is_empty() {
-        message_in(content)
-    } else {
-        None
+    if !rest.is_empty() {
+        return None;
     }
+    content_into(content, m)
 }
 
 /// Reads the message that all of the octets are.
@@ -181,8 +191,11 @@ pub fn read(bytes: &[u8]) -> Option<Message>
     ensures none { IfNone result ((m : Message) → IsMessage bytes.now m → ⊥) }
     // Each message is read as itself, as is what `write` made of it.
     ensures each { (m : Message) → IsMessage bytes.now m → result ≡ Some m }
-    // What is read can be written.
+    // What is read can be written, and `write` finds room for it.
     ensures writable { IfSome result IsWritableMessage }
+    ensures fits { IfSome result (λ m. length (shortest m) ≤ 1472) }
 {
-    message_in_frame(bytes)
+    let mut m = blank();
+    message_into(bytes, &mut m)?;
+    Some(m)
 }

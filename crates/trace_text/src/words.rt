@@ -6,33 +6,9 @@ ghost use Rattle.hex.specs.Hex.{encode_lower};
 ghost use Rattle.trace_text.specs.Texts.{colours_text, signals_text, mode_text, run_text, colour_letter, signal_letter};
 ghost use Rattle.trace_text.specs.Words.{spaced};
 
-use itoa::{Buffer, Integer};
 use sig_types::{Colour, Mode, Ped};
 use std::alloc::{AllocError, Global};
-
-/// A space, and the word.
-pub fn word(out: &mut Vec<u8>, text: &[u8]) -> Result<(), AllocError>
-    ensures { OnOk result (out.new.items ≡ out.old.items ++ 32 ∷ text.now) }
-{
-    out.push(b' ')?;
-    out.extend_from_slice(text)
-}
-
-/// A space, and the number without leading zeros.
-pub fn number<I: Integer>(out: &mut Vec<u8>, n: I) -> Result<(), AllocError>
-    ensures { OnOk result (out.new.items ≡ out.old.items ++ 32 ∷ I.text n) }
-{
-    out.push(b' ')?;
-    digits(out, n)
-}
-
-/// The number alone.
-fn digits<I: Integer>(out: &mut Vec<u8>, n: I) -> Result<(), AllocError>
-    ensures { OnOk result (out.new.items ≡ out.old.items ++ I.text n) }
-{
-    let mut buffer = Buffer::new();
-    out.extend_from_slice(buffer.format(n).as_bytes())
-}
+use text_words::{digits, number, word};
 
 /// A space, and the letters of the colours, by phase.
 pub fn colours(out: &mut Vec<u8>, veh: &[Colour; 16]) -> Result<(), AllocError>
@@ -129,6 +105,6 @@ pub fn runs(out: &mut Vec<u8>, runs: &[(u32, u32)]) -> Result<(), AllocError>
 pub fn hexadecimal(alloc: Global, out: &mut Vec<u8>, octets: &[u8]) -> Result<(), AllocError>
     ensures { OnOk result (out.new.items ≡ out.old.items ++ 32 ∷ encode_lower octets.now) }
 {
-    let text = hex::encode(alloc, octets)?;
-    word(out, text.as_bytes())
+    out.push(b' ')?;
+    text_words::hexadecimal(alloc, out, octets)
 }

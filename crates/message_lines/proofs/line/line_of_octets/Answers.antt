@@ -1,13 +1,5 @@
-use Rattle.std.proofs.Common.{arith}
-use Rattle.message_lines.proofs.Least.{are_octets, message_least}
 use Rattle.message_lines.proofs.Answered.{of_found, of_nothing}
 use Rattle.message_lines.proofs.line.line_of_octets.Goals as goal
-
-pub line_of_message-requires-clause-fits : goal.line_of_message-requires-clause-fits
-line_of_message-requires-clause-fits c =
-    let is = c.in-Some.ensures.found in
-    let least = message_least c.args.octets.now c.in-Some.m (are_octets c.args.octets.now (λ i. omega (arith, c.type_inv.octets i))) is.framed in
-    omega (arith, least, is.fits)
 
 pub returns-in-Some-clause-message : goal.returns-in-Some-clause-message
 returns-in-Some-clause-message c = of_found (λ line. line.items) c.args.octets.now c.in-Some.m c.in-Some.ensures.each c.line_of_message.result c.line_of_message.ensures

@@ -2,7 +2,7 @@ use Rattle.std.proofs.Common.{◌≡◌, ◌-◌, length}
 use Rattle.ber_code.specs.Reading.{all_at}
 use Rattle.snmp_msg.specs.Reading.{binding_at}
 use Rattle.ber_code.proofs.Exact.{with_front}
-use Rattle.snmp_msg.proofs.reading.bindings_of.Given as goal
+use Rattle.snmp_msg.proofs.reading.bindings_into.Given as goal
 
 abbrev pub invariant-loop : goal.invariant-loop
 invariant-loop l = record {

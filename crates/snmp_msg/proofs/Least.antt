@@ -1,7 +1,7 @@
 -- The shortest text of a message is no longer than any other text of it.
 use Rattle.std.proofs.Common.{◌≡◌, ℕ, suc, ◌<◌, ◌≤◌, List, [], ◌∷◌, ◌++◌, length, get_or, ap, subst, arith, inl, inr}
 use Rattle.std.specs.Prelude.{ℤ, pos}
-use Rattle.std.specs.List.{flat_map, AllByRecursion}
+use Rattle.std.specs.List.{flat_map}
 use Rattle.std.proofs.lemmas.Bool.{cases_lt, lt-ltb, le-ltb}
 use Rattle.std.proofs.lemmas.Bool.Decides.{nat_tests}
 use Rattle.std.proofs.lemmas.List.{length-append}
@@ -16,11 +16,7 @@ use Rattle.snmp_msg.specs.declared.message.Bind.{Bind}
 use Rattle.snmp_msg.specs.declared.message.Message.{Message}
 use Rattle.snmp_msg.specs.Values.{IsValue, IsBinding}
 use Rattle.snmp_msg.specs.Messages.{tag_of, IsPdu, IsFramed}
-use Rattle.snmp_msg.specs.Shortest.{value_text, binding_content, binding_text, ids_text, pdu_content, message_content, shortest}
-
--- each number is an octet
-abbrev pub AreOctets : List ℕ → Type 0
-AreOctets octets = AllByRecursion (λ octet. octet < 256) octets
+use Rattle.snmp_msg.specs.Shortest.{value_text, binding_content, binding_text, ids_text, pdu_content, message_content, shortest, AreOctets}
 
 pub are_octets : (octets : List ℕ) → ((i : ℕ) → get_or octets i 0 < 256) → AreOctets octets
 are_octets [] fit = tt
