@@ -6,3 +6,5 @@ pub mod Laid
 pub mod ColumnLemmas
 pub mod CellLemmas
 pub mod Lasting
+pub mod Called
+pub mod Filled

@@ -12,3 +12,7 @@ pub mod Columns
 pub mod Cells
 pub mod Ranges
 pub mod Seen
+pub mod Lesser
+pub mod Sums
+pub mod Slots
+pub mod Laying
