@@ -3,17 +3,19 @@
 //! What is shown, by whom and how long, follows NEMA TS 2 and the FHWA Signal Timing Manual.
 #![tactic(auto)]
 
-ghost use Rattle.std.specs.Prelude.{◌≡◌, ℕ, [], ◌∷◌, true};
+ghost use Rattle.std.specs.Prelude.{◌≡◌, ◌&&◌, ◌||◌, ℕ, [], ◌∷◌, true};
 ghost use Rattle.sig_types.specs.declared.frame.Colour.TheVariants.{Green, Yellow, Clear, Red};
 ghost use Rattle.sig_types.specs.Phases.{is_phase, is_in};
 ghost use Rattle.sig_tables.specs.Standard.{max8, std8};
+ghost use Rattle.sig_tables.specs.Tables.{is_enabled, has_maximum_recall};
 ghost use Rattle.sig_tables.specs.Past.{History};
+ghost use Rattle.sig_tables.specs.Calls.{is_active};
 ghost use Rattle.sig_tables.specs.Decide.{past_at};
-ghost use Rattle.sig_tables.specs.Seen.{vehicle_seen};
+ghost use Rattle.sig_tables.specs.Seen.{vehicle_seen, pedestrian_seen, detectors_seen};
 ghost use Rattle.laws.specs.Lawful.{Sound, Lawful};
 ghost use Rattle.laws.specs.Safe.{EachApart, EachOne, EachEnds, EachWithin, EachFollows};
 ghost use Rattle.laws.specs.Walking.{EachOnGreen, EachSignalEnds, EachSignalWithin, EachQuiet};
-ghost use Rattle.laws.specs.Search.{stands_locked};
+ghost use Rattle.laws.specs.Search.{stands_locked, stands_pressed, last_turned_on, turned_on_since};
 ghost use Rattle.laws.specs.Rows.{changed, shown, two_cars, long_six, ticks};
 
 /// Start lasts 60 frames; the start-up phases are then Green until the maximum of their rings.
@@ -110,6 +112,27 @@ pub fn quiet_phases()
 /// call while the phase was not green, and the phase has not been green since.
 pub fn calls_found()
     ensures { (h : History) (p : ℕ) → is_phase p ≡ true → is_in (vehicle_seen (past_at h)) p ≡ stands_locked h.tables h.events p }
+{}
+
+/// The same of the locked pedestrian calls: a button locked the call while the phase had a walk and did not show it, and
+/// the phase has not shown walk since.
+pub fn pedestrian_calls_found()
+    ensures { (h : History) (p : ℕ) → is_phase p ≡ true
+        → is_in (pedestrian_seen (past_at h)) p ≡ stands_pressed h.tables h.events p }
+{}
+
+/// The detectors that a tick sees on are those that their last input turned on.
+pub fn detectors_found()
+    ensures { (h : History) (p : ℕ) → is_phase p ≡ true → is_in (detectors_seen (past_at h)) p ≡ last_turned_on h.events p }
+{}
+
+/// The phases that are active at a tick are enabled ones whose detector is on, or was turned on since the last tick (also
+/// where it was on already), or that have maximum recall.
+pub fn active_found()
+    ensures { (h : History) (p : ℕ) → is_phase p ≡ true
+        → is_active (past_at h).tables (past_at h).heard (detectors_seen (past_at h)) p
+        ≡ (is_enabled (past_at h).tables p
+        && (last_turned_on h.events p || turned_on_since h.events p || has_maximum_recall (past_at h).tables p)) }
 {}
 
 /// The standard tables are sound, so that the laws speak of them.

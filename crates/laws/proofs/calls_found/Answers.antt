@@ -1,5 +1,5 @@
-use Rattle.laws.proofs.Search.{found}
+use Rattle.laws.proofs.Search.{vehicle-found}
 use Rattle.laws.proofs.calls_found.Goals as goal
 
 pub returns : goal.returns
-returns c = λ h p ph. found h.tables h.events p ph
+returns c = λ h p ph. vehicle-found h.tables h.events p ph
