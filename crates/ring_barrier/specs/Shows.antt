@@ -12,11 +12,15 @@ use Rattle.ring_barrier.specs.declared.view.View.{View}
 use Rattle.ring_barrier.specs.declared.view.Move.{Move}
 use Rattle.ring_barrier.specs.declared.view.Move.TheVariants.{Stay, End, Begin}
 
+-- for each ring whether it is open
+abbrev pub Opens : List Bool → Scene → Type 0
+Opens opening w = (r : ℕ) → 1 ≤ r → r ≤ 2 → get_or opening (r - 1) false ≡ is_open w r
+
 -- the layout and the view are those of a moment, as the definitions look at it
 pub record Shows (v : View) (w : Scene) : Type 0 where
   pub laid_out : LaidOut v.layout.now w.tables w.sequence
   pub on : (r : ℕ) → 1 ≤ r → r ≤ 2 → get_or v.on (r - 1) 0 ≡ on_phase w r
-  pub opening : (r : ℕ) → 1 ≤ r → r ≤ 2 → get_or v.opening (r - 1) false ≡ is_open w r
+  pub opening : Opens v.opening w
   pub last : (r : ℕ) → 1 ≤ r → r ≤ 2 → get_or v.last (r - 1) 0 ≡ last_on r w.past
   pub latest : v.latest ≡ latest_on w.past
   pub demand : phases_of v.demand ≡ w.demand

@@ -2,10 +2,10 @@
 
 ghost use Rattle.std.specs.Prelude.{◌≡◌, ◌≤◌, true, ℕ, List, ◌∷◌, []};
 ghost use Rattle.sig_types.specs.Phases.{is_in, only};
-ghost use Rattle.sig_tables.specs.View.{View as Scene};
+ghost use Rattle.sig_tables.specs.View.{View as Scene, is_done};
 ghost use Rattle.sig_tables.specs.Layout.{Has};
 ghost use Rattle.sig_tables.specs.Moves.{ending_in, beginning_of, ring_moves};
-ghost use Rattle.ring_barrier.specs.Shows.{Shows, is_some, move_of, ring_move, IsLone};
+ghost use Rattle.ring_barrier.specs.Shows.{Shows, Opens, is_some, move_of, ring_move, IsLone};
 
 use crate::beginning::beginnings;
 use crate::ending::{ending, ends};
@@ -28,15 +28,16 @@ fn move_of(ends: bool, begins: u8) -> Move
     }
 }
 
-/// Whether no ring is open and no phase is done, so that both rings stay as they are, as at most ticks.
-fn is_idle(view: &View) -> bool
-    ensures { (w : Scene) → Shows view.now w → result ≡ true
+/// Whether no ring is open and no phase is done, so that both rings stay as they are, as at most ticks: there is then no
+/// need to look further.
+pub fn is_idle(opening: [bool; 2], done: PhaseSet) -> bool
+    ensures { (w : Scene) → Opens opening w → Has done (is_done w) → result ≡ true
         → (r : ℕ) → 1 ≤ r → r ≤ 2 → (ending_in w r ≡ []) × (beginning_of w r ≡ []) }
 {
-    if view.opening[0] || view.opening[1] {
+    if opening[0] || opening[1] {
         return false;
     }
-    view.done.is_empty()
+    done.is_empty()
 }
 
 /// What each ring does at this tick, in Free. The moves are those of every moment that the view shows. Any view is
@@ -44,7 +45,7 @@ fn is_idle(view: &View) -> bool
 pub fn choose(view: &View) -> [Move; 2]
     ensures { (w : Scene) → Shows view.now w → result ≡ ring_move w 1 ∷ ring_move w 2 ∷ [] }
 {
-    if is_idle(view) {
+    if is_idle(view.opening, view.done) {
         return [Move::Stay, Move::Stay];
     }
     let side = side_of(view.layout, present_side(view));
@@ -60,7 +61,7 @@ pub fn changes(view: &View) -> Changes
     ensures ends { (w : Scene) → Shows view.now w → Has result.ends (is_in (ring_moves w).ends) }
     ensures begins { (w : Scene) → Shows view.now w → Has result.begins (is_in (ring_moves w).begins) }
 {
-    if is_idle(view) {
+    if is_idle(view.opening, view.done) {
         return Changes {
             ends: PhaseSet::empty(),
             begins: PhaseSet::empty(),
