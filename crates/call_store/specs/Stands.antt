@@ -1,0 +1,27 @@
+-- What the store keeps is what looking back over the inputs and the frames gives.
+use Rattle.std.specs.Prelude.{◌≤◌, ◌<◌, [], ◌∷◌}
+use Rattle.sig_types.specs.declared.frame.Field.{Field}
+use Rattle.sig_types.specs.declared.frame.Field.TheVariants.{Veh, Ped as Button, Preempt}
+use Rattle.sig_types.specs.Phases.{is_in}
+use Rattle.sig_tables.specs.Past.{Moment, Past}
+use Rattle.sig_tables.specs.Calls.{some_heard, turns_on}
+use Rattle.sig_tables.specs.Layout.{Has}
+use Rattle.sig_tables.specs.Seen.{vehicle_seen, pedestrian_seen, detectors_seen}
+use Rattle.call_store.specs.declared.Calls.{Calls}
+
+-- the store stands for the past: the locked calls, the detectors that are on, and those turned on since the last frame
+pub record CallsStand (c : Calls) (past : Past) : Type 0 where
+  pub vehicle : Has c.vehicle (is_in (vehicle_seen past))
+  pub pedestrian : Has c.pedestrian (is_in (pedestrian_seen past))
+  pub detectors : Has c.detectors (is_in (detectors_seen past))
+  pub turned_on : Has c.turned_on (some_heard (λ _ field q. turns_on field q) past.heard)
+
+-- a detector or a button is that of a phase 1 to 16
+abbrev pub NamesPhase : Field → Type 0
+NamesPhase (Veh q on) = (0 < q) × (q ≤ 16)
+NamesPhase (Button q) = (0 < q) × (q ≤ 16)
+NamesPhase (Preempt n on) = Unit {0}
+
+-- the past with one moment more, and no input since
+abbrev pub with_moment : Moment → Past → Past
+with_moment m past = record { tables = past.tables; version = past.version; heard = []; moments = m ∷ past.moments }
