@@ -5,11 +5,12 @@ use Rattle.sig_types.specs.declared.frame.Colour.{Colour}
 use Rattle.sig_types.specs.declared.frame.Colour.TheVariants.{Green, Yellow, Clear, Red}
 use Rattle.sig_types.specs.declared.frame.Ped.TheVariants.{Dont}
 use Rattle.sig_types.specs.Phases.{is_phase, all_phases, is_in, some}
-use Rattle.sig_types.specs.Colour.{same_colour, colour_of, signal_of}
+use Rattle.sig_types.specs.declared.frame.Ped.{Ped}
+use Rattle.sig_types.specs.Colour.{same_colour, same_signal, colour_of, signal_of}
 use Rattle.sig_types.proofs.Sets.{in-phases, in-those-is, listed-phase}
 use Rattle.sig_tables.specs.Tables.{is_enabled, has_maximum_recall, gap_time, maximum_time, red_revert_time, least_green}
 use Rattle.sig_tables.specs.Past.{Past, Moment}
-use Rattle.sig_tables.specs.Looking.{in_a_row, run, latched, runs_on, shows, lasts_now}
+use Rattle.sig_tables.specs.Looking.{in_a_row, run, latched, runs_on, signal_runs_on, shows, lasts_now}
 use Rattle.sig_tables.specs.Sides.{are_incompatible}
 use Rattle.sig_tables.specs.Calls.{is_active, is_green}
 use Rattle.sig_tables.specs.View.{ended_of, has_gap, has_maximum, is_served, is_done, is_startable}
@@ -148,27 +149,34 @@ and-true : (b : Bool) → (b && true) ≡ b
 and-true true = refl
 and-true false = refl
 
-served : (past : Past) (p : ℕ) → signal_of (frame_seen past) p ≡ Dont
-    → is_served past.tables past.moments p ≡ nat_le (least_green (latched p Green past.tables past.moments) p) (run p Green past.moments)
-served past p e = rw e (and-true _)
-
-pub done-early : (past : Past) (p count least : ℕ) → signal_of (frame_seen past) p ≡ Dont → count ≡ run p Green past.moments
-    → least ≡ least_green (latched p Green past.tables past.moments) p → count < least → false ≡ is_done (view_seen past) p
-done-early past p count least dont is ls short =
+pub served-early : (past : Past) (p count least : ℕ) → count ≡ run p Green past.moments
+    → least ≡ least_green (latched p Green past.tables past.moments) p → count < least → false ≡ is_served past.tables past.moments p
+served-early past p count least is ls short =
     let below : run p Green past.moments < least_green (latched p Green past.tables past.moments) p = rw (is, ls) at short in
-    unserved _ _ (served past p dont ∙ lt-leb _ _ below)
+    rw (lt-leb _ _ below) refl
+
+pub served-signal : (past : Past) (p count least : ℕ) (signal : Ped) → count ≡ run p Green past.moments
+    → least ≡ least_green (latched p Green past.tables past.moments) p → least ≤ count
+    → signal ≡ signal_runs_on p past.tables past.moments (signal_of (frame_seen past) p)
+    → same_signal signal Dont ≡ is_served past.tables past.moments p
+served-signal past p count least signal is ls long follows =
+    let above : least_green (latched p Green past.tables past.moments) p ≤ run p Green past.moments = rw (is, ls) at long in
+    both _ _ _ (le-leb _ _ above) (ap (λ (x : Ped). same_signal x Dont) follows)
+  where
+    both : (a b c : Bool) → a ≡ true → b ≡ c → b ≡ (a && c)
+    both a b c e f = rw (e, f) refl
+
+pub done-unserved : (past : Past) (p : ℕ) → is_served past.tables past.moments p ≡ false → false ≡ is_done (view_seen past) p
+done-unserved past p e = unserved _ _ e
   where
     unserved : (a b : Bool) → b ≡ false → false ≡ (a && b)
     unserved true b e = sym e
     unserved false b e = refl
 
-pub done-reason : (past : Past) (p count least : ℕ) → signal_of (frame_seen past) p ≡ Dont → count ≡ run p Green past.moments
-    → least ≡ least_green (latched p Green past.tables past.moments) p → least ≤ count → is_enabled past.tables p ≡ true
+pub done-reason : (past : Past) (p : ℕ) → is_served past.tables past.moments p ≡ true → is_enabled past.tables p ≡ true
     → same_colour (colour_of (frame_seen past) p) Green ≡ true
     → (has_gap (view_seen past) p || has_maximum (view_seen past) p) ≡ is_done (view_seen past) p
-done-reason past p count least dont is ls long on green =
-    let above : least_green (latched p Green past.tables past.moments) p ≤ run p Green past.moments = rw (is, ls) at long in
-    all-of _ _ _ _ on green (served past p dont ∙ le-leb _ _ above)
+done-reason past p s on green = all-of _ _ _ _ on green s
   where
     all-of : (a b c d : Bool) → a ≡ true → b ≡ true → d ≡ true → c ≡ (a && b && c && d)
     all-of a b c d e f g = rw (e, f, g) (sym (and-true c))

@@ -4,6 +4,7 @@ use Rattle.std.proofs.lemmas.Bool.{false≢true, le-leb, lt-leb, leb-false}
 use Rattle.sig_types.specs.Phases.{all_phases, is_in}
 use Rattle.sig_types.specs.PhaseSet.{has, phases_of}
 use Rattle.sig_types.specs.declared.phase_set.PhaseSet.{PhaseSet}
+use Rattle.sig_types.specs.declared.frame.Mode.{Mode}
 use Rattle.sig_types.specs.declared.frame.Mode.TheVariants.{Start, Free}
 use Rattle.sig_types.specs.Colour.{is_start}
 use Rattle.sig_types.proofs.Sets.{in-phases, those-same, listed-phase}
@@ -14,7 +15,7 @@ use Rattle.sig_tables.specs.Looking.{start_run, last_frame}
 use Rattle.sig_tables.specs.View.{View}
 use Rattle.sig_tables.specs.Moves.{ring_moves}
 use Rattle.sig_tables.specs.Layout.{Has}
-use Rattle.sig_tables.specs.Decide.{Turn, Rest, StartUp, Rings, turn_of, first_turn, startup_phases, leaves_start, moves_of, mode_of}
+use Rattle.sig_tables.specs.Decide.{Turn, Rest, StartUp, Rings, Goal, turn_of, first_turn, startup_phases, leaves_start, moves_of, mode_of}
 use Rattle.ring_barrier.specs.declared.view.Changes.{Changes}
 use Rattle.controller.specs.StandsFor.{AreMoves}
 
@@ -52,24 +53,21 @@ pub ring-moves : (turn : Turn) (v : View) (changes : Changes) → Rings ≡ turn
     → AreMoves changes (moves_of turn v)
 ring-moves turn v changes e ends begins = rw (← e) (record { ends = ends; begins = begins })
 
--- whether Start goes on
-pub goes-on : (past : List Moment) (s : Bool) → s ≡ is_start (last_frame past).mode → s ≡ true → start_run past < 60
-    → true ≡ (is_start (last_frame past).mode && not (leaves_start past))
-goes-on past s e t few = rw (← e, t, lt-leb 60 (start_run past) few) refl
+-- the mode of a turn: Start where the rings rest, and else Free
+abbrev pub mode_in : Turn → Mode
+mode_in Rest = Start
+mode_in StartUp = Free
+mode_in Rings = Free
+mode_in (Goal goal) = Free
 
-pub leaves : (past : List Moment) (s : Bool) → s ≡ is_start (last_frame past).mode → s ≡ true → 60 ≤ start_run past
-    → false ≡ (is_start (last_frame past).mode && not (leaves_start past))
-leaves past s e t many = rw (← e, t, le-leb 60 (start_run past) many) refl
-
-pub is-over : (past : List Moment) (s : Bool) → s ≡ is_start (last_frame past).mode → s ≡ false
-    → false ≡ (is_start (last_frame past).mode && not (leaves_start past))
-is-over past s e f = rw (← e, f) refl
-
-pub mode-start : (past : List Moment) → (is_start (last_frame past).mode && not (leaves_start past)) ≡ true → Start ≡ mode_of past
-mode-start past e = rw e refl
-
-pub mode-free : (past : List Moment) → (is_start (last_frame past).mode && not (leaves_start past)) ≡ false → Free ≡ mode_of past
-mode-free past e = rw e refl
+pub turn-mode : (t : Tables) (past : List Moment) → mode_in (turn_of t past) ≡ mode_of past
+turn-mode t past = split (is_start (last_frame past).mode) (leaves_start past) (startup_phases t)
+  where
+    split : (s l : Bool) (phases : List ℕ) → mode_in (if s then (if l then first_turn phases else Rest) else Rings) ≡ (if s && not l then Start else Free)
+    split true true [] = refl
+    split true true (p ∷ phases) = refl
+    split true false phases = refl
+    split false l phases = refl
 
 -- a frame in Start follows one, and not for long
 pub start-from : (past : List Moment) → is_start (mode_of past) ≡ true → (is_start (last_frame past).mode ≡ true) × (start_run past < 60)

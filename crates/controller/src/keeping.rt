@@ -4,7 +4,8 @@ ghost use Rattle.std.specs.Prelude.{◌≡◌, ◌<◌, ◌≤◌, ◌+◌, ◌=
 ghost use Rattle.sig_types.specs.Colour.{is_start};
 
 use crate::Controller;
-use sig_types::{Colour, Frame, Mode, PhaseSet, showing};
+use call_store::signalling;
+use sig_types::{Frame, Mode, Ped, PhaseSet};
 
 /// Whether a frame is in Start.
 pub(crate) fn shows_start(frame: &Frame) -> bool
@@ -43,29 +44,45 @@ fn latest_after(before: u8, on: [u8; 2], in_start: bool) -> u8
 }
 
 impl Controller {
-    ghost use Rattle.sig_types.specs.declared.frame.Ped.TheVariants.{Dont};
     ghost use Rattle.sig_types.specs.Phases.{is_phase, is_in};
     ghost use Rattle.sig_types.specs.PhaseSet.{has};
-    ghost use Rattle.sig_types.specs.Colour.{is_start, signal_of};
+    ghost use Rattle.sig_types.specs.Colour.{is_start};
     ghost use Rattle.sig_tables.specs.Past.{Past, Moment};
     ghost use Rattle.sig_tables.specs.Calls.{is_green};
     ghost use Rattle.sig_tables.specs.Seen.{frame_seen};
-    ghost use Rattle.controller.specs.StandsFor.{Keeps, HasNoCalls, StartsOn, tick_count, after};
+    ghost use Rattle.sig_types.specs.declared.frame.Frame.{Frame};
+    ghost use Rattle.sig_tables.specs.Layout.{Has};
+    ghost use Rattle.controller.specs.Shows.{is_signalling};
+    ghost use Rattle.controller.specs.StandsFor.{Keeps, SawCalls, StartsOn, tick_count, after};
+
+    /// The phases on which these signals are Walk or Flash; the set that is kept, where they are those of the last frame.
+    fn signalling_in(&self, ped: &[Ped; 16]) -> PhaseSet
+        ensures signalling { (past : Past) (f : Frame) → Keeps self.now past → f.ped ≡ ped.now → Has result (is_signalling f) }
+    {
+        if *ped == self.frame.ped {
+            self.signalling
+        } else {
+            signalling(ped, Ped::Walk).union(signalling(ped, Ped::Flash))
+        }
+    }
 
     /// Keeps the frame of a tick, at which these phases were active and opposed.
     pub(crate) fn keep(&mut self, frame: &Frame, active: PhaseSet, opposed: PhaseSet)
         requires few { tick_count self.old < 4294967295 }
-        ensures keeps { (past : Past) (m : Moment) → Keeps self.old past → m.frame ≡ frame.now → m.tables ≡ past.tables → HasNoCalls m
+        ensures keeps { (past : Past) (m : Moment) → Keeps self.old past → m.frame ≡ frame.now → m.tables ≡ past.tables → SawCalls past m
             → ((p : ℕ) → is_phase p ≡ true → is_in m.quiet p ≡ (is_green (frame_seen past) p && not (has active p)))
             → ((p : ℕ) → is_phase p ≡ true → is_in m.opposed p ≡ (is_green (frame_seen past) p && has opposed p))
-            → ((p : ℕ) → is_phase p ≡ true → signal_of m.frame p ≡ Dont)
             → StartsOn self.old past m → Keeps self.new (after past m) }
         ensures ticks { tick_count self.new ≡ tick_count self.old + 1 }
     {
         let in_start = shows_start(frame);
+        let shown = self.shown_in(&frame.veh);
+        let signalling = self.signalling_in(&frame.ped);
+        self.calls.step(frame);
         self.clocks.step(frame, active, opposed, &self.tables);
-        self.green = showing(&frame.veh, Colour::Green);
-        self.red = showing(&frame.veh, Colour::Red);
+        self.signals.step(frame, &self.tables);
+        self.shown = shown;
+        self.signalling = signalling;
         self.last = [
             last_after(self.last[0], frame.on[0], in_start),
             last_after(self.last[1], frame.on[1], in_start),

@@ -4,16 +4,21 @@
 
 ghost use Rattle.std.specs.Prelude.{◌≡◌, ◌<◌, ◌≤◌, ◌+◌};
 
+use call_store::Calls;
+use ped_clock::PedClocks;
 use phase_clock::Clocks;
 use sig_tables::{Layout, Tables};
-use sig_types::{Colour, Frame, PhaseSet, showing};
+use sig_types::{Field, Frame, PhaseSet};
 
 mod keeping;
 mod moving;
 mod seeing;
+mod shown;
 mod turn;
+mod walking;
 
 use moving::first_frame;
+use shown::Shown;
 
 /// What a controller keeps between ticks.
 #[derive(Drop)]
@@ -22,10 +27,13 @@ pub struct Controller {
     layout: Layout,
     version: u32,
     frame: Frame,
+    calls: Calls,
     clocks: Clocks,
-    /// The phases that the last frame shows Green, and Red.
-    green: PhaseSet,
-    red: PhaseSet,
+    signals: PedClocks,
+    /// The phases by the colour that the last frame shows.
+    shown: Shown,
+    /// The phases on which the last frame shows Walk or Flash.
+    signalling: PhaseSet,
     /// The phase that was last on in each ring since Start, or 0.
     last: [u8; 2],
     /// A phase of the latest frame since Start that had one on, or 0.
@@ -35,28 +43,30 @@ pub struct Controller {
 }
 
 impl Controller {
-    ghost use Rattle.sig_tables.specs.Past.{History};
-    ghost use Rattle.sig_tables.specs.Decide.{decide, ticked, opening, last_frame_of, past_at};
-    ghost use Rattle.controller.specs.StandsFor.{StandsFor, HasNoWalks, tick_count};
+    ghost use Rattle.sig_tables.specs.Past.{History, Input};
+    ghost use Rattle.sig_tables.specs.Decide.{decide, ticked, opening, with_one, last_frame_of, past_at};
+    ghost use Rattle.call_store.specs.Stands.{NamesPhase};
+    ghost use Rattle.controller.specs.StandsFor.{StandsFor, IsFree, tick_count};
 
-    /// A cabinet that is opened with these tables, in Start. The command and the clock (ticks of the day) are 0 for now,
-    /// and no phase has pedestrian recall or starts up with Walk.
+    /// A cabinet that is opened with these tables, in Start. The command is no pattern of these tables and not 255, so
+    /// that the cabinet runs free; the clock is in ticks of the day.
     pub fn open(tables: Tables, command: u8, clock: u32) -> Controller
-        requires free { command ≡ 0 }
-        requires midnight { clock ≡ 0 }
-        requires walks { HasNoWalks tables }
+        requires free { IsFree tables command }
+        requires of_day { clock < 864000 }
         ensures stands { StandsFor result (opening tables command clock) }
         ensures ticks { tick_count result ≡ 0 }
     {
-        prove!(command == 0 && clock == 0);
+        prove!(command != 255 && clock < 864000);
         Controller {
             layout: Layout::of(&tables, 1),
             tables,
             version: 0,
             frame: first_frame(),
+            calls: Calls::new(),
             clocks: Clocks::new(),
-            green: PhaseSet::empty(),
-            red: showing(&first_frame().veh, Colour::Red),
+            signals: PedClocks::new(),
+            shown: Shown::of(&first_frame().veh),
+            signalling: PhaseSet::empty(),
             last: [0; 2],
             latest: 0,
             start_run: 1,
@@ -70,12 +80,21 @@ impl Controller {
         ensures stands { (h : History) → StandsFor self.old h → StandsFor self.new (ticked h) }
         ensures counted { tick_count self.new ≡ tick_count self.old + 1 }
     {
-        let active = self.active();
-        let demand = self.demand();
+        let active = self.calls.active(&self.layout, None);
+        let demand = self.calls.demand(&self.layout, self.shown.red, None);
         let opposed = self.opposed(demand);
         let frame = self.next_frame(demand, active, opposed);
         self.keep(&frame, active, opposed);
         frame
+    }
+
+    /// An input from the street: a detector or a push button of a phase, 1 to 16. It shows from the next tick on.
+    pub fn input(&mut self, field: Field)
+        requires phase { NamesPhase field }
+        ensures stands { (h : History) → StandsFor self.old h → StandsFor self.new (with_one h (Input field)) }
+        ensures counted { tick_count self.new ≡ tick_count self.old }
+    {
+        self.calls.input(field, &self.layout, &self.frame);
     }
 
     /// The tables in force.
@@ -92,3 +111,6 @@ impl Controller {
         self.frame
     }
 }
+
+#[cfg(test)]
+mod tests;

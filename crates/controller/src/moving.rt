@@ -1,13 +1,17 @@
 //! What the rings do at a tick, and the colours and the frame that come of it.
 
-ghost use Rattle.std.specs.Prelude.{◌≡◌, ◌<◌, ◌≤◌, ◌&&◌, ℕ, true, not, List, [], ◌∷◌, IsTrue};
-ghost use Rattle.sig_tables.specs.Past.{first_frame};
+ghost use Rattle.std.specs.Prelude.{◌≡◌, ◌<◌, ◌≤◌, ◌&&◌, ℕ, true, not, List, map, [], ◌∷◌, IsTrue};
+ghost use Rattle.sig_tables.specs.Past.{Past, first_frame};
+ghost use Rattle.sig_tables.specs.Decide.{mode_of};
+ghost use Rattle.sig_tables.specs.Seen.{turn_seen};
+ghost use Rattle.controller.specs.StandsFor.{turn_meant};
 
 use crate::Controller;
 use crate::keeping::shows_start;
+use crate::shown::Shown;
 use crate::turn::Turn;
-use ring_barrier::{Changes, View, changes};
-use sig_types::{Colour, Frame, Mode, Ped, PhaseSet, showing};
+use ring_barrier::{Changes, View, changes, is_idle};
+use sig_types::{Colour, Frame, Mode, Ped, PhaseSet};
 
 /// What is shown before any tick: all red, in Start.
 pub(crate) fn first_frame() -> Frame
@@ -24,19 +28,31 @@ pub(crate) fn first_frame() -> Frame
     }
 }
 
+/// The mode of the frame of this turn.
+fn mode_after(turn: Turn) -> Mode
+    ensures { (past : Past) → turn_meant turn ≡ turn_seen past → result ≡ mode_of past.moments }
+{
+    match turn {
+        Turn::Rest => Mode::Start,
+        Turn::StartUp => Mode::Free,
+        Turn::Rings => Mode::Free,
+    }
+}
+
 impl Controller {
-    ghost use Rattle.sig_types.specs.Phases.{is_phase, is_in, some};
+    ghost use Rattle.sig_types.specs.Phases.{is_phase, is_in, some, all_phases};
     ghost use Rattle.sig_types.specs.PhaseSet.{has, phases_of};
     ghost use Rattle.sig_types.specs.Colour.{same_colour, colour_in, colour_of, is_start};
     ghost use Rattle.sig_tables.specs.Sides.{are_incompatible};
-    ghost use Rattle.sig_tables.specs.Past.{Past};
     ghost use Rattle.sig_tables.specs.Calls.{is_active};
-    ghost use Rattle.sig_tables.specs.Moves.{Moves};
-    ghost use Rattle.sig_tables.specs.Decide.{leaves_start, mode_of, colour_after, colours_of, frame_of, on_of, next_moment};
+    ghost use Rattle.sig_tables.specs.Moves.{Moves, ring_moves};
+    ghost use Rattle.sig_tables.specs.Decide.{colour_after, signal_after, colours_of, frame_of, on_of, next_moment};
     ghost use Rattle.sig_tables.specs.Layout.{Has};
-    ghost use Rattle.sig_tables.specs.Seen.{frame_seen, detectors_seen, demand_seen, pedestrian_seen, opposed_seen, turn_seen, view_seen, moves_seen};
-    ghost use Rattle.controller.specs.StandsFor.{Keeps, AreMoves, turn_meant, tick_count};
-    ghost use Rattle.ring_barrier.specs.Shows.{Shows};
+    ghost use Rattle.sig_tables.specs.Seen.{frame_seen, detectors_seen, demand_seen, pedestrian_seen, opposed_seen, view_seen, moves_seen};
+    ghost use Rattle.sig_tables.specs.View.{is_done};
+    ghost use Rattle.ring_barrier.specs.Shows.{Shows, Opens};
+    ghost use Rattle.controller.specs.Shows.{ShowsColours};
+    ghost use Rattle.controller.specs.StandsFor.{Keeps, AreMoves, tick_count};
     ghost use Rattle.sig_types.specs.declared.frame.Colour.TheVariants.{Red};
 
     /// Whether the last frame is in Start.
@@ -46,42 +62,58 @@ impl Controller {
         shows_start(&self.frame)
     }
 
-    /// Whether Start goes on at this tick: it lasts 60 frames.
-    pub(crate) fn stays_in_start(&self) -> bool
-        ensures start { (past : Past) → Keeps self.now past
-            → result ≡ (is_start (frame_seen past).mode && not (leaves_start past.moments)) }
-        ensures few { IsTrue result → self.now.start_run < 60 }
+    /// Whether each ring is open at this tick.
+    fn opening(&self) -> [bool; 2]
+        requires few { tick_count self.now < 4294967295 }
+        ensures opening { (past : Past) → Keeps self.now past → Opens result (view_seen past) }
     {
-        if self.is_in_start() {
-            if self.start_run < 60 { true } else { false }
-        } else {
-            false
-        }
+        [
+            self.is_open(self.frame.on[0]),
+            self.is_open(self.frame.on[1]),
+        ]
     }
 
     /// What the rings look at.
-    fn ring_view(&self, demand: PhaseSet, active: PhaseSet, opposed: PhaseSet) -> View<'_>
+    fn ring_view(&self, opening: [bool; 2], demand: PhaseSet, done: PhaseSet) -> View<'_>
         requires few { tick_count self.now < 4294967295 }
-        ensures shows { (past : Past) → Keeps self.now past → phases_of demand ≡ demand_seen past
-            → Has active (is_active past.tables past.heard (detectors_seen past))
-            → Has opposed (λ p. some (are_incompatible past.tables p) (demand_seen past))
-            → Shows result (view_seen past) }
+        ensures shows { (past : Past) → Keeps self.now past → Opens opening (view_seen past) → phases_of demand ≡ demand_seen past
+            → Has done (is_done (view_seen past)) → Shows result (view_seen past) }
     {
-        let on = self.frame.on;
         View {
             layout: &self.layout,
-            on,
-            opening: [self.is_open(on[0]), self.is_open(on[1])],
+            on: self.frame.on,
+            opening,
             last: self.last,
             latest: self.latest,
             demand,
             startable: self.startable(),
-            done: self.done(active, opposed),
+            done,
+        }
+    }
+
+    /// What both rings do at this tick by the rules of actuated control. Where no ring is open and no phase is done, they
+    /// need not look.
+    fn ring_changes(&self, demand: PhaseSet, active: PhaseSet, opposed: PhaseSet) -> Changes
+        requires few { tick_count self.now < 4294967295 }
+        ensures changes { (past : Past) → Keeps self.now past → phases_of demand ≡ demand_seen past
+            → Has active (is_active past.tables past.heard (detectors_seen past))
+            → Has opposed (λ p. some (are_incompatible past.tables p) (demand_seen past))
+            → AreMoves result (ring_moves (view_seen past)) }
+    {
+        let opening = self.opening();
+        let done = self.done(active, opposed);
+        if is_idle(opening, done) {
+            Changes {
+                ends: PhaseSet::empty(),
+                begins: PhaseSet::empty(),
+            }
+        } else {
+            changes(&self.ring_view(opening, demand, done))
         }
     }
 
     /// What the rings do at this tick.
-    fn turn(&self) -> Turn
+    pub(crate) fn turn(&self) -> Turn
         ensures turn { (past : Past) → Keeps self.now past → turn_meant result ≡ turn_seen past }
     {
         if self.is_in_start() {
@@ -98,14 +130,14 @@ impl Controller {
     }
 
     /// The phases that end and those that begin at this tick, of which these have demand, are active and opposed.
-    pub(crate) fn moves(&self, demand: PhaseSet, active: PhaseSet, opposed: PhaseSet) -> Changes
+    fn moves(&self, turn: Turn, demand: PhaseSet, active: PhaseSet, opposed: PhaseSet) -> Changes
         requires few { tick_count self.now < 4294967295 }
-        ensures moves { (past : Past) → Keeps self.now past → phases_of demand ≡ demand_seen past
+        ensures moves { (past : Past) → Keeps self.now past → turn_meant turn ≡ turn_seen past → phases_of demand ≡ demand_seen past
             → Has active (is_active past.tables past.heard (detectors_seen past))
             → Has opposed (λ p. some (are_incompatible past.tables p) (demand_seen past))
             → AreMoves result (moves_seen past) }
     {
-        match self.turn() {
+        match turn {
             Turn::Rest => Changes {
                 ends: PhaseSet::empty(),
                 begins: PhaseSet::empty(),
@@ -114,18 +146,7 @@ impl Controller {
                 ends: PhaseSet::empty(),
                 begins: self.layout.starts_up,
             },
-            Turn::Rings => changes(&self.ring_view(demand, active, opposed)),
-        }
-    }
-
-    /// The mode of this tick's frame.
-    fn next_mode(&self) -> Mode
-        ensures mode { (past : Past) → Keeps self.now past → result ≡ mode_of past.moments }
-    {
-        if self.stays_in_start() {
-            Mode::Start
-        } else {
-            Mode::Free
+            Turn::Rings => self.ring_changes(demand, active, opposed),
         }
     }
 
@@ -157,16 +178,43 @@ impl Controller {
         }
     }
 
+    /// Whether every phase keeps the colour that it has in these of the last frame: none ends or begins, and none is in
+    /// Yellow or red clearance.
+    fn is_still(&self, veh: &[Colour; 16], moves: Changes) -> bool
+        ensures still { (past : Past) (w : Moves) → Keeps self.now past → AreMoves moves w → veh.now ≡ (frame_seen past).veh
+            → IsTrue result → veh.now ≡ colours_of past w }
+    {
+        if moves.ends.is_empty() && moves.begins.is_empty() {
+            self.shown.clearing.is_empty()
+        } else {
+            false
+        }
+    }
+
     /// The colours after these moves.
-    pub(crate) fn colours(&self, moves: Changes) -> [Colour; 16]
+    fn colours(&self, moves: Changes) -> [Colour; 16]
         requires few { tick_count self.now < 4294967295 }
         ensures colours { (past : Past) (w : Moves) → Keeps self.now past → AreMoves moves w → result ≡ colours_of past w }
     {
+        if self.is_still(&self.frame.veh, moves) {
+            return self.frame.veh;
+        }
         let mut veh = [Colour::Red; 16];
         for p in 0..16 {
             veh[p] = self.colour_after(moves, p as u8 + 1);
         }
         veh
+    }
+
+    /// The phases by these colours; the sets that are kept, where the colours are those of the last frame.
+    pub(crate) fn shown_in(&self, veh: &[Colour; 16]) -> Shown
+        ensures shown { (past : Past) → Keeps self.now past → ShowsColours result veh.now }
+    {
+        if *veh == self.frame.veh {
+            self.shown
+        } else {
+            Shown::of(veh)
+        }
     }
 
     /// The phase of a ring, 1 to 2, that is on in these colours, or 0.
@@ -179,16 +227,18 @@ impl Controller {
         self.layout.rings[ring as usize - 1].minus(red).first()
     }
 
-    /// The frame of this tick, from its colours.
-    pub(crate) fn frame_after(&self, veh: [Colour; 16], red: PhaseSet) -> Frame
-        ensures frame { (past : Past) → Keeps self.now past → Has red (λ p. same_colour (colour_in veh p) Red)
+    /// The frame of this tick, from its colours and signals.
+    fn frame_after(&self, turn: Turn, veh: [Colour; 16], ped: [Ped; 16]) -> Frame
+        ensures frame { (past : Past) → Keeps self.now past → turn_meant turn ≡ turn_seen past
+            → ped ≡ map (signal_after (turn_seen past) past.tables past.moments (mode_of past.moments) (pedestrian_seen past) (opposed_seen past) veh) all_phases
             → result ≡ frame_of (turn_seen past) past (pedestrian_seen past) (opposed_seen past) (mode_of past.moments) veh }
     {
+        let red = self.shown_in(&veh).red;
         Frame {
             veh,
-            ped: [Ped::Dont; 16],
+            ped,
             on: [self.on_in_ring(red, 1), self.on_in_ring(red, 2)],
-            mode: self.next_mode(),
+            mode: mode_after(turn),
             counter: 0,
             target: 0,
             version: self.version,
@@ -203,7 +253,9 @@ impl Controller {
             → Has opposed (λ p. some (are_incompatible past.tables p) (demand_seen past))
             → result ≡ (next_moment past).frame }
     {
-        let veh = self.colours(self.moves(demand, active, opposed));
-        self.frame_after(veh, showing(&veh, Colour::Red))
+        let turn = self.turn();
+        let moves = self.moves(turn, demand, active, opposed);
+        let walks = self.walks(turn, moves, opposed);
+        self.frame_after(turn, self.colours(moves), self.signals_after(walks))
     }
 }

@@ -14,7 +14,7 @@ loop-p-preserved c = λ past k a o.
     below-more c.loop-p.done c.with_if-done.result c.loop-p.p (is_done (view_seen past)) c.is_done_of.result
     (c.loop-p.invariant past k a o) c.with_if-done.ensures.has
     (c.is_done_of.ensures.done past k
-    (c.meet-candidates.ensures.has c.loop-p.p ∙ rw (k.layout.enabled c.loop-p.p h, k.green c.loop-p.p h) refl)
+    (c.meet-candidates.ensures.has c.loop-p.p ∙ rw (k.layout.enabled c.loop-p.p h, k.shown.green c.loop-p.p h) refl)
     (λ green. c.has.ensures.has ∙ a c.loop-p.p h ∙ quiet-by-active past c.loop-p.p h green)
     (λ green. c.has-in-loop-p.ensures.has ∙ o c.loop-p.p h ∙ opposed-by-demand past c.loop-p.p h green))
 
