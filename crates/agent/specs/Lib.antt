@@ -1,0 +1,6 @@
+pub mod Seen
+pub mod Groups
+pub mod Values
+pub mod Bindings
+pub mod Asks
+pub mod Replies

@@ -1,0 +1,20 @@
+//! The agent of a cabinet: what a frame of management software asks (SNMP version 1, RFC 1157), and what is answered. An
+//! answer is a function of the tables in force, of what the cabinet shows, and of its download stage. Frames that are no
+//! message, of another community, or a Response are met with silence. Nothing here takes memory.
+#![tactic(auto)]
+
+mod ask;
+mod bindings;
+mod cabinet;
+mod groups;
+mod laws;
+mod reply;
+mod sets;
+mod values;
+
+pub use ask::{Ask, Order, Wish, decode};
+pub use laws::{instances_have_values, repeated_bindings_fit};
+pub use reply::answer;
+
+#[cfg(test)]
+mod tests;

@@ -1,0 +1,181 @@
+//! The answer to what was asked: the values, or the status and index of the first fault with the request's bindings.
+
+ghost use Rattle.std.specs.Prelude.{◌≡◌, ◌≤◌, ◌<◌, length, map, All, IfOk, IfErr, None};
+ghost use Rattle.snmp_msg.specs.Shortest.{shortest, IsWritableBind, IsWritableMessage};
+ghost use Rattle.agent.specs.Asks.{IsAsked};
+ghost use Rattle.agent.specs.Bindings.{each_gives, listed, IsSmall};
+ghost use Rattle.agent.specs.Seen.{IsWithin, seen};
+ghost use Rattle.agent.specs.Replies.{instance_of, next_instance, given, response, repeated, with_values, reply};
+
+use crate::ask::{Ask, Wish};
+use crate::bindings::{Fault, NO_SUCH_NAME, TOO_BIG, copies_of, copy_of_name};
+use crate::cabinet::Cabinet;
+use crate::values::value_named;
+use arrayvec::ArrayVec;
+use oid_map::next;
+use sig_tables::{Shown, Tables};
+use sig_types::{Octets, StageAnswer};
+use snmp_msg::{Bind, Message, Pdu, TooLong, write};
+
+/// Which instances a request is about.
+#[derive(Clone, Copy, Debug, PartialEq, Eq)]
+pub enum Reach {
+    /// Those that it names.
+    Named,
+    /// Those that come next after the names.
+    Following,
+}
+
+/// The instance that a binding names, with its value, or the status of its fault.
+fn instance_of(cabinet: &Cabinet, bind: &Bind) -> Result<Bind, u8>
+    requires writable { IsWritableBind bind.now }
+    requires within { IsWithin cabinet.now.shown.now }
+    ensures gives { result ≡ instance_of (seen cabinet.now) bind.now }
+    ensures writable { IfOk result IsWritableBind }
+{
+    match value_named(cabinet, &bind.name) {
+        Some(value) => {
+            let name = copy_of_name(&bind.name);
+            Ok(Bind { name, value })
+        }
+        None => Err(NO_SUCH_NAME),
+    }
+}
+
+/// The instance that comes next after a binding's name, with its value, or the status of its fault.
+fn next_instance(cabinet: &Cabinet, bind: &Bind) -> Result<Bind, u8>
+    requires within { IsWithin cabinet.now.shown.now }
+    ensures gives { result ≡ next_instance (seen cabinet.now) bind.now }
+    ensures writable { IfOk result IsWritableBind }
+{
+    match next(&bind.name) {
+        Some(name) => match value_named(cabinet, &name) {
+            Some(value) => Ok(Bind { name, value }),
+            None => Err(NO_SUCH_NAME),
+        },
+        None => Err(NO_SUCH_NAME),
+    }
+}
+
+/// The instance that a binding asks for, with its value, or the status of its fault.
+fn given(cabinet: &Cabinet, reach: Reach, bind: &Bind) -> Result<Bind, u8>
+    requires writable { IsWritableBind bind.now }
+    requires within { IsWithin cabinet.now.shown.now }
+    ensures gives { result ≡ given reach (seen cabinet.now) bind.now }
+    ensures writable { IfOk result IsWritableBind }
+{
+    match reach {
+        Reach::Named => instance_of(cabinet, bind),
+        Reach::Following => next_instance(cabinet, bind),
+    }
+}
+
+/// The instances that the bindings ask for, with their values, or the first fault.
+fn values(cabinet: &Cabinet, reach: Reach, binds: &[Bind]) -> Result<ArrayVec<Bind, 32>, Fault>
+    requires few { length binds.now ≤ 32 }
+    requires writable { All IsWritableBind binds.now }
+    requires within { IsWithin cabinet.now.shown.now }
+    ensures gives { listed result ≡ each_gives (given reach (seen cabinet.now)) 1 binds.now }
+    ensures writable { IfOk result (λ given. All IsWritableBind given.items) }
+{
+    let mut values = ArrayVec::new();
+    for bind in binds {
+        match given(cabinet, reach, bind) {
+            Ok(value) => values.push(value),
+            Err(status) => {
+                let index = values.len() as u8 + 1;
+                return Err(Fault { status, index });
+            }
+        }
+    }
+    Ok(values)
+}
+
+/// The Response with the request's community and id.
+fn response(m: &Message, status: u8, index: u8, binds: ArrayVec<Bind, 32>) -> Message
+    ensures { result ≡ response m.now status index binds.items }
+{
+    let mut community = ArrayVec::new();
+    let _ = community.try_extend_from_slice(m.community.as_slice());
+    Message {
+        community,
+        pdu: Pdu::Response,
+        id: m.id,
+        status: i32::from(status),
+        index: i32::from(index),
+        binds,
+    }
+}
+
+/// The Response that repeats the request's bindings. It fits into a frame, as the request did.
+fn repeated(m: &Message, status: u8, index: u8) -> Octets
+    requires writable { IsWritableMessage m.now }
+    requires fits { length (shortest m.now) ≤ 1472 }
+    requires few_statuses { status < 128 }
+    requires few_places { index < 128 }
+    ensures { result.items ≡ shortest (repeated m.now status index) }
+{
+    let binds = copies_of(m.binds.as_slice());
+    match write(&response(m, status, index, binds)) {
+        Ok(octets) => octets,
+        Err(TooLong) => unreachable!(),
+    }
+}
+
+/// The Response with the values, or with the request's bindings where one has a fault or the values find no room.
+fn with_values(m: &Message, values: Result<ArrayVec<Bind, 32>, Fault>) -> Octets
+    requires writable { IsWritableMessage m.now }
+    requires fits { length (shortest m.now) ≤ 1472 }
+    requires values { IfOk values (λ given. All IsWritableBind given.items) }
+    requires fault { IfErr values IsSmall }
+    ensures { result.items ≡ shortest (with_values m.now (listed values)) }
+{
+    match values {
+        Ok(binds) => match write(&response(m, 0, 0, binds)) {
+            Ok(octets) => octets,
+            Err(TooLong) => repeated(m, TOO_BIG, 0),
+        },
+        Err(Fault { status, index }) => repeated(m, status, index),
+    }
+}
+
+/// The answer to a Get or a GetNext.
+fn reached(cabinet: &Cabinet, reach: Reach, m: &Message) -> Octets
+    requires writable { IsWritableMessage m.now }
+    requires fits { length (shortest m.now) ≤ 1472 }
+    requires within { IsWithin cabinet.now.shown.now }
+    ensures { result.items ≡ shortest (with_values m.now (each_gives (given reach (seen cabinet.now)) 1 m.now.binds.items)) }
+{
+    with_values(m, values(cabinet, reach, m.binds.as_slice()))
+}
+
+/// The answer to what was asked, as octets in their shortest form. `state` and `last` are those of the cabinet's download
+/// stage; there is no download yet, and so no outcome of one.
+#[tactic(auto, using(crate::proofs::Asked::asked_fits, crate::proofs::Asked::asked_writable))]
+pub fn answer(
+    ask: &Ask,
+    tables: &Tables,
+    shown: &Shown,
+    state: u8,
+    last: Option<StageAnswer>,
+    outcome: Option<StageAnswer>,
+) -> Octets
+    requires asked { IsAsked ask.now }
+    requires within { IsWithin shown.now }
+    requires no_download { outcome ≡ None }
+    ensures { result.items ≡ shortest (reply (record { tables = tables.now; shown = shown.now; state = state; last = last }) ask.now.message ask.now.wish) }
+{
+    let cabinet = Cabinet {
+        tables,
+        shown,
+        state,
+        last,
+    };
+    let m = &ask.message;
+    match &ask.wish {
+        Wish::Get => reached(&cabinet, Reach::Named, m),
+        Wish::Next => reached(&cabinet, Reach::Following, m),
+        Wish::Direct(_) => repeated(m, 0, 0),
+        Wish::Bad { status, index } => repeated(m, *status, *index),
+    }
+}
