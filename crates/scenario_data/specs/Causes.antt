@@ -1,0 +1,17 @@
+-- The faults of a scenario's value, apart from the memory in which an answer stands; and which of them a refusal names.
+use Rattle.std.specs.Prelude.{ℕ, ◌≡◌, List, Option, Some, string_bytes}
+use Rattle.scenario_data.specs.declared.refusal.Refusal.{Refusal}
+use Rattle.scenario_data.specs.declared.refusal.Refusal.TheVariants.{Syntax, Field as FieldRefusal, Limit as LimitRefusal, Broken as BrokenRefusal}
+
+-- a path is its text
+pub data Cause : Type 0 where
+  Field : (path : List ℕ) → Cause
+  Limit : (path : List ℕ) → Cause
+  Broken : (cabinet rule row : ℕ) → Cause
+
+-- the refusal names this fault; a text that has no reading has no value with faults
+abbrev pub Names : Refusal → Option Cause → Type 0
+Names Syntax cause = ⊥
+Names (FieldRefusal path) cause = cause ≡ Some (Field (string_bytes path))
+Names (LimitRefusal path) cause = cause ≡ Some (Limit (string_bytes path))
+Names (BrokenRefusal cabinet rule row) cause = cause ≡ Some (Broken cabinet rule row)

@@ -1,0 +1,101 @@
+-- A scenario as its content: the numbers and lists that it holds, apart from the memory in which they stand.
+use Rattle.std.specs.Prelude.{ℕ, List, map}
+use Rattle.sig_types.specs.declared.notes.Way.{Way}
+use Rattle.sig_tables.specs.declared.cells.Cell.{Cell}
+use Rattle.sig_tables.specs.declared.cells.CellValue.{CellValue}
+use Rattle.sig_tables.specs.Cells.{Content, content_of}
+use Rattle.scenario_data.specs.declared.scenario.Base.{Base}
+use Rattle.scenario_data.specs.declared.scenario.Cabinet.{Cabinet}
+use Rattle.scenario_data.specs.declared.scenario.Entry.{Entry}
+use Rattle.scenario_data.specs.declared.scenario.MasterSetup.{MasterSetup}
+use Rattle.scenario_data.specs.declared.scenario.Input.{Input}
+use Rattle.scenario_data.specs.declared.scenario.LoadItem.{LoadItem}
+use Rattle.scenario_data.specs.declared.scenario.PriorityItem.{PriorityItem}
+use Rattle.scenario_data.specs.declared.scenario.FrameItem.{FrameItem}
+use Rattle.scenario_data.specs.declared.scenario.Fault.{Fault}
+use Rattle.scenario_data.specs.declared.scenario.Scenario.{Scenario}
+
+pub record CabinetContent : Type 0 where
+  pub base : Base
+  pub cells : List (Cell × Content)
+  pub pattern : ℕ
+  pub clock : ℕ
+  pub section : ℕ
+
+pub record MasterContent : Type 0 where
+  pub clock : ℕ
+  pub poll_every : ℕ
+  pub clock_every : ℕ
+  pub pattern_every : ℕ
+  pub retries : ℕ
+  pub schedule : List Entry
+
+pub record LoadContent : Type 0 where
+  pub round : ℕ
+  pub cabinet : ℕ
+  pub cells : List (Cell × Content)
+
+pub record FrameContent : Type 0 where
+  pub round : ℕ
+  pub cabinet : ℕ
+  pub stream : Way
+  pub hex : List ℕ
+
+pub record ScenarioContent : Type 0 where
+  pub version : ℕ
+  pub rounds : ℕ
+  pub ticks : ℕ
+  pub community : List ℕ
+  pub cabinets : List CabinetContent
+  pub master : MasterContent
+  pub inputs : List Input
+  pub loads : List LoadContent
+  pub priority : List PriorityItem
+  pub frames : List FrameContent
+  pub faults : List Fault
+  pub compact : List ℕ
+
+-- a cell, with what is put there
+abbrev pub put_content : Cell × CellValue → Cell × Content
+put_content put = (put.0, content_of put.1)
+
+abbrev pub cabinet_content : Cabinet → CabinetContent
+cabinet_content c = record {
+  base = c.base;
+  cells = map put_content c.cells.items;
+  pattern = c.pattern;
+  clock = c.clock;
+  section = c.section;
+}
+
+abbrev pub master_content : MasterSetup → MasterContent
+master_content m = record {
+  clock = m.clock;
+  poll_every = m.poll_every;
+  clock_every = m.clock_every;
+  pattern_every = m.pattern_every;
+  retries = m.retries;
+  schedule = m.schedule.items;
+}
+
+abbrev pub load_content : LoadItem → LoadContent
+load_content l = record { round = l.round; cabinet = l.cabinet; cells = map put_content l.cells.items }
+
+abbrev pub frame_content : FrameItem → FrameContent
+frame_content f = record { round = f.round; cabinet = f.cabinet; stream = f.stream; hex = f.hex.items }
+
+abbrev pub scenario_content : Scenario → ScenarioContent
+scenario_content s = record {
+  version = s.version;
+  rounds = s.rounds;
+  ticks = s.ticks;
+  community = s.community.items;
+  cabinets = map cabinet_content s.cabinets.items;
+  master = master_content s.master;
+  inputs = s.inputs.items;
+  loads = map load_content s.loads.items;
+  priority = s.priority.items;
+  frames = map frame_content s.frames.items;
+  faults = s.faults.items;
+  compact = s.compact.items;
+}

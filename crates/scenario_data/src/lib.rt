@@ -1,0 +1,12 @@
+//! What a scenario says, as plain data: the cabinets and their tables, the master's setup, and what happens in each round;
+//! and why a text is no scenario. Nothing here reads or runs.
+#![tactic(auto)]
+
+mod refusal;
+mod scenario;
+
+pub use refusal::{ReadFail, Refusal};
+pub use scenario::{
+    Base, Cabinet, Direction, Entry, Fault, FaultKind, FrameItem, Input, LoadItem, MasterSetup,
+    PriorityAct, PriorityItem, Scenario,
+};

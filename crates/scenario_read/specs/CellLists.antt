@@ -1,0 +1,140 @@
+-- A cell of the tables and what is put there, as a list: a word, the numbers of its row and column, and a number or a text in
+-- hexadecimal digits.
+use Rattle.std.specs.Prelude.{ℕ, ◌+◌, ◌==◌, ◌&&◌, nat_le, Bool, if◌then◌else◌, List, [], codes, length, bytes_eq, Option, Some, None, option_and_then, unwrap_or, Result, Ok, Err}
+use Rattle.hex.specs.declared.error.FromHexError.{FromHexError}
+use Rattle.hex.specs.Hex.{decode_of}
+use Rattle.serde_json.specs.Data.{Num, unsigned, negative, float, Data, null, boolean, number, string, array, object}
+use Rattle.serde_json.specs.Find.{at, as_str}
+use Rattle.serde_json.specs.Events.{items_len}
+use Rattle.sig_tables.specs.declared.cells.Cell.{Cell}
+use Rattle.sig_tables.specs.declared.cells.Cell.TheVariants.{Phase, Sequence, Split, Pattern, Preempt, Unit as UnitCell}
+use Rattle.sig_tables.specs.declared.cells.Allowed.{Allowed}
+use Rattle.sig_tables.specs.declared.cells.Allowed.TheVariants.{Numbers, Lists}
+use Rattle.sig_tables.specs.Cells.{Content, Number, Octets}
+use Rattle.sig_tables.specs.Ranges.{allowed_in}
+use Rattle.scenario_read.specs.Kinds.{Fit, Wrong, Kind, fault_at, within, whole_fits, items_in}
+
+-- a number up to 255; 0 for any other
+abbrev pub octet_in : Num → ℕ
+octet_in (unsigned n) = if nat_le n 255 then n else 0
+octet_in (negative z) = 0
+octet_in (float x) = 0
+
+-- a number of a row or column; 0, which none has, where it is anything else
+abbrev pub octet_of : Data → ℕ
+octet_of null = 0
+octet_of (boolean b) = 0
+octet_of (number n) = octet_in n
+octet_of (string s) = 0
+octet_of (array ds) = 0
+octet_of (object ms) = 0
+
+-- the number at a place of a list
+abbrev pub octet_at : ℕ → Data → ℕ
+octet_at place d = octet_of (unwrap_or (at place d) null)
+
+-- the cell that a word and the numbers behind it name
+abbrev pub named_cell : List ℕ → Data → Option Cell
+named_cell word d =
+    if bytes_eq word (codes "phase") then Some (Phase (octet_at 1 d) (octet_at 2 d)) else
+    if bytes_eq word (codes "sequence") then Some (Sequence (octet_at 1 d) (octet_at 2 d)) else
+    if bytes_eq word (codes "split") then Some (Split (octet_at 1 d) (octet_at 2 d) (octet_at 3 d)) else
+    if bytes_eq word (codes "pattern") then Some (Pattern (octet_at 1 d) (octet_at 2 d)) else
+    if bytes_eq word (codes "preempt") then Some (Preempt (octet_at 1 d) (octet_at 2 d)) else
+    if bytes_eq word (codes "unit") then Some (UnitCell (octet_at 1 d)) else None
+
+-- the cell that a list names
+abbrev pub listed_cell : Data → Option Cell
+listed_cell d = option_and_then (λ word. named_cell word d) (option_and_then as_str (at 0 d))
+
+-- the place of what is put there: behind the word and the cell's numbers
+abbrev pub value_place : Cell → ℕ
+value_place (Phase p c) = 3
+value_place (Sequence s r) = 3
+value_place (Split s p c) = 4
+value_place (Pattern n c) = 3
+value_place (Preempt i c) = 3
+value_place (UnitCell n) = 2
+
+-- what is put into a cell
+abbrev pub put_value : Cell → Data → Data
+put_value cell d = unwrap_or (at (value_place cell) d) null
+
+-- how many items a list has
+abbrev pub item_count : Data → ℕ
+item_count d = items_len (items_in d)
+
+-- a number lies from least to most
+abbrev pub lies : ℕ → ℕ → ℕ → Bool
+lies n least most = nat_le least n && nat_le n most
+
+-- the cells that there are
+abbrev pub is_cell : Cell → Bool
+is_cell (Phase p c) = lies p 1 16 && lies c 2 23
+is_cell (Sequence s r) = lies s 1 16 && lies r 1 2
+is_cell (Split s p c) = lies s 1 32 && lies p 1 16 && lies c 3 5
+is_cell (Pattern n c) = lies n 1 48 && lies c 2 5
+is_cell (Preempt i c) = lies i 1 8 && lies c 4 15
+is_cell (UnitCell n) = lies n 1 6
+
+-- at most 16 octets fit, and text that has no octets is of the wrong kind
+abbrev pub decoded_fits : Result (List ℕ) FromHexError → Fit
+decoded_fits (Ok octets) = within 0 16 (length octets)
+decoded_fits (Err e) = Wrong
+
+-- at most 16 octets, each as two hexadecimal digits
+abbrev pub octets_fits : Data → Fit
+octets_fits null = Wrong
+octets_fits (boolean b) = Wrong
+octets_fits (number n) = Wrong
+octets_fits (string s) = decoded_fits (decode_of s)
+octets_fits (array ds) = Wrong
+octets_fits (object ms) = Wrong
+
+-- what may be put where this is allowed
+abbrev pub content_fits : Allowed → Data → Fit
+content_fits (Numbers least most) d = whole_fits least most d
+content_fits Lists d = octets_fits d
+
+-- the cell must be one that there is, the list end with what is put there, and that be allowed in the cell
+abbrev pub listed_fits : Option Cell → Data → Fit
+listed_fits None d = Wrong
+listed_fits (Some cell) d =
+    if is_cell cell && (item_count d == value_place cell + 1) then content_fits (allowed_in cell) (put_value cell d) else Wrong
+
+-- a list that is a cell with a value for it fits
+abbrev pub cell_fits : Data → Fit
+cell_fits d = listed_fits (listed_cell d) d
+
+-- any fault inside a cell has the cell's own path
+abbrev pub cell : Kind
+cell path d = fault_at path (cell_fits d)
+
+-- the octets of a text; none where it has no reading
+abbrev pub octets_in : Result (List ℕ) FromHexError → List ℕ
+octets_in (Ok octets) = octets
+octets_in (Err e) = []
+
+-- a whole number that is not below 0; 0 for any other
+abbrev pub number_in : Num → ℕ
+number_in (unsigned n) = n
+number_in (negative z) = 0
+number_in (float x) = 0
+
+-- what is put there, where it fits
+abbrev pub content_in : Data → Content
+content_in null = Number 0
+content_in (boolean b) = Number 0
+content_in (number n) = Number (number_in n)
+content_in (string s) = Octets (octets_in (decode_of s))
+content_in (array ds) = Number 0
+content_in (object ms) = Number 0
+
+-- a cell with what its list puts there
+abbrev pub put_in : Option Cell → Data → Cell × Content
+put_in None d = (UnitCell 0, Number 0)
+put_in (Some cell) d = (cell, content_in (put_value cell d))
+
+-- the cell and what is put there, where the list fits
+abbrev pub cell_of : Data → Cell × Content
+cell_of d = put_in (listed_cell d) d

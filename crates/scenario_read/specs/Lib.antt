@@ -1,0 +1,10 @@
+pub mod Paths
+pub mod Kinds
+pub mod Fields
+pub mod CellLists
+pub mod Table
+pub mod Content
+pub mod Faults
+pub mod Answers
+pub mod Readers
+pub mod Sorted

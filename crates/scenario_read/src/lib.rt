@@ -1,0 +1,44 @@
+//! The scenario file, read whole and refused at its first fault. What a value may be stands in the table of names; the
+//! JSON reading is `serde_json`'s (RFC 8259).
+#![tactic(auto)]
+
+mod cabinets;
+mod cells;
+mod inputs;
+mod members;
+mod place;
+mod reading;
+mod scenario;
+mod tables;
+mod values;
+
+pub use reading::{read, text};
+pub use tables::opening_tables;
+
+#[cfg(test)]
+mod tests;
+
+ghost use Rattle.std.specs.Prelude.{◌≡◌, ℕ, List, [], ◌∷◌, codes, Some};
+ghost use Rattle.serde_json.specs.Data.{object, member, no_members, number, unsigned, array, item, no_items, string};
+ghost use Rattle.scenario_data.specs.Causes.{Field, Limit};
+ghost use Rattle.scenario_read.specs.Paths.{path_text, Named, Item};
+ghost use Rattle.scenario_data.specs.declared.refusal.Refusal.{Refusal};
+ghost use Rattle.scenario_data.specs.Content.{ScenarioContent};
+ghost use Rattle.scenario_read.specs.Faults.{faults, first_cause};
+ghost use Rattle.scenario_read.specs.Answers.{IsScenario, IsFirstFault};
+
+/// Small values, as the definitions see them.
+pub fn small_values()
+    ensures empty { first_cause (faults (object no_members)) ≡ Some (Field (codes "version")) }
+    ensures wrong_kind { first_cause (faults (object (member (codes "version") (string []) no_members))) ≡ Some (Field (codes "version")) }
+    ensures cabinets { first_cause (faults (object (member (codes "cabinets") (array no_items) (member (codes "rounds") (number (unsigned 1)) (member (codes "ticks") (number (unsigned 1)) (member (codes "version") (number (unsigned 1)) no_members))))))
+        ≡ Some (Limit (codes "cabinets")) }
+    ensures unknown { first_cause (faults (object (member (codes "cabinets") (array (item (object (member (codes "bases") (string []) no_members)) no_items)) (member (codes "rounds") (number (unsigned 1)) (member (codes "ticks") (number (unsigned 1)) (member (codes "version") (number (unsigned 1)) no_members))))))
+        ≡ Some (Field (path_text (Named (codes "cabinets") ∷ Item 0 ∷ Named (codes "bases") ∷ []))) }
+{}
+
+/// A law: bytes are one scenario and no more, or have a first fault, never both.
+pub fn bytes_have_one_answer()
+    ensures one { (bytes : List ℕ) → (a b : ScenarioContent) → IsScenario bytes a → IsScenario bytes b → a ≡ b }
+    ensures apart { (bytes : List ℕ) → (a : ScenarioContent) → (refusal : Refusal) → IsScenario bytes a → IsFirstFault bytes refusal → ⊥ }
+{}

@@ -1,0 +1,115 @@
+//! The members of an object: which names may stand there, and what stands at a name.
+
+ghost use Rattle.std.specs.Prelude.{◌≡◌, ◌≤◌, map, codes, IfOk};
+ghost use Rattle.serde_json.specs.Data.{number, unsigned};
+ghost use Rattle.serde_json.specs.View.{view, members_view};
+ghost use Rattle.scenario_read.specs.Kinds.{whole, flag, fault_at, Wrong};
+ghost use Rattle.scenario_read.specs.Fields.{needed, optional, held, field_faults, unknown_faults};
+ghost use Rattle.scenario_read.specs.Table.{base, clock};
+ghost use Rattle.scenario_read.specs.Content.{whole_of, base_of, flag_of};
+ghost use Rattle.scenario_read.specs.Readers.{steps_of, Answers, names_faults};
+
+use crate::place::{Place, refuse, refuse_member};
+use crate::values::{Unfit, base_of, flag_of, is_among, whole_of};
+use scenario_data::{Base, ReadFail};
+use serde_json::{Map, Value};
+use std::alloc::Global;
+
+/// Refuses the least name, by bytes, that is not known.
+fn known_members(
+    alloc: Global,
+    members: &Map<String, Value>,
+    place: Place,
+    known: &[&str],
+) -> Result<(), ReadFail>
+    ensures { Answers result (unknown_faults (map (λ name. name.now) known.now) (steps_of place) (members_view members.now.entries)) (λ _. Unit {0}) }
+{
+    for (name, _) in members.iter() {
+        if !is_among(known, name.as_str()) {
+            return Err(refuse_member(alloc, place, name.as_str(), Unfit::Wrong));
+        }
+    }
+    Ok(())
+}
+
+/// Refuses what is no object, and the least name, by bytes, that is not known.
+pub(crate) fn known_names(
+    alloc: Global,
+    value: &Value,
+    place: Place,
+    known: &[&str],
+) -> Result<(), ReadFail>
+    ensures { Answers result (names_faults (map (λ name. name.now) known.now) (steps_of place) (view value.now)) (λ _. Unit {0}) }
+{
+    match value {
+        Value::Object(members) => known_members(alloc, members, place, known),
+        _ => Err(refuse(alloc, place, Unfit::Wrong)),
+    }
+}
+
+/// A whole number that must stand at a name.
+pub(crate) fn whole_at(
+    alloc: Global,
+    object: &Value,
+    place: Place,
+    name: &str,
+    least: u32,
+    most: u32,
+) -> Result<u32, ReadFail>
+    ensures read { Answers result (field_faults (steps_of place) (view object.now) (needed name.now (whole least most)))
+        (λ n. n ≡ whole_of (held (needed name.now (whole least most)) (view object.now))) }
+    ensures few { IfOk result (λ n. n ≤ most) }
+{
+    match object.get(name) {
+        Some(value) => match whole_of(value, least, most) {
+            Ok(number) => Ok(number),
+            Err(unfit) => Err(refuse_member(alloc, place, name, unfit)),
+        },
+        None => Err(refuse_member(alloc, place, name, Unfit::Wrong)),
+    }
+}
+
+/// True or false, which must stand at a name.
+pub(crate) fn flag_at(
+    alloc: Global,
+    object: &Value,
+    place: Place,
+    name: &str,
+) -> Result<bool, ReadFail>
+    ensures { Answers result (field_faults (steps_of place) (view object.now) (needed name.now flag))
+        (λ b. b ≡ flag_of (held (needed name.now flag) (view object.now))) }
+{
+    match object.get(name) {
+        Some(value) => match flag_of(value) {
+            Ok(flag) => Ok(flag),
+            Err(unfit) => Err(refuse_member(alloc, place, name, unfit)),
+        },
+        None => Err(refuse_member(alloc, place, name, Unfit::Wrong)),
+    }
+}
+
+/// The opening time of day of a cabinet, in ticks; 0 where none is said.
+pub(crate) fn clock_at(alloc: Global, object: &Value, place: Place) -> Result<u32, ReadFail>
+    ensures { Answers result (field_faults (steps_of place) (view object.now) clock) (λ n. n ≡ whole_of (held clock (view object.now))) }
+{
+    match object.get("clock") {
+        Some(value) => match whole_of(value, 0, 863_999) {
+            Ok(number) => Ok(number),
+            Err(unfit) => Err(refuse_member(alloc, place, "clock", unfit)),
+        },
+        None => Ok(0),
+    }
+}
+
+/// The standard tables of a cabinet; `std8` where none are said.
+pub(crate) fn base_at(alloc: Global, object: &Value, place: Place) -> Result<Base, ReadFail>
+    ensures { Answers result (field_faults (steps_of place) (view object.now) base) (λ b. b ≡ base_of (held base (view object.now))) }
+{
+    match object.get("base") {
+        Some(value) => match base_of(value) {
+            Ok(base) => Ok(base),
+            Err(unfit) => Err(refuse_member(alloc, place, "base", unfit)),
+        },
+        None => Ok(Base::Std8),
+    }
+}

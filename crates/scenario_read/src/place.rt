@@ -1,0 +1,77 @@
+//! Where in a scenario a value stands, how that is written, and the refusals that name it. Text is made only where a fault
+//! was found.
+
+ghost use Rattle.std.specs.Prelude.{◌≡◌, IfOk, string_bytes};
+ghost use Rattle.scenario_read.specs.Paths.{path_text, then_named};
+ghost use Rattle.scenario_read.specs.Kinds.{fault_at};
+ghost use Rattle.scenario_read.specs.Readers.{steps_of, fit_of, refusal_at, Refuses};
+
+use crate::values::Unfit;
+use scenario_data::{ReadFail, Refusal};
+use std::alloc::{AllocError, Global};
+
+/// An object or an item of a list. Places in lists are counted from 0.
+#[derive(Clone, Copy)]
+pub enum Place {
+    Top,
+    Cabinet(usize),
+    Cell { cabinet: usize, cell: usize },
+    Input(usize),
+}
+
+/// The path of a place.
+fn path_of(alloc: Global, place: Place) -> Result<String, AllocError>
+    ensures { IfOk result (λ path. string_bytes path ≡ path_text (steps_of place)) }
+{
+    match place {
+        Place::Top => String::from_str(alloc, "."),
+        Place::Cabinet(cabinet) => format!(in alloc; "cabinets[{cabinet}]"),
+        Place::Cell { cabinet, cell } => format!(in alloc; "cabinets[{cabinet}].cells[{cell}]"),
+        Place::Input(input) => format!(in alloc; "inputs[{input}]"),
+    }
+}
+
+/// The path of a member of an object.
+#[tactic(auto, using(crate::proofs::Refusing::ended))]
+fn path_of_member(alloc: Global, place: Place, name: &str) -> Result<String, AllocError>
+    ensures { IfOk result (λ path. string_bytes path ≡ path_text (then_named (steps_of place) name.now)) }
+{
+    match place {
+        Place::Top => String::from_str(alloc, name),
+        Place::Cabinet(cabinet) => format!(in alloc; "cabinets[{cabinet}].{name}"),
+        Place::Cell { cabinet, cell } => format!(in alloc;
+            "cabinets[{cabinet}].cells[{cell}].{name}"
+        ),
+        Place::Input(input) => format!(in alloc; "inputs[{input}].{name}"),
+    }
+}
+
+/// The refusal that names a path.
+fn named(path: String, unfit: Unfit) -> ReadFail
+    ensures { result ≡ ReadFail.Refused (refusal_at path unfit) }
+{
+    match unfit {
+        Unfit::Wrong => ReadFail::Refused(Refusal::Field(path)),
+        Unfit::Beyond => ReadFail::Refused(Refusal::Limit(path)),
+    }
+}
+
+/// The refusal of the value at a place.
+pub(crate) fn refuse(alloc: Global, place: Place, unfit: Unfit) -> ReadFail
+    ensures { Refuses result (fault_at (steps_of place) (fit_of unfit)) }
+{
+    match path_of(alloc, place) {
+        Ok(path) => named(path, unfit),
+        Err(_) => ReadFail::NoMemory,
+    }
+}
+
+/// The refusal of a member of an object.
+pub(crate) fn refuse_member(alloc: Global, place: Place, name: &str, unfit: Unfit) -> ReadFail
+    ensures { Refuses result (fault_at (then_named (steps_of place) name.now) (fit_of unfit)) }
+{
+    match path_of_member(alloc, place, name) {
+        Ok(path) => named(path, unfit),
+        Err(_) => ReadFail::NoMemory,
+    }
+}

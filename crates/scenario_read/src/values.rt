@@ -1,0 +1,88 @@
+//! Values that stand alone: whole numbers, words, and true or false. Nothing here takes memory.
+
+ghost use Rattle.std.specs.Prelude.{◌≡◌, ◌≤◌, map, codes, length, ◌∷◌, [], IfOk, OnOk};
+ghost use Rattle.serde_json.specs.View.{view, items_view};
+ghost use Rattle.scenario_read.specs.Kinds.{whole_fits, word_fits, flag_fits, is_among, within, list_fits, items_in};
+ghost use Rattle.scenario_read.specs.Content.{whole_of, base_of, flag_of};
+ghost use Rattle.scenario_read.specs.Readers.{ReadAs};
+
+use scenario_data::Base;
+use serde_json::Value;
+
+/// Why a value may not stand where it does: it is of the wrong kind, or beyond the range.
+#[derive(Clone, Copy)]
+pub enum Unfit {
+    Wrong,
+    Beyond,
+}
+
+/// Whether a name is one of these.
+pub(crate) fn is_among(names: &[&str], name: &str) -> bool
+    ensures { result ≡ is_among (map (λ known. known.now) names.now) name.now }
+{
+    names.contains(&name)
+}
+
+/// A whole number of a range.
+pub(crate) fn whole_of(value: &Value, least: u32, most: u32) -> Result<u32, Unfit>
+    ensures read { ReadAs result (whole_fits least most (view value.now)) (λ n. n ≡ whole_of (view value.now)) }
+    ensures few { IfOk result (λ n. n ≤ most) }
+{
+    let Value::Number(number) = value else {
+        return Err(Unfit::Wrong);
+    };
+    match number.as_u64() {
+        Some(n) if u64::from(least) <= n && n <= u64::from(most) => Ok(n as u32),
+        Some(_) => Err(Unfit::Beyond),
+        None if number.is_f64() => Err(Unfit::Wrong),
+        None => Err(Unfit::Beyond),
+    }
+}
+
+/// The word of standard tables.
+pub(crate) fn base_of(value: &Value) -> Result<Base, Unfit>
+    ensures { ReadAs result (word_fits (codes "std8" ∷ codes "max8" ∷ []) (view value.now)) (λ base. base ≡ base_of (view value.now)) }
+{
+    match value.as_str() {
+        Some("std8") => Ok(Base::Std8),
+        Some("max8") => Ok(Base::Max8),
+        _ => Err(Unfit::Wrong),
+    }
+}
+
+/// True or false.
+pub(crate) fn flag_of(value: &Value) -> Result<bool, Unfit>
+    ensures { ReadAs result (flag_fits (view value.now)) (λ flag. flag ≡ flag_of (view value.now)) }
+{
+    match value {
+        Value::Bool(flag) => Ok(*flag),
+        _ => Err(Unfit::Wrong),
+    }
+}
+
+/// Whether a count lies within a range.
+fn in_range(count: usize, least: usize, most: usize) -> Result<(), Unfit>
+    ensures read { ReadAs result (within least most count) (λ _. Unit {0}) }
+    ensures few { OnOk result (count ≤ most) }
+{
+    if least <= count && count <= most {
+        Ok(())
+    } else {
+        Err(Unfit::Beyond)
+    }
+}
+
+/// The items of a list of least to most.
+#[tactic(auto, using(crate::proofs::Lists::array_fits, crate::proofs::Lists::array_items))]
+pub(crate) fn list_of(value: &Value, least: usize, most: usize) -> Result<&Vec<Value>, Unfit>
+    ensures read { ReadAs result (list_fits least most (view value.now)) (λ items. items_view items.now.items ≡ items_in (view value.now)) }
+    ensures few { IfOk result (λ items. length items.now.items ≤ most) }
+{
+    let Value::Array(items) = value else {
+        return Err(Unfit::Wrong);
+    };
+    match in_range(items.len(), least, most) {
+        Ok(()) => Ok(items),
+        Err(unfit) => Err(unfit),
+    }
+}
