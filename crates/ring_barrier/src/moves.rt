@@ -1,7 +1,8 @@
 //! What both rings do at a tick.
 
-ghost use Rattle.std.specs.Prelude.{◌≡◌, ◌≤◌, true, ℕ, List, ◌∷◌, []};
+ghost use Rattle.std.specs.Prelude.{◌≡◌, ◌≤◌, true, false, get_or, ℕ, List, ◌∷◌, []};
 ghost use Rattle.sig_types.specs.Phases.{is_in, only};
+ghost use Rattle.sig_types.specs.PhaseSet.{phases_of};
 ghost use Rattle.sig_tables.specs.View.{View as Scene, is_done};
 ghost use Rattle.sig_tables.specs.Layout.{Has};
 ghost use Rattle.sig_tables.specs.Moves.{ending_in, beginning_of, ring_moves};
@@ -31,8 +32,10 @@ fn move_of(ends: bool, begins: u8) -> Move
 /// Whether no ring is open and no phase is done, so that both rings stay as they are, as at most ticks: there is then no
 /// need to look further.
 pub fn is_idle(opening: [bool; 2], done: PhaseSet) -> bool
-    ensures { (w : Scene) → Opens opening w → Has done (is_done w) → result ≡ true
+    ensures idle { (w : Scene) → Opens opening w → Has done (is_done w) → result ≡ true
         → (r : ℕ) → 1 ≤ r → r ≤ 2 → (ending_in w r ≡ []) × (beginning_of w r ≡ []) }
+    // It says so wherever it can.
+    ensures each { get_or opening 0 false ≡ false → get_or opening 1 false ≡ false → phases_of done ≡ [] → result ≡ true }
 {
     if opening[0] || opening[1] {
         return false;

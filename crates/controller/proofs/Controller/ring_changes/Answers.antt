@@ -7,7 +7,7 @@ use Rattle.controller.proofs.Controller.ring_changes.Goals as goal
 pub returns-then-is_idle : goal.returns-then-is_idle
 returns-then-is_idle c = record {
   changes = λ past k d a o.
-      let still = c.is_idle.ensures (view_seen past) (c.opening-opening.ensures.opening past k) (c.done-done.ensures.done past k a o) c.if-is_idle.true in
+      let still = c.is_idle.ensures.idle (view_seen past) (c.opening-opening.ensures.opening past k) (c.done-done.ensures.done past k a o) c.if-is_idle.true in
       let one = still 1 (omega arith) (omega arith) in
       let two = still 2 (omega arith) (omega arith) in
       record {

@@ -10,12 +10,12 @@ use Rattle.ring_barrier.proofs.moves.changes.Goals as goal
 pub returns-then-is_idle : goal.returns-then-is_idle
 returns-then-is_idle c = record {
   ends = λ w s p e.
-      let a = c.is_idle.ensures w s.opening s.done c.if-is_idle.true 1 (omega arith) (omega arith) in
-      let b = c.is_idle.ensures w s.opening s.done c.if-is_idle.true 2 (omega arith) (omega arith) in
+      let a = c.is_idle.ensures.idle w s.opening s.done c.if-is_idle.true 1 (omega arith) (omega arith) in
+      let b = c.is_idle.ensures.idle w s.opening s.done c.if-is_idle.true 2 (omega arith) (omega arith) in
       c.empty.ensures.has p ∙ sym (in-both (ending_in w 1) (ending_in w 2) p ∙ rw (a.0, b.0) refl);
   begins = λ w s p e.
-      let a = c.is_idle.ensures w s.opening s.done c.if-is_idle.true 1 (omega arith) (omega arith) in
-      let b = c.is_idle.ensures w s.opening s.done c.if-is_idle.true 2 (omega arith) (omega arith) in
+      let a = c.is_idle.ensures.idle w s.opening s.done c.if-is_idle.true 1 (omega arith) (omega arith) in
+      let b = c.is_idle.ensures.idle w s.opening s.done c.if-is_idle.true 2 (omega arith) (omega arith) in
       c.empty-then-is_idle.ensures.has p ∙ sym (in-both (beginning_of w 1) (beginning_of w 2) p ∙ rw (a.1, b.1) refl);
 }
 

@@ -9,8 +9,8 @@ use Rattle.ring_barrier.proofs.moves.choose.Goals as goal
 pub returns-then-is_idle : goal.returns-then-is_idle
 returns-then-is_idle c = λ w s.
     two Stay Stay (ring_move w 1) (ring_move w 2)
-    (idle-stays w 1 (c.is_idle.ensures w s.opening s.done c.if-is_idle.true 1 (omega arith) (omega arith)))
-    (idle-stays w 2 (c.is_idle.ensures w s.opening s.done c.if-is_idle.true 2 (omega arith) (omega arith)))
+    (idle-stays w 1 (c.is_idle.ensures.idle w s.opening s.done c.if-is_idle.true 1 (omega arith) (omega arith)))
+    (idle-stays w 2 (c.is_idle.ensures.idle w s.opening s.done c.if-is_idle.true 2 (omega arith) (omega arith)))
 
 pub returns : goal.returns
 returns c = λ w s.

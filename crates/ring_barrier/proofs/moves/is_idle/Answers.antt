@@ -7,8 +7,11 @@ use Rattle.sig_tables.proofs.Laid.{each-ring}
 use Rattle.ring_barrier.proofs.Entering.{idle-ring}
 use Rattle.ring_barrier.proofs.moves.is_idle.Goals as goal
 
-pub returns : goal.returns
-returns c = λ w o d t.
+pub returns-clause-each : goal.returns-clause-each
+returns-clause-each c = λ one two none. c.is_empty.ensures.empty.1 none
+
+pub returns-clause-idle : goal.returns-clause-idle
+returns-clause-idle c = λ w o d t.
     let none : (q : ℕ) → is_done w q ≡ false = λ q.
     sym (member-of c.args.done (is_done w) d (not-done w) q) ∙ none-member c.args.done (c.is_empty.ensures.empty.0 t) q
     in
