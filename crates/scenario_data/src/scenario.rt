@@ -5,8 +5,8 @@ use arrayvec::ArrayVec;
 use sig_tables::{Cell, CellValue};
 use sig_types::{Field, Octets, Request, Way};
 
-/// The tables that a cabinet begins with, before its cells: the eight-phase intersection of NEMA TS 2 with minimum recall
-/// on the main street, or with maximum recall on every phase.
+/// The tables that a cabinet begins with, before its cells: an eight-phase intersection after NEMA TS 2, with values of our
+/// own: minimum recall on the main street, or maximum recall on every phase.
 #[derive(Clone, Copy, Debug, PartialEq, Eq)]
 pub enum Base {
     Std8,
@@ -19,7 +19,7 @@ pub struct Cabinet {
     pub base: Base,
     /// Cells that are put over the base, in order.
     pub cells: Vec<(Cell, CellValue)>,
-    /// The opening pattern command: 0 free, 1 to 48 a pattern, 254 free, 255 flash.
+    /// The opening pattern command: the number of a defined pattern, 1 to 48; 255 is flash; every other number is free.
     pub pattern: u8,
     /// The opening time of day, 0 to 863,999.
     pub clock: u32,
@@ -55,7 +55,8 @@ pub struct Input {
     pub field: Field,
 }
 
-/// A download that the master begins in a round: the cells that it puts into a cabinet's tables.
+/// A download that the master begins in a round, or later where one before it still runs: the cells that it puts into a
+/// cabinet's tables.
 #[derive(Debug, PartialEq, Drop)]
 pub struct LoadItem {
     pub round: u32,

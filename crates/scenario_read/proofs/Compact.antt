@@ -12,7 +12,7 @@ use Rattle.scenario_read.proofs.CellFloats.{cell-floatless}
 cabinet-floatless : Floatless (object_of cabinet_shape)
 cabinet-floatless = object-floatless cabinet_shape (word-floatless (codes "std8" ∷ codes "max8" ∷ []), (list-floatless _ _ _ cell-floatless, (whole-floatless _ _, tt))) tt
 
-input-floatless : (rounds cabinets : ℕ) → Floatless (object_of (input_shape rounds cabinets))
+pub input-floatless : (rounds cabinets : ℕ) → Floatless (object_of (input_shape rounds cabinets))
 input-floatless rounds cabinets =
     object-floatless (input_shape rounds cabinets) (whole-floatless _ _, (whole-floatless _ _, tt)) ((whole-floatless _ _, (flag-floatless, tt)), ((whole-floatless _ _, tt), tt))
 

@@ -8,4 +8,5 @@ pub mod Floatless
 pub mod CellFloats
 pub mod Compact
 pub mod Whole
-mod OneAnswer
+pub mod OneAnswer
+pub mod LimitNames

@@ -7,7 +7,7 @@ use Rattle.scenario_data.specs.Causes.{Cause}
 use Rattle.scenario_data.specs.Content.{ScenarioContent}
 use Rattle.scenario_read.specs.Content.{scenario_of}
 use Rattle.scenario_read.specs.Faults.{faults, first_cause}
-use Rattle.scenario_read.specs.Answers.{IsScenario, IsFirstFault}
+use Rattle.scenario_read.specs.Answers.{IsScenario, IsFirstFault, SameFault}
 
 one-value : (o : Option Data) (d e : Data) → o ≡ Some d → o ≡ Some e → d ≡ e
 one-value o d e p q = cc
@@ -27,3 +27,26 @@ no-fault-beside bytes a Syntax s h = h s.0 s.1
 no-fault-beside bytes a (Field path) s h = clash bytes s.0 h.0 _ _ s.1.1 h.1.1 s.2 h.2
 no-fault-beside bytes a (Limit path) s h = clash bytes s.0 h.0 _ _ s.1.1 h.1.1 s.2 h.2
 no-fault-beside bytes a (Broken cabinet rule row) s h = clash bytes s.0 h.0 _ _ s.1.1 h.1.1 s.2 h.2
+
+same-first : (d e : Data) (a b : Cause) (o : Option Data) → o ≡ Some d → o ≡ Some e → first_cause (faults d) ≡ Some a → first_cause (faults e) ≡ Some b → a ≡ b
+same-first d e a b o r s p q =
+    let same : first_cause (faults d) ≡ first_cause (faults e) = ap (λ v. first_cause (faults v)) (one-value o d e r s) in
+    cc
+
+pub one-fault : (bytes : List ℕ) (a b : Refusal) → IsFirstFault bytes a → IsFirstFault bytes b → SameFault a b
+one-fault bytes Syntax Syntax h k = tt
+one-fault bytes Syntax (Field path) h k = absurd (h k.0 k.1)
+one-fault bytes Syntax (Limit path) h k = absurd (h k.0 k.1)
+one-fault bytes Syntax (Broken cabinet rule row) h k = absurd (h k.0 k.1)
+one-fault bytes (Field path) Syntax h k = absurd (k h.0 h.1)
+one-fault bytes (Field path) (Field other) h k = let e = same-first h.0 k.0 _ _ _ h.1.1 k.1.1 h.2 k.2 in cc
+one-fault bytes (Field path) (Limit other) h k = let e = same-first h.0 k.0 _ _ _ h.1.1 k.1.1 h.2 k.2 in absurd (cc)
+one-fault bytes (Field path) (Broken cabinet rule row) h k = let e = same-first h.0 k.0 _ _ _ h.1.1 k.1.1 h.2 k.2 in absurd (cc)
+one-fault bytes (Limit path) Syntax h k = absurd (k h.0 h.1)
+one-fault bytes (Limit path) (Field other) h k = let e = same-first h.0 k.0 _ _ _ h.1.1 k.1.1 h.2 k.2 in absurd (cc)
+one-fault bytes (Limit path) (Limit other) h k = let e = same-first h.0 k.0 _ _ _ h.1.1 k.1.1 h.2 k.2 in cc
+one-fault bytes (Limit path) (Broken cabinet rule row) h k = let e = same-first h.0 k.0 _ _ _ h.1.1 k.1.1 h.2 k.2 in absurd (cc)
+one-fault bytes (Broken cabinet rule row) Syntax h k = absurd (k h.0 h.1)
+one-fault bytes (Broken cabinet rule row) (Field other) h k = let e = same-first h.0 k.0 _ _ _ h.1.1 k.1.1 h.2 k.2 in absurd (cc)
+one-fault bytes (Broken cabinet rule row) (Limit other) h k = let e = same-first h.0 k.0 _ _ _ h.1.1 k.1.1 h.2 k.2 in absurd (cc)
+one-fault bytes (Broken cabinet rule row) (Broken c r w) h k = let e = same-first h.0 k.0 _ _ _ h.1.1 k.1.1 h.2 k.2 in (cc, cc, cc)

@@ -40,7 +40,7 @@ Below-put low name d (member other e ms) less below = at (Below-put low name d m
     at rest Equal = (below.0, below.1)
     at rest Greater = (below.0, rest)
 
-sorted-put : (name : List ℕ) (d : Data) (ms : Members) → Sorted d → MembersSorted ms → MembersSorted (put name d ms)
+pub sorted-put : (name : List ℕ) (d : Data) (ms : Members) → Sorted d → MembersSorted ms → MembersSorted (put name d ms)
 sorted-put name d no_members here sorted = (here, tt, tt)
 sorted-put name d (member other e ms) here sorted = at (sorted-put name d ms here sorted.2) (slice_cmp nat_cmp name other) refl
   where
@@ -67,6 +67,10 @@ mutual
   of_members-sorted json.no_members found sorted = sorted
   of_members-sorted (json.member name j ms) found sorted =
       found-then Sorted MembersSorted (λ d. of_members ms (put name d found)) (λ d here. of_members-sorted ms (put name d found) (sorted-put name d found here sorted)) (of_json j) (of_json-sorted j)
+
+-- what a text's tree gives is sorted
+pub tree-sorted : (j : json.Json) (d : Data) → of_json j ≡ Some d → Sorted d
+tree-sorted j d e = subst (IfFound Sorted) e (of_json-sorted j)
 
 -- a value that was read is sorted
 pub read-sorted : (bytes : List ℕ) (d : Data) → read bytes ≡ Some d → Sorted d

@@ -1,5 +1,5 @@
 -- What the read of a scenario file answers.
-use Rattle.std.specs.Prelude.{ℕ, ◌≡◌, List, [], Some, IsUtf8}
+use Rattle.std.specs.Prelude.{ℕ, ◌≡◌, List, [], Some, IsUtf8, string_bytes}
 use Rattle.serde_json.specs.Data.{Data}
 use Rattle.serde_json.specs.Read.{read}
 use Rattle.scenario_data.specs.declared.refusal.Refusal.{Refusal}
@@ -16,7 +16,7 @@ abbrev pub OnRefusal : ReadFail → (Refusal → Type 0) → Type 0
 OnRefusal (Refused refusal) Is = Is refusal
 OnRefusal NoMemory Is = Unit {0}
 
--- the bytes are the text of this value
+-- the bytes are a text of this value
 abbrev pub Reads : List ℕ → Data → Type 0
 Reads bytes d = IsUtf8 bytes × (read bytes ≡ Some d)
 
@@ -30,3 +30,11 @@ IsFirstFault bytes Syntax = (d : Data) → Reads bytes d → ⊥
 IsFirstFault bytes (Field path) = (d : Data) × Reads bytes d × Names (Field path) (first_cause (faults d))
 IsFirstFault bytes (Limit path) = (d : Data) × Reads bytes d × Names (Limit path) (first_cause (faults d))
 IsFirstFault bytes (Broken cabinet rule row) = (d : Data) × Reads bytes d × Names (Broken cabinet rule row) (first_cause (faults d))
+
+-- two refusals name one fault
+abbrev pub SameFault : Refusal → Refusal → Type 0
+SameFault Syntax Syntax = Unit {0}
+SameFault (Field path) (Field other) = string_bytes path ≡ string_bytes other
+SameFault (Limit path) (Limit other) = string_bytes path ≡ string_bytes other
+SameFault (Broken cabinet rule row) (Broken other by at) = (cabinet ≡ other) × (rule ≡ by) × (row ≡ at)
+SameFault _ _ = ⊥

@@ -77,7 +77,7 @@ is_cell (Pattern n c) = lies n 1 48 && lies c 2 5
 is_cell (Preempt i c) = lies i 1 8 && lies c 4 15
 is_cell (UnitCell n) = lies n 1 6
 
--- at most 16 octets fit, and text that has no octets is of the wrong kind
+-- at most 16 octets fit, and text that cannot be read as octets is of the wrong kind
 abbrev pub decoded_fits : Result (List ℕ) FromHexError → Fit
 decoded_fits (Ok octets) = within 0 16 (length octets)
 decoded_fits (Err e) = Wrong

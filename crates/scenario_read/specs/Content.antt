@@ -63,7 +63,7 @@ cabinet_of d = record {
 abbrev pub field_of : Data → Field
 field_of d = if stands d (veh ∷ on ∷ []) then Veh (whole_of (held veh d)) (flag_of (held on d)) else Ped (whole_of (held ped d))
 
--- the input of an object, where there are so many rounds and cabinets
+-- the input of an object; the numbers of rounds and cabinets bound what may stand there, not what it says
 abbrev pub input_of : ℕ → ℕ → Data → Input
 input_of round_count cabinet_count d = record {
   round = whole_of (held (round round_count) d);

@@ -74,7 +74,7 @@ fn field_in(alloc: Global, object: &Value, place: Place) -> Result<Field, ReadFa
 }
 
 /// One input of a scenario with so many rounds and cabinets.
-fn input_in(
+pub fn input_in(
     alloc: Global,
     object: &Value,
     input: usize,

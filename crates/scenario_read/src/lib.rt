@@ -12,20 +12,23 @@ mod scenario;
 mod tables;
 mod values;
 
+pub use inputs::input_in;
 pub use reading::{read, text};
+pub use scenario::{Parts, checked_parts, scenario_from};
 pub use tables::opening_tables;
 
 #[cfg(test)]
 mod tests;
 
-ghost use Rattle.std.specs.Prelude.{◌≡◌, ℕ, List, [], ◌∷◌, codes, Some};
+ghost use Rattle.std.specs.Prelude.{◌≡◌, ℕ, List, [], ◌∷◌, codes, Some, String, string_bytes};
+ghost use Rattle.std.specs.declared.alloc.Global.{Global};
 ghost use Rattle.serde_json.specs.Data.{object, member, no_members, number, unsigned, array, item, no_items, string};
 ghost use Rattle.scenario_data.specs.Causes.{Field, Limit};
 ghost use Rattle.scenario_read.specs.Paths.{path_text, Named, Item};
 ghost use Rattle.scenario_data.specs.declared.refusal.Refusal.{Refusal};
 ghost use Rattle.scenario_data.specs.Content.{ScenarioContent};
 ghost use Rattle.scenario_read.specs.Faults.{faults, first_cause};
-ghost use Rattle.scenario_read.specs.Answers.{IsScenario, IsFirstFault};
+ghost use Rattle.scenario_read.specs.Answers.{IsScenario, IsFirstFault, SameFault};
 
 /// Small values, as the definitions see them.
 pub fn small_values()
@@ -37,8 +40,14 @@ pub fn small_values()
         ≡ Some (Field (path_text (Named (codes "cabinets") ∷ Item 0 ∷ Named (codes "bases") ∷ []))) }
 {}
 
-/// A law: bytes are one scenario and no more, or have a first fault, never both.
+/// A law: bytes are one scenario and no more, or have one first fault and no other, and never both.
 pub fn bytes_have_one_answer()
     ensures one { (bytes : List ℕ) → (a b : ScenarioContent) → IsScenario bytes a → IsScenario bytes b → a ≡ b }
     ensures apart { (bytes : List ℕ) → (a : ScenarioContent) → (refusal : Refusal) → IsScenario bytes a → IsFirstFault bytes refusal → ⊥ }
+    ensures one_fault { (bytes : List ℕ) → (a b : Refusal) → IsFirstFault bytes a → IsFirstFault bytes b → SameFault a b }
+{}
+
+/// A law: a limit has the name of what is beyond it. That of the whole, `.`, comes for too many bytes alone.
+pub fn limits_have_names()
+    ensures { (bytes : List ℕ) → (path : String Global) → IsFirstFault bytes (Refusal.Limit path) → string_bytes path ≡ codes "." → ⊥ }
 {}

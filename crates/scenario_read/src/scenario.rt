@@ -28,7 +28,7 @@ use std::alloc::Global;
 
 /// What the names of a scenario say.
 #[derive(Drop)]
-pub(crate) struct Parts {
+pub struct Parts {
     pub version: u32,
     pub rounds: u32,
     pub ticks: u32,
@@ -98,7 +98,7 @@ fn no_master(alloc: Global) -> MasterSetup
 }
 
 /// A scenario of these parts.
-fn scenario_from(alloc: Global, parts: Parts, compact: Vec<u8>) -> Scenario
+pub fn scenario_from(alloc: Global, parts: Parts, compact: Vec<u8>) -> Scenario
     ensures content { scenario_content result ≡ content_from parts compact.items }
     ensures text { result.compact ≡ compact }
 {
@@ -118,6 +118,16 @@ fn scenario_from(alloc: Global, parts: Parts, compact: Vec<u8>) -> Scenario
     }
 }
 
+/// What a scenario's value says, refused at its first fault.
+pub fn checked_parts(alloc: Global, value: &Value) -> Result<Parts, ReadFail>
+    ensures { Answers result (faults (view value.now)) (λ parts. Says parts (view value.now)) }
+{
+    let parts = parts_in(alloc, value)?;
+    within_ticks(alloc, &parts)?;
+    all_judged(&parts.cabinets)?;
+    Ok(parts)
+}
+
 /// A scenario from its JSON value, refused at its first fault.
 pub(crate) fn scenario_in(alloc: Global, value: &Value) -> Result<Scenario, ReadFail>
     requires sorted { Sorted (view value.now) }
@@ -125,9 +135,7 @@ pub(crate) fn scenario_in(alloc: Global, value: &Value) -> Result<Scenario, Read
     ensures read { Answers result (faults (view value.now)) (λ s. scenario_content s ≡ scenario_of (view value.now)) }
     ensures back { IfOk result (λ s. Reads s.compact.items (view value.now)) }
 {
-    let parts = parts_in(alloc, value)?;
-    within_ticks(alloc, &parts)?;
-    all_judged(&parts.cabinets)?;
+    let parts = checked_parts(alloc, value)?;
     match value.to_vec(alloc) {
         Ok(compact) => Ok(scenario_from(alloc, parts, compact)),
         Err(_) => Err(ReadFail::NoMemory),

@@ -1,4 +1,4 @@
-use Rattle.scenario_read.proofs.OneAnswer.{one-scenario, no-fault-beside}
+use Rattle.scenario_read.proofs.OneAnswer.{one-scenario, no-fault-beside, one-fault}
 use Rattle.scenario_read.proofs.bytes_have_one_answer.Goals as goal
 
 pub returns-clause-one : goal.returns-clause-one
@@ -6,3 +6,6 @@ returns-clause-one c = one-scenario
 
 pub returns-clause-apart : goal.returns-clause-apart
 returns-clause-apart c = no-fault-beside
+
+pub returns-clause-one_fault : goal.returns-clause-one_fault
+returns-clause-one_fault c = one-fault

@@ -2,15 +2,15 @@ use Rattle.std.proofs.Common.{◌≡◌, false, ◌∙◌}
 use Rattle.serde_json.specs.View.{view}
 use Rattle.serde_json.specs.Written.{has_float}
 use Rattle.scenario_read.proofs.Compact.{faultless-floatless}
-use Rattle.scenario_read.proofs.Whole.{whole-faultless, whole-content}
+use Rattle.scenario_read.proofs.Whole.{whole-content, faultless-parts}
 use Rattle.scenario_read.proofs.scenario.scenario_in.Goals as goal
 
 pub returns-in-Ok-clause-read : goal.returns-in-Ok-clause-read
 returns-in-Ok-clause-read c =
     let d = view c.args.value.now in
     let parts = c.in_ok-parts.parts in
-    let read = c.in_ok-parts.ensures.read in
-    let plain : has_float d ≡ false = faultless-floatless d c.requires.sorted read.0 in (
-      whole-faultless parts d read.1 read.0 c.in_ok-within_ticks.ensures.0 c.in_ok-all_judged.ensures.0,
+    let read = c.in_ok-parts.ensures in
+    let plain : has_float d ≡ false = faultless-floatless d c.requires.sorted (faultless-parts d read.0).0 in (
+      read.0,
       c.scenario_from.ensures.content ∙ whole-content parts c.in-Ok.compact.items d read.1 (c.in-Ok.ensures.text plain),
     )
