@@ -1,0 +1,183 @@
+-- The compact text of a value that was read, and has no float, is read as that value.
+use Rattle.std.proofs.Common.{◌≡◌, ℕ, suc, max, ◌≤◌, List, [], false, Option, Some, None, option_map, option_and_then, Ordering, Less, Equal, Greater, nat_cmp, refl, sym, ap, ap₂, ◌∙◌, subst, arith, append-nil}
+use Rattle.std.specs.Prelude.{⊤}
+use Rattle.std.proofs.lemmas.Bool.{or_parts}
+use Rattle.std.proofs.lemmas.Cmp.{nat_list_cmp_total}
+use Rattle.std.specs.Cmp.Lexicographic.{slice_cmp}
+use Rattle.std.specs.Ordering.{match_ordering, ordering_reverse}
+use Rattle.json.specs.Lex.{tokens}
+use Rattle.json.specs.Json as json
+use Rattle.json.specs.Tree as tree
+use Rattle.json.specs.Tree.{json_tokens, HasNumbers, ItemsHaveNumbers, MembersHaveNumbers}
+use Rattle.json.proofs.Printed.Tokens.{tokens-print}
+use Rattle.json.proofs.Printed.Trees.{value-json_tokens, ArePrintable-json_tokens}
+use Rattle.serde_json.specs.Data.{Data, null, boolean, number, string, array, object, Items, no_items, item, Members, no_members, member, put, depth, items_depth, members_depth}
+use Rattle.serde_json.specs.Read.{number_of, of_json, of_items, of_members, max_depth, read}
+use Rattle.serde_json.specs.Written.{outline, items_outline, members_outline, has_float, items_have_float, members_have_float, compact_text}
+use Rattle.serde_json.proofs.Texts.{print-outline}
+use Rattle.serde_json.proofs.Nesting.{depth-read}
+use Rattle.scenario_read.specs.Sorted.{Below, Sorted, ItemsSorted, MembersSorted}
+use Rattle.scenario_read.proofs.Rising.{read-sorted}
+use Rattle.scenario_file.proofs.Turns.{whole}
+use Rattle.scenario_file.proofs.Numerals.{IfFound, number-numeral}
+
+-- what is written for the value has numbers, and is this value
+pub record IsWritten (d : Data) : Type 0 where
+  pub numbers : HasNumbers (outline d)
+  pub back : of_json (outline d) ≡ Some d
+
+abbrev IsBack : Data → Type 0
+IsBack d = Sorted d → has_float d ≡ false → IsWritten d
+
+abbrev AllBack : Members → Type 0
+AllBack no_members = ⊤
+AllBack (member k d ms) = IsBack d × AllBack ms
+
+abbrev EachBack : Items → Type 0
+EachBack no_items = ⊤
+EachBack (item d ds) = IsBack d × EachBack ds
+
+-- ---- members that come in order are put last, one by one
+
+abbrev joined : Members → Members → Members
+joined no_members more = more
+joined (member k d ms) more = member k d (joined ms more)
+
+abbrev AllBelow : Members → List ℕ → Type 0
+AllBelow no_members k = ⊤
+AllBelow (member l d ms) k = (slice_cmp nat_cmp l k ≡ Less) × AllBelow ms k
+
+abbrev Under : Members → Members → Type 0
+Under before no_members = ⊤
+Under before (member k d ms) = AllBelow before k × Under before ms
+
+put-above : (o : Ordering) (a b c : Members) → o ≡ Greater → match_ordering o a b c ≡ c
+put-above Less a b c e = absurd (cc)
+put-above Equal a b c e = absurd (cc)
+put-above Greater a b c e = refl
+
+put-last : (k : List ℕ) (d : Data) (before : Members) → AllBelow before k → put k d before ≡ joined before (member k d no_members)
+put-last k d no_members below = refl
+put-last k d (member l e ms) below =
+    let above : slice_cmp nat_cmp k l ≡ Greater = nat_list_cmp_total.antisymm k l ∙ ap ordering_reverse below.0 in
+    put-above (slice_cmp nat_cmp k l) _ _ _ above ∙ ap (member l e) (put-last k d ms below.1)
+
+joined-end : (ms : Members) → joined ms no_members ≡ ms
+joined-end no_members = refl
+joined-end (member k d ms) = ap (member k d) (joined-end ms)
+
+joined-next : (before : Members) (k : List ℕ) (d : Data) (ms : Members) → joined (joined before (member k d no_members)) ms ≡ joined before (member k d ms)
+joined-next no_members k d ms = refl
+joined-next (member l e before) k d ms = ap (member l e) (joined-next before k d ms)
+
+below-next : (before : Members) (k : List ℕ) (d : Data) (other : List ℕ) → AllBelow before other → slice_cmp nat_cmp k other ≡ Less → AllBelow (joined before (member k d no_members)) other
+below-next no_members k d other below less = (less, tt)
+below-next (member l e before) k d other below less = (below.0, below-next before k d other below.1 less)
+
+under-next : (before : Members) (k : List ℕ) (d : Data) (ms : Members) → Under before ms → Below k ms → Under (joined before (member k d no_members)) ms
+under-next before k d no_members under below = tt
+under-next before k d (member l e ms) under below = (below-next before k d l under.0 below.0, under-next before k d ms under.1 below.1)
+
+under-none : (ms : Members) → Under no_members ms
+under-none no_members = tt
+under-none (member k d ms) = (tt, under-none ms)
+
+members-back : (ms before : Members) → AllBack ms → MembersSorted ms → members_have_float ms ≡ false → Under before ms
+    → MembersHaveNumbers (members_outline ms) × (of_members (members_outline ms) before ≡ Some (joined before ms))
+members-back no_members before all sorted plain under = (tt, ap Some (sym (joined-end before)))
+members-back (member k d ms) before all sorted plain under =
+    let parts = or_parts (has_float d) (members_have_float ms) plain in
+    let here = all.0 sorted.0 parts.0 in
+    let rest = members-back ms (joined before (member k d no_members)) all.1 sorted.2 parts.1 (under-next before k d ms under.1 sorted.1) in (
+      (here.numbers, rest.0),
+      ap (option_and_then (λ e. of_members (members_outline ms) (put k e before))) here.back ∙ ap (of_members (members_outline ms)) (put-last k d before under.0) ∙ rest.1 ∙ ap Some (joined-next before k d ms),
+    )
+
+items-back : (ds : Items) → EachBack ds → ItemsSorted ds → items_have_float ds ≡ false → ItemsHaveNumbers (items_outline ds) × (of_items (items_outline ds) ≡ Some ds)
+items-back no_items each sorted plain = (tt, refl)
+items-back (item d ds) each sorted plain =
+    let parts = or_parts (has_float d) (items_have_float ds) plain in
+    let here = each.0 sorted.0 parts.0 in
+    let rest = items-back ds each.1 sorted.1 parts.1 in (
+      (here.numbers, rest.0),
+      ap (option_and_then (λ e. option_map (item e) (of_items (items_outline ds)))) here.back ∙ ap (option_map (item d)) rest.1,
+    )
+
+array-back : (ds : Items) → EachBack ds → IsBack (array ds)
+array-back ds each = λ sorted plain. let inner = items-back ds each sorted plain in record { numbers = inner.0; back = ap (option_map array) inner.1 }
+
+object-back : (ms : Members) → AllBack ms → IsBack (object ms)
+object-back ms all = λ sorted plain. let inner = members-back ms no_members all sorted plain (under-none ms) in record { numbers = inner.0; back = ap (option_map object) inner.1 }
+
+-- ---- whatever was read is so
+
+found-map : {A B : Type 0} (P : A → Type 0) (Q : B → Type 0) (f : A → B) → ((a : A) → P a → Q (f a)) → (o : Option A) → IfFound P o → IfFound Q (option_map f o)
+found-map P Q f step None h = tt
+found-map P Q f step (Some a) h = step a h
+
+found-then : {A B : Type 0} (P : A → Type 0) (Q : B → Type 0) (f : A → Option B) → ((a : A) → P a → IfFound Q (f a)) → (o : Option A) → IfFound P o → IfFound Q (option_and_then f o)
+found-then P Q f step None h = tt
+found-then P Q f step (Some a) h = step a h
+
+any : {A : Type 0} (o : Option A) → IfFound (λ a. ⊤) o
+any None = tt
+any (Some a) = tt
+
+put-back : (k : List ℕ) (d : Data) (ms : Members) → IsBack d → AllBack ms → AllBack (put k d ms)
+put-back k d no_members here all = (here, tt)
+put-back k d (member l e ms) here all = at (put-back k d ms here all.1) (slice_cmp nat_cmp k l)
+  where
+    at : AllBack (put k d ms) → (o : Ordering) → AllBack (match_ordering o (member k d (member l e ms)) (member l d ms) (member l e (put k d ms)))
+    at rest Less = (here, all)
+    at rest Equal = (here, all.1)
+    at rest Greater = (all.0, rest)
+
+mutual
+  of_json-back : (j : json.Json) → IfFound IsBack (of_json j)
+  of_json-back json.null = λ sorted plain. record { numbers = tt; back = refl }
+  of_json-back (json.boolean b) = λ sorted plain. record { numbers = tt; back = refl }
+  of_json-back (json.number s) =
+      found-map _ IsBack number (λ n numeral. λ sorted plain. let text = numeral plain in record { numbers = text.0; back = ap (option_map number) text.1 }) (number_of s) (number-numeral s)
+  of_json-back (json.string s) = λ sorted plain. record { numbers = tt; back = refl }
+  of_json-back (json.array js) = found-map EachBack IsBack array array-back (of_items js) (of_items-back js)
+  of_json-back (json.object ms) = found-map AllBack IsBack object object-back (of_members ms no_members) (of_members-back ms no_members tt)
+
+  of_items-back : (js : json.Items) → IfFound EachBack (of_items js)
+  of_items-back json.no_items = tt
+  of_items-back (json.item j js) =
+      found-then IsBack EachBack (λ d. option_map (item d) (of_items js)) (λ d here. found-map EachBack EachBack (item d) (λ ds rest. (here, rest)) (of_items js) (of_items-back js)) (of_json j) (of_json-back j)
+
+  of_members-back : (ms : json.Members) (found : Members) → AllBack found → IfFound AllBack (of_members ms found)
+  of_members-back json.no_members found all = all
+  of_members-back (json.member name j ms) found all =
+      found-then IsBack AllBack (λ d. of_members ms (put name d found)) (λ d here. of_members-back ms (put name d found) (put-back name d found here all)) (of_json j) (of_json-back j)
+
+-- what is written nests as deep as the value
+mutual
+  outline-depth : (d : Data) → tree.depth (outline d) ≡ depth d
+  outline-depth null = refl
+  outline-depth (boolean b) = refl
+  outline-depth (number n) = refl
+  outline-depth (string s) = refl
+  outline-depth (array ds) = ap suc (items-depth ds)
+  outline-depth (object ms) = ap suc (members-depth ms)
+
+  items-depth : (ds : Items) → tree.items_depth (items_outline ds) ≡ items_depth ds
+  items-depth no_items = refl
+  items-depth (item d ds) = ap₂ max (outline-depth d) (items-depth ds)
+
+  members-depth : (ms : Members) → tree.members_depth (members_outline ms) ≡ members_depth ms
+  members-depth no_members = refl
+  members-depth (member k d ms) = ap₂ max (outline-depth d) (members-depth ms)
+
+is-back : (bytes : List ℕ) (d : Data) → read bytes ≡ Some d → IsBack d
+is-back bytes d e =
+    subst (IfFound IsBack) e (found-then (λ j. ⊤) IsBack of_json (λ j h. of_json-back j) (option_and_then (λ p. json.if_last p.0 p.1) (json.value max_depth (tokens bytes))) (any _))
+
+pub reads-back : (bytes : List ℕ) (d : Data) → read bytes ≡ Some d → has_float d ≡ false → read (compact_text d) ≡ Some d
+reads-back bytes d e plain =
+    let written = is-back bytes d e (read-sorted bytes d e) plain in
+    let j = outline d in
+    let shallow : tree.depth j ≤ max_depth = omega (arith, outline-depth d, depth-read bytes d e) in
+    let text : tokens (compact_text d) ≡ json_tokens j = ap tokens (sym (print-outline d)) ∙ tokens-print (json_tokens j) (ArePrintable-json_tokens j written.numbers) in
+    ap whole (ap (json.value max_depth) (text ∙ sym (append-nil (json_tokens j))) ∙ value-json_tokens j max_depth [] shallow) ∙ written.back

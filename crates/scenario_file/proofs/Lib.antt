@@ -1,0 +1,11 @@
+pub mod Numbers
+pub mod Turns
+pub mod Growth
+pub mod Frames
+pub mod Standing
+pub mod Texts
+pub mod Rounds
+pub mod Faultless
+pub mod Numerals
+pub mod Back
+pub mod Right

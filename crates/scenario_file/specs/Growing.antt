@@ -1,0 +1,14 @@
+-- A list of values that grows at its end, and the text between its brackets.
+use Rattle.std.specs.Prelude.{ℕ, List, [], ◌++◌, Bool, true}
+use Rattle.serde_json.specs.Data.{Items, no_items, item}
+use Rattle.serde_json.specs.Written.{comma_if, compact_text}
+
+-- these items, and then those
+abbrev pub both : Items → Items → Items
+both no_items more = more
+both (item d ds) more = item d (both ds more)
+
+-- the compact text of the items, with commas between, and one before the first where something stands before
+abbrev pub inner_text : Bool → Items → List ℕ
+inner_text later no_items = []
+inner_text later (item d ds) = comma_if later ++ (compact_text d ++ inner_text true ds)

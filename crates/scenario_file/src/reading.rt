@@ -1,0 +1,45 @@
+//! The scenario file: bytes in, a scenario or the first fault out. A right scenario with inputs is read with little memory;
+//! all else is given to the reader of the whole value, which names the first fault.
+
+ghost use Rattle.std.specs.Prelude.{IfOk, IfErr, IfSome};
+ghost use Rattle.scenario_data.specs.Content.{scenario_content};
+ghost use Rattle.scenario_read.specs.Answers.{IsScenario, IsFirstFault, OnRefusal};
+
+use crate::compact::compact;
+use crate::listed::all_within;
+use crate::top::whole_of;
+use scenario_data::{ReadFail, Scenario};
+use scenario_read::{checked_parts, scenario_from};
+use serde_json::Value;
+use std::alloc::Global;
+
+/// A scenario that is right and says inputs, where there is memory for it.
+pub(crate) fn scenario_of(alloc: Global, bytes: &[u8]) -> Option<Scenario>
+    ensures scenario { IfSome result (λ s. IsScenario bytes.now (scenario_content s)) }
+    ensures reads_back { IfSome result (λ s. IsScenario s.compact.items (scenario_content s)) }
+{
+    let whole = whole_of(alloc, bytes)?;
+    let text = compact(alloc, &whole.frame, whole.listed.text.as_str(), bytes.len())?;
+    let Ok(mut parts) = checked_parts(alloc, &Value::Object(whole.frame)) else {
+        return None;
+    };
+    if !all_within(&whole.listed.inputs, parts.rounds, parts.cabinets.len()) {
+        return None;
+    }
+    parts.inputs = whole.listed.inputs;
+    Some(scenario_from(alloc, parts, text.into_bytes()))
+}
+
+/// Reads a scenario, in time and memory that grow with its bytes. The refusal is the first fault in the order of the
+/// checks: the JSON reading, the names and values in the order of their table, the number of ticks, the rules of each
+/// cabinet's opening tables. Its compact text reads as the same scenario.
+pub fn read(alloc: Global, bytes: &[u8]) -> Result<Scenario, ReadFail>
+    ensures scenario { IfOk result (λ s. IsScenario bytes.now (scenario_content s)) }
+    ensures refused { IfErr result (λ fail. OnRefusal fail (IsFirstFault bytes.now)) }
+    ensures reads_back { IfOk result (λ s. IsScenario s.compact.items (scenario_content s)) }
+{
+    match scenario_of(alloc, bytes) {
+        Some(scenario) => Ok(scenario),
+        None => scenario_read::read(alloc, bytes),
+    }
+}

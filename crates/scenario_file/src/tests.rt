@@ -1,0 +1,106 @@
+//! Scenarios that are read in parts, however they are spaced and ordered; and texts at which that gives up.
+
+use crate::read;
+use crate::reading::scenario_of;
+use scenario_data::{Input, ReadFail, Refusal, Scenario};
+use sig_types::Field;
+use std::alloc::{AllocError, Global};
+use std::test::Fail;
+
+/// What a read says of a text.
+fn told(alloc: Global, text: &str) -> Result<String, AllocError> {
+    match read(alloc, text.as_bytes()) {
+        Ok(_) => String::from_str(alloc, "a scenario"),
+        Err(ReadFail::NoMemory) => String::from_str(alloc, "out of memory"),
+        Err(ReadFail::Refused(Refusal::Syntax)) => String::from_str(alloc, "not JSON"),
+        Err(ReadFail::Refused(Refusal::Field(path))) => format!(in alloc; "field {path}"),
+        Err(ReadFail::Refused(Refusal::Limit(path))) => format!(in alloc; "limit {path}"),
+        Err(ReadFail::Refused(Refusal::Broken { cab, rule, row })) => format!(in alloc;
+            "cabinet {cab} breaks rule {rule} at row {row}"
+        ),
+    }
+}
+
+/// The inputs that a scenario holds, where it has this compact text.
+fn inputs_of<'a>(scenario: &'a Scenario, compact: &str) -> Option<&'a [Input]> {
+    if scenario.compact.as_slice() == compact.as_bytes() {
+        Some(scenario.inputs.as_slice())
+    } else {
+        None
+    }
+}
+
+const SPREAD: &str =
+    "{ \"ticks\" : 5,\n\t\"inputs\" : [ { \"veh\":3 , \"on\":false, \"round\" : 2, \"cabinet\":2 },\r\n {\"ped\":16,\"cabinet\":1,\"r\\u006fund\":1} ],\n \"version\":1, \"cabinets\":[{ },{\"clock\":7,\"base\":\"max8\"}], \"rounds\":2 }\n";
+
+const SPREAD_COMPACT: &str =
+    "{\"cabinets\":[{},{\"base\":\"max8\",\"clock\":7}],\"inputs\":[{\"cabinet\":2,\"on\":false,\"round\":2,\"veh\":3},{\"cabinet\":1,\"ped\":16,\"round\":1}],\"rounds\":2,\"ticks\":5,\"version\":1}";
+
+#[test]
+fn inputs_may_stand_before_the_rounds(rt: HostRuntime) -> Result<(), Fail> {
+    let alloc = rt.alloc();
+    let Some(scenario) = scenario_of(alloc, SPREAD.as_bytes()) else {
+        return Err(Fail::from("not read in parts"));
+    };
+    let Some([detector, button]) = inputs_of(&scenario, SPREAD_COMPACT) else {
+        return Err(Fail::from("another text or other inputs"));
+    };
+    assert!(rt; detector.round == 2 && detector.cabinet == 2);
+    assert!(rt; button.round == 1 && button.field == Field::Ped { phase: 16 });
+    assert!(rt; scenario.rounds == 2 && scenario.cabinets.len() == 2);
+    Ok(())
+}
+
+const TWICE: &str =
+    "{\"inputs\":[{\"cabinet\":1,\"ped\":1,\"round\":1},{\"cabinet\":1,\"ped\":2,\"round\":1}],\"rounds\":9,\"cabinets\":[{}],\"ticks\":1,\"inputs\":[{\"cabinet\":1,\"round\":7,\"ped\":2,\"ped\":4,\"round\":3}],\"rounds\":3,\"version\":1}";
+
+const TWICE_COMPACT: &str =
+    "{\"cabinets\":[{}],\"inputs\":[{\"cabinet\":1,\"ped\":4,\"round\":3}],\"rounds\":3,\"ticks\":1,\"version\":1}";
+
+#[test]
+fn the_last_of_equal_names_counts(rt: HostRuntime) -> Result<(), Fail> {
+    let alloc = rt.alloc();
+    let Some(scenario) = scenario_of(alloc, TWICE.as_bytes()) else {
+        return Err(Fail::from("not read in parts"));
+    };
+    let Some([button]) = inputs_of(&scenario, TWICE_COMPACT) else {
+        return Err(Fail::from("another text or other inputs"));
+    };
+    assert!(rt; button.round == 3 && button.field == Field::Ped { phase: 4 });
+    assert!(rt; scenario.rounds == 3);
+    Ok(())
+}
+
+const GIVES_UP: [(&str, &str); 5] = [
+    (
+        "{\"cabinets\":[{}],\"rounds\":1,\"ticks\":1,\"version\":1}",
+        "a scenario",
+    ),
+    (
+        "{\"inputs\":[{\"cabinet\":1,\"ped\":1,\"round\":2}],\"cabinets\":[{}],\"rounds\":1,\"ticks\":1,\"version\":1}",
+        "limit inputs[0].round",
+    ),
+    (
+        "{\"inputs\":[{\"cabinet\":1,\"ped\":1,\"round\":1},{\"cabinet\":1.0,\"ped\":1,\"round\":1}],\"cabinets\":[{}],\"rounds\":1,\"ticks\":1,\"version\":1}",
+        "field inputs[1].cabinet",
+    ),
+    (
+        "{\"inputs\":[{\"cabinet\":2,\"ped\":1,\"round\":1}],\"cabinets\":[{}],\"rounds\":1,\"ticks\":1,\"version\":2}",
+        "limit version",
+    ),
+    (
+        "{\"inputs\":[],\"cabinets\":[{}],\"rounds\":1,\"ticks\":1,\"version\":1}]",
+        "not JSON",
+    ),
+];
+
+#[test]
+fn what_is_given_up_has_its_first_fault_told(rt: HostRuntime) -> Result<(), Fail> {
+    let alloc = rt.alloc();
+    for (text, due) in &GIVES_UP {
+        assert!(rt; scenario_of(alloc, text.as_bytes()).is_none());
+        let answer = told(alloc, text)?;
+        assert!(rt; answer.as_str() == *due);
+    }
+    Ok(())
+}

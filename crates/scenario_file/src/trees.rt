@@ -1,0 +1,122 @@
+//! Values of the text as trees, each read for itself. A number that is not whole, or is below 0, has no place in a
+//! scenario, so that reading gives up there.
+
+ghost use Rattle.std.specs.Prelude.{◌≡◌, ◌<◌, length, Some, IfSome, string_bytes};
+ghost use Rattle.json.specs.Json.{value, items, members};
+ghost use Rattle.serde_json.specs.Data.{no_members, put};
+ghost use Rattle.serde_json.specs.Read.{of_json, of_items, of_members, converted, number_of};
+ghost use Rattle.serde_json.specs.View.{view, number_view, items_view, members_view};
+
+use fast_float::Numeral;
+use json::{Reader, Token};
+use serde_json::{Map, Number, Value};
+use std::alloc::Global;
+
+/// The number that a token writes, where it is whole, not below 0, and has 64 bits.
+fn whole_number(text: &str) -> Option<Number>
+    ensures { IfSome result (λ n. number_of text.now ≡ Some (number_view n)) }
+{
+    let bytes = text.as_bytes();
+    if bytes.is_empty() || bytes[0] == b'-' {
+        return None;
+    }
+    let Some(whole) = Numeral::scan(bytes).to_u64() else {
+        return None;
+    };
+    match Number::from_u128(u128::from(whole)) {
+        Some(number) => Some(number),
+        None => None,
+    }
+}
+
+/// Puts a value at a name, in place of what stood there.
+pub(crate) fn put_member(members: &mut Map<String, Value>, name: String, value: Value) -> Option<()>
+    ensures { IfSome result (λ _. members_view members.new.entries ≡ put (string_bytes name) (view value) (members_view members.old.entries)) }
+{
+    match members.insert(name, value) {
+        Ok(old) => {
+            drop(old);
+            Some(())
+        }
+        Err(_) => None,
+    }
+}
+
+/// The next value of the reader, with arrays and objects nested at most so deep.
+#[cycle(tree)]
+pub(crate) fn tree(alloc: Global, reader: &mut Reader<'_>, depth: usize) -> Option<Value>
+    ensures ok { IfSome result (λ v. converted of_json (value depth reader.old) ≡ Some (view v, reader.new)) }
+    ensures shorter { IfSome result (λ _. length reader.new < length reader.old) }
+{
+    let token = reader.next()?;
+    match token {
+        Token::String(text) => match String::from_str(alloc, text) {
+            Ok(copy) => Some(Value::String(copy)),
+            Err(_) => None,
+        },
+        Token::Number(text) => match whole_number(text) {
+            Some(number) => Some(Value::Number(number)),
+            None => None,
+        },
+        Token::Bool(b) => Some(Value::Bool(b)),
+        Token::Null => Some(Value::Null),
+        Token::EndObject | Token::EndArray | Token::Key(_) | Token::Bad => None,
+        Token::BeginArray => {
+            if depth == 0 {
+                return None;
+            }
+            match tree_items(alloc, reader, depth - 1) {
+                Some(items) => Some(Value::Array(items)),
+                None => None,
+            }
+        }
+        Token::BeginObject => {
+            if depth == 0 {
+                return None;
+            }
+            match tree_members(alloc, reader, depth - 1) {
+                Some(members) => Some(Value::Object(members)),
+                None => None,
+            }
+        }
+    }
+}
+
+/// The items up to the bracket that closes an array.
+#[cycle(tree)]
+fn tree_items(alloc: Global, reader: &mut Reader<'_>, depth: usize) -> Option<Vec<Value>>
+    ensures ok { IfSome result (λ v. converted of_items (items (value depth) (length reader.old) reader.old) ≡ Some (items_view v.items, reader.new)) }
+    ensures shorter { IfSome result (λ _. length reader.new < length reader.old) }
+{
+    let mut found = Vec::new(alloc);
+    'items: while !reader.take_end_array() {
+        let item = tree(alloc, reader, depth)?;
+        match found.push(item) {
+            Ok(()) => {}
+            Err(_) => return None,
+        }
+    }
+    Some(found)
+}
+
+/// The members up to the brace that closes an object. Of equal names the last counts.
+#[cycle(tree)]
+fn tree_members(alloc: Global, reader: &mut Reader<'_>, depth: usize) -> Option<Map<String, Value>>
+    ensures ok { IfSome result (λ m. converted (λ ms. of_members ms no_members) (members (value depth) (length reader.old) reader.old) ≡ Some (members_view m.entries, reader.new)) }
+    ensures shorter { IfSome result (λ _. length reader.new < length reader.old) }
+{
+    let mut found = Map::new(alloc);
+    'members: loop {
+        let name = match reader.next_key() {
+            Ok(Some(name)) => name,
+            Ok(None) => return Some(found),
+            Err(_) => return None,
+        };
+        let key = match String::from_str(alloc, name) {
+            Ok(key) => key,
+            Err(_) => return None,
+        };
+        let member = tree(alloc, reader, depth)?;
+        put_member(&mut found, key, member)?;
+    }
+}
