@@ -1,0 +1,75 @@
+-- What stands at the names of a value without faults.
+use Rattle.std.proofs.Common.{◌≡◌, ◌≤◌, ◌&&◌, ℕ, Bool, true, false, nat_le, if◌then◌else◌, List, [], ◌∷◌, ◌++◌, length, Option, Some, None, unwrap_or, refl, arith}
+use Rattle.std.proofs.lemmas.Bool.{leb-true}
+use Rattle.serde_json.specs.Data.{unsigned, negative, float, Data, null, boolean, number, string, array, object, Items, no_items, item}
+use Rattle.serde_json.specs.Events.{items_len}
+use Rattle.scenario_data.specs.Causes.{Cause}
+use Rattle.scenario_read.specs.Paths.{Step, then_named}
+use Rattle.scenario_read.specs.Kinds.{Fit, Fits, Wrong, Beyond, Kind, fault_at, within, whole, each, items_in, list_of}
+use Rattle.scenario_read.specs.Fields.{Field, Shape, held, value_of, faults_of, field_faults, fields_faults, names, known_fields, unknown_faults, alternative_faults, object_of}
+use Rattle.scenario_read.specs.Content.{whole_of, each_of}
+
+pub none-left : (xs ys : List Cause) → xs ++ ys ≡ [] → (xs ≡ []) × (ys ≡ [])
+none-left [] ys e = (refl, e)
+none-left (x ∷ xs) ys e = absurd (cc)
+
+pub fits-alone : (path : List Step) (fit : Fit) → fault_at path fit ≡ [] → fit ≡ Fits
+fits-alone path Fits e = refl
+fits-alone path Wrong e = absurd (cc)
+fits-alone path Beyond e = absurd (cc)
+
+pub in-range : (least most n : ℕ) → within least most n ≡ Fits → (least ≤ n) × (n ≤ most)
+in-range least most n e = from (nat_le least n) (nat_le n most) refl refl e
+  where
+    from : (a b : Bool) → nat_le least n ≡ a → nat_le n most ≡ b → (if a && b then Fits else Beyond) ≡ Fits → (least ≤ n) × (n ≤ most)
+    from true true p q k = (leb-true least n p, leb-true n most q)
+    from true false p q k = absurd (cc)
+    from false b p q k = absurd (cc)
+
+-- a whole number without faults is in its range
+pub whole-in : (least most : ℕ) (path : List Step) (d : Data) → whole least most path d ≡ [] → (least ≤ whole_of d) × (whole_of d ≤ most)
+whole-in least most path null e = absurd (cc)
+whole-in least most path (boolean b) e = absurd (cc)
+whole-in least most path (number (unsigned n)) e = in-range least most n (fits-alone path (within least most n) e)
+whole-in least most path (number (negative z)) e = absurd (cc)
+whole-in least most path (number (float x)) e = absurd (cc)
+whole-in least most path (string s) e = absurd (cc)
+whole-in least most path (array ds) e = absurd (cc)
+whole-in least most path (object ms) e = absurd (cc)
+
+-- a list without faults: its length is in range, and no item has any
+pub list-in : (least most : ℕ) (kind : Kind) (path : List Step) (d : Data) → list_of least most kind path d ≡ []
+    → (least ≤ items_len (items_in d)) × (items_len (items_in d) ≤ most) × (each kind path 0 (items_in d) ≡ [])
+list-in least most kind path null e = absurd (cc)
+list-in least most kind path (boolean b) e = absurd (cc)
+list-in least most kind path (number n) e = absurd (cc)
+list-in least most kind path (string s) e = absurd (cc)
+list-in least most kind path (array ds) e =
+    let parts = none-left (fault_at path (within least most (items_len ds))) (each kind path 0 ds) e in
+    let range = in-range least most (items_len ds) (fits-alone path (within least most (items_len ds)) parts.0) in
+    (range.0, range.1, parts.1)
+list-in least most kind path (object ms) e = absurd (cc)
+
+pub each-length : {A : Type 0} (f : Data → A) (ds : Items) → length (each_of f ds) ≡ items_len ds
+each-length f no_items = refl
+each-length f (item d ds) = rw (each-length f ds) (omega arith)
+
+-- what is held at a field without faults has none
+pub held-in : (path : List Step) (d : Data) (f : Field) → field_faults path d f ≡ [] → f.kind (then_named path f.name) (held f d) ≡ []
+held-in path d f e = from (value_of f d) e
+  where
+    from : (o : Option Data) → faults_of f.kind (then_named path f.name) o ≡ [] → f.kind (then_named path f.name) (unwrap_or o null) ≡ []
+    from None k = absurd (cc)
+    from (Some v) k = k
+
+-- an object without faults has none at its fields, nor among its alternatives
+pub object-in : (shape : Shape) (path : List Step) (d : Data) → object_of shape path d ≡ []
+    → (fields_faults path d shape.fields ≡ []) × (alternative_faults path d shape.alternatives ≡ [])
+object-in shape path null e = absurd (cc)
+object-in shape path (boolean b) e = absurd (cc)
+object-in shape path (number n) e = absurd (cc)
+object-in shape path (string s) e = absurd (cc)
+object-in shape path (array ds) e = absurd (cc)
+object-in shape path (object ms) e =
+    none-left (fields_faults path (object ms) shape.fields) (alternative_faults path (object ms) shape.alternatives)
+    (none-left (unknown_faults (names (known_fields shape (object ms))) path ms) (fields_faults path (object ms) shape.fields ++ alternative_faults path (object ms) shape.alternatives) e).1

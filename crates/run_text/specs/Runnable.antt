@@ -1,0 +1,51 @@
+-- What every scenario that was read without a fault has: its numbers in range, its tables consistent.
+use Rattle.std.specs.Prelude.{ℕ, ◌*◌, ◌≤◌, ◌<◌, ◌≡◌, List, [], ◌∷◌, length}
+use Rattle.rule_book.specs.Rules.{Consistent}
+use Rattle.call_store.specs.Stands.{NamesPhase}
+use Rattle.trace_text.specs.Words.{Lacks}
+use Rattle.scenario_data.specs.declared.scenario.Input.{Input}
+use Rattle.scenario_data.specs.Content.{CabinetContent, ScenarioContent}
+use Rattle.scenario_read.specs.Faults.{opening_tables}
+
+-- a cabinet opens with consistent tables, runs free, and its clock is a tick of the day
+pub record CanOpen (c : CabinetContent) : Type 0 where
+  pub consistent : Consistent (opening_tables c)
+  pub free : c.pattern ≡ 0
+  pub of_day : c.clock < 864000
+
+-- each of them can open
+abbrev pub AllOpen : List CabinetContent → Type 0
+AllOpen [] = Unit {0}
+AllOpen (c ∷ cabinets) = CanOpen c × AllOpen cabinets
+
+-- the round and the cabinet of an input are there
+pub record InReach (rounds cabinets : ℕ) (i : Input) : Type 0 where
+  pub some_round : 1 ≤ i.round
+  pub in_rounds : i.round ≤ rounds
+  pub some_cabinet : 1 ≤ i.cabinet
+  pub in_cabinets : i.cabinet ≤ cabinets
+
+-- each input is that of a phase 1 to 16
+abbrev pub AllHeard : List Input → Type 0
+AllHeard [] = Unit {0}
+AllHeard (i ∷ inputs) = NamesPhase i.field × AllHeard inputs
+
+-- each input reaches a round that is run and a cabinet that there is
+abbrev pub AllInReach : ℕ → ℕ → List Input → Type 0
+AllInReach rounds cabinets [] = Unit {0}
+AllInReach rounds cabinets (i ∷ inputs) = InReach rounds cabinets i × AllInReach rounds cabinets inputs
+
+-- a scenario that can be run
+pub record Runnable (s : ScenarioContent) : Type 0 where
+  pub some_rounds : 1 ≤ s.rounds
+  pub few_rounds : s.rounds ≤ 86400
+  pub some_ticks : 1 ≤ s.ticks
+  pub few_ticks : s.ticks ≤ 600
+  pub some_cabinets : 1 ≤ length s.cabinets
+  pub few_cabinets : length s.cabinets ≤ 64
+  pub few_inputs : length s.inputs ≤ 1000000
+  pub short : length s.cabinets * s.rounds * s.ticks ≤ 55296000
+  pub can_open : AllOpen s.cabinets
+  pub heard : AllHeard s.inputs
+  pub in_reach : AllInReach s.rounds (length s.cabinets) s.inputs
+  pub one_line : Lacks 10 s.compact
