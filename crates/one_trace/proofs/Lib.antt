@@ -1,0 +1,5 @@
+pub mod SameWords
+pub mod SameModes
+pub mod SameLines
+pub mod NoNewline
+pub mod SameTexts
