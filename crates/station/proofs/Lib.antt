@@ -1,11 +1,20 @@
 pub mod Writing
 mod Reading
 mod Pairs
-pub mod Going
 mod Words
-mod Causes
-pub mod RunLines
-pub mod RunText
-pub mod RunProper
-pub mod RunStreet
-mod SafeTrace
+mod ScenarioLine
+mod Journals
+mod Histories
+mod Numbered
+mod Opening
+mod Hearing
+mod Ticking
+mod Rounds
+mod EachLine
+mod Openings
+mod Inputs
+mod OneRound
+mod Refusals
+mod AllRounds
+mod Due
+mod WholeText

@@ -4,7 +4,7 @@ use Rattle.std.specs.Cmp.Lexicographic.{pointwise}
 use Rattle.sig_types.specs.declared.frame.Colour.{Colour}
 use Rattle.sig_types.specs.declared.frame.Ped.{Ped}
 use Rattle.sig_types.specs.Colour.{same_colour, same_signal}
-use Rattle.station.specs.Frames.{same_colours, same_signals}
+use Rattle.run_text.specs.Frames.{same_colours, same_signals}
 
 colour_pair : (E : Colour → Colour → Bool) → ((a b : Colour) → E a b ≡ same_colour a b) → (xs ys : List Colour) → pointwise E xs ys ≡ same_colours xs ys
 colour_pair E each [] [] = refl

@@ -1,14 +1,15 @@
 -- What each answer of the top call says of the words, the input, the output and the faults.
-use Rattle.std.specs.Prelude.{◌≡◌, ◌≤◌, ◌<◌, ◌⊎◌, ℕ, List, [], ◌∷◌, Option, Some, IfSome, Bool, true, false, codes, drop, length, string_bytes}
+use Rattle.std.specs.Prelude.{◌≡◌, ◌≤◌, ◌<◌, ◌⊎◌, ℕ, List, [], ◌∷◌, Option, Some, IfSome, codes, drop, length, string_bytes}
 use Rattle.io_edge.specs.Edge.{Appends}
-use Rattle.sig_tables.specs.Standard.{max8}
-use Rattle.safe_trace.specs.TraceText.{TellsSafe}
-use Rattle.station.specs.declared.status.Refusal.TheVariants.{Syntax, Field, Limit, Broken}
+use Rattle.scenario_data.specs.declared.refusal.Refusal.{Refusal}
+use Rattle.scenario_data.specs.declared.refusal.Refusal.TheVariants.{Syntax, Field, Limit, Broken}
+use Rattle.scenario_data.specs.Content.{ScenarioContent}
+use Rattle.scenario_read.specs.Answers.{IsScenario, IsFirstFault}
+use Rattle.run_text.specs.Lines.{run_text}
+use Rattle.run_text.specs.Streets.{TellsSafeStreets}
 use Rattle.station.specs.declared.status.Status.{Status}
 use Rattle.station.specs.declared.status.Status.TheVariants.{Done, Scenario, NotATrace, ReadFault, WriteFault, NoMemory}
 use Rattle.station.specs.Bytes.{AppendsFront, nothing_left}
-use Rattle.station.specs.Form.{HasForm, HasNoReading, HasOtherForm}
-use Rattle.station.specs.Text.{text}
 
 -- the words are those of `run`
 abbrev pub IsRun : List (List ℕ) → Type 0
@@ -18,76 +19,88 @@ IsRun words = words ≡ codes "run" ∷ []
 abbrev pub IsShort : List ℕ → Type 0
 IsShort input = length input ≤ 16777216
 
+-- these bytes are the whole input, where the source tells what it has left
+abbrev pub AreInput : Option (List ℕ) → List ℕ → Type 0
+AreInput left bytes = IfSome left (λ input. bytes ≡ input)
+
+-- the input is a scenario with this content, and within the limit
+abbrev pub IsInput : Option (List ℕ) → ScenarioContent → Type 0
+IsInput left s = (bytes : List ℕ) × AreInput left bytes × IsShort bytes × IsScenario bytes s
+
+-- the input is a scenario within the limit
+abbrev pub HoldsScenario : Option (List ℕ) → Type 0
+HoldsScenario left = (s : ScenarioContent) × IsInput left s
+
+-- the input is within the limit, and this names its first fault
+abbrev pub HasFault : Option (List ℕ) → Refusal → Type 0
+HasFault left refusal = (bytes : List ℕ) × AreInput left bytes × IsShort bytes × IsFirstFault bytes refusal
+
 -- the input is a scenario, and all of its trace was appended
-abbrev pub WritesTrace : List ℕ → Option (List ℕ) → Option (List ℕ) → Type 0
-WritesTrace input old new = (rounds : ℕ) × (ticks : ℕ) × IsShort input × HasForm input rounds ticks × Appends old new (text rounds ticks)
+abbrev pub WritesTrace : Option (List ℕ) → Option (List ℕ) → Option (List ℕ) → Type 0
+WritesTrace left old new = (s : ScenarioContent) × IsInput left s × Appends old new (run_text s)
 
 -- the input is a scenario, and a front of its trace was appended
-abbrev pub WritesFront : List ℕ → Option (List ℕ) → Option (List ℕ) → Type 0
-WritesFront input old new = (rounds : ℕ) × (ticks : ℕ) × IsShort input × HasForm input rounds ticks × AppendsFront old new (text rounds ticks)
+abbrev pub WritesFront : Option (List ℕ) → Option (List ℕ) → Option (List ℕ) → Type 0
+WritesFront left old new = (s : ScenarioContent) × IsInput left s × AppendsFront old new (run_text s)
 
--- the input is a scenario, and all of its trace was appended: by its lines the street is safe, with the table max8, and the versions are whole
-abbrev pub WritesSafe : List ℕ → Option (List ℕ) → Option (List ℕ) → Type 0
-WritesSafe input old new = (rounds : ℕ) × (ticks : ℕ) × HasForm input rounds ticks × Appends old new (text rounds ticks)
-    × TellsSafe 1 (λ version. max8) (text rounds ticks)
+-- the input is a scenario, and all of its trace was appended: by its lines every street is safe, and the versions are whole
+abbrev pub WritesSafe : Option (List ℕ) → Option (List ℕ) → Option (List ℕ) → Type 0
+WritesSafe left old new = (s : ScenarioContent) × IsInput left s × Appends old new (run_text s) × TellsSafeStreets s (run_text s)
 
--- the input is a scenario
-abbrev pub IsScenario : List ℕ → Type 0
-IsScenario input = (rounds : ℕ) × (ticks : ℕ) × IsShort input × HasForm input rounds ticks
+-- the refusal is that of the whole input, for its length
+abbrev pub IsLengthLimit : Refusal → Type 0
+IsLengthLimit Syntax = ⊥
+IsLengthLimit (Field path) = ⊥
+IsLengthLimit (Limit path) = string_bytes path ≡ codes "."
+IsLengthLimit (Broken cabinet rule row) = ⊥
 
--- the bytes are refused: they have no reading in JSON
-abbrev pub IsSyntax : Status → Type 0
-IsSyntax (Scenario Syntax) = Unit {0}
-IsSyntax _ = ⊥
+-- the answer is the refusal of the whole input for its length
+abbrev pub IsLengthRefusal : Status → Type 0
+IsLengthRefusal (Scenario refusal) = IsLengthLimit refusal
+IsLengthRefusal _ = ⊥
 
--- the whole input is refused for its form
-abbrev pub IsField : Status → Type 0
-IsField (Scenario (Field path)) = string_bytes path ≡ codes "."
-IsField _ = ⊥
-
--- the whole input is refused for its length
-abbrev pub IsLimit : Status → Type 0
-IsLimit (Scenario (Limit path)) = string_bytes path ≡ codes "."
-IsLimit _ = ⊥
-
--- an answer that there is: none of a broken rule or of a trace yet, and the path of a refusal is that of the whole input
+-- an answer that the program has: it reads no traces yet
 abbrev pub IsAnswer : Status → Type 0
-IsAnswer (Scenario (Field path)) = string_bytes path ≡ codes "."
-IsAnswer (Scenario (Limit path)) = string_bytes path ≡ codes "."
-IsAnswer (Scenario (Broken cab rule row)) = ⊥
 IsAnswer (NotATrace fault) = ⊥
 IsAnswer _ = Unit {0}
 
--- a refusal of the whole input, for its length or its form, unless memory ran out
-abbrev pub IsRefused : Status → Bool → Type 0
-IsRefused (Scenario (Limit path)) true = string_bytes path ≡ codes "."
-IsRefused (Scenario (Field path)) false = string_bytes path ≡ codes "."
-IsRefused NoMemory too_long = Unit {0}
-IsRefused _ _ = ⊥
+-- the input has a first fault, and the answer is the refusal that names it
+abbrev pub NamesFault : Status → List ℕ → Type 0
+NamesFault status input = (refusal : Refusal) × (status ≡ Scenario refusal) × IsFirstFault input refusal
 
--- the cause of an answer to `run`: what it says of the input, and of the faults of reading and of writing
-abbrev pub Cause : Status → Option (List ℕ) → Type 0 → Type 0 → Type 0
-Cause Done left unread unwritten = IfSome left IsScenario
-Cause ReadFault left unread unwritten = unread
-Cause WriteFault left unread unwritten = unwritten × IfSome left IsScenario
-Cause (Scenario Syntax) left unread unwritten = IfSome left (λ input. IsShort input × HasNoReading input)
-Cause (Scenario (Field path)) left unread unwritten = (string_bytes path ≡ codes ".") × IfSome left (λ input. IsShort input × HasOtherForm input)
-Cause (Scenario (Limit path)) left unread unwritten = (string_bytes path ≡ codes ".") × IfSome left (λ input. 16777216 < length input)
-Cause NoMemory left unread unwritten = Unit {0}
-Cause _ left unread unwritten = ⊥
+-- the input is no scenario
+abbrev pub IsNoScenario : List ℕ → Type 0
+IsNoScenario input = (s : ScenarioContent) → IsScenario input s → ⊥
+
+-- why a refusal comes: the input is too long, or else this names its first fault
+abbrev pub IsRefusedFor : Refusal → Option (List ℕ) → Type 0
+IsRefusedFor refusal left =
+    (IsLengthLimit refusal × IfSome left (λ input. 16777216 < length input)) ⊎ ((IsLengthLimit refusal → ⊥) × HasFault left refusal)
+
+-- what the source has left after a refusal: nothing, or for too long an input what is behind the first byte past the limit
+abbrev pub LeavesRefused : Refusal → Option (List ℕ) → Option (List ℕ) → Type 0
+LeavesRefused refusal old new =
+    (IsLengthLimit refusal × IfSome old (λ input. new ≡ Some (drop 16777217 input))) ⊎ ((IsLengthLimit refusal → ⊥) × (new ≡ nothing_left old))
+
+-- what an answer to `run` tells of the input, and of the faults of reading and of writing
+abbrev pub Tells : Status → Option (List ℕ) → Type 0 → Type 0 → Type 0
+Tells Done left unread unwritten = HoldsScenario left
+Tells ReadFault left unread unwritten = unread
+Tells WriteFault left unread unwritten = unwritten × HoldsScenario left
+Tells (Scenario refusal) left unread unwritten = IsRefusedFor refusal left
+Tells NoMemory left unread unwritten = Unit {0}
+Tells _ left unread unwritten = ⊥
 
 -- what the source has left after an answer to `run`: nothing after all of it was read; reading stops one byte past the limit
-abbrev pub Reading : Status → Option (List ℕ) → Option (List ℕ) → Type 0
-Reading Done old new = new ≡ nothing_left old
-Reading WriteFault old new = new ≡ nothing_left old
-Reading (Scenario Syntax) old new = new ≡ nothing_left old
-Reading (Scenario (Field path)) old new = new ≡ nothing_left old
-Reading (Scenario (Limit path)) old new = IfSome old (λ input. new ≡ Some (drop 16777217 input))
-Reading _ old new = Unit {0}
+abbrev pub LeavesInput : Status → Option (List ℕ) → Option (List ℕ) → Type 0
+LeavesInput Done old new = new ≡ nothing_left old
+LeavesInput WriteFault old new = new ≡ nothing_left old
+LeavesInput (Scenario refusal) old new = LeavesRefused refusal old new
+LeavesInput _ old new = Unit {0}
 
--- what was appended to the sink after an answer to `run`, whose source had these bytes left
-abbrev pub Writing : Status → Option (List ℕ) → Option (List ℕ) → Option (List ℕ) → Type 0
-Writing Done left old new = IfSome left (λ input. WritesTrace input old new)
-Writing WriteFault left old new = IfSome left (λ input. WritesFront input old new)
-Writing NoMemory left old new = (new ≡ old) ⊎ IfSome left (λ input. WritesFront input old new)
-Writing _ left old new = new ≡ old
+-- what was appended to the sink after an answer to `run`, whose source had these bytes left and was read to its end
+abbrev pub AppendsOutput : Status → Option (List ℕ) → Type 0 → Option (List ℕ) → Option (List ℕ) → Type 0
+AppendsOutput Done left ended old new = WritesTrace left old new
+AppendsOutput WriteFault left ended old new = WritesFront left old new
+AppendsOutput NoMemory left ended old new = (new ≡ old) ⊎ (ended × WritesFront left old new)
+AppendsOutput _ left ended old new = new ≡ old

@@ -1,6 +1,5 @@
 pub mod Bytes
 pub mod Outbox
-pub mod Form
-pub mod Frames
-pub mod Text
+pub mod Rounds
+pub mod Ready
 pub mod Answers

@@ -1,7 +1,7 @@
 //! Which frames have a line in a trace: those that show something else than the one before, and local zeros.
 
 ghost use Rattle.std.specs.Prelude.{◌≡◌};
-ghost use Rattle.station.specs.Frames.{has_line, is_local_zero, shows_same, same_colours, same_signals};
+ghost use Rattle.run_text.specs.Frames.{has_line, is_local_zero, shows_same, same_colours, same_signals};
 
 use sig_types::{Colour, Frame, Mode, Ped};
 

@@ -3,17 +3,18 @@
 #![tactic(auto)]
 
 mod bytes;
-mod form;
+mod cabinets;
 mod frames;
 mod lines;
 mod outbox;
+#[cfg(test)]
+mod run_tests;
 mod status;
-mod street;
 #[cfg(test)]
 mod tests;
 mod top;
 mod trace;
 
-pub use status::{Refusal, Status, TraceFault};
-pub use street::run_is_safe;
+pub use scenario_data::Refusal;
+pub use status::{Status, TraceFault};
 pub use top::station;

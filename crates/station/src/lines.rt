@@ -1,20 +1,20 @@
 //! The lines of a run, one at a time, handed over to an outbox.
 
-ghost use Rattle.std.specs.Prelude.{◌≡◌, ◌≤◌, ◌∷◌, [], Err, OnOk, OnErr};
+ghost use Rattle.std.specs.Prelude.{◌≡◌, ◌≤◌, Err, IfOk, OnOk, OnErr};
 ghost use Rattle.io_edge.specs.Edge.{Rises};
-ghost use Rattle.trace_text.specs.Line.{line_text, scenario_line, frame_line, journal_line, end_line};
+ghost use Rattle.trace_text.specs.Line.{line_text};
+ghost use Rattle.safe_trace.specs.TraceText.{lines_text};
+ghost use Rattle.run_text.specs.Lines.{shown_line, tick_lines};
 ghost use Rattle.station.specs.Bytes.{Puts, PutsFront};
-ghost use Rattle.station.specs.Form.{form_text};
 ghost use Rattle.station.specs.Outbox.{held_by};
-ghost use Rattle.station.specs.Text.{tick_text, round_head};
+ghost use Rattle.station.specs.Rounds.{round_runs};
 
-use crate::form::{Form, form_text};
 use crate::frames::has_line;
 use crate::outbox::Outbox;
 use io_edge::{Failed, Sink};
-use sig_types::Frame;
+use sig_types::{Frame, NoMemory};
 use std::alloc::Global;
-use trace_text::{Line, Runs, Text, write_line};
+use trace_text::{Line, Runs, write_line};
 
 /// Why a trace was not written whole.
 #[derive(Clone, Copy, Debug, PartialEq, Eq)]
@@ -23,8 +23,13 @@ pub enum Stop {
     NoMemory,
 }
 
-/// A line.
-fn put_line<K: Sink>(alloc: Global, out: &mut Outbox, sink: &mut K, line: &Line) -> Result<(), Stop>
+/// Hands over a line.
+pub fn put_line<K: Sink>(
+    alloc: Global,
+    out: &mut Outbox,
+    sink: &mut K,
+    line: &Line,
+) -> Result<(), Stop>
     ensures ok { OnOk result (Puts (K.written sink.old) (K.written sink.new) (held_by out.old) (held_by out.new) (line_text line.now)) }
     ensures err { OnErr result (PutsFront (K.written sink.old) (K.written sink.new) (held_by out.old) (line_text line.now)) }
     ensures fault { result ≡ Err Stop.WriteFault → Rises (K.faults sink.old) (K.faults sink.new) }
@@ -40,47 +45,43 @@ fn put_line<K: Sink>(alloc: Global, out: &mut Outbox, sink: &mut K, line: &Line)
     }
 }
 
-/// The line of the scenario.
-pub fn put_scenario<K: Sink>(
-    alloc: Global,
-    out: &mut Outbox,
-    sink: &mut K,
-    form: Form,
-) -> Result<(), Stop>
-    ensures ok { OnOk result (Puts (K.written sink.old) (K.written sink.new) (held_by out.old) (held_by out.new) (scenario_line (form_text form.rounds form.ticks))) }
-    ensures err { OnErr result (PutsFront (K.written sink.old) (K.written sink.new) (held_by out.old) (scenario_line (form_text form.rounds form.ticks))) }
-    ensures fault { result ≡ Err Stop.WriteFault → Rises (K.faults sink.old) (K.faults sink.new) }
+/// Hands over the line of the scenario, whose compact text is not copied.
+pub fn put_scenario<K: Sink>(out: &mut Outbox, sink: &mut K, compact: &[u8]) -> Result<(), Failed>
+    ensures ok { OnOk result (Puts (K.written sink.old) (K.written sink.new) (held_by out.old) (held_by out.new) (line_text (Line.S compact.now))) }
+    ensures err { OnErr result (PutsFront (K.written sink.old) (K.written sink.new) (held_by out.old) (line_text (Line.S compact.now))) }
+    ensures fault { OnErr result (Rises (K.faults sink.old) (K.faults sink.new)) }
     ensures kept { K.faults sink.old ≤ K.faults sink.new }
 {
-    let json = match form_text(alloc, form) {
-        Ok(text) => text.into_bytes(),
-        Err(_) => return Err(Stop::NoMemory),
-    };
-    put_line(
-        alloc,
-        out,
-        sink,
-        &Line::S {
-            json: Text::new(json),
-        },
-    )
+    match out.put(sink, b"S ") {
+        Ok(()) => {}
+        Err(Failed) => return Err(Failed),
+    }
+    match out.put(sink, compact) {
+        Ok(()) => {}
+        Err(Failed) => return Err(Failed),
+    }
+    match out.put(sink, b"\n") {
+        Ok(()) => Ok(()),
+        Err(Failed) => Err(Failed),
+    }
 }
 
-/// The line of a frame after so many ticks.
+/// Hands over the line of a cabinet's frame after so many ticks.
 pub fn put_frame<K: Sink>(
     alloc: Global,
     out: &mut Outbox,
     sink: &mut K,
+    cab: u32,
     tick: u32,
     frame: &Frame,
 ) -> Result<(), Stop>
-    ensures ok { OnOk result (Puts (K.written sink.old) (K.written sink.new) (held_by out.old) (held_by out.new) (frame_line 1 tick frame.now)) }
-    ensures err { OnErr result (PutsFront (K.written sink.old) (K.written sink.new) (held_by out.old) (frame_line 1 tick frame.now)) }
+    ensures ok { OnOk result (Puts (K.written sink.old) (K.written sink.new) (held_by out.old) (held_by out.new) (line_text (shown_line cab tick frame.now))) }
+    ensures err { OnErr result (PutsFront (K.written sink.old) (K.written sink.new) (held_by out.old) (line_text (shown_line cab tick frame.now))) }
     ensures fault { result ≡ Err Stop.WriteFault → Rises (K.faults sink.old) (K.faults sink.new) }
     ensures kept { K.faults sink.old ≤ K.faults sink.new }
 {
     let line = Line::F {
-        cab: 1,
+        cab,
         tick,
         veh: frame.veh,
         ped: frame.ped,
@@ -92,90 +93,61 @@ pub fn put_frame<K: Sink>(
     put_line(alloc, out, sink, &line)
 }
 
-/// The line of a tick's frame, where it has one.
+/// Hands over the line of a tick's frame, where it has one.
 pub fn put_tick<K: Sink>(
     alloc: Global,
     out: &mut Outbox,
     sink: &mut K,
+    cab: u32,
     tick: u32,
     last: &Frame,
     next: &Frame,
 ) -> Result<(), Stop>
-    ensures ok { OnOk result (Puts (K.written sink.old) (K.written sink.new) (held_by out.old) (held_by out.new) (tick_text tick last.now next.now)) }
-    ensures err { OnErr result (PutsFront (K.written sink.old) (K.written sink.new) (held_by out.old) (tick_text tick last.now next.now)) }
+    ensures ok { OnOk result (Puts (K.written sink.old) (K.written sink.new) (held_by out.old) (held_by out.new) (lines_text (tick_lines cab tick last.now next.now))) }
+    ensures err { OnErr result (PutsFront (K.written sink.old) (K.written sink.new) (held_by out.old) (lines_text (tick_lines cab tick last.now next.now))) }
     ensures fault { result ≡ Err Stop.WriteFault → Rises (K.faults sink.old) (K.faults sink.new) }
     ensures kept { K.faults sink.old ≤ K.faults sink.new }
 {
     if !has_line(last, next) {
         return Ok(());
     }
-    match put_frame(alloc, out, sink, tick, next) {
+    match put_frame(alloc, out, sink, cab, tick, next) {
         Ok(()) => Ok(()),
         Err(stop) => Err(stop),
     }
 }
 
-/// The line of a round's journal, in which all events are ticks.
-fn put_journal<K: Sink>(
-    alloc: Global,
-    out: &mut Outbox,
-    sink: &mut K,
-    ticks: u32,
-) -> Result<(), Stop>
-    ensures ok { OnOk result (Puts (K.written sink.old) (K.written sink.new) (held_by out.old) (held_by out.new) (journal_line 1 ((4, ticks) ∷ []))) }
-    ensures err { OnErr result (PutsFront (K.written sink.old) (K.written sink.new) (held_by out.old) (journal_line 1 ((4, ticks) ∷ []))) }
-    ensures fault { result ≡ Err Stop.WriteFault → Rises (K.faults sink.old) (K.faults sink.new) }
-    ensures kept { K.faults sink.old ≤ K.faults sink.new }
+/// The runs of a round's journal: that of the inputs, if there are any, and that of the ticks.
+fn runs_in(alloc: Global, inputs: u32, ticks: u32) -> Result<Runs, NoMemory>
+    ensures { IfOk result (λ runs. runs ≡ round_runs inputs ticks) }
 {
     let mut runs = Vec::new(alloc);
-    if runs.push((4, ticks)).is_err() {
-        return Err(Stop::NoMemory);
+    if inputs > 0 && runs.push((0, inputs)).is_err() {
+        return Err(NoMemory);
     }
-    put_line(
-        alloc,
-        out,
-        sink,
-        &Line::J {
-            cab: 1,
-            runs: Runs::new(runs),
-        },
-    )
+    if runs.push((4, ticks)).is_err() {
+        return Err(NoMemory);
+    }
+    Ok(Runs::new(runs))
 }
 
-/// The first lines of a round.
-pub fn put_head<K: Sink>(
+/// Hands over the line of a cabinet's journal of a round with so many inputs, and then so many ticks.
+pub fn put_journal<K: Sink>(
     alloc: Global,
     out: &mut Outbox,
     sink: &mut K,
-    j: u32,
+    cab: u32,
+    inputs: u32,
     ticks: u32,
 ) -> Result<(), Stop>
-    ensures ok { OnOk result (Puts (K.written sink.old) (K.written sink.new) (held_by out.old) (held_by out.new) (round_head j ticks)) }
-    ensures err { OnErr result (PutsFront (K.written sink.old) (K.written sink.new) (held_by out.old) (round_head j ticks)) }
+    ensures ok { OnOk result (Puts (K.written sink.old) (K.written sink.new) (held_by out.old) (held_by out.new) (line_text (Line.J cab (round_runs inputs ticks)))) }
+    ensures err { OnErr result (PutsFront (K.written sink.old) (K.written sink.new) (held_by out.old) (line_text (Line.J cab (round_runs inputs ticks)))) }
     ensures fault { result ≡ Err Stop.WriteFault → Rises (K.faults sink.old) (K.faults sink.new) }
     ensures kept { K.faults sink.old ≤ K.faults sink.new }
 {
-    match put_line(alloc, out, sink, &Line::R { round: j }) {
-        Ok(()) => {}
-        Err(stop) => return Err(stop),
-    }
-    match put_journal(alloc, out, sink, ticks) {
-        Ok(()) => Ok(()),
-        Err(stop) => Err(stop),
-    }
-}
-
-/// The last line.
-pub fn put_end<K: Sink>(
-    alloc: Global,
-    out: &mut Outbox,
-    sink: &mut K,
-    rounds: u32,
-) -> Result<(), Stop>
-    ensures ok { OnOk result (Puts (K.written sink.old) (K.written sink.new) (held_by out.old) (held_by out.new) (end_line rounds)) }
-    ensures err { OnErr result (PutsFront (K.written sink.old) (K.written sink.new) (held_by out.old) (end_line rounds)) }
-    ensures fault { result ≡ Err Stop.WriteFault → Rises (K.faults sink.old) (K.faults sink.new) }
-    ensures kept { K.faults sink.old ≤ K.faults sink.new }
-{
-    put_line(alloc, out, sink, &Line::Z { rounds })
+    let runs = match runs_in(alloc, inputs, ticks) {
+        Ok(runs) => runs,
+        Err(NoMemory) => return Err(Stop::NoMemory),
+    };
+    put_line(alloc, out, sink, &Line::J { cab, runs })
 }

@@ -1,17 +1,21 @@
 //! All that the program does.
 
-ghost use Rattle.std.specs.Prelude.{◌≡◌, ◌≤◌, ◌<◌, ◌⊎◌, ◌↔◌, ◌∷◌, [], ℕ, Some, IfSome, IsTrue, codes, drop, length, map, string_bytes};
+ghost use Rattle.std.specs.Prelude.{◌≡◌, ◌≤◌, ◌<◌, ◌⊎◌, ◌↔◌, ◌∷◌, [], Err, Some, IfOk, IfSome, OnOk, IsTrue, codes, drop, length, map, string_bytes};
 ghost use Rattle.io_edge.specs.Edge.{Rises};
+ghost use Rattle.scenario_data.specs.Content.{ScenarioContent, scenario_content};
+ghost use Rattle.scenario_data.specs.declared.refusal.Refusal.{Refusal};
+ghost use Rattle.scenario_read.specs.Answers.{IsScenario, IsFirstFault};
+ghost use Rattle.run_text.specs.Runnable.{Runnable};
 ghost use Rattle.station.specs.Bytes.{nothing_left};
-ghost use Rattle.station.specs.Form.{HasForm, HasNoReading, HasOtherForm};
-ghost use Rattle.station.specs.Answers.{IsRun, IsShort, WritesTrace, WritesFront, WritesSafe, IsSyntax, IsField, IsLimit, IsAnswer, IsRefused, Cause, Reading, Writing};
+ghost use Rattle.station.specs.Answers.{IsRun, IsShort, WritesTrace, WritesFront, WritesSafe, IsLengthRefusal, IsLengthLimit, IsAnswer, IsInput, HasFault, NamesFault, IsNoScenario, IsRefusedFor, LeavesRefused, Tells, LeavesInput, AppendsOutput};
 
 use crate::bytes::{ReadEnd, read_all};
-use crate::form::{FormFault, read_form};
 use crate::lines::Stop;
-use crate::status::{Refusal, Status};
+use crate::status::Status;
 use crate::trace::write_trace;
 use io_edge::{Gate, Sink, Source};
+use scenario_data::{ReadFail, Refusal, Scenario};
+use scenario_file::read;
 use std::alloc::Global;
 use std::thread::Threads;
 
@@ -25,36 +29,61 @@ fn is_run(words: &Vec<String>) -> bool
     }
 }
 
-/// The refusal of the whole input, for its length or its form.
-fn refused(alloc: Global, too_long: bool) -> Status
-    ensures { IsRefused result too_long }
+/// Why there is no scenario to run.
+enum Unread {
+    Fault,
+    Refused(Refusal),
+    NoMemory,
+}
+
+/// The refusal of the whole input for its length.
+fn too_long(alloc: Global) -> Unread
+    ensures refused { (r : Refusal) → result ≡ Unread.Refused r → IsLengthLimit r }
+    ensures no_fault { result ≡ Unread.Fault → ⊥ }
 {
     match String::from_str(alloc, ".") {
-        Ok(path) if too_long => Status::Scenario(Refusal::Limit(path)),
-        Ok(path) => Status::Scenario(Refusal::Field(path)),
-        Err(_) => Status::NoMemory,
+        Ok(path) => Unread::Refused(Refusal::Limit(path)),
+        Err(_) => Unread::NoMemory,
+    }
+}
+
+/// The scenario that the whole input is. The memory of the input's bytes is given back.
+fn scenario_in<S: Source>(alloc: Global, source: &mut S) -> Result<Scenario, Unread>
+    ensures scenario { IfOk result (λ s. IsInput (S.left source.old) (scenario_content s)) }
+    ensures runnable { IfOk result (λ s. Runnable (scenario_content s)) }
+    ensures ended { OnOk result (S.left source.new ≡ nothing_left (S.left source.old)) }
+    ensures fault { result ≡ Err Unread.Fault → Rises (S.faults source.old) (S.faults source.new) }
+    ensures refused { (r : Refusal) → result ≡ Err (Unread.Refused r) → IsRefusedFor r (S.left source.old) }
+    ensures leaves { (r : Refusal) → result ≡ Err (Unread.Refused r) → LeavesRefused r (S.left source.old) (S.left source.new) }
+    ensures kept { S.faults source.old ≤ S.faults source.new }
+{
+    let input = match read_all(alloc, source) {
+        Ok(input) => input,
+        Err(ReadEnd::Fault) => return Err(Unread::Fault),
+        Err(ReadEnd::TooLong) => return Err(too_long(alloc)),
+        Err(ReadEnd::NoMemory) => return Err(Unread::NoMemory),
+    };
+    match read(alloc, &input) {
+        Ok(scenario) => Ok(scenario),
+        Err(ReadFail::Refused(refusal)) => Err(Unread::Refused(refusal)),
+        Err(ReadFail::NoMemory) => Err(Unread::NoMemory),
     }
 }
 
 /// Reads a scenario, and writes its trace.
 fn run<S: Source, K: Sink>(alloc: Global, source: &mut S, sink: &mut K) -> Status
-    ensures cause { Cause result (S.left source.old) (Rises (S.faults source.old) (S.faults source.new)) (Rises (K.faults sink.old) (K.faults sink.new)) }
-    ensures reading { Reading result (S.left source.old) (S.left source.new) }
-    ensures writing { Writing result (S.left source.old) (K.written sink.old) (K.written sink.new) }
+    ensures tells { Tells result (S.left source.old) (Rises (S.faults source.old) (S.faults source.new)) (Rises (K.faults sink.old) (K.faults sink.new)) }
+    ensures leaves { LeavesInput result (S.left source.old) (S.left source.new) }
+    ensures appends { AppendsOutput result (S.left source.old) (S.left source.new ≡ nothing_left (S.left source.old)) (K.written sink.old) (K.written sink.new) }
+    ensures kept { (S.faults source.old ≤ S.faults source.new) × (K.faults sink.old ≤ K.faults sink.new) }
 {
-    let input = match read_all(alloc, source) {
-        Ok(input) => input,
-        Err(ReadEnd::Fault) => return Status::ReadFault,
-        Err(ReadEnd::TooLong) => return refused(alloc, true),
-        Err(ReadEnd::NoMemory) => return Status::NoMemory,
+    let scenario = match scenario_in(alloc, source) {
+        Ok(scenario) => scenario,
+        Err(Unread::Fault) => return Status::ReadFault,
+        Err(Unread::Refused(refusal)) => return Status::Scenario(refusal),
+        Err(Unread::NoMemory) => return Status::NoMemory,
     };
-    let form = match read_form(alloc, &input) {
-        Ok(form) => form,
-        Err(FormFault::Syntax) => return Status::Scenario(Refusal::Syntax),
-        Err(FormFault::Field) => return refused(alloc, false),
-        Err(FormFault::NoMemory) => return Status::NoMemory,
-    };
-    match write_trace(alloc, sink, form) {
+    match write_trace(alloc, sink, scenario) {
         Ok(()) => Status::Done,
         Err(Stop::WriteFault) => Status::WriteFault,
         Err(Stop::NoMemory) => Status::NoMemory,
@@ -82,34 +111,35 @@ pub fn station<R: Threads + Sync, S: Source, K: Sink, G: Gate + Sync>(
 
     // Done: the source was read to its end, its bytes are a scenario, and the whole trace was appended to the sink.
     ensures done { result ≡ Status.Done → (S.left source.new ≡ nothing_left (S.left source.old))
-        × IfSome (S.left source.old) (λ input. WritesTrace input (K.written sink.old) (K.written sink.new)) }
+        × WritesTrace (S.left source.old) (K.written sink.old) (K.written sink.new) }
 
-    // And the trace is safe: what its frame lines alone show of the street, at every tick; its versions are whole.
-    ensures safe { result ≡ Status.Done → IfSome (S.left source.old) (λ input. WritesSafe input (K.written sink.old) (K.written sink.new)) }
+    // And the trace is safe: by its frame lines alone every street is safe at every tick, with the tables that its cabinet
+    // opened with; the versions are whole.
+    ensures safe { result ≡ Status.Done → WritesSafe (S.left source.old) (K.written sink.old) (K.written sink.new) }
 
-    // Why each refusal and each fault comes, and that nothing was written at it.
+    // Why a failed read and each refusal come, and that nothing was written then. The path `.` with `Limit` is the input's
+    // length alone: no other fault has it.
     ensures read_fault { result ≡ Status.ReadFault → Rises (S.faults source.old) (S.faults source.new) × (K.written sink.new ≡ K.written sink.old) }
-    ensures syntax { IsSyntax result → (K.written sink.new ≡ K.written sink.old) × (S.left source.new ≡ nothing_left (S.left source.old))
-        × IfSome (S.left source.old) (λ input. IsShort input × HasNoReading input) }
-    ensures field { IsField result → (K.written sink.new ≡ K.written sink.old) × (S.left source.new ≡ nothing_left (S.left source.old))
-        × IfSome (S.left source.old) (λ input. IsShort input × HasOtherForm input) }
-    ensures limit { IsLimit result → (K.written sink.new ≡ K.written sink.old)
+    ensures refused { (r : Refusal) → result ≡ Status.Scenario r → (IsLengthLimit r → ⊥) → (K.written sink.new ≡ K.written sink.old)
+        × (S.left source.new ≡ nothing_left (S.left source.old)) × HasFault (S.left source.old) r }
+    ensures limit { IsLengthRefusal result → (K.written sink.new ≡ K.written sink.old)
         × IfSome (S.left source.old) (λ input. (16777216 < length input) × (S.left source.new ≡ Some (drop 16777217 input))) }
 
     // Where writing stops short, the bytes written are a front of the trace.
     ensures write_fault { result ≡ Status.WriteFault → Rises (K.faults sink.old) (K.faults sink.new) × (S.left source.new ≡ nothing_left (S.left source.old))
-        × IfSome (S.left source.old) (λ input. WritesFront input (K.written sink.old) (K.written sink.new)) }
+        × WritesFront (S.left source.old) (K.written sink.old) (K.written sink.new) }
     ensures no_memory { result ≡ Status.NoMemory → (K.written sink.new ≡ K.written sink.old)
-        ⊎ IfSome (S.left source.old) (λ input. WritesFront input (K.written sink.old) (K.written sink.new)) }
+        ⊎ ((S.left source.new ≡ nothing_left (S.left source.old)) × WritesFront (S.left source.old) (K.written sink.old) (K.written sink.new)) }
 
-    // Which answer comes where no read fails: for too long an input, one with no reading, one of another form, and a scenario.
+    // No count of faults falls.
+    ensures kept { (S.faults source.old ≤ S.faults source.new) × (K.faults sink.old ≤ K.faults sink.new) }
+
+    // Which answer comes where no read fails, and for a scenario no write: for too long an input, one that is no scenario, and a scenario.
     ensures too_long { IsRun (map string_bytes words.now.items) → IfSome (S.left source.old) (λ input. 16777216 < length input
-        → ¬ Rises (S.faults source.old) (S.faults source.new) → IsLimit result ⊎ (result ≡ Status.NoMemory)) }
-    ensures no_reading { IsRun (map string_bytes words.now.items) → IfSome (S.left source.old) (λ input. IsShort input → HasNoReading input
-        → ¬ Rises (S.faults source.old) (S.faults source.new) → IsSyntax result ⊎ (result ≡ Status.NoMemory)) }
-    ensures other_form { IsRun (map string_bytes words.now.items) → IfSome (S.left source.old) (λ input. IsShort input → HasOtherForm input
-        → ¬ Rises (S.faults source.old) (S.faults source.new) → IsField result ⊎ (result ≡ Status.NoMemory)) }
-    ensures complete { IsRun (map string_bytes words.now.items) → IfSome (S.left source.old) (λ input. IsShort input → (rounds ticks : ℕ) → HasForm input rounds ticks
+        → ¬ Rises (S.faults source.old) (S.faults source.new) → IsLengthRefusal result ⊎ (result ≡ Status.NoMemory)) }
+    ensures first_fault { IsRun (map string_bytes words.now.items) → IfSome (S.left source.old) (λ input. IsShort input → IsNoScenario input
+        → ¬ Rises (S.faults source.old) (S.faults source.new) → NamesFault result input ⊎ (result ≡ Status.NoMemory)) }
+    ensures complete { IsRun (map string_bytes words.now.items) → IfSome (S.left source.old) (λ input. IsShort input → (s : ScenarioContent) → IsScenario input s
         → ¬ Rises (S.faults source.old) (S.faults source.new) → ¬ Rises (K.faults sink.old) (K.faults sink.new)
         → (result ≡ Status.Done) ⊎ (result ≡ Status.NoMemory)) }
 {

@@ -1,48 +1,45 @@
-//! The trace of a run, written as it runs: one cabinet's frames, round by round.
+//! The trace of a run, written as it runs: round by round, in each the cabinets in their order.
 
-ghost use Rattle.std.specs.Prelude.{◌≡◌, ◌<◌, ◌≤◌, ◌+◌, ◌*◌, [], Err, OnOk, OnErr};
+ghost use Rattle.std.specs.Prelude.{◌≡◌, ◌<◌, ◌≤◌, ◌+◌, ◌++◌, ◌∷◌, [], Err, OnOk, OnErr, length};
 ghost use Rattle.io_edge.specs.Edge.{Rises, Appends};
-ghost use Rattle.sig_tables.specs.Past.{History};
-ghost use Rattle.sig_tables.specs.Decide.{last_frame_of};
-ghost use Rattle.trace_text.specs.Line.{frame_line};
-ghost use Rattle.controller.specs.StandsFor.{StandsFor, tick_count};
+ghost use Rattle.safe_trace.specs.TraceText.{lines_text};
+ghost use Rattle.scenario_data.specs.Content.{ScenarioContent, scenario_content};
+ghost use Rattle.run_text.specs.Runnable.{Runnable};
+ghost use Rattle.run_text.specs.Lines.{opening_lines, each_lines, round_lines, rounds_lines, run_text};
 ghost use Rattle.station.specs.Bytes.{AppendsFront, Puts, PutsFront};
-ghost use Rattle.station.specs.Form.{InRange};
 ghost use Rattle.station.specs.Outbox.{held_by};
-ghost use Rattle.station.specs.Text.{start, ticks_text, after_ticks, round_text, rounds_text, rest_text, text};
+ghost use Rattle.station.specs.Rounds.{Between, EachRuns, rest_lines};
+ghost use Rattle.station.specs.Ready.{IsReady};
 
-use crate::form::Form;
-use crate::lines::{Stop, put_end, put_frame, put_head, put_scenario, put_tick};
+use crate::cabinets::{Cabinets, run_cabinet};
+use crate::lines::{Stop, put_frame, put_line, put_scenario};
 use crate::outbox::Outbox;
 use controller::Controller;
 use io_edge::{Failed, Sink};
-use sig_tables::Tables;
+use round_inputs::RoundInputs;
+use scenario_data::Scenario;
+use sig_types::NoMemory;
 use std::alloc::Global;
+use trace_text::Line;
 
-/// Runs ticks after so many, and hands over their lines.
-fn run_ticks<K: Sink>(
+/// Hands over what each cabinet shows before any tick.
+fn put_openings<K: Sink>(
     alloc: Global,
     out: &mut Outbox,
     sink: &mut K,
-    controller: &mut Controller,
-    done: u32,
-    ticks: u32,
+    controllers: &Vec<Controller>,
 ) -> Result<(), Stop>
-    requires counted { tick_count controller.old ≡ done }
-    requires few { done + ticks < 4294967295 }
-    ensures ok { OnOk result ((h : History) → StandsFor controller.old h
-        → Puts (K.written sink.old) (K.written sink.new) (held_by out.old) (held_by out.new) (ticks_text ticks done h)) }
-    ensures stands { OnOk result ((h : History) → StandsFor controller.old h → StandsFor controller.new (after_ticks ticks h)) }
-    ensures err { OnErr result ((h : History) → StandsFor controller.old h
-        → PutsFront (K.written sink.old) (K.written sink.new) (held_by out.old) (ticks_text ticks done h)) }
-    ensures count { OnOk result (tick_count controller.new ≡ done + ticks) }
+    requires few { length controllers.now.items ≤ 64 }
+    ensures ok { OnOk result ((s : ScenarioContent) → EachRuns s (λ cab. 0) 1 controllers.now.items s.cabinets
+        → Puts (K.written sink.old) (K.written sink.new) (held_by out.old) (held_by out.new) (lines_text (each_lines opening_lines 1 s.cabinets))) }
+    ensures err { OnErr result ((s : ScenarioContent) → EachRuns s (λ cab. 0) 1 controllers.now.items s.cabinets
+        → PutsFront (K.written sink.old) (K.written sink.new) (held_by out.old) (lines_text (each_lines opening_lines 1 s.cabinets))) }
     ensures fault { result ≡ Err Stop.WriteFault → Rises (K.faults sink.old) (K.faults sink.new) }
     ensures kept { K.faults sink.old ≤ K.faults sink.new }
 {
-    for t in 0..ticks {
-        let last = controller.frame();
-        let next = controller.tick();
-        match put_tick(alloc, out, sink, done + t + 1, &last, &next) {
+    for i in 0..controllers.len() {
+        let frame = controllers[i].frame();
+        match put_frame(alloc, out, sink, i as u32 + 1, 0, &frame) {
             Ok(()) => {}
             Err(stop) => return Err(stop),
         }
@@ -50,35 +47,54 @@ fn run_ticks<K: Sink>(
     Ok(())
 }
 
-/// Runs a round, and hands over its lines.
+/// Runs the round after so many, of so many ticks, at each cabinet in turn, and hands over its lines.
 fn run_round<K: Sink>(
     alloc: Global,
     out: &mut Outbox,
     sink: &mut K,
-    controller: &mut Controller,
-    j: u32,
+    controllers: &mut Vec<Controller>,
+    queue: &mut RoundInputs,
     done: u32,
     ticks: u32,
 ) -> Result<(), Stop>
-    requires counted { tick_count controller.old ≡ done }
-    requires few { done + ticks < 4294967295 }
-    ensures ok { OnOk result ((h : History) → StandsFor controller.old h
-        → Puts (K.written sink.old) (K.written sink.new) (held_by out.old) (held_by out.new) (round_text j ticks done h)) }
-    ensures stands { OnOk result ((h : History) → StandsFor controller.old h → StandsFor controller.new (after_ticks ticks h)) }
-    ensures err { OnErr result ((h : History) → StandsFor controller.old h
-        → PutsFront (K.written sink.old) (K.written sink.new) (held_by out.old) (round_text j ticks done h)) }
-    ensures count { OnOk result (tick_count controller.new ≡ done + ticks) }
+    requires ready { (s : ScenarioContent) × Between s done ticks controllers.old.items queue.old }
+    requires few_cabinets { length controllers.old.items ≤ 64 }
+    requires few_rounds { done < 86400 }
+    requires some_ticks { 1 ≤ ticks }
+    requires few_ticks { ticks ≤ 600 }
+    ensures ok { OnOk result ((s : ScenarioContent) → Between s done ticks controllers.old.items queue.old
+        → Puts (K.written sink.old) (K.written sink.new) (held_by out.old) (held_by out.new) (lines_text (round_lines s done))) }
+    ensures goes_on { OnOk result ((s : ScenarioContent) → Between s done ticks controllers.old.items queue.old
+        → Between s (done + 1) ticks controllers.new.items queue.new) }
+    ensures as_many { length controllers.new.items ≡ length controllers.old.items }
+    ensures err { OnErr result ((s : ScenarioContent) → Between s done ticks controllers.old.items queue.old
+        → PutsFront (K.written sink.old) (K.written sink.new) (held_by out.old) (lines_text (round_lines s done))) }
     ensures fault { result ≡ Err Stop.WriteFault → Rises (K.faults sink.old) (K.faults sink.new) }
     ensures kept { K.faults sink.old ≤ K.faults sink.new }
 {
-    match put_head(alloc, out, sink, j, ticks) {
+    match put_line(alloc, out, sink, &Line::R { round: done + 1 }) {
         Ok(()) => {}
         Err(stop) => return Err(stop),
     }
-    match run_ticks(alloc, out, sink, controller, done, ticks) {
-        Ok(()) => Ok(()),
-        Err(stop) => Err(stop),
+    for i in 0..controllers.len() {
+        let cab = i as u32 + 1;
+        let inputs = queue.due(done + 1, cab);
+        match run_cabinet(
+            alloc,
+            out,
+            sink,
+            &mut controllers[i],
+            cab,
+            inputs,
+            done * ticks,
+            ticks,
+        ) {
+            Ok(()) => {}
+            Err(stop) => return Err(stop),
+        }
+        queue.pass(done + 1, cab);
     }
+    Ok(())
 }
 
 /// Runs all rounds, and hands over their lines.
@@ -86,109 +102,113 @@ fn run_rounds<K: Sink>(
     alloc: Global,
     out: &mut Outbox,
     sink: &mut K,
-    controller: &mut Controller,
+    controllers: &mut Vec<Controller>,
+    queue: &mut RoundInputs,
     rounds: u32,
     ticks: u32,
 ) -> Result<(), Stop>
-    requires counted { tick_count controller.old ≡ 0 }
-    requires few { (rounds + 1) * ticks < 4294967295 }
-    ensures ok { OnOk result ((h : History) → StandsFor controller.old h
-        → Puts (K.written sink.old) (K.written sink.new) (held_by out.old) (held_by out.new) (rounds_text rounds 1 ticks 0 h)) }
-    ensures err { OnErr result ((h : History) → StandsFor controller.old h
-        → PutsFront (K.written sink.old) (K.written sink.new) (held_by out.old) (rounds_text rounds 1 ticks 0 h)) }
+    requires ready { (s : ScenarioContent) × Between s 0 ticks controllers.old.items queue.old }
+    requires few_cabinets { length controllers.old.items ≤ 64 }
+    requires few_rounds { rounds ≤ 86400 }
+    requires some_ticks { 1 ≤ ticks }
+    requires few_ticks { ticks ≤ 600 }
+    ensures ok { OnOk result ((s : ScenarioContent) → Between s 0 ticks controllers.old.items queue.old
+        → Puts (K.written sink.old) (K.written sink.new) (held_by out.old) (held_by out.new) (lines_text (rounds_lines s 0 rounds))) }
+    ensures err { OnErr result ((s : ScenarioContent) → Between s 0 ticks controllers.old.items queue.old
+        → PutsFront (K.written sink.old) (K.written sink.new) (held_by out.old) (lines_text (rounds_lines s 0 rounds))) }
     ensures fault { result ≡ Err Stop.WriteFault → Rises (K.faults sink.old) (K.faults sink.new) }
     ensures kept { K.faults sink.old ≤ K.faults sink.new }
 {
-    let mut done = 0u32;
-    for j in 0..rounds {
-        match run_round(alloc, out, sink, controller, j + 1, done, ticks) {
-            Ok(()) => done += ticks,
+    for done in 0..rounds {
+        match run_round(alloc, out, sink, controllers, queue, done, ticks) {
+            Ok(()) => {}
             Err(stop) => return Err(stop),
         }
     }
     Ok(())
 }
 
-/// A cabinet on the table max8, to which nothing has happened.
-fn opened() -> Controller
-    ensures stands { StandsFor result start }
-    ensures ticks { tick_count result ≡ 0 }
-{
-    Controller::open(Tables::max8(), 0, 0)
-}
-
-/// Hands over the line of the frame before any tick.
-fn put_start<K: Sink>(
+/// Hands over what comes behind the first line.
+fn put_rest<K: Sink>(
     alloc: Global,
     out: &mut Outbox,
     sink: &mut K,
-    controller: &Controller,
+    cabinets: &mut Cabinets,
 ) -> Result<(), Stop>
-    ensures ok { OnOk result ((h : History) → StandsFor controller.now h
-        → Puts (K.written sink.old) (K.written sink.new) (held_by out.old) (held_by out.new) (frame_line 1 0 (last_frame_of h))) }
-    ensures err { OnErr result ((h : History) → StandsFor controller.now h
-        → PutsFront (K.written sink.old) (K.written sink.new) (held_by out.old) (frame_line 1 0 (last_frame_of h))) }
+    requires ready { (s : ScenarioContent) × IsReady s cabinets.old }
+    ensures ok { OnOk result ((s : ScenarioContent) → IsReady s cabinets.old
+        → Puts (K.written sink.old) (K.written sink.new) (held_by out.old) (held_by out.new) (lines_text (rest_lines s))) }
+    ensures err { OnErr result ((s : ScenarioContent) → IsReady s cabinets.old
+        → PutsFront (K.written sink.old) (K.written sink.new) (held_by out.old) (lines_text (rest_lines s))) }
     ensures fault { result ≡ Err Stop.WriteFault → Rises (K.faults sink.old) (K.faults sink.new) }
     ensures kept { K.faults sink.old ≤ K.faults sink.new }
 {
-    let frame = controller.frame();
-    match put_frame(alloc, out, sink, 0, &frame) {
-        Ok(()) => Ok(()),
-        Err(stop) => Err(stop),
-    }
-}
-
-/// Hands over what comes behind the first line.
-fn put_rest<K: Sink>(alloc: Global, out: &mut Outbox, sink: &mut K, form: Form) -> Result<(), Stop>
-    requires { InRange form.rounds form.ticks }
-    ensures ok { OnOk result (Puts (K.written sink.old) (K.written sink.new) (held_by out.old) (held_by out.new) (rest_text form.rounds form.ticks)) }
-    ensures err { OnErr result (PutsFront (K.written sink.old) (K.written sink.new) (held_by out.old) (rest_text form.rounds form.ticks)) }
-    ensures fault { result ≡ Err Stop.WriteFault → Rises (K.faults sink.old) (K.faults sink.new) }
-    ensures kept { K.faults sink.old ≤ K.faults sink.new }
-{
-    let mut controller = opened();
-    match put_start(alloc, out, sink, &controller) {
+    match put_openings(alloc, out, sink, &cabinets.controllers) {
         Ok(()) => {}
         Err(stop) => return Err(stop),
     }
-    match run_rounds(alloc, out, sink, &mut controller, form.rounds, form.ticks) {
+    let rounds = cabinets.rounds;
+    let ticks = cabinets.ticks;
+    match run_rounds(
+        alloc,
+        out,
+        sink,
+        &mut cabinets.controllers,
+        &mut cabinets.queue,
+        rounds,
+        ticks,
+    ) {
         Ok(()) => {}
         Err(stop) => return Err(stop),
     }
-    match put_end(alloc, out, sink, form.rounds) {
+    match put_line(alloc, out, sink, &Line::Z { rounds }) {
         Ok(()) => Ok(()),
         Err(stop) => Err(stop),
     }
 }
 
 /// Hands over the whole trace of a scenario.
-fn put_trace<K: Sink>(alloc: Global, out: &mut Outbox, sink: &mut K, form: Form) -> Result<(), Stop>
-    requires { InRange form.rounds form.ticks }
-    ensures ok { OnOk result (Puts (K.written sink.old) (K.written sink.new) (held_by out.old) (held_by out.new) (text form.rounds form.ticks)) }
-    ensures err { OnErr result (PutsFront (K.written sink.old) (K.written sink.new) (held_by out.old) (text form.rounds form.ticks)) }
+fn put_trace<K: Sink>(
+    alloc: Global,
+    out: &mut Outbox,
+    sink: &mut K,
+    scenario: Scenario,
+) -> Result<(), Stop>
+    requires { Runnable (scenario_content scenario) }
+    ensures ok { OnOk result (Puts (K.written sink.old) (K.written sink.new) (held_by out.old) (held_by out.new) (run_text (scenario_content scenario))) }
+    ensures err { OnErr result (PutsFront (K.written sink.old) (K.written sink.new) (held_by out.old) (run_text (scenario_content scenario))) }
     ensures fault { result ≡ Err Stop.WriteFault → Rises (K.faults sink.old) (K.faults sink.new) }
     ensures kept { K.faults sink.old ≤ K.faults sink.new }
 {
-    match put_scenario(alloc, out, sink, form) {
+    match put_scenario(out, sink, scenario.compact.as_slice()) {
         Ok(()) => {}
-        Err(stop) => return Err(stop),
+        Err(Failed) => return Err(Stop::WriteFault),
     }
-    match put_rest(alloc, out, sink, form) {
+    let mut cabinets = match Cabinets::open(alloc, scenario) {
+        Ok(cabinets) => cabinets,
+        Err(NoMemory) => return Err(Stop::NoMemory),
+    };
+    match put_rest(alloc, out, sink, &mut cabinets) {
         Ok(()) => Ok(()),
         Err(stop) => Err(stop),
     }
 }
 
 /// Writes the whole trace of a scenario by way of an empty outbox.
-fn put_whole<K: Sink>(alloc: Global, out: &mut Outbox, sink: &mut K, form: Form) -> Result<(), Stop>
-    requires range { InRange form.rounds form.ticks }
+fn put_whole<K: Sink>(
+    alloc: Global,
+    out: &mut Outbox,
+    sink: &mut K,
+    scenario: Scenario,
+) -> Result<(), Stop>
+    requires runnable { Runnable (scenario_content scenario) }
     requires empty { held_by out.old ≡ [] }
-    ensures ok { OnOk result (Appends (K.written sink.old) (K.written sink.new) (text form.rounds form.ticks)) }
-    ensures err { OnErr result (AppendsFront (K.written sink.old) (K.written sink.new) (text form.rounds form.ticks)) }
+    ensures ok { OnOk result (Appends (K.written sink.old) (K.written sink.new) (run_text (scenario_content scenario))) }
+    ensures err { OnErr result (AppendsFront (K.written sink.old) (K.written sink.new) (run_text (scenario_content scenario))) }
     ensures fault { result ≡ Err Stop.WriteFault → Rises (K.faults sink.old) (K.faults sink.new) }
     ensures kept { K.faults sink.old ≤ K.faults sink.new }
 {
-    match put_trace(alloc, out, sink, form) {
+    match put_trace(alloc, out, sink, scenario) {
         Ok(()) => {}
         Err(stop) => return Err(stop),
     }
@@ -199,10 +219,10 @@ fn put_whole<K: Sink>(alloc: Global, out: &mut Outbox, sink: &mut K, form: Form)
 }
 
 /// Writes the trace of a scenario, or a front of it.
-pub fn write_trace<K: Sink>(alloc: Global, sink: &mut K, form: Form) -> Result<(), Stop>
-    requires { InRange form.rounds form.ticks }
-    ensures ok { OnOk result (Appends (K.written sink.old) (K.written sink.new) (text form.rounds form.ticks)) }
-    ensures err { OnErr result (AppendsFront (K.written sink.old) (K.written sink.new) (text form.rounds form.ticks)) }
+pub fn write_trace<K: Sink>(alloc: Global, sink: &mut K, scenario: Scenario) -> Result<(), Stop>
+    requires { Runnable (scenario_content scenario) }
+    ensures ok { OnOk result (Appends (K.written sink.old) (K.written sink.new) (run_text (scenario_content scenario))) }
+    ensures err { OnErr result (AppendsFront (K.written sink.old) (K.written sink.new) (run_text (scenario_content scenario))) }
     ensures fault { result ≡ Err Stop.WriteFault → Rises (K.faults sink.old) (K.faults sink.new) }
     ensures kept { K.faults sink.old ≤ K.faults sink.new }
 {
@@ -210,5 +230,5 @@ pub fn write_trace<K: Sink>(alloc: Global, sink: &mut K, form: Form) -> Result<(
         Ok(out) => out,
         Err(_) => return Err(Stop::NoMemory),
     };
-    put_whole(alloc, &mut out, sink, form)
+    put_whole(alloc, &mut out, sink, scenario)
 }

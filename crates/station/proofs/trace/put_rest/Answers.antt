@@ -1,23 +1,21 @@
-use Rattle.sig_tables.specs.Decide.{last_frame_of}
-use Rattle.trace_text.specs.Line.{frame_line}
-use Rattle.station.specs.Text.{start, rounds_text}
-use Rattle.station.proofs.Writing.{front_first, puts_then, puts_front}
+use Rattle.station.proofs.AllRounds.{rest_first, rest_second, rest_last, rest_put}
+use Rattle.station.proofs.WholeText.{few_controllers}
 use Rattle.station.proofs.trace.put_rest.Goals as goal
 
+pub run_rounds-requires-clause-few_cabinets : goal.run_rounds-requires-clause-few_cabinets
+run_rounds-requires-clause-few_cabinets g c = let (s, so) = c.requires.ready in few_controllers s _ so.between.runnable so.between.each
+
+pub put_openings-requires : goal.put_openings-requires
+put_openings-requires g c = let (s, so) = c.requires.ready in record { few = few_controllers s _ so.between.runnable so.between.each }
+
 pub returns-in-Err-clause-err : goal.returns-in-Err-clause-err
-returns-in-Err-clause-err g c = front_first _ _ _ (frame_line 1 0 (last_frame_of start)) _ (c.in-Err.ensures.err start c.opened-controller.ensures.stands)
+returns-in-Err-clause-err g c = λ s so. rest_first s _ _ _ _ so.rounds (c.in-Err.ensures.err s so.between.each)
 
 pub returns-in-Err-run_rounds-clause-err : goal.returns-in-Err-run_rounds-clause-err
-returns-in-Err-run_rounds-clause-err g c =
-    puts_front _ _ _ _ _ (frame_line 1 0 (last_frame_of start)) _ (c.in-Ok.ensures.ok start c.opened-controller.ensures.stands)
-    (front_first _ _ _ (rounds_text c.args.form.rounds 1 c.args.form.ticks 0 start) _ (c.in-Err-run_rounds.ensures.err start c.opened-controller.ensures.stands))
+returns-in-Err-run_rounds-clause-err g c = λ s so. rest_second s _ _ _ _ _ _ so.rounds (c.in-Ok.ensures.ok s so.between.each) (c.in-Err-run_rounds.ensures.err s so.between)
 
-pub returns-in-Ok-put_end-clause-ok : goal.returns-in-Ok-put_end-clause-ok
-returns-in-Ok-put_end-clause-ok g c =
-    puts_then _ _ _ _ _ _ (frame_line 1 0 (last_frame_of start)) _ (c.in-Ok.ensures.ok start c.opened-controller.ensures.stands)
-    (puts_then _ _ _ _ _ _ (rounds_text c.args.form.rounds 1 c.args.form.ticks 0 start) _ (c.in-Ok-run_rounds.ensures.ok start c.opened-controller.ensures.stands) c.in-Ok-put_end.ensures.ok)
+pub returns-in-Ok-put_line-clause-ok : goal.returns-in-Ok-put_line-clause-ok
+returns-in-Ok-put_line-clause-ok g c = λ s so. rest_put s _ _ _ _ _ _ _ _ _ so.rounds (c.in-Ok.ensures.ok s so.between.each) (c.in-Ok-run_rounds.ensures.ok s so.between) c.in-Ok-put_line.ensures.ok
 
-pub returns-in-Err-put_end-clause-err : goal.returns-in-Err-put_end-clause-err
-returns-in-Err-put_end-clause-err g c =
-    puts_front _ _ _ _ _ (frame_line 1 0 (last_frame_of start)) _ (c.in-Ok.ensures.ok start c.opened-controller.ensures.stands)
-    (puts_front _ _ _ _ _ (rounds_text c.args.form.rounds 1 c.args.form.ticks 0 start) _ (c.in-Ok-run_rounds.ensures.ok start c.opened-controller.ensures.stands) c.in-Err-put_end.ensures.err)
+pub returns-clause-err : goal.returns-clause-err
+returns-clause-err g c = λ s so. rest_last s _ _ _ _ _ _ _ _ so.rounds (c.in-Ok.ensures.ok s so.between.each) (c.in-Ok-run_rounds.ensures.ok s so.between) c.in-Err-put_line.ensures.err
