@@ -8,3 +8,11 @@ pub mod CellLemmas
 pub mod Lasting
 pub mod Called
 pub mod Filled
+pub mod FreeCourse
+pub mod PlainRuns
+pub mod FreeFrame
+pub mod Histories
+pub mod CellTests
+pub mod Ranges
+pub mod StandardFits
+pub mod Fitting

@@ -1,12 +1,17 @@
 -- What a tick sees, part by part: the words in which the parts of a controller say what they give.
-use Rattle.std.specs.Prelude.{List, ℕ}
+use Rattle.std.specs.Prelude.{List, ℕ, Option}
 use Rattle.sig_types.specs.declared.frame.Frame.{Frame}
+use Rattle.sig_types.specs.declared.frame.Mode.{Mode}
 use Rattle.sig_tables.specs.Past.{Past, Moment}
-use Rattle.sig_tables.specs.Looking.{last_frame}
-use Rattle.sig_tables.specs.Calls.{vehicle_calls, pedestrian_calls, detectors_on, demand_of, quiet_of, opposed_of}
+use Rattle.sig_tables.specs.Looking.{last_frame, last_moment}
+use Rattle.sig_tables.specs.Modes.{bound}
+use Rattle.sig_tables.specs.Calls.{vehicle_calls, pedestrian_calls, detectors_on, opposed_of}
+use Rattle.sig_tables.specs.SplitCalls.{demand_in, quiet_in}
+use Rattle.sig_tables.specs.Sight.{Sight, sight_of}
+use Rattle.sig_tables.specs.Course.{Turn, course_of}
 use Rattle.sig_tables.specs.View.{View}
 use Rattle.sig_tables.specs.Moves.{Moves}
-use Rattle.sig_tables.specs.Decide.{Turn, turn_of, view_of, moves_of, last_moment}
+use Rattle.sig_tables.specs.Ticking.{view_of, moves_of}
 
 -- the last frame
 abbrev pub frame_seen : Past → Frame
@@ -28,25 +33,42 @@ pedestrian_seen past = pedestrian_calls past.heard (moment_seen past)
 abbrev pub detectors_seen : Past → List ℕ
 detectors_seen past = detectors_on past.heard (moment_seen past)
 
+-- the mode of the tick before its colours are known
+abbrev pub mode_seen : Past → Mode
+mode_seen past = (course_of past).mode
+
+-- the phases with demand, where this pattern binds
+abbrev pub demand_with : Option ℕ → Past → List ℕ
+demand_with pattern past =
+    demand_in pattern past.tables (frame_seen past) (vehicle_seen past) (pedestrian_seen past) (detectors_seen past)
+
+-- the Green phases that are not active, where this pattern binds
+abbrev pub quiet_with : Option ℕ → Past → List ℕ
+quiet_with pattern past = quiet_in pattern past.tables (frame_seen past) past.heard (detectors_seen past)
+
 -- the phases with demand
 abbrev pub demand_seen : Past → List ℕ
-demand_seen past = demand_of past.tables (frame_seen past) (vehicle_seen past) (pedestrian_seen past) (detectors_seen past)
+demand_seen past = demand_with (bound (mode_seen past)) past
 
 -- the Green phases that are not active
 abbrev pub quiet_seen : Past → List ℕ
-quiet_seen past = quiet_of past.tables (frame_seen past) past.heard (detectors_seen past)
+quiet_seen past = quiet_with (bound (mode_seen past)) past
 
 -- the Green phases to which an incompatible phase has demand
 abbrev pub opposed_seen : Past → List ℕ
 opposed_seen past = opposed_of past.tables (frame_seen past) (demand_seen past)
 
+-- all of it
+abbrev pub sight_seen : Past → Sight
+sight_seen past = sight_of (bound (mode_seen past)) past
+
 -- what the rings do at the tick
 abbrev pub turn_seen : Past → Turn
-turn_seen past = turn_of past.tables past.moments
+turn_seen past = (course_of past).turn
 
 -- what the rings look at
 abbrev pub view_seen : Past → View
-view_seen past = view_of past (demand_seen past) (quiet_seen past) (opposed_seen past)
+view_seen past = view_of (course_of past) past (sight_seen past)
 
 -- the phases that end and those that begin
 abbrev pub moves_seen : Past → Moves

@@ -1,19 +1,28 @@
 -- What the rings look at in one tick.
-use Rattle.std.specs.Prelude.{ℕ, ◌==◌, ◌&&◌, ◌||◌, not, max, nat_le, Bool, if◌then◌else◌, List, [], ◌∷◌}
+use Rattle.std.specs.Prelude.{ℕ, ◌==◌, ◌&&◌, ◌||◌, not, max, nat_le, Bool, false, if◌then◌else◌, List, [], ◌∷◌, Option, Some, None}
 use Rattle.sig_types.specs.declared.frame.Colour.TheVariants.{Green, Red}
 use Rattle.sig_types.specs.declared.frame.Ped.TheVariants.{Dont}
 use Rattle.sig_types.specs.declared.frame.Frame.{Frame}
+use Rattle.sig_types.specs.declared.frame.Mode.{Mode}
 use Rattle.sig_types.specs.Phases.{all_phases, is_in, some, those, after, up_to}
 use Rattle.sig_types.specs.Colour.{same_colour, same_signal, colour_of, signal_of, on_in}
 use Rattle.sig_tables.specs.declared.tables.Tables.{Tables}
-use Rattle.sig_tables.specs.Tables.{least_green, clearance, red_revert_time, gap_time, maximum_time, is_enabled, has_maximum_recall}
+use Rattle.sig_tables.specs.Tables.{least_green, clearance, red_revert_time, gap_time, maximum_time, is_enabled}
 use Rattle.sig_tables.specs.Sides.{are_of_one_side, ring_phases, sides}
+use Rattle.sig_tables.specs.Slots.{is_coordinated}
+use Rattle.sig_tables.specs.Splits.{keeps_maximum}
+use Rattle.sig_tables.specs.Coordinating.{has_room, is_forced_off, is_released, is_floating, has_floated}
+use Rattle.sig_tables.specs.Modes.{bound}
 use Rattle.sig_tables.specs.Past.{Moment}
 use Rattle.sig_tables.specs.Looking.{run, latched, lasts, lasts_now, shows, last_on, latest_on, runs_on, signal_runs_on, last_frame}
 
+-- the mode of the tick before its colours are known, with the counter and the active priority request that it has in Coord;
 -- the last frame and those before it; the demand; the Green phases that are quiet and opposed at this tick;
 -- and those whose clearance ends at it
 pub record View : Type 0 where
+  pub mode : Mode
+  pub counter : ℕ
+  pub active : ℕ
   pub tables : Tables
   pub sequence : ℕ
   pub frame : Frame
@@ -32,17 +41,34 @@ is_served now past p =
 -- p was Green and not active at each of the last ticks, this one included
 abbrev pub has_gap : View → ℕ → Bool
 has_gap v p =
-    not (has_maximum_recall v.tables p)
+    not (keeps_maximum (bound v.mode) v.tables p)
     && lasts_now (gap_time v.tables p) (is_in v.quiet p) (λ m. is_in m.quiet p) v.past
 
 -- p was Green and an incompatible phase had demand at each of the last ticks, this one included
 abbrev pub has_maximum : View → ℕ → Bool
 has_maximum v p = lasts_now (maximum_time v.tables p) (is_in v.opposed p) (λ m. is_in m.opposed p) v.past
 
+-- force-offs float, and phase p fills its split of pattern n with its Green and its clearance
+abbrev pub has_filled_split : View → ℕ → ℕ → Bool
+has_filled_split v n p = if is_floating v.tables then has_floated v.tables n p (run p Green v.past) else false
+
+-- the reasons to end a phase: gap or maximum; with a pattern gap, an active priority request or the floating time, and for a
+-- phase that the pattern holds its release alone
+abbrev pub is_reasoned : Option ℕ → View → ℕ → Bool
+is_reasoned None v p = has_gap v p || has_maximum v p
+is_reasoned (Some n) v p =
+    if is_coordinated v.tables n p then is_released v.tables n v.counter v.active p
+    else not (v.active == 0) || has_gap v p || has_filled_split v n p
+
 -- a Green phase that there is a reason to end
 abbrev pub has_reason : View → ℕ → Bool
 has_reason v p =
-    is_enabled v.tables p && same_colour (colour_of v.frame p) Green && (has_gap v p || has_maximum v p)
+    is_enabled v.tables p && same_colour (colour_of v.frame p) Green && is_reasoned (bound v.mode) v p
+
+-- a Green phase that the pattern forces off, whatever else holds
+abbrev pub is_forced : View → ℕ → Bool
+is_forced v p =
+    is_enabled v.tables p && same_colour (colour_of v.frame p) Green && is_forced_off (bound v.mode) v.tables v.counter p
 
 -- a Green phase that may end: it is served, and there is a reason
 abbrev pub is_done : View → ℕ → Bool
@@ -104,9 +130,13 @@ later v r = later_in (present v r) (last_on r v.past)
 abbrev pub earlier : View → ℕ → List ℕ
 earlier v r = earlier_in (present v r) (last_on r v.past)
 
--- q has demand, and there is room for it after k ticks (in Free there always is)
+-- there is room for q after k ticks, before the pattern forces it off (in Free there always is)
+abbrev pub has_room_in : View → ℕ → ℕ → Bool
+has_room_in v k q = has_room (bound v.mode) v.tables v.counter k q
+
+-- q has demand, and there is room for it after k ticks
 abbrev pub is_wanted : View → ℕ → ℕ → Bool
-is_wanted v k q = is_in v.demand q
+is_wanted v k q = if is_in v.demand q then has_room_in v k q else false
 
 -- phase q may begin: it is enabled, Red, and its red revert is over
 abbrev pub is_startable : View → ℕ → Bool

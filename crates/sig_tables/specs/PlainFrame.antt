@@ -1,0 +1,43 @@
+-- The signals and the frame of a tick that is about Start and Free alone.
+use Rattle.std.specs.Prelude.{ℕ, false, if◌then◌else◌, List, [], ◌∷◌, map}
+use Rattle.sig_types.specs.declared.frame.Colour.{Colour}
+use Rattle.sig_types.specs.declared.frame.Ped.{Ped}
+use Rattle.sig_types.specs.declared.frame.Ped.TheVariants.{Walk}
+use Rattle.sig_types.specs.declared.frame.Frame.{Frame}
+use Rattle.sig_types.specs.Phases.{all_phases}
+use Rattle.sig_types.specs.Colour.{colour_in, colour_of, signal_of}
+use Rattle.sig_tables.specs.Past.{Past}
+use Rattle.sig_tables.specs.Looking.{last_frame, signal_runs_on}
+use Rattle.sig_tables.specs.Course.{Turn}
+use Rattle.sig_tables.specs.Walking.{Crossing, walk_begins}
+use Rattle.sig_tables.specs.Ticking.{on_of}
+use Rattle.sig_tables.specs.Plain.{plain_mode}
+
+-- the signal of phase p after these colours: Walk where one begins, else what follows by itself
+abbrev pub plain_signal : Crossing → Past → List Colour → ℕ → Ped
+plain_signal crossing past veh p =
+    if walk_begins crossing (plain_mode past.moments) p (colour_of (last_frame past.moments) p) (colour_in veh p) (signal_of (last_frame past.moments) p)
+    then Walk
+    else signal_runs_on p past.tables past.moments (signal_of (last_frame past.moments) p)
+
+-- what decides the walks: there is no local zero
+abbrev pub plain_crossing : Turn → Past → List ℕ → List ℕ → Crossing
+plain_crossing turn past pedestrian opposed = record {
+  turn = turn;
+  tables = past.tables;
+  is_zero = false;
+  pedestrian = pedestrian;
+  opposed = opposed;
+}
+
+-- the frame from the colours
+abbrev pub plain_frame : Crossing → Past → List Colour → Frame
+plain_frame crossing past veh = record {
+  veh = veh;
+  ped = map (plain_signal crossing past veh) all_phases;
+  on = on_of past.tables veh 1 ∷ on_of past.tables veh 2 ∷ [];
+  mode = plain_mode past.moments;
+  counter = 0;
+  target = 0;
+  version = past.version;
+}
