@@ -1,0 +1,7 @@
+use Rattle.std.proofs.Common.{refl}
+use Rattle.sig_tables.specs.Standard.{max8, standard}
+use Rattle.known_histories.proofs.first_changes.Goals as goal
+
+pub returns : goal.returns
+unfolding max8 standard
+returns c = refl

@@ -1,0 +1,59 @@
+-- What a history of ticks and inputs shows in Free, and when: the ticks at which colours change.
+use Rattle.std.specs.Prelude.{ℕ, zero, suc, Bool, true, false, if◌then◌else◌, List, [], ◌∷◌, ◌++◌, take}
+use Rattle.sig_types.specs.declared.frame.Colour.{Colour}
+use Rattle.sig_types.specs.declared.frame.Frame.{Frame}
+use Rattle.sig_types.specs.Colour.{same_colours}
+use Rattle.sig_tables.specs.declared.tables.Tables.{Tables}
+use Rattle.sig_tables.specs.Tables.{row}
+use Rattle.sig_tables.specs.Cells.{with_row}
+use Rattle.sig_tables.specs.Past.{Event, Tick, Input, History}
+use Rattle.sig_tables.specs.Decide.{frames}
+use Rattle.sig_tables.specs.Standard.{max8}
+use Rattle.sig_types.specs.declared.frame.Field.TheVariants.{Veh}
+
+-- so many ticks
+abbrev pub ticks : ℕ → List Event
+ticks zero = []
+ticks (suc n) = Tick ∷ ticks n
+
+-- a controller that was opened in Free, and these events
+abbrev pub opened : Tables → List Event → History
+opened t events = record { tables = t; command = 0; clock = 0; events = events }
+
+-- the ticks whose frame shows other colours than the frame before it, the newest first, and what it shows
+abbrev pub changes : ℕ → List Frame → List (ℕ × List Colour)
+changes n [] = []
+changes n (g ∷ []) = []
+changes zero (g ∷ f ∷ before) = []
+changes (suc n) (g ∷ f ∷ before) =
+    if same_colours g.veh f.veh then changes n (f ∷ before) else (suc n, g.veh) ∷ changes n (f ∷ before)
+
+-- the tick numbers alone
+abbrev pub change_ticks : List (ℕ × List Colour) → List ℕ
+change_ticks [] = []
+change_ticks (x ∷ xs) = x.0 ∷ change_ticks xs
+
+-- the ticks of the first n at which a colour changes
+abbrev pub changed : Tables → ℕ → List ℕ
+changed t n = change_ticks (changes n (frames (opened t (ticks n))))
+
+-- with the colours of phases 1 to 8
+abbrev pub shorten : List (ℕ × List Colour) → List (ℕ × List Colour)
+shorten [] = []
+shorten (x ∷ xs) = (x.0, take 8 x.1) ∷ shorten xs
+
+-- the colours of phases 1 to 8 at the ticks at which one changes
+abbrev pub shown : Tables → List Event → ℕ → List (ℕ × List Colour)
+shown t events n = shorten (changes n (frames (opened t events)))
+
+-- a vehicle comes over the detector of phase p, or leaves it
+abbrev pub detector : ℕ → Bool → Event
+detector p on = Input (Veh p on)
+
+-- cars over detectors 4 and 2 before tick 61; the one over 2 leaves before tick 431
+abbrev pub two_cars : List Event
+two_cars = ticks 90 ++ (detector 2 false ∷ (ticks 370 ++ (detector 2 true ∷ detector 4 true ∷ ticks 60)))
+
+-- the standard tables with a red clearance of three seconds on phase 6
+unfoldable pub long_six : Tables
+long_six = with_row max8 6 (record (row max8 6) { red_clear = 30 })

@@ -1,0 +1,78 @@
+-- The history switched, and what is due of it.
+use Rattle.std.specs.Prelude.{List, [], codes, ◌∷◌, true}
+use Rattle.sig_types.specs.declared.frame.Field.TheVariants.{Veh}
+use Rattle.sig_types.specs.declared.frame.Mode.TheVariants.{Seek, Coord}
+use Rattle.sig_tables.specs.declared.tables.Tables.{Tables}
+use Rattle.sig_tables.specs.declared.cells.Cell.TheVariants.{Unit as UnitCell}
+use Rattle.sig_tables.specs.Cells.{Number}
+use Rattle.sig_tables.specs.Putting.{with_cells}
+use Rattle.sig_tables.specs.Past.{Input, Install, History}
+use Rattle.sig_tables.specs.Standard.{std8}
+use Rattle.known_histories.specs.Timeline.{Step, ticks, told_in_order, after}
+use Rattle.known_histories.specs.Told.{Told, line}
+
+-- the tables that the cabinet opens with
+abbrev pub switched_tables : Tables
+switched_tables = std8
+
+-- what a download makes of them
+abbrev pub switched_download_1 : Tables
+switched_download_1 =
+    with_cells switched_tables (
+    (UnitCell 7, Number 2) ∷ []
+    )
+
+-- what a download makes of them
+abbrev pub switched_download_2 : Tables
+switched_download_2 =
+    with_cells switched_download_1 (
+    (UnitCell 8, Number 2) ∷ []
+    )
+
+-- what a download makes of them
+abbrev pub switched_download_3 : Tables
+switched_download_3 =
+    with_cells switched_download_2 (
+    (UnitCell 7, Number 1) ∷ []
+    )
+
+-- what a download makes of them
+abbrev pub switched_download_4 : Tables
+switched_download_4 =
+    with_cells switched_download_3 (
+    (UnitCell 8, Number 1) ∷ []
+    )
+
+-- what happens to it, in order
+abbrev pub switched_timeline : List Step
+switched_timeline =
+    after 199 (Input (Veh 4 true)) ∷ after 420 (Install switched_download_1) ∷ after 80 (Install switched_download_2)
+    ∷ after 100 (Install switched_download_3) ∷ after 50 (Install switched_download_4) ∷ []
+
+-- its history: these steps, and the ticks after the last
+abbrev pub switched_history : History
+switched_history = record { tables = switched_tables; command = 1; clock = 840; events = ticks 51 (told_in_order switched_timeline []) }
+
+-- what an independent program says of it, the newest line first
+abbrev pub switched_told : Told
+switched_told = record {
+  command = 1;
+  clock = 1740;
+  version = 4;
+  requests = 0 ∷ 0 ∷ 0 ∷ 0 ∷ 0 ∷ 0 ∷ 0 ∷ 0 ∷ 0 ∷ 0 ∷ [];
+  vehicle = [];
+  pedestrian = [];
+  sums = record { counter = 160090; target = 268470; command = 900; clock = 1161450; active = 0 };
+  lines =
+      line 850 (codes "RGRRRGRRRRRRRRRR") (codes "DDDDDDDDDDDDDDDD") (Coord 1) 0 790 4
+      ∷ line 800 (codes "RGRRRGRRRRRRRRRR") (codes "DDDDDDDDDDDDDDDD") (Coord 1) 0 85 3
+      ∷ line 700 (codes "RGRRRGRRRRRRRRRR") (codes "DDDDDDDDDDDDDDDD") (Coord 1) 0 885 2
+      ∷ line 675 (codes "RGRRRGRRRRRRRRRR") (codes "DDDDDDDDDDDDDDDD") (Coord 1) 0 615 1
+      ∷ line 660 (codes "RRRCRRRCRRRRRRRR") (codes "DDDDDDDDDDDDDDDD") (Seek 1) 0 600 1
+      ∷ line 620 (codes "RRRYRRRYRRRRRRRR") (codes "DDDDDDDDDDDDDDDD") (Seek 1) 0 560 1
+      ∷ line 360 (codes "RRRGRRRGRRRRRRRR") (codes "DDDDDDDDDDDDDDDD") (Coord 1) 300 300 0
+      ∷ line 345 (codes "RCRRRCRRRRRRRRRR") (codes "DDDDDDDDDDDDDDDD") (Coord 1) 285 285 0
+      ∷ line 305 (codes "RYRRRYRRRRRRRRRR") (codes "DDDDDDDDDDDDDDDD") (Coord 1) 245 245 0
+      ∷ line 60 (codes "RGRRRGRRRRRRRRRR") (codes "DDDDDDDDDDDDDDDD") (Coord 1) 0 0 0
+      ∷ [];
+}
