@@ -1,61 +1,55 @@
--- No two incompatible phases are on at any tick of a lawful history.
-use Rattle.std.proofs.Common.{◌≡◌, inl, inr, ℕ, Bool, true, false, not, ◌&&◌, if◌then◌else◌, ◌==◌, List, [], ◌∷◌, ◌-◌, ◌<◌, ◌≤◌, refl, sym, ◌∙◌, ap, subst, arith}
-use Rattle.std.proofs.lemmas.Bool.{cases_Bool, and_parts, false≢true, both_ways, not-true}
+-- What is on along a lawful history: no two incompatible phases and no two of one ring, enabled ones alone, and yellows of
+-- at least 3 seconds, whatever the mode.
+use Rattle.std.proofs.Common.{◌≡◌, ◌⊎◌, inl, inr, ℕ, true, false, not, ◌&&◌, ◌==◌, List, [], ◌∷◌, ◌<◌, ◌≤◌, refl, sym, ◌∙◌, ap, subst, arith}
+use Rattle.std.proofs.lemmas.Bool.{and_parts, false≢true, both_ways, not-true}
 use Rattle.std.proofs.lemmas.Bool.Decides.{Decides-eqb}
-use Rattle.sig_types.specs.declared.frame.Colour.TheVariants.{Green, Red}
+use Rattle.sig_types.specs.declared.frame.Colour.{Colour}
+use Rattle.sig_types.specs.declared.frame.Colour.TheVariants.{Green, Yellow, Clear, Red}
 use Rattle.sig_types.specs.declared.frame.Frame.{Frame}
 use Rattle.sig_types.specs.declared.frame.Mode.{Mode}
-use Rattle.sig_types.specs.declared.frame.Mode.TheVariants.{Start, Free}
 use Rattle.sig_types.specs.Phases.{is_phase, all_phases, is_in}
-use Rattle.sig_types.specs.Colour.{is_start, on_in, colour_of}
+use Rattle.sig_types.specs.Colour.{same_colour, colour_of, on_in}
+use Rattle.sig_types.proofs.Lists.{in-those}
 use Rattle.sig_tables.specs.declared.tables.Tables.{Tables}
-use Rattle.sig_tables.specs.Tables.{is_enabled, starts_up}
+use Rattle.sig_tables.specs.Tables.{is_enabled, starts_up, yellow_time, red_clear_time}
 use Rattle.sig_tables.specs.Sides.{are_concurrent}
-use Rattle.sig_tables.specs.Past.{Event, Tick, Input, Install, SetPattern, SetClock, Ask, Cancel, Moment, Past, first_frame}
-use Rattle.sig_tables.specs.Looking.{last_frame}
-use Rattle.sig_tables.specs.Calls.{vehicle_calls, pedestrian_calls, detectors_on, demand_of, quiet_of, opposed_of}
+use Rattle.sig_tables.specs.Past.{Event, Moment, Past, first_frame, first_moment}
+use Rattle.sig_tables.specs.Looking.{last_frame, run, latched, shows}
 use Rattle.sig_tables.specs.View.{View}
-use Rattle.std.proofs.lemmas.List.{get_or-replicate}
-use Rattle.sig_tables.specs.Decide.{Turn, Rest, StartUp, Rings, Goal, leaves_start, startup_phases, first_turn, turn_of, mode_of, moves_of, view_of, moment_seeing, moment_called, last_moment, next_moment, past_of}
-use Rattle.laws.specs.Lawful.{Sound, SameLayout, Lawful}
-use Rattle.laws.specs.Safe.{is_on, Apart, OneEach, EachApart, EachOne}
-use Rattle.laws.specs.Walking.{OnGreen, Quiet, EachQuiet}
-use Rattle.sig_types.proofs.Lists.{in-those, phase-in}
+use Rattle.sig_tables.specs.Moves.{Moves}
+use Rattle.sig_tables.specs.Course.{Turn, Rest, StartUp, Rings, Goal, startup_phases, course_of}
+use Rattle.sig_tables.specs.Seen.{view_seen, sight_seen, moves_seen}
+use Rattle.sig_tables.specs.Decide.{moves_of, colour_after, next_moment, past_of}
+use Rattle.sig_tables.proofs.Histories.{over-events}
+use Rattle.plan_facts.specs.Goals.{GoTogether}
+use Rattle.laws.specs.Each.{EachMoment}
+use Rattle.laws.specs.Lawful.{Sound, SameLayout, IsLawfulAfter, Lawful, is_dark}
+use Rattle.laws.specs.Safe.{is_on, Apart, OneEach, EachApart, EachOne, EachEnabled, EachLongYellow}
+use Rattle.laws.proofs.Each.{each-weaker}
+use Rattle.laws.proofs.Intervals.{Counted, so-far, one-more, running}
+use Rattle.laws.proofs.Choices.{neither, never-yellow, differs}
+use Rattle.laws.proofs.Next.{first-red}
+use Rattle.laws.proofs.Turns.{dark-rests, up-from-dark}
+use Rattle.laws.proofs.Sought.{Numbered, reached-numbered, sought-known, sought-dark, goal-goes}
 use Rattle.laws.proofs.Standing.{Standing, Fits, standing-next, enabled-phase}
 use Rattle.laws.proofs.Rings.{rings-fit}
-use Rattle.laws.proofs.GoalFits.{GoodGoal, goal-fits}
-use Rattle.laws.proofs.Signals.{greens}
+use Rattle.laws.proofs.GoalFits.{goal-fits}
+use Rattle.laws.proofs.Within.{other-fresh, shows-next, not-first}
 
--- a turn and a mode that go together: in Start nothing moves, and phases start up only out of Start
-pub record Suits (t : Tables) (turn : Turn) (f : Frame) (mode : Mode) : Type 0 where
-  pub still : is_start mode ≡ true → (turn ≡ Rest) × (is_start f.mode ≡ true)
-  pub up : turn ≡ StartUp → is_start f.mode ≡ true
-  pub goal : (goal : List ℕ) → turn ≡ Goal goal → GoodGoal t goal
+-- a turn and a mode that go together: where nothing is to be on nothing moves, phases start up only where nothing is on, and
+-- goals go together
+record Suits (t : Tables) (turn : Turn) (f : Frame) (mode : Mode) : Type 0 where
+  still : is_dark mode ≡ true → (turn ≡ Rest) × (is_dark f.mode ≡ true)
+  up : turn ≡ StartUp → is_dark f.mode ≡ true
+  goal : (goal : List ℕ) → turn ≡ Goal goal → GoTogether t goal
 
-abbrev not-startup : Turn → Type 0
-not-startup StartUp = ⊥
-not-startup Rest = Unit {0}
-not-startup Rings = Unit {0}
-not-startup (Goal goal) = Unit {0}
-
-abbrev not-goal : Turn → Type 0
-not-goal (Goal goal) = ⊥
-not-goal Rest = Unit {0}
-not-goal StartUp = Unit {0}
-not-goal Rings = Unit {0}
-
-first-not-goal : (ps : List ℕ) → not-goal (first_turn ps)
-first-not-goal [] = tt
-first-not-goal (p ∷ ps) = tt
-
-suits : (t : Tables) (past : List Moment) → Suits t (turn_of t past) (last_frame past) (mode_of past)
-suits t past = split (is_start (last_frame past).mode) (leaves_start past) refl
-  where
-    split : (a b : Bool) → is_start (last_frame past).mode ≡ a
-        → Suits t (if a then (if b then first_turn (startup_phases t) else Rest) else Rings) (last_frame past) (if a && not b then Start else Free)
-    split true true e = record { still = λ h. absurd (false≢true h); up = λ h. e; goal = λ g h. absurd (subst not-goal h (first-not-goal (startup_phases t))) }
-    split true false e = record { still = λ h. (refl, e); up = λ h. e; goal = λ g h. absurd (subst not-goal h tt) }
-    split false b e = record { still = λ h. absurd (false≢true h); up = λ h. absurd (subst not-startup h tt); goal = λ g h. absurd (subst not-goal h tt) }
+suits : (past : Past) → Sound past.tables → Numbered (last_frame past.moments).mode
+    → Suits past.tables (course_of past).turn (last_frame past.moments) (course_of past).mode
+suits past sound k = record {
+  still = λ h. (dark-rests (course_of past).mode past.tables past.moments h, sought-dark _ _ _ _ past.moments k h);
+  up = λ e. up-from-dark (course_of past).mode past.tables past.moments e;
+  goal = λ goal e. goal-goes (course_of past).mode past.tables past.moments sound (sought-known _ _ _ _ past.moments k) goal e;
+}
 
 -- what any turn begins fits
 moves-fit : (turn : Turn) (mode : Mode) (v : View) → Sound v.tables → Standing v.tables v.frame → Suits v.tables turn v.frame mode
@@ -79,33 +73,16 @@ moves-fit (Goal goal) mode v sound stands suit = goal-fits v goal sound (suit.go
 still-begins : (turn : Turn) (v : View) → turn ≡ Rest → (q : ℕ) → is_in (moves_of turn v).begins q ≡ false
 still-begins turn v e q = subst (λ (u : Turn). is_in (moves_of u v).begins q ≡ false) (sym e) refl
 
-seeing-stands : (turn : Turn) (past : Past) (vehicle pedestrian detectors demand quiet opposed : List ℕ)
-    → Sound past.tables → Standing past.tables (last_frame past.moments) → Suits past.tables turn (last_frame past.moments) (mode_of past.moments)
-    → Standing past.tables (moment_seeing turn past vehicle pedestrian detectors demand quiet opposed).frame
-seeing-stands turn past vehicle pedestrian detectors demand quiet opposed sound stands suit =
-    standing-next turn past pedestrian opposed (mode_of past.moments) (moves_of turn (view_of past demand quiet opposed)) sound stands
-    (moves-fit turn (mode_of past.moments) (view_of past demand quiet opposed) sound stands suit)
-    (λ h. ((suit.still h).1, still-begins turn (view_of past demand quiet opposed) (suit.still h).0))
+next-stands : (past : Past) → Sound past.tables → Numbered (last_frame past.moments).mode → Standing past.tables (last_frame past.moments)
+    → Standing past.tables (next_moment past).frame
+next-stands past sound k stands =
+    let suit : Suits past.tables (course_of past).turn (last_frame past.moments) (course_of past).mode = suits past sound k in
+    standing-next (course_of past) past (sight_seen past) (moves_seen past) sound stands
+    (moves-fit (course_of past).turn (course_of past).mode (view_seen past) sound stands suit)
+    (λ h. ((suit.still h).1, still-begins (course_of past).turn (view_seen past) (suit.still h).0))
 
-called-stands : (past : Past) (vehicle pedestrian detectors : List ℕ) → Sound past.tables → Standing past.tables (last_frame past.moments)
-    → Standing past.tables (moment_called past vehicle pedestrian detectors).frame
-called-stands past vehicle pedestrian detectors sound stands =
-    let demand : List ℕ = demand_of past.tables (last_frame past.moments) vehicle pedestrian detectors in
-    seeing-stands (turn_of past.tables past.moments) past vehicle pedestrian detectors demand
-    (quiet_of past.tables (last_frame past.moments) past.heard detectors)
-    (opposed_of past.tables (last_frame past.moments) demand) sound stands (suits past.tables past.moments)
-
-pub next-stands : (past : Past) → Sound past.tables → Standing past.tables (last_frame past.moments) → Standing past.tables (next_moment past).frame
-next-stands past sound stands =
-    called-stands past (vehicle_calls past.heard (last_moment past.tables past.moments))
-    (pedestrian_calls past.heard (last_moment past.tables past.moments))
-    (detectors_on past.heard (last_moment past.tables past.moments)) sound stands
-
-pub none-on : (p : ℕ) → is_phase p ≡ true → is_on first_frame p ≡ false
-none-on p ph =
-    let k : (0 < p) × (p ≤ 16) = phase-in p ph in
-    let l : p - 1 < 16 = omega arith in
-    rw (get_or-replicate 16 (p - 1) Red Green l) refl
+none-on : (p : ℕ) → is_phase p ≡ true → is_on first_frame p ≡ false
+none-on p ph = ap (λ (c : Colour). not (same_colour c Red)) (first-red p ph)
 
 first-stands : (t : Tables) → Standing t first_frame
 first-stands t = record {
@@ -123,6 +100,15 @@ installed-stands old new f same s = record {
   idle = λ e p ph. s.idle e p ph;
 }
 
+-- where nothing is on, any tables may come
+dark-stands : (old new : Tables) (f : Frame) → is_dark f.mode ≡ true → Standing old f → Standing new f
+dark-stands old new f d s = record {
+  enabled = λ p ph on. absurd (both_ways _ (s.idle d p ph) on);
+  together = λ p q hp hq on on'. absurd (both_ways _ (s.idle d p hp) on);
+  placed = λ p ph on. absurd (both_ways _ (s.idle d p ph) on);
+  idle = λ e p ph. s.idle d p ph;
+}
+
 -- incompatible phases are enabled, differ and are not concurrent
 stands-apart : (t : Tables) (f : Frame) → Standing t f → Apart t f
 stands-apart t f s p q h on on' =
@@ -138,56 +124,103 @@ stands-one : (t : Tables) (f : Frame) → Sound t → Standing t f → OneEach t
 stands-one t f sound s p q ep eq same on on' =
     elim (s.together p q (enabled-phase t p ep) (enabled-phase t q eq) on on') [ inl e ↦ e | inr c ↦ absurd (sound.across p q c same) ]
 
-green-on : (f : Frame) (p : ℕ) → colour_of f p ≡ Green → is_on f p ≡ true
-green-on f p e = rw e refl
+-- a yellow that runs has at least 3 seconds
+abbrev Long : ℕ → Tables → ℕ → Type 0
+Long p t ran = 0 < ran → 30 ≤ yellow_time t p
 
-stands-quiet : (t : Tables) (f : Frame) → Standing t f → OnGreen f → Quiet t f
-stands-quiet t f s g = record {
-  disabled = λ p ph off.
-      let dark : is_on f p ≡ false = elim (cases_Bool (is_on f p)) [ inl on ↦ absurd (both_ways _ off (s.enabled p ph on)) | inr n ↦ n ] in
-      (dark, elim (g p ph) [ inl d ↦ d | inr k ↦ absurd (both_ways _ dark (green-on f p k)) ]);
-  walks = λ p q h.
-      let a : (((is_enabled t p && is_enabled t q) && not (p == q)) ≡ true) × (not (are_concurrent t p q) ≡ true) = and_parts _ _ h in
-      let b : ((is_enabled t p && is_enabled t q) ≡ true) × (not (p == q) ≡ true) = and_parts _ _ a.0 in
-      let c : (is_enabled t p ≡ true) × (is_enabled t q ≡ true) = and_parts _ _ b.0 in
-      elim (g p (enabled-phase t p c.0)) [
-        | inl d ↦ inl d
-        | inr k ↦ elim (g q (enabled-phase t q c.1)) [
-          | inl d ↦ inr d
-          | inr l ↦ absurd (stands-apart t f s p q h (green-on f p k) (green-on f q l))
-        ]
-      ];
-}
+none-long : (p : ℕ) (t : Tables) → Long p t 0
+none-long p t some = absurd (omega (arith, some))
+
+-- one begins only on a phase that was on, which is enabled
+long-more : (moves : Moves) (p : ℕ) (t : Tables) (past : List Moment) (before : Colour) → is_phase p ≡ true → Sound t
+    → Standing t (last_frame past) → colour_of (last_frame past) p ≡ before → colour_after moves p t past before ≡ Yellow
+    → Long p (latched p Yellow t past) (run p Yellow past) → 30 ≤ yellow_time (latched p Yellow t past) p
+long-more moves p t past Green ph sound s e a long =
+    let on : is_on (last_frame past) p ≡ true = ap (λ (c : Colour). not (same_colour c Red)) e in
+    let here : latched p Yellow t past ≡ t = (other-fresh p t past Yellow Green e refl).1 in
+    subst (λ (u : Tables). 30 ≤ yellow_time u p) (sym here) (sound.times.phases.yellow p (s.enabled p ph on))
+long-more moves p t past Yellow ph sound s e a long =
+    long (running (λ f. same_colour (colour_of f p) Yellow) past (ap (λ (c : Colour). same_colour c Yellow) (first-red p ph))
+    (ap (λ (c : Colour). same_colour c Yellow) e))
+long-more moves p t past Clear ph sound s e a long =
+    absurd (never-yellow (run p Clear past == red_clear_time (latched p Clear t past) p) a)
+long-more moves p t past Red ph sound s e a long =
+    absurd (neither (is_in moves.begins p) Green Red Yellow (differs Green Yellow refl) (differs Red Yellow refl) a)
+
+abbrev LongEach : List Moment → Moment → Type 0
+LongEach past m = (p : ℕ) → is_phase p ≡ true → Counted (shows p Yellow) (Long p) past m
+
+next-long : (past : Past) → Sound past.tables → Standing past.tables (last_frame past.moments) → EachMoment LongEach past.moments
+    → LongEach past.moments (next_moment past)
+next-long past sound s h p ph =
+    one-more (shows p Yellow) (Long p) (none-long p) (next_moment past) past.moments
+    (λ shown some. long-more (moves_seen past) p past.tables past.moments _ ph sound s refl (shows-next past p Yellow ph shown)
+    (so-far (shows p Yellow) (Long p) (none-long p) past.tables past.moments
+    (each-weaker LongEach (Counted (shows p Yellow) (Long p)) (λ before m k. k p ph) past.moments h)))
+
+first-long : (t : Tables) → LongEach [] (first_moment t)
+first-long t p ph =
+    one-more (shows p Yellow) (Long p) (none-long p) (first_moment t) [] (λ s. absurd (not-first t p Yellow ph refl s))
 
 -- all of it, along a lawful history
-pub record Holds (past : Past) : Type 0 where
-  pub sound : Sound past.tables
-  pub stands : Standing past.tables (last_frame past.moments)
-  pub apart : EachApart past.moments
-  pub one : EachOne past.moments
-  pub quiet : EachQuiet past.moments
+pub record Holds (t : Tables) (moments : List Moment) : Type 0 where
+  pub sound : Sound t
+  pub stands : Standing t (last_frame moments)
+  numbered : Numbered (last_frame moments).mode
+  pub apart : EachApart moments
+  pub one : EachOne moments
+  pub enabled : EachEnabled moments
+  long : EachMoment LongEach moments
 
-pub holds : (opening : Tables) (events : List Event) → Lawful opening events → Holds (past_of opening events)
-holds opening [] l = record {
-  sound = l;
-  stands = first-stands opening;
-  apart = (stands-apart opening first_frame (first-stands opening), tt);
-  one = (stands-one opening first_frame l (first-stands opening), tt);
-  quiet = (stands-quiet opening first_frame (first-stands opening) (greens opening []).head, tt);
+opened : (t : Tables) → Sound t → Holds t (first_moment t ∷ [])
+opened t sound = record {
+  sound = sound;
+  stands = first-stands t;
+  numbered = tt;
+  apart = (stands-apart t first_frame (first-stands t), tt);
+  one = (stands-one t first_frame sound (first-stands t), tt);
+  enabled = ((first-stands t).enabled, tt);
+  long = (first-long t, tt);
 }
-holds opening (Tick ∷ events) l = ticked (past_of opening events) (greens opening (Tick ∷ events)).head (holds opening events l)
-  where
-    ticked : (past : Past) → OnGreen (next_moment past).frame → Holds past → Holds (record { tables = past.tables; version = past.version; heard = []; moments = next_moment past ∷ past.moments })
-    ticked past g h =
-        let s : Standing past.tables (next_moment past).frame = next-stands past h.sound h.stands in
-        record { sound = h.sound; stands = s; apart = (stands-apart past.tables _ s, h.apart); one = (stands-one past.tables _ h.sound s, h.one); quiet = (stands-quiet past.tables _ s g, h.quiet) }
-holds opening (Input field ∷ events) l =
-    let h : Holds (past_of opening events) = holds opening events l in
-    record { sound = h.sound; stands = h.stands; apart = h.apart; one = h.one; quiet = h.quiet }
-holds opening (SetPattern n ∷ events) l = holds opening events l
-holds opening (SetClock n ∷ events) l = holds opening events l
-holds opening (Ask request ∷ events) l = holds opening events l
-holds opening (Cancel number ∷ events) l = holds opening events l
-holds opening (Install t ∷ events) l =
-    let h : Holds (past_of opening events) = holds opening events l.2 in
-    record { sound = l.0; stands = installed-stands _ t _ l.1 h.stands; apart = h.apart; one = h.one; quiet = h.quiet }
+
+ticked : (past : Past) → Holds past.tables past.moments → Holds past.tables (next_moment past ∷ past.moments)
+ticked past h =
+    let s : Standing past.tables (next_moment past).frame = next-stands past h.sound h.numbered h.stands in
+    record {
+      sound = h.sound;
+      stands = s;
+      numbered = reached-numbered (course_of past).mode past.tables _ (sought-known _ _ _ _ past.moments h.numbered);
+      apart = (stands-apart past.tables _ s, h.apart);
+      one = (stands-one past.tables _ h.sound s, h.one);
+      enabled = (s.enabled, h.enabled);
+      long = (next-long past h.sound h.stands h.long, h.long);
+    }
+
+installed : (past : Past) (new : Tables) → Sound new × ((is_dark (last_frame past.moments).mode ≡ true) ⊎ SameLayout past.tables new)
+    → Holds past.tables past.moments → Holds new past.moments
+installed past new l h = record {
+  sound = l.0;
+  stands = elim l.1 [ inl d ↦ dark-stands _ new _ d h.stands | inr same ↦ installed-stands _ new _ same h.stands ];
+  numbered = h.numbered;
+  apart = h.apart;
+  one = h.one;
+  enabled = h.enabled;
+  long = h.long;
+}
+
+pub holds : (opening : Tables) (events : List Event) → Lawful opening events
+    → Holds (past_of opening events).tables (past_of opening events).moments
+holds opening events l =
+    over-events opening (IsLawfulAfter opening) (λ t version moments. Holds t moments) (opened opening l.0)
+    (λ before a allowed h. ticked (past_of opening before) h)
+    (λ before t a allowed h. installed (past_of opening before) t allowed h)
+    events l.1
+
+shown-long : (past : List Moment) (m : Moment) → LongEach past m → (p : ℕ) → is_phase p ≡ true → colour_of m.frame p ≡ Yellow
+    → 30 ≤ yellow_time (latched p Yellow m.tables (m ∷ past)) p
+shown-long past m h p ph e =
+    let here : shows p Yellow m ≡ true = ap (λ (c : Colour). same_colour c Yellow) e in
+    let some : 0 < run p Yellow (m ∷ past) = rw here (omega arith) in h p ph some
+
+pub each-long : (opening : Tables) (events : List Event) → Lawful opening events → EachLongYellow (past_of opening events).moments
+each-long opening events l = each-weaker LongEach _ shown-long (past_of opening events).moments (holds opening events l).long

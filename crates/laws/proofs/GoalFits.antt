@@ -3,20 +3,21 @@ use Rattle.std.proofs.Common.{◌≡◌, ◌≢◌, ◌⊎◌, inl, inr, ℕ, Bo
 use Rattle.std.proofs.lemmas.Bool.{and_parts, or_cases, false≢true, both_ways}
 use Rattle.sig_types.specs.Phases.{is_phase, is_in, first}
 use Rattle.sig_types.specs.Colour.{on_in}
-use Rattle.sig_tables.specs.declared.tables.Tables.{Tables}
 use Rattle.sig_tables.specs.Tables.{ring_of, is_enabled}
 use Rattle.sig_tables.specs.Sides.{are_concurrent, are_of_one_side}
 use Rattle.sig_tables.specs.View.{View, other_ring, on_phase, is_open, is_startable}
 use Rattle.sig_tables.specs.Moves.{goal_beginning_in, goal_moves}
+use Rattle.plan_facts.specs.Goals.{GoTogether}
 use Rattle.laws.specs.Lawful.{Sound}
 use Rattle.sig_types.proofs.Lists.{in-first, in-append, eq-true}
 use Rattle.laws.proofs.Standing.{Standing, Fits}
 use Rattle.laws.proofs.Rings.{closed, beside-side}
 
--- a goal has enabled phases that go together
-pub record GoodGoal (t : Tables) (goal : List ℕ) : Type 0 where
-  pub enabled : (q : ℕ) → is_in goal q ≡ true → is_enabled t q ≡ true
-  pub together : (p q : ℕ) → is_in goal p ≡ true → is_in goal q ≡ true → (p ≡ q) ⊎ (are_concurrent t p q ≡ true)
+-- the phases that ring r may begin of a goal
+abbrev may_begin : View → ℕ → ℕ → Bool
+may_begin v r q =
+    ring_of v.tables q == r && is_startable v q
+    && (is_open v (other_ring r) || are_of_one_side v.tables (on_phase v (other_ring r)) q)
 
 -- what a ring begins of a goal
 record Chosen (v : View) (goal : List ℕ) (r q : ℕ) : Type 0 where
@@ -28,14 +29,11 @@ record Chosen (v : View) (goal : List ℕ) (r q : ℕ) : Type 0 where
 chosen : (v : View) (goal : List ℕ) (r q : ℕ) → is_in (goal_beginning_in v goal r) q ≡ true → Chosen v goal r q
 chosen v goal r q h = split (is_open v r) refl h
   where
-    split : (b : Bool) → is_open v r ≡ b
-        → is_in (if b then first (λ x. ring_of v.tables x == r && is_startable v x && (is_open v (other_ring r) || are_of_one_side v.tables (on_phase v (other_ring r)) x)) goal else []) q ≡ true
-        → Chosen v goal r q
+    split : (b : Bool) → is_open v r ≡ b → is_in (if b then first (may_begin v r) goal else []) q ≡ true → Chosen v goal r q
     split true e k =
-        let f : ((ring_of v.tables q == r && is_startable v q && (is_open v (other_ring r) || are_of_one_side v.tables (on_phase v (other_ring r)) q)) ≡ true) × (is_in goal q ≡ true)
-        = in-first (λ x. ring_of v.tables x == r && is_startable v x && (is_open v (other_ring r) || are_of_one_side v.tables (on_phase v (other_ring r)) x)) goal q k in
-        let a : ((ring_of v.tables q == r && is_startable v q) ≡ true) × ((is_open v (other_ring r) || are_of_one_side v.tables (on_phase v (other_ring r)) q) ≡ true) = and_parts _ _ f.0 in
-        let b : ((ring_of v.tables q == r) ≡ true) × (is_startable v q ≡ true) = and_parts _ _ a.0 in
+        let f : (may_begin v r q ≡ true) × (is_in goal q ≡ true) = in-first (may_begin v r) goal q k in
+        let a = and_parts (ring_of v.tables q == r && is_startable v q) _ f.0 in
+        let b = and_parts (ring_of v.tables q == r) (is_startable v q) a.0 in
         record { opened = e; ring = eq-true _ _ b.0; listed = f.1; side = or_cases _ _ a.1 }
     split false e k = absurd (false≢true k)
 
@@ -54,7 +52,8 @@ same-ring : (v : View) (goal : List ℕ) (p q r : ℕ) → is_phase p ≡ true �
     → (are_concurrent v.tables p q ≡ true) × (are_concurrent v.tables q p ≡ true)
 same-ring v goal p q r ph at stays c = absurd (both_ways _ (closed v r p ph at stays) c.opened)
 
-pub goal-fits : (v : View) (goal : List ℕ) → Sound v.tables → GoodGoal v.tables goal → Standing v.tables v.frame → Fits v.tables v.frame v.ended (goal_moves v goal).begins
+pub goal-fits : (v : View) (goal : List ℕ) → Sound v.tables → GoTogether v.tables goal → Standing v.tables v.frame
+    → Fits v.tables v.frame v.ended (goal_moves v goal).begins
 goal-fits v goal sound good stands = record {
   enabled = λ q h. good.enabled q (listed q h);
   beside = λ p q ph on stays h.

@@ -1,15 +1,15 @@
 -- What the rules of the rings begin goes together.
-use Rattle.std.proofs.Common.{◌≡◌, ◌≢◌, ◌⊎◌, inl, inr, ℕ, ◌<◌, ◌≤◌, Bool, true, false, ◌&&◌, ◌||◌, if◌then◌else◌, ◌==◌, List, [], ◌∷◌, ◌++◌, refl, sym, ◌∙◌, subst, arith}
+use Rattle.std.proofs.Common.{◌≡◌, ◌≢◌, ◌⊎◌, inl, inr, ℕ, ◌<◌, ◌≤◌, Bool, true, false, ◌&&◌, if◌then◌else◌, ◌==◌, List, [], ◌∷◌, ◌++◌, refl, sym, ◌∙◌, subst, arith}
 use Rattle.std.proofs.lemmas.Bool.{cases_Bool, and_parts, and_from, false≢true, both_ways}
 use Rattle.std.proofs.lemmas.Bool.Decides.{Decides-eqb}
-use Rattle.sig_types.specs.Phases.{is_phase, all_phases, is_in, some, first, or_else, only, after, up_to}
+use Rattle.sig_types.specs.Phases.{is_phase, is_in, first, or_else, only, after, up_to}
 use Rattle.sig_types.specs.Colour.{on_in}
 use Rattle.sig_tables.specs.declared.tables.Tables.{Tables}
-use Rattle.sig_tables.specs.Tables.{ring_of, is_enabled, order_of, has_dual_entry}
+use Rattle.sig_tables.specs.Tables.{ring_of, is_enabled, order_of}
 use Rattle.sig_tables.specs.Sides.{are_concurrent, are_of_one_side, ring_phases, sides}
 use Rattle.sig_tables.specs.Looking.{last_on}
-use Rattle.sig_tables.specs.View.{View, on_phase, is_open, present_side, present, later_in, earlier_in, later, earlier, is_startable, can_begin, elsewhere, greatest_clearance}
-use Rattle.sig_tables.specs.Moves.{beginning_in, from_side, can_enter, entering_in, entering, stays_in_side, beginning_both, beginning_of}
+use Rattle.sig_tables.specs.View.{View, on_phase, is_open, present_side, present, later_in, earlier_in, later, earlier, can_begin, elsewhere, greatest_clearance}
+use Rattle.sig_tables.specs.Moves.{beginning_in, from_side, can_enter, can_join, entering_in, entering, stays_in_side, beginning_both, beginning_of}
 use Rattle.laws.specs.Lawful.{Sound}
 use Rattle.sig_types.proofs.Lists.{in-those, in-first, in-append, in-or_else, in-after, in-up_to, Single, single-first, single-or_else, eq-true, phase-in}
 use Rattle.laws.proofs.Standing.{Standing, Fits}
@@ -26,8 +26,7 @@ lies t n s r q h =
 
 lies-enabled : (t : Tables) (s r q : ℕ) → Lies t s r q → is_enabled t q ≡ true
 lies-enabled t s r q l =
-    let k : ((is_enabled t s && is_enabled t q) ≡ true) × ((s == q || are_concurrent t s q || some (λ x. are_concurrent t s x && are_concurrent t x q) all_phases) ≡ true) = and_parts _ _ l.1 in
-    (and_parts _ _ k.0).1
+    (and_parts (is_enabled t s) (is_enabled t q) (and_parts (is_enabled t s && is_enabled t q) _ l.1).0).1
 
 -- a phase is of its own side
 own : (t : Tables) (p : ℕ) → is_enabled t p ≡ true → are_of_one_side t p p ≡ true
@@ -79,7 +78,7 @@ part-entering : (v : View) (s r : ℕ) → Part v.tables s r (entering_in v s r)
 part-entering v s r =
     part-else _ _ _ _ _
     (part-first _ _ _ (can_begin v) (ring_phases v.tables v.sequence s r) (λ q h. lies v.tables v.sequence s r q h))
-    (part-first _ _ _ (λ q. has_dual_entry v.tables q && is_startable v q) (ring_phases v.tables v.sequence s r) (λ q h. lies v.tables v.sequence s r q h))
+    (part-first _ _ _ (can_join v) (ring_phases v.tables v.sequence s r) (λ q h. lies v.tables v.sequence s r q h))
 
 -- enabled phases that go together
 pub record Group (t : Tables) (xs : List ℕ) : Type 0 where
@@ -108,14 +107,21 @@ part-entered : (v : View) (heads : List ℕ) (r : ℕ) → Part v.tables (only h
 part-entered v [] r = part-none v.tables 0 r
 part-entered v (s ∷ rest) r = part-entering v s r
 
+-- the sides in the order in which they are tried, where both rings are open, and the one that is entered
+abbrev tried : View → List ℕ
+tried v = from_side v.tables (present_side v) (sides v.tables v.sequence) []
+
+abbrev entered : View → List ℕ
+entered v = first (can_enter v) (tried v)
+
 -- the side in which both rings begin, where both are open
 abbrev side-both : View → ℕ
-side-both v = if stays_in_side v then present_side v else only (first (can_enter v) (from_side v.tables (present_side v) (sides v.tables v.sequence) []))
+side-both v = if stays_in_side v then present_side v else only (entered v)
 
 part-both : (v : View) (r : ℕ) → Part v.tables (side-both v) r (beginning_both v r)
 part-both v r = split (stays_in_side v)
   where
-    split : (b : Bool) → Part v.tables (if b then present_side v else only (first (can_enter v) (from_side v.tables (present_side v) (sides v.tables v.sequence) []))) r (if b then beginning_in v 0 r else entering v (first (can_enter v) (from_side v.tables (present_side v) (sides v.tables v.sequence) [])) r)
+    split : (b : Bool) → Part v.tables (if b then present_side v else only (entered v)) r (if b then beginning_in v 0 r else entering v (entered v) r)
     split true = part-beginning v 0 r
     split false = part-entered v _ r
 
@@ -175,7 +181,10 @@ pub closed : (v : View) (r p : ℕ) → is_phase p ≡ true → on_phase v r ≡
 closed v r p ph e n = rw (e, n, zero-no p ph) refl
   where
     zero-no : (p : ℕ) → is_phase p ≡ true → (p == 0) ≡ false
-    zero-no p ph = elim (cases_Bool (p == 0)) [ inl k ↦ absurd (let z : p ≡ 0 = eq-true _ _ k in let l : (0 < p) × (p ≤ 16) = phase-in p ph in omega arith) | inr f ↦ f ]
+    zero-no p ph = elim (cases_Bool (p == 0)) [
+      | inl k ↦ absurd (let z : p ≡ 0 = eq-true _ _ k in let l : (0 < p) × (p ≤ 16) = phase-in p ph in omega arith)
+      | inr f ↦ f
+    ]
 
 pub beside-side : (t : Tables) (p q r s : ℕ) → Sound t → is_enabled t p ≡ true → ring_of t p ≡ r → Lies t p s q → r ≢ s
     → (are_concurrent t p q ≡ true) × (are_concurrent t q p ≡ true)

@@ -5,9 +5,8 @@ use Rattle.std.proofs.lemmas.Bool.Decides.{Decides-eqb}
 use Rattle.sig_types.specs.declared.frame.Colour.{Colour}
 use Rattle.sig_types.specs.declared.frame.Colour.TheVariants.{Green, Yellow, Clear, Red}
 use Rattle.sig_types.specs.declared.frame.Frame.{Frame}
-use Rattle.sig_types.specs.declared.frame.Mode.{Mode}
 use Rattle.sig_types.specs.Phases.{is_phase, all_phases, is_in}
-use Rattle.sig_types.specs.Colour.{same_colour, is_start, colour_in, colour_of, on_in}
+use Rattle.sig_types.specs.Colour.{same_colour, colour_in, colour_of, on_in}
 use Rattle.sig_tables.specs.declared.tables.Tables.{Tables}
 use Rattle.sig_tables.specs.Tables.{ring_of, is_enabled}
 use Rattle.sig_tables.specs.Sides.{are_concurrent}
@@ -15,17 +14,21 @@ use Rattle.sig_tables.specs.Past.{Moment, Past}
 use Rattle.sig_tables.specs.Looking.{last_frame, runs_on}
 use Rattle.sig_tables.specs.View.{ended_of}
 use Rattle.sig_tables.specs.Moves.{Moves}
-use Rattle.sig_tables.specs.Decide.{Turn, colour_after, colours_of, frame_of, on_of}
-use Rattle.laws.specs.Lawful.{Sound}
+use Rattle.sig_tables.specs.Sight.{Sight}
+use Rattle.sig_tables.specs.Course.{Course}
+use Rattle.sig_tables.specs.Ticking.{colour_after, colours_of, frame_with, on_of}
+use Rattle.laws.specs.Lawful.{Sound, is_dark}
 use Rattle.laws.specs.Safe.{is_on}
 use Rattle.sig_types.proofs.Lists.{in-those, only-first, phase-listed, colour-at, eq-true}
+use Rattle.sig_types.proofs.Sets.{every-phase}
+use Rattle.laws.proofs.Turns.{reached-dark}
 
--- what is on is enabled, on together by the tables, and named in its ring; in Start nothing is on
+-- what is on is enabled, on together by the tables, and named in its ring; in Start and Flash nothing is on
 pub record Standing (t : Tables) (f : Frame) : Type 0 where
   pub enabled : (p : ℕ) → is_phase p ≡ true → is_on f p ≡ true → is_enabled t p ≡ true
   pub together : (p q : ℕ) → is_phase p ≡ true → is_phase q ≡ true → is_on f p ≡ true → is_on f q ≡ true → (p ≡ q) ⊎ (are_concurrent t p q ≡ true)
   pub placed : (p : ℕ) → is_phase p ≡ true → is_on f p ≡ true → on_in f (ring_of t p) ≡ p
-  pub idle : is_start f.mode ≡ true → (p : ℕ) → is_phase p ≡ true → is_on f p ≡ false
+  pub idle : is_dark f.mode ≡ true → (p : ℕ) → is_phase p ≡ true → is_on f p ≡ false
 
 -- what begins is enabled, and goes with what stays and with what else begins
 pub record Fits (t : Tables) (f : Frame) (ended begins : List ℕ) : Type 0 where
@@ -42,11 +45,17 @@ chosen : (b : Bool) → not (same_colour (if b then Green else Red) Red) ≡ tru
 chosen true h = refl
 chosen false h = absurd (false≢true h)
 
-not-ended : (t : Tables) (past : List Moment) (p : ℕ) → same_colour (runs_on p t past (colour_of (last_frame past) p)) Red ≡ false → is_in (ended_of t past) p ≡ false
+-- p was on, and is Red by itself
+abbrev ends_now : Tables → List Moment → ℕ → Bool
+ends_now t past p =
+    not (same_colour (colour_of (last_frame past) p) Red) && same_colour (runs_on p t past (colour_of (last_frame past) p)) Red
+
+not-ended : (t : Tables) (past : List Moment) (p : ℕ) → same_colour (runs_on p t past (colour_of (last_frame past) p)) Red ≡ false
+    → is_in (ended_of t past) p ≡ false
 not-ended t past p h = elim (cases_Bool (is_in (ended_of t past) p)) [
   | inl k ↦
       let e : (not (same_colour (colour_of (last_frame past) p) Red) && same_colour (runs_on p t past (colour_of (last_frame past) p)) Red) ≡ true
-      = (in-those (λ x. not (same_colour (colour_of (last_frame past) x) Red) && same_colour (runs_on x t past (colour_of (last_frame past) x)) Red) all_phases p k).0 in
+      = (in-those (ends_now t past) all_phases p k).0 in
       absurd (both_ways _ h (and_parts (not (same_colour (colour_of (last_frame past) p) Red)) _ e).1)
   | inr n ↦ n
 ]
@@ -64,7 +73,8 @@ pub comes-on : (moves : Moves) (past : Past) (p : ℕ) → is_phase p ≡ true
     → Comes past.tables (last_frame past.moments) (ended_of past.tables past.moments) moves.begins p
 comes-on moves past p ph h =
     let k : not (same_colour (colour_after moves p past.tables past.moments (colour_of (last_frame past.moments) p)) Red) ≡ true
-    = subst (λ (c : Colour). not (same_colour c Red) ≡ true) (colour-at (λ x. colour_after moves x past.tables past.moments (colour_of (last_frame past.moments) x)) p ph) h in
+    = subst (λ (c : Colour). not (same_colour c Red) ≡ true)
+    (colour-at (λ x. colour_after moves x past.tables past.moments (colour_of (last_frame past.moments) x)) p ph) h in
     elim (comes moves p past.tables past.moments _ refl k) [
       | inl s ↦ inl (s.0, not-ended past.tables past.moments p s.1)
       | inr b ↦ inr b
@@ -101,25 +111,29 @@ named t veh r p ph en e on alone =
     alone q l.0 (eq-true _ _ l.1) k.1)
 
 -- the frame that moves give stands, where the moves fit
-pub standing-next : (turn : Turn) (past : Past) (pedestrian opposed : List ℕ) (mode : Mode) (moves : Moves)
+pub standing-next : (course : Course) (past : Past) (sight : Sight) (moves : Moves)
     → Sound past.tables → Standing past.tables (last_frame past.moments)
     → Fits past.tables (last_frame past.moments) (ended_of past.tables past.moments) moves.begins
-    → (is_start mode ≡ true → (is_start (last_frame past.moments).mode ≡ true) × ((q : ℕ) → is_in moves.begins q ≡ false))
-    → Standing past.tables (frame_of turn past pedestrian opposed mode (colours_of past moves))
-standing-next turn past pedestrian opposed mode moves sound s b quiet = record {
+    → (is_dark course.mode ≡ true → (is_dark (last_frame past.moments).mode ≡ true) × ((q : ℕ) → is_in moves.begins q ≡ false))
+    → Standing past.tables (frame_with course past sight (colours_of past moves))
+standing-next course past sight moves sound s b quiet = record {
   enabled = λ p ph on. en p ph on;
   together = λ p q hp hq on on'. both p q hp hq on on';
   placed = λ p ph on. place p ph on;
-  idle = λ e p ph. elim (cases_Bool (not (same_colour (colour_in (colours_of past moves) p) Red))) [
-    | inl on ↦ elim (comes-on moves past p ph on) [
-      | inl x ↦ absurd (both_ways _ (s.idle (quiet e).0 p ph) x.0)
-      | inr y ↦ absurd (both_ways _ ((quiet e).1 p) y)
+  idle = λ e p ph. elim (reached-dark course.mode past.tables (colours_of past moves) e) [
+    | inl dark ↦ elim (cases_Bool (not (same_colour (colour_in (colours_of past moves) p) Red))) [
+      | inl on ↦ elim (comes-on moves past p ph on) [
+        | inl x ↦ absurd (both_ways _ (s.idle (quiet dark).0 p ph) x.0)
+        | inr y ↦ absurd (both_ways _ ((quiet dark).1 p) y)
+      ]
+      | inr off ↦ off
     ]
-    | inr off ↦ off
+    | inr red ↦ rw (every-phase (λ q. same_colour (colour_in (colours_of past moves) q) Red) red p ph) refl
   ];
 }
   where
-    both : (p q : ℕ) → is_phase p ≡ true → is_phase q ≡ true → not (same_colour (colour_in (colours_of past moves) p) Red) ≡ true → not (same_colour (colour_in (colours_of past moves) q) Red) ≡ true → (p ≡ q) ⊎ (are_concurrent past.tables p q ≡ true)
+    both : (p q : ℕ) → is_phase p ≡ true → is_phase q ≡ true → not (same_colour (colour_in (colours_of past moves) p) Red) ≡ true
+        → not (same_colour (colour_in (colours_of past moves) q) Red) ≡ true → (p ≡ q) ⊎ (are_concurrent past.tables p q ≡ true)
     both p q hp hq on on' = come-together _ _ _ _ s b p q hp hq (comes-on moves past p hp on) (comes-on moves past q hq on')
 
     en : (p : ℕ) → is_phase p ≡ true → not (same_colour (colour_in (colours_of past moves) p) Red) ≡ true → is_enabled past.tables p ≡ true
@@ -133,7 +147,7 @@ standing-next turn past pedestrian opposed mode moves sound s b quiet = record {
     ]
 
     place : (p : ℕ) → is_phase p ≡ true → not (same_colour (colour_in (colours_of past moves) p) Red) ≡ true
-        → on_in (frame_of turn past pedestrian opposed mode (colours_of past moves)) (ring_of past.tables p) ≡ p
+        → on_in (frame_with course past sight (colours_of past moves)) (ring_of past.tables p) ≡ p
     place p ph on = elim (sound.ring p (en p ph on)) [
       | inl e ↦ rw e (named past.tables (colours_of past moves) 1 p ph (en p ph on) e on (alone p ph on 1 e))
       | inr e ↦ rw e (named past.tables (colours_of past moves) 2 p ph (en p ph on) e on (alone p ph on 2 e))

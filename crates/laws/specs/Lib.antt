@@ -1,5 +1,7 @@
-pub mod Rows
+pub mod Each
 pub mod Lawful
+pub mod Served
 pub mod Safe
 pub mod Walking
 pub mod Search
+pub mod Clocks

@@ -27,7 +27,8 @@ kept-phase : (new old : Tables) (p : ℕ) → keeps_layout new old p ≡ true �
 kept-phase new old p h = split (is_enabled new p) refl h
   where
     split : (b : Bool) → is_enabled new p ≡ b
-        → (if b then is_enabled old p && ring_of new p == ring_of old p && same_phases (neighbours new p) (neighbours old p) else not (is_enabled old p)) ≡ true
+        → (if b then is_enabled old p && ring_of new p == ring_of old p && same_phases (neighbours new p) (neighbours old p) else not (is_enabled old p))
+        ≡ true
         → Kept new old p
     split true e k =
         let a = and_parts (is_enabled old p && ring_of new p == ring_of old p) (same_phases (neighbours new p) (neighbours old p)) k in

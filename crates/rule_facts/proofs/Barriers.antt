@@ -5,7 +5,7 @@ use Rattle.std.proofs.lemmas.Bool.Decides.{Decides-eqb, eqb_tells}
 use Rattle.std.proofs.Math.Nat.{le_trans, max-le}
 use Rattle.sig_types.specs.Phases.{all_phases, is_in, those}
 use Rattle.sig_types.proofs.Lists.{eq-true, in-head, in-tail, in-those}
-use Rattle.sig_types.proofs.Sets.{those-same, in-those-is}
+use Rattle.sig_types.proofs.Sets.{every-phase, those-same, in-those-is}
 use Rattle.sig_tables.specs.declared.tables.Tables.{Tables}
 use Rattle.sig_tables.specs.Tables.{ring_of, is_enabled, order_of}
 use Rattle.sig_tables.specs.Sides.{are_of_one_side}
@@ -17,7 +17,7 @@ use Rattle.laws.proofs.Standing.{enabled-phase}
 use Rattle.rule_facts.specs.Rules.{KeepsRules}
 use Rattle.rule_facts.specs.Sequences.{earlier_sides}
 use Rattle.rule_facts.proofs.Kept.{none-listed}
-use Rattle.rule_facts.proofs.Members.{every-phase, under, same-answer}
+use Rattle.rule_facts.proofs.Members.{under, same-answer}
 use Rattle.rule_facts.proofs.Street.{side-enabled, in-ring}
 use Rattle.rule_facts.proofs.Sides.{own, side-mutual, side-joined, sides-hold}
 use Rattle.rule_facts.proofs.Orders.{before-head, before-tail, in-rest, sum-within, in-before, one-before, before-before}
@@ -87,7 +87,7 @@ side-times t n p k e =
     let a = and_parts (sum_of (split_time t n) (pattern_order t n 1) == cycle_time t n && sum_of (split_time t n) (pattern_order t n 2) == cycle_time t n)
     (every (λ x. not (is_enabled t x) || side_time t n x 1 == side_time t n x 2) all_phases) k.times in
     eq-true _ _ (under (is_enabled t p) (side_time t n p 1 == side_time t n p 2)
-    (every-phase (λ x. not (is_enabled t x) || side_time t n x 1 == side_time t n x 2) p a.1 (enabled-phase t p e)) e)
+    (every-phase (λ x. not (is_enabled t x) || side_time t n x 1 == side_time t n x 2) a.1 p (enabled-phase t p e)) e)
 
 -- a test that is one for each side
 abbrev OfSides : Tables → (ℕ → Bool) → Type 0
@@ -234,7 +234,8 @@ ends-before t n z q a k eq side other same h =
       | inr m ↦ m
     ]
 
-    passes : (w : ℕ) → are_of_one_side t w w ≡ true → is_in (before a (order_of t s (ring_of t a))) w ≡ true → are_of_one_side t a w ≡ false → is_earlier t s q w ≡ true
+    passes : (w : ℕ) → are_of_one_side t w w ≡ true → is_in (before a (order_of t s (ring_of t a))) w ≡ true → are_of_one_side t a w ≡ false
+        → is_earlier t s q w ≡ true
     passes w ww i no_side =
         same-test t s q a w w k.use_of side ww ∙ sym (earlier-before t s a w k.use_of ea i) ∙ rw no_side refl
 
@@ -244,10 +245,12 @@ ends-before t n z q a k eq side other same h =
     each : (w : ℕ) → is_in (before z (pattern_order t n (ring_of t z))) w ≡ true → is_earlier t s q w ≡ true
     each w i =
         let up : is_in (before a (order_of t s (ring_of t z))) w ≡ true = before-before (order_of t s (ring_of t z)) a z w h i in
-        let ew : is_enabled t w ≡ true = ((serves t s (ring_of t z) k.use_of.kept (in-ring t z k.use_of.rules ez)).nothing_else w (in-before z (order_of t s (ring_of t z)) w i)).0 in
+        let served = serves t s (ring_of t z) k.use_of.kept (in-ring t z k.use_of.rules ez) in
+        let ew : is_enabled t w ≡ true = (served.nothing_else w (in-before z (order_of t s (ring_of t z)) w i)).0 in
         let between : are_of_one_side t a w ≡ false = elim (cases_Bool (are_of_one_side t a w)) [
           | inl m ↦
-              absurd (both_ways _ (ordered t s w z a z k.use_of (not-with w m) (before-comes t s z w k.use_of ez i) (side-mutual t a w m) (own t z ez)) (before-comes t s a z k.use_of ea in-mine))
+              absurd (both_ways _ (ordered t s w z a z k.use_of (not-with w m) (before-comes t s z w k.use_of ez i) (side-mutual t a w m) (own t z ez))
+              (before-comes t s a z k.use_of ea in-mine))
           | inr m ↦ m
         ] in
         passes w (own t w ew) (subst (λ (r : ℕ). is_in (before a (order_of t s r)) w ≡ true) (sym same) up) between

@@ -4,16 +4,18 @@ use Rattle.sig_types.specs.Phases.{is_phase}
 use Rattle.sig_tables.specs.declared.tables.Tables.{Tables}
 use Rattle.sig_tables.specs.Tables.{is_enabled}
 use Rattle.sig_tables.specs.Slots.{is_defined, force_point}
+use Rattle.sig_tables.specs.Splits.{coordinated_phases}
 use Rattle.rule_book.specs.Street.{is_used}
 use Rattle.rule_book.specs.Rules.{broken, Consistent}
 use Rattle.laws.specs.Lawful.{Sound, SameLayout}
 use Rattle.rule_facts.specs.Rules.{KeepsRules}
 use Rattle.rule_facts.specs.Sides.{SidesCut, SidesHold}
 use Rattle.rule_facts.specs.Sequences.{SequenceServes}
-use Rattle.rule_facts.specs.Goals.{GoTogether, PreemptFits, coordinated_goal}
-use Rattle.rule_facts.specs.Times.{TimesHold}
-use Rattle.rule_facts.specs.Plan.{PlanHolds}
+use Rattle.plan_facts.specs.Goals.{GoTogether, PreemptFits}
+use Rattle.plan_facts.specs.Times.{TimesHold}
+use Rattle.plan_facts.specs.Plan.{PlanHolds}
 use Rattle.rule_facts.specs.Forces.{AreEnough, force_with}
+use Rattle.rule_facts.proofs.Soundness.{sound-of}
 use Rattle.rule_facts.proofs.Numbered as numbered
 use Rattle.rule_facts.proofs.Accepted as accepted
 use Rattle.rule_facts.proofs.Sides as sides
@@ -37,7 +39,7 @@ rules : (t : Tables) → Consistent t → KeepsRules t
 rules t h = numbered.keeps-rules t t false h
 
 pub sound : (t : Tables) → Consistent t → Sound t
-sound t h = sides.sound-of t (rules t h)
+sound t h = sound-of t (rules t h)
 
 pub sides-cut : (t : Tables) → Consistent t → SidesCut t
 sides-cut t h = sides.sides-cut t (rules t h)
@@ -54,7 +56,7 @@ times-hold t h = times.times-hold t (rules t h)
 pub preempts-fit : (t : Tables) → Consistent t → (i : ℕ) → 1 ≤ i → i ≤ 8 → PreemptFits t i
 preempts-fit t h i low high = goals.preempt-fits t i (rules t h) low high
 
-pub patterns-fit : (t : Tables) → Consistent t → (n : ℕ) → is_defined t n ≡ true → GoTogether t (coordinated_goal t n)
+pub patterns-fit : (t : Tables) → Consistent t → (n : ℕ) → is_defined t n ≡ true → GoTogether t (coordinated_phases t n)
 patterns-fit t h n defined = goals.coordinated-fits t n (rules t h) defined
 
 pub plan-holds : (t : Tables) → Consistent t → (n : ℕ) → is_defined t n ≡ true → PlanHolds t n

@@ -4,28 +4,29 @@ use Rattle.std.proofs.lemmas.Bool.{and_parts, false≢true}
 use Rattle.sig_types.specs.Phases.{is_in}
 use Rattle.sig_types.proofs.Lists.{in-cons}
 use Rattle.sig_tables.specs.declared.tables.Tables.{Tables}
-use Rattle.sig_tables.specs.Tables.{listed, is_enabled}
+use Rattle.sig_tables.specs.Tables.{is_enabled}
 use Rattle.sig_tables.specs.Sides.{are_concurrent, are_of_one_side}
 use Rattle.sig_tables.specs.Sums.{every}
-use Rattle.sig_tables.specs.Cells.{preempt_of}
 use Rattle.sig_tables.specs.Slots.{is_defined, coordinated_phase}
+use Rattle.sig_tables.specs.Splits.{coordinated_phases}
+use Rattle.sig_tables.specs.Preempts.{track_set, dwell_set, exit_set}
 use Rattle.rule_book.specs.Street.{may_be_on_together}
 use Rattle.rule_book.specs.Rules.{all_preempts}
-use Rattle.laws.proofs.GoalFits.{GoodGoal}
 use Rattle.rule_facts.specs.Rules.{KeepsRules}
-use Rattle.rule_facts.specs.Goals.{GoTogether, PreemptFits, coordinated_goal}
+use Rattle.plan_facts.specs.Goals.{GoTogether, PreemptFits}
 use Rattle.rule_facts.proofs.Numbered.{in-counted}
-use Rattle.rule_facts.proofs.Members.{every-member}
+use Rattle.sig_types.proofs.Sets.{in-every}
 use Rattle.rule_facts.proofs.Street.{concurrent-enabled, concurrent-mutual, across}
 use Rattle.rule_facts.proofs.Sides.{own, beside}
 use Rattle.rule_facts.proofs.Plan.{pair-together}
 
--- the form that the laws of a tick ask
-pub good-goal : (t : Tables) (goal : List ℕ) → GoTogether t goal → GoodGoal t goal
-good-goal t goal g = record { enabled = g.enabled; together = g.together }
+-- enabled phases that are pairwise concurrent
+record Paired (t : Tables) (goal : List ℕ) : Type 0 where
+  enabled : (q : ℕ) → is_in goal q ≡ true → is_enabled t q ≡ true
+  together : (p q : ℕ) → is_in goal p ≡ true → is_in goal q ≡ true → (p ≡ q) ⊎ (are_concurrent t p q ≡ true)
 
--- phases that are enabled and pairwise concurrent go together
-grouped : (t : Tables) (goal : List ℕ) → KeepsRules t → GoodGoal t goal → GoTogether t goal
+-- go together
+grouped : (t : Tables) (goal : List ℕ) → KeepsRules t → Paired t goal → GoTogether t goal
 grouped t goal k g = record {
   enabled = g.enabled;
   together = g.together;
@@ -40,7 +41,7 @@ grouped t goal k g = record {
 }
 
 -- what the rule on preempts says of a list
-fits : (t : Tables) (goal : List ℕ) → may_be_on_together t goal ≡ true → GoodGoal t goal
+fits : (t : Tables) (goal : List ℕ) → may_be_on_together t goal ≡ true → Paired t goal
 fits t [] h = record { enabled = λ q i. absurd (false≢true i); together = λ p q i j. absurd (false≢true i) }
 fits t (x ∷ xs) h =
     let a = and_parts (is_enabled t x && not (is_in xs x) && every (are_concurrent t x) xs) (may_be_on_together t xs) h in
@@ -48,7 +49,7 @@ fits t (x ∷ xs) h =
     let c = and_parts (is_enabled t x) (not (is_in xs x)) b.0 in
     with-head c.0 b.1 (fits t xs a.1)
   where
-    with-head : is_enabled t x ≡ true → every (are_concurrent t x) xs ≡ true → GoodGoal t xs → GoodGoal t (x ∷ xs)
+    with-head : is_enabled t x ≡ true → every (are_concurrent t x) xs ≡ true → Paired t xs → Paired t (x ∷ xs)
     with-head e all rest = record {
       enabled = λ q i. elim (in-cons x xs q i) [
         | inl s ↦ subst (λ (y : ℕ). is_enabled t y ≡ true) (sym s) e
@@ -57,10 +58,10 @@ fits t (x ∷ xs) h =
       together = λ p q i j. elim (in-cons x xs p i) [
         | inl s ↦ elim (in-cons x xs q j) [
           | inl u ↦ inl (s ∙ sym u)
-          | inr v ↦ inr (subst (λ (y : ℕ). are_concurrent t y q ≡ true) (sym s) (every-member (are_concurrent t x) xs q all v))
+          | inr v ↦ inr (subst (λ (y : ℕ). are_concurrent t y q ≡ true) (sym s) (in-every (are_concurrent t x) xs q all v))
         ]
         | inr r ↦ elim (in-cons x xs q j) [
-          | inl u ↦ inr (concurrent-mutual t q p (subst (λ (y : ℕ). are_concurrent t y p ≡ true) (sym u) (every-member (are_concurrent t x) xs p all r)))
+          | inl u ↦ inr (concurrent-mutual t q p (subst (λ (y : ℕ). are_concurrent t y p ≡ true) (sym u) (in-every (are_concurrent t x) xs p all r)))
           | inr v ↦ rest.together p q r v
         ]
       ];
@@ -69,12 +70,13 @@ fits t (x ∷ xs) h =
 pub preempt-fits : (t : Tables) (i : ℕ) → KeepsRules t → 1 ≤ i → i ≤ 8 → PreemptFits t i
 preempt-fits t i k low high =
     let listed_i : is_in all_preempts i ≡ true = in-counted 1 all_preempts i refl low (omega (arith, high)) in
-    let a = and_parts (may_be_on_together t (listed (preempt_of t i).track_phases) && may_be_on_together t (listed (preempt_of t i).dwell_phases)) (may_be_on_together t (listed (preempt_of t i).exit_phases)) (k.preempts i listed_i) in
-    let b = and_parts (may_be_on_together t (listed (preempt_of t i).track_phases)) (may_be_on_together t (listed (preempt_of t i).dwell_phases)) a.0 in
+    let a = and_parts (may_be_on_together t (track_set t i) && may_be_on_together t (dwell_set t i)) (may_be_on_together t (exit_set t i))
+    (k.preempts i listed_i) in
+    let b = and_parts (may_be_on_together t (track_set t i)) (may_be_on_together t (dwell_set t i)) a.0 in
     record { track = grouped t _ k (fits t _ b.0); dwell = grouped t _ k (fits t _ b.1); exit = grouped t _ k (fits t _ a.1) }
 
 -- two concurrent phases go together
-pair-fits : (t : Tables) (p q : ℕ) → are_concurrent t p q ≡ true → GoodGoal t (p ∷ q ∷ [])
+pair-fits : (t : Tables) (p q : ℕ) → are_concurrent t p q ≡ true → Paired t (p ∷ q ∷ [])
 pair-fits t p q c = record {
   enabled = λ x i. elim (which x i) [
     | inl e ↦ subst (λ (y : ℕ). is_enabled t y ≡ true) (sym e) (concurrent-enabled t p q c).0
@@ -86,7 +88,8 @@ pair-fits t p q c = record {
       | inr f ↦ inr (subst (λ (z : ℕ). are_concurrent t z y ≡ true) (sym e) (subst (λ (z : ℕ). are_concurrent t p z ≡ true) (sym f) c))
     ]
     | inr e ↦ elim (which y j) [
-      | inl f ↦ inr (subst (λ (z : ℕ). are_concurrent t z y ≡ true) (sym e) (subst (λ (z : ℕ). are_concurrent t q z ≡ true) (sym f) (concurrent-mutual t p q c)))
+      | inl f ↦ inr (subst (λ (z : ℕ). are_concurrent t z y ≡ true) (sym e)
+          (subst (λ (z : ℕ). are_concurrent t q z ≡ true) (sym f) (concurrent-mutual t p q c)))
       | inr f ↦ inl (e ∙ sym f)
     ]
   ];
@@ -98,5 +101,5 @@ pair-fits t p q c = record {
       | inr r ↦ elim (in-cons q [] x r) [ inl f ↦ inr f | inr none ↦ absurd (false≢true none) ]
     ]
 
-pub coordinated-fits : (t : Tables) (n : ℕ) → KeepsRules t → is_defined t n ≡ true → GoTogether t (coordinated_goal t n)
-coordinated-fits t n k d = grouped t (coordinated_goal t n) k (pair-fits t (coordinated_phase t n 1) (coordinated_phase t n 2) (pair-together t n k d))
+pub coordinated-fits : (t : Tables) (n : ℕ) → KeepsRules t → is_defined t n ≡ true → GoTogether t (coordinated_phases t n)
+coordinated-fits t n k d = grouped t (coordinated_phases t n) k (pair-fits t (coordinated_phase t n 1) (coordinated_phase t n 2) (pair-together t n k d))

@@ -5,7 +5,7 @@ use Rattle.std.proofs.lemmas.Bool.Decides.{Decides-eqb}
 use Rattle.std.proofs.Math.Nat.{le-max_left, le-max_right, min-le_left, min-le_right, le-min, le_trans, le_of_lt, lt_of_lt_of_le}
 use Rattle.sig_types.specs.Phases.{all_phases, is_in, only}
 use Rattle.sig_types.proofs.Lists.{eq-true, in-cons, in-head, in-those}
-use Rattle.sig_types.proofs.Sets.{in-phases}
+use Rattle.sig_types.proofs.Sets.{every-phase, in-phases}
 use Rattle.sig_tables.specs.declared.tables.Tables.{Tables}
 use Rattle.sig_tables.specs.Tables.{ring_of, is_enabled, clearance}
 use Rattle.sig_tables.specs.Sides.{are_concurrent}
@@ -16,8 +16,8 @@ use Rattle.rule_book.specs.Street.{is_listed}
 use Rattle.rule_book.specs.Patterns.{has_coordinated_pair, holds_for, has_window, side_time}
 use Rattle.laws.proofs.Standing.{enabled-phase}
 use Rattle.rule_facts.specs.Rules.{SequenceRules, KeepsRules}
-use Rattle.rule_facts.specs.Plan.{NamesThere, Coordinates, SlotsLie, SidesLie, WindowHolds, HeldForce, OtherForce, PlanHolds}
-use Rattle.rule_facts.proofs.Members.{every-phase, counted-member}
+use Rattle.plan_facts.specs.Plan.{NamesThere, Coordinates, SlotsLie, SidesLie, WindowHolds, HeldForce, OtherForce, PlanHolds}
+use Rattle.rule_facts.proofs.Members.{counted-member}
 use Rattle.rule_facts.proofs.Street.{in-ring}
 use Rattle.rule_facts.proofs.Sequences.{listed-once}
 use Rattle.rule_facts.proofs.Barriers.{Laid, sides-apart, same-end}
@@ -60,7 +60,8 @@ fills-ring : (t : Tables) (n r : ℕ) → KeepsRules t → is_defined t n ≡ tr
 fills-ring t n r k d which =
     let a = and_parts (sum_of (split_time t n) (pattern_order t n 1) == cycle_time t n && sum_of (split_time t n) (pattern_order t n 2) == cycle_time t n)
     (every (λ p. not (is_enabled t p) || side_time t n p 1 == side_time t n p 2) all_phases) (k.patterns n d).cycle in
-    let b = and_parts (sum_of (split_time t n) (pattern_order t n 1) == cycle_time t n) (sum_of (split_time t n) (pattern_order t n 2) == cycle_time t n) a.0 in
+    let b = and_parts (sum_of (split_time t n) (pattern_order t n 1) == cycle_time t n)
+    (sum_of (split_time t n) (pattern_order t n 2) == cycle_time t n) a.0 in
     elim which [
       | inl e ↦ subst (λ (x : ℕ). sum_of (split_time t n) (pattern_order t n x) ≡ cycle_time t n) (sym e) (eq-true _ _ b.0)
       | inr e ↦ subst (λ (x : ℕ). sum_of (split_time t n) (pattern_order t n x) ≡ cycle_time t n) (sym e) (eq-true _ _ b.1)
@@ -98,9 +99,13 @@ record Pair (t : Tables) (n : ℕ) : Type 0 where
 
 pair-of : (t : Tables) (n : ℕ) → has_coordinated_pair t n ≡ true → Pair t n
 pair-of t n h =
-    let a = and_parts (length (coordinated_in t n 1) == 1 && length (coordinated_in t n 2) == 1 && are_concurrent t (coordinated_phase t n 1) (coordinated_phase t n 2) && not (is_omitted t n (coordinated_phase t n 1))) (not (is_omitted t n (coordinated_phase t n 2))) h in
-    let b = and_parts (length (coordinated_in t n 1) == 1 && length (coordinated_in t n 2) == 1 && are_concurrent t (coordinated_phase t n 1) (coordinated_phase t n 2)) (not (is_omitted t n (coordinated_phase t n 1))) a.0 in
-    let c = and_parts (length (coordinated_in t n 1) == 1 && length (coordinated_in t n 2) == 1) (are_concurrent t (coordinated_phase t n 1) (coordinated_phase t n 2)) b.0 in
+    let a = and_parts _ (not (is_omitted t n (coordinated_phase t n 2))) h in
+    let b = and_parts
+    (length (coordinated_in t n 1) == 1 && length (coordinated_in t n 2) == 1
+    && are_concurrent t (coordinated_phase t n 1) (coordinated_phase t n 2))
+    (not (is_omitted t n (coordinated_phase t n 1))) a.0 in
+    let c = and_parts (length (coordinated_in t n 1) == 1 && length (coordinated_in t n 2) == 1)
+    (are_concurrent t (coordinated_phase t n 1) (coordinated_phase t n 2)) b.0 in
     let d = and_parts (length (coordinated_in t n 1) == 1) (length (coordinated_in t n 2) == 1) c.0 in
     record {
       one = λ r which. elim which [
@@ -168,7 +173,8 @@ coordinated-enabled t n q c = (and_parts (is_enabled t q) _ c).0
 -- where both coordinated phases hold for so many ticks, each does
 room-held : (t : Tables) (n q ticks : ℕ) → Defined t n → is_coordinated t n q ≡ true → holds_for t n ticks ≡ true → Room t n q (zero_point t n + ticks)
 room-held t n q ticks k c h =
-    let both = and_parts (leaves_room t n (coordinated_phase t n 1) (zero_point t n + ticks)) (leaves_room t n (coordinated_phase t n 2) (zero_point t n + ticks)) h in
+    let both = and_parts (leaves_room t n (coordinated_phase t n 1) (zero_point t n + ticks))
+    (leaves_room t n (coordinated_phase t n 2) (zero_point t n + ticks)) h in
     room t n q (zero_point t n + ticks)
     (elim (in-ring t q k.rules (coordinated-enabled t n q c)) [
       | inl e ↦ subst (λ (x : ℕ). leaves_room t n x (zero_point t n + ticks) ≡ true) (sym (k.pair.alone q c ∙ ap (coordinated_phase t n) e)) both.0
@@ -203,8 +209,9 @@ record Windows (t : Tables) (n : ℕ) : Type 0 where
 
 windows : (t : Tables) (n : ℕ) → has_window t n ≡ true → Windows t n
 windows t n h =
-    let a = and_parts (holds_for t n t.unit.add && holds_for t n (2 * t.unit.subtract) && holds_for t n (t.unit.subtract + least_service t (coordinated_phase t n 1))) (holds_for t n (t.unit.subtract + least_service t (coordinated_phase t n 2))) h in
-    let b = and_parts (holds_for t n t.unit.add && holds_for t n (2 * t.unit.subtract)) (holds_for t n (t.unit.subtract + least_service t (coordinated_phase t n 1))) a.0 in
+    let a = and_parts _ (holds_for t n (t.unit.subtract + least_service t (coordinated_phase t n 2))) h in
+    let b = and_parts (holds_for t n t.unit.add && holds_for t n (2 * t.unit.subtract))
+    (holds_for t n (t.unit.subtract + least_service t (coordinated_phase t n 1))) a.0 in
     let c = and_parts (holds_for t n t.unit.add) (holds_for t n (2 * t.unit.subtract)) b.0 in
     record { add = c.0; skips = c.1; first = b.1; second = a.1 }
 
@@ -217,8 +224,10 @@ window-holds t n k =
       stands = stands;
       skips = in-window t n (2 * t.unit.subtract) k w.skips;
       service = λ q c. elim (in-ring t q k.rules (coordinated-enabled t n q c)) [
-        | inl e ↦ subst (λ (x : ℕ). t.unit.subtract + least_service t x ≤ window t n) (sym (k.pair.alone q c ∙ ap (coordinated_phase t n) e)) (in-window t n _ k w.first)
-        | inr e ↦ subst (λ (x : ℕ). t.unit.subtract + least_service t x ≤ window t n) (sym (k.pair.alone q c ∙ ap (coordinated_phase t n) e)) (in-window t n _ k w.second)
+        | inl e ↦ subst (λ (x : ℕ). t.unit.subtract + least_service t x ≤ window t n) (sym (k.pair.alone q c ∙ ap (coordinated_phase t n) e))
+            (in-window t n _ k w.first)
+        | inr e ↦ subst (λ (x : ℕ). t.unit.subtract + least_service t x ≤ window t n) (sym (k.pair.alone q c ∙ ap (coordinated_phase t n) e))
+            (in-window t n _ k w.second)
       ];
     }
 
@@ -277,7 +286,7 @@ served-room : (t : Tables) (n p : ℕ) → Defined t n → is_enabled t p ≡ tr
 served-room t n p k e c o =
     last (is_enabled t p) (is_coordinated t n p) (is_omitted t n p) (leaves_room t n p (slot_start t n p + least_service t p)) e c o
     (every-phase (λ x. not (is_enabled t x) || is_coordinated t n x || is_omitted t n x || leaves_room t n x (slot_start t n x + least_service t x))
-    p (k.rules.patterns n k.here).service (enabled-phase t p e))
+    (k.rules.patterns n k.here).service p (enabled-phase t p e))
   where
     last : (a b c d : Bool) → a ≡ true → b ≡ false → c ≡ false → (not a || b || c || d) ≡ true → d ≡ true
     last true false false d e f g h = h
@@ -288,9 +297,15 @@ served-room t n p k e c o =
 other-force : (t : Tables) (n p : ℕ) → Defined t n → is_enabled t p ≡ true → is_coordinated t n p ≡ false → is_omitted t n p ≡ false → OtherForce t n p
 other-force t n p k e c o =
     let both : (least_service t p ≤ force_point t n p) × (force_point t n p + clearance t p ≤ cycle_time t n) =
-    subst (λ (x : ℕ). (least_service t p ≤ x) × (x + clearance t p ≤ cycle_time t n)) (sym (force-laid t n p k.here e mine.slot mine.side (le_of_lt lie.zero_in_cycle)))
-    (forces (lie.clear_of_zero p q e held (sym (k.pair.ring (ring_of t p) which)) (λ same. both_ways _ c (subst (λ (x : ℕ). is_coordinated t n x ≡ true) (sym same) held)))) in
-    record { served = both.0; clears = both.1; permissive = ap (λ (x : ℕ). x + least_service t p) (permissive-is t n p e c o) ∙ back-from (force_point t n p) (least_service t p) both.0 }
+    subst (λ (x : ℕ). (least_service t p ≤ x) × (x + clearance t p ≤ cycle_time t n))
+    (sym (force-laid t n p k.here e mine.slot mine.side (le_of_lt lie.zero_in_cycle)))
+    (forces (lie.clear_of_zero p q e held (sym (k.pair.ring (ring_of t p) which))
+    (λ same. both_ways _ c (subst (λ (x : ℕ). is_coordinated t n x ≡ true) (sym same) held)))) in
+    record {
+      served = both.0;
+      clears = both.1;
+      permissive = ap (λ (x : ℕ). x + least_service t p) (permissive-is t n p e c o) ∙ back-from (force_point t n p) (least_service t p) both.0;
+    }
   where
     which : (ring_of t p ≡ 1) ⊎ (ring_of t p ≡ 2)
     which = in-ring t p k.rules e

@@ -5,7 +5,7 @@ use Rattle.std.proofs.lemmas.Bool.{cases_Bool, and_parts, and_from, or_cases, or
 use Rattle.std.proofs.lemmas.List.{append-nil}
 use Rattle.sig_types.specs.Phases.{all_phases, is_in, some, those, after}
 use Rattle.sig_types.proofs.Lists.{eq-true, in-cons, in-after, phase-listed}
-use Rattle.sig_types.proofs.Sets.{those-same}
+use Rattle.sig_types.proofs.Sets.{in-every, every-phase, those-same}
 use Rattle.sig_tables.specs.declared.tables.Tables.{Tables}
 use Rattle.sig_tables.specs.Tables.{ring_of, is_enabled, order_of}
 use Rattle.sig_tables.specs.Sides.{are_of_one_side}
@@ -15,7 +15,7 @@ use Rattle.laws.proofs.Standing.{enabled-phase}
 use Rattle.rule_facts.specs.Rules.{SequenceRules, KeepsRules}
 use Rattle.rule_facts.specs.Sequences.{RingServed, earlier_sides, SequenceServes}
 use Rattle.rule_facts.proofs.Kept.{none-listed}
-use Rattle.rule_facts.proofs.Members.{every-phase, every-member, Found, some-found, found-some, counted-member, under, same-answer}
+use Rattle.rule_facts.proofs.Members.{Found, some-found, found-some, counted-member, under, same-answer}
 use Rattle.rule_facts.proofs.Street.{side-enabled, in-ring}
 use Rattle.rule_facts.proofs.Sides.{own, side-mutual, side-joined}
 use Rattle.rule_facts.proofs.Orders.{cut-at, in-before, one-before, before-after, those-append}
@@ -33,10 +33,11 @@ ring-served t s r k which =
 pub listed-once : (t : Tables) (s r p : ℕ) → SequenceRules t s → (r ≡ 1) ⊎ (r ≡ 2) → is_enabled t p ≡ true → ring_of t p ≡ r
     → times_in (order_of t s r) p ≡ 1
 listed-once t s r p k which e at =
-    let both = and_parts (every (is_of_ring t r) (order_of t s r)) (every (λ x. not (is_of_ring t r x) || times_in (order_of t s r) x == 1) all_phases) (ring-served t s r k which) in
+    let both = and_parts (every (is_of_ring t r) (order_of t s r)) (every (λ x. not (is_of_ring t r x) || times_in (order_of t s r) x == 1) all_phases)
+    (ring-served t s r k which) in
     let here : is_of_ring t r p ≡ true = and_from (is_enabled t p) (ring_of t p == r) e ((Decides-eqb _ _).1 at) in
     eq-true _ _ (under (is_of_ring t r p) (times_in (order_of t s r) p == 1)
-    (every-phase (λ x. not (is_of_ring t r x) || times_in (order_of t s r) x == 1) p both.1 (enabled-phase t p e)) here)
+    (every-phase (λ x. not (is_of_ring t r x) || times_in (order_of t s r) x == 1) both.1 p (enabled-phase t p e)) here)
 
 -- a sequence in use of tables that keep the rules
 pub record InUse (t : Tables) (s : ℕ) : Type 0 where
@@ -49,7 +50,7 @@ serves t s r k which = record {
   listed = λ p e at. counted-member (order_of t s r) p (listed-once t s r p k which e at);
   nothing_else = λ p i.
       let both = and_parts (every (is_of_ring t r) (order_of t s r)) _ (ring-served t s r k which) in
-      let c = and_parts (is_enabled t p) (ring_of t p == r) (every-member (is_of_ring t r) (order_of t s r) p both.0 i) in
+      let c = and_parts (is_enabled t p) (ring_of t p == r) (in-every (is_of_ring t r) (order_of t s r) p both.0 i) in
       (c.0, eq-true _ _ c.1);
 }
 
@@ -70,7 +71,8 @@ after-enabled t s p q k h = elim (or_cases (is_in (after p (order_of t s 1)) q) 
 ]
 
 -- what comes before a phase in its ring is followed by it
-pub before-comes : (t : Tables) (s p x : ℕ) → InUse t s → is_enabled t p ≡ true → is_in (before p (order_of t s (ring_of t p))) x ≡ true → comes_after t s x p ≡ true
+pub before-comes : (t : Tables) (s p x : ℕ) → InUse t s → is_enabled t p ≡ true → is_in (before p (order_of t s (ring_of t p))) x ≡ true
+    → comes_after t s x p ≡ true
 before-comes t s p x k e h =
     in-ring-after t s (ring_of t p) x p (in-ring t p k.rules e) (before-after (order_of t s (ring_of t p)) p x (in-own-ring t s p k e) h)
 
@@ -80,7 +82,8 @@ pub shows-before : (t : Tables) (s q p b a : ℕ) → are_of_one_side t q b ≡ 
 shows-before t s q p b a hb ha c =
     let eb : is_enabled t b ≡ true = (side-enabled t q b hb).1 in
     let ea : is_enabled t a ≡ true = (side-enabled t p a ha).1 in
-    found-some (λ y. are_of_one_side t q y && some (λ x. are_of_one_side t p x && comes_after t s y x) all_phases) all_phases b (phase-listed b (enabled-phase t b eb))
+    found-some (λ y. are_of_one_side t q y && some (λ x. are_of_one_side t p x && comes_after t s y x) all_phases) all_phases b
+    (phase-listed b (enabled-phase t b eb))
     (and_from (are_of_one_side t q b) (some (λ x. are_of_one_side t p x && comes_after t s b x) all_phases) hb
     (found-some (λ x. are_of_one_side t p x && comes_after t s b x) all_phases a (phase-listed a (enabled-phase t a ea))
     (and_from (are_of_one_side t p a) (comes_after t s b a) ha c)))
@@ -106,9 +109,10 @@ not-before : (t : Tables) (s p q : ℕ) → InUse t s → is_enabled t p ≡ tru
     → side_comes_before t s q p ≡ false
 not-before t s p q k e other c =
     last (are_of_one_side t p q) (comes_after t s p q) (side_comes_before t s q p) other c
-    (every-phase (λ y. are_of_one_side t p y || not (comes_after t s p y) || not (side_comes_before t s y p)) q
-    (every-phase (λ x. every (λ y. are_of_one_side t x y || not (comes_after t s x y) || not (side_comes_before t s y x)) all_phases) p k.kept.sides (enabled-phase t p e))
-    (enabled-phase t q (after-enabled t s p q k c)))
+    (every-phase (λ y. are_of_one_side t p y || not (comes_after t s p y) || not (side_comes_before t s y p))
+    (every-phase (λ x. every (λ y. are_of_one_side t x y || not (comes_after t s x y) || not (side_comes_before t s y x)) all_phases)
+    k.kept.sides p (enabled-phase t p e))
+    q (enabled-phase t q (after-enabled t s p q k c)))
   where
     last : (a b c : Bool) → a ≡ false → b ≡ true → (a || not b || not c) ≡ true → c ≡ false
     last false true c e f h = not-true c h
@@ -195,7 +199,8 @@ before-side t s p k e =
     ∙ sym (cut ∙ ap (λ (ys : List ℕ). those (is_earlier t s p) (before p order) ++ ys) none ∙ append-nil (those (is_earlier t s p) (before p order)))
 
 -- the test is one for each side, both of those that come before and of that before which they come
-pub same-test : (t : Tables) (s p q x y : ℕ) → InUse t s → are_of_one_side t p q ≡ true → are_of_one_side t x y ≡ true → is_earlier t s p x ≡ is_earlier t s q y
+pub same-test : (t : Tables) (s p q x y : ℕ) → InUse t s → are_of_one_side t p q ≡ true → are_of_one_side t x y ≡ true
+    → is_earlier t s p x ≡ is_earlier t s q y
 same-test t s p q x y k h g =
     both (are_of_one_side t p x) (are_of_one_side t q y) (side_comes_before t s x p) (side_comes_before t s y q)
     (same-answer _ _ (λ m. side-joined t q p y k.rules (side-mutual t p q h) (side-joined t p x y k.rules m g))

@@ -4,15 +4,15 @@ use Rattle.std.proofs.lemmas.Bool.{cases_Bool, and_parts, and_from, or_cases, or
 use Rattle.std.proofs.lemmas.Bool.Decides.{Decides-eqb, eqb_tells}
 use Rattle.sig_types.specs.Phases.{all_phases, is_in, some}
 use Rattle.sig_types.proofs.Lists.{eq-true, phase-listed}
+use Rattle.sig_types.proofs.Sets.{every-phase}
 use Rattle.sig_tables.specs.declared.tables.Tables.{Tables}
 use Rattle.sig_tables.specs.Tables.{ring_of, is_enabled, starts_up}
 use Rattle.sig_tables.specs.Sides.{are_concurrent, are_incompatible, are_of_one_side}
 use Rattle.rule_book.specs.Street.{neighbours}
 use Rattle.rule_facts.specs.Sides.{SidesCut, SidesHold}
-use Rattle.laws.specs.Lawful.{Sound}
 use Rattle.laws.proofs.Standing.{enabled-phase}
 use Rattle.rule_facts.specs.Rules.{KeepsRules}
-use Rattle.rule_facts.proofs.Members.{every-phase, Found, some-found, found-some, under}
+use Rattle.rule_facts.proofs.Members.{Found, some-found, found-some, under}
 use Rattle.rule_facts.proofs.Street.{concurrent-enabled, concurrent-neighbour, side-enabled, concurrent-mutual, across, in-ring, third, in-common}
 
 -- how two phases may be of one side
@@ -24,7 +24,7 @@ data OneSide (t : Tables) (p q : ℕ) : Type 0 where
 one-side : (t : Tables) (p q : ℕ) → are_of_one_side t p q ≡ true → OneSide t p q
 one-side t p q h =
     elim (or_cases (p == q || are_concurrent t p q) (some (λ r. are_concurrent t p r && are_concurrent t r q) all_phases)
-    (and_parts (is_enabled t p && is_enabled t q) (p == q || are_concurrent t p q || some (λ r. are_concurrent t p r && are_concurrent t r q) all_phases) h).1) [
+    (and_parts (is_enabled t p && is_enabled t q) _ h).1) [
       | inl a ↦ elim (or_cases (p == q) (are_concurrent t p q) a) [
         | inl e ↦ Same (eq-true p q e)
         | inr c ↦ Beside c
@@ -81,7 +81,7 @@ side-across t p q k h ne = elim (one-side t p q h) [
 ]
 
 -- two phases of the side of a third, in different rings, are concurrent
-around : (t : Tables) (s p q : ℕ) → KeepsRules t → are_of_one_side t s p ≡ true → are_of_one_side t s q ≡ true → ring_of t p ≢ ring_of t q
+pub around : (t : Tables) (s p q : ℕ) → KeepsRules t → are_of_one_side t s p ≡ true → are_of_one_side t s q ≡ true → ring_of t p ≢ ring_of t q
     → are_concurrent t p q ≡ true
 around t s p q k h g ne = elim (eqb_tells (ring_of t s) (ring_of t p)) [
   | inl (b, e) ↦ alike t s p q k h e (side-across t s q k g (λ f. ne (sym e ∙ f)))
@@ -91,30 +91,23 @@ around t s p q k h g ne = elim (eqb_tells (ring_of t s) (ring_of t p)) [
       concurrent-mutual t q p (alike t s q p k g same (side-across t s p k h ns))
 ]
 
-pub sound-of : (t : Tables) → KeepsRules t → Sound t
-sound-of t k = record {
-  ring = λ p e. in-ring t p k e;
-  across = λ p q c. across t p q k c;
-  side = λ s p q h g ne. around t s p q k h g ne;
-  start = λ p q u v. started p q u v;
-}
-  where
-    up-enabled : (p : ℕ) → starts_up t p ≡ true → is_enabled t p ≡ true
-    up-enabled p u = (and_parts (is_enabled t p) _ u).0
+up-enabled : (t : Tables) (p : ℕ) → starts_up t p ≡ true → is_enabled t p ≡ true
+up-enabled t p u = (and_parts (is_enabled t p) _ u).0
 
-    started : (p q : ℕ) → starts_up t p ≡ true → starts_up t q ≡ true → (p ≡ q) ⊎ (are_concurrent t p q ≡ true)
-    started p q u v =
-        let e : is_enabled t p ≡ true = up-enabled p u in
-        let all = under (starts_up t p) _ (k.phases p e).startup u in
-        let one : (not (starts_up t q) || q == p || are_concurrent t p q) ≡ true
-        = every-phase (λ x. not (starts_up t x) || x == p || are_concurrent t p x) q all (enabled-phase t q (up-enabled q v)) in
-        elim (or_cases (not (starts_up t q) || q == p) (are_concurrent t p q) one) [
-          | inl a ↦ elim (or_cases (not (starts_up t q)) (q == p) a) [
-            | inl n ↦ absurd (both_ways _ (not-true _ n) v)
-            | inr s ↦ inl (sym (eq-true q p s))
-          ]
-          | inr c ↦ inr c
-        ]
+-- phases that start up may be on together
+pub started : (t : Tables) (p q : ℕ) → KeepsRules t → starts_up t p ≡ true → starts_up t q ≡ true → (p ≡ q) ⊎ (are_concurrent t p q ≡ true)
+started t p q k u v =
+    let e : is_enabled t p ≡ true = up-enabled t p u in
+    let all = under (starts_up t p) _ (k.phases p e).startup u in
+    let one : (not (starts_up t q) || q == p || are_concurrent t p q) ≡ true
+    = every-phase (λ x. not (starts_up t x) || x == p || are_concurrent t p x) all q (enabled-phase t q (up-enabled t q v)) in
+    elim (or_cases (not (starts_up t q) || q == p) (are_concurrent t p q) one) [
+      | inl a ↦ elim (or_cases (not (starts_up t q)) (q == p) a) [
+        | inl n ↦ absurd (both_ways _ (not-true _ n) v)
+        | inr s ↦ inl (sym (eq-true q p s))
+      ]
+      | inr c ↦ inr c
+    ]
 
 -- each enabled phase has a concurrent one
 pub has-concurrent : (t : Tables) (p : ℕ) → KeepsRules t → is_enabled t p ≡ true → (q : ℕ) × (are_concurrent t p q ≡ true)
@@ -163,7 +156,8 @@ apart-sides : (t : Tables) (p q : ℕ) → KeepsRules t → are_incompatible t p
 apart-sides t p q k h = elim (eqb_tells (ring_of t p) (ring_of t q)) [
   | inl (b, e) ↦ inl e
   | inr (b, ne) ↦ elim (cases_Bool (are_of_one_side t p q)) [
-    | inl side ↦ absurd (both_ways _ (not-true _ (and_parts (is_enabled t p && is_enabled t q && not (p == q)) (not (are_concurrent t p q)) h).1) (side-across t p q k side ne))
+    | inl side ↦ absurd (both_ways _ (not-true _ (and_parts (is_enabled t p && is_enabled t q && not (p == q)) (not (are_concurrent t p q)) h).1)
+        (side-across t p q k side ne))
     | inr other ↦ inr other
   ]
 ]

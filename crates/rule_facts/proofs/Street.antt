@@ -4,14 +4,14 @@ use Rattle.std.proofs.lemmas.Bool.{and_parts, and_from, or_cases, both_ways, not
 use Rattle.std.proofs.lemmas.Bool.Decides.{Decides-eqb}
 use Rattle.sig_types.specs.Phases.{is_phase, all_phases, is_in, some}
 use Rattle.sig_types.proofs.Lists.{eq-true, in-those, phase-listed}
-use Rattle.sig_types.proofs.Sets.{in-phases}
+use Rattle.sig_types.proofs.Sets.{in-every, every-phase, in-phases}
 use Rattle.sig_tables.specs.declared.tables.Tables.{Tables}
 use Rattle.sig_tables.specs.Tables.{listed, row, ring_of, is_enabled}
 use Rattle.sig_tables.specs.Sides.{are_concurrent, are_of_one_side}
 use Rattle.rule_book.specs.Street.{neighbours, same_phases, share_a_phase}
 use Rattle.laws.proofs.Standing.{enabled-phase}
 use Rattle.rule_facts.specs.Rules.{KeepsRules}
-use Rattle.rule_facts.proofs.Members.{every-member, every-phase, found-some, under}
+use Rattle.rule_facts.proofs.Members.{found-some, under}
 
 -- q is in the list of p
 abbrev pub names : Tables → ℕ → ℕ → Bool
@@ -49,7 +49,7 @@ neighbour-is t p q e = in-phases (is_neighbour t p) q (enabled-phase t q e) ∙ 
 -- an enabled phase that names q, or that q names, is its neighbour, and the other way round
 named : (t : Tables) (p q : ℕ) → KeepsRules t → is_enabled t p ≡ true → is_enabled t q ≡ true → names t q p ≡ true → names t p q ≡ true
 named t p q k e f n =
-    every-member (λ x. is_in (listed (row t x).concurrency) q) (neighbours t q) p (k.phases q f).named_back (neighbour-is t q p e ∙ n)
+    in-every (λ x. is_in (listed (row t x).concurrency) q) (neighbours t q) p (k.phases q f).named_back (neighbour-is t q p e ∙ n)
 
 pub neighbour-concurrent : (t : Tables) (p q : ℕ) → KeepsRules t → is_enabled t p ≡ true → are_concurrent t p q ≡ true
     → is_in (neighbours t p) q ≡ true
@@ -75,7 +75,7 @@ pub across : (t : Tables) (p q : ℕ) → KeepsRules t → are_concurrent t p q 
 across t p q k h same =
     let e : is_enabled t p ≡ true = (concurrent-enabled t p q h).0 in
     differ (ring_of t q) (ring_of t p)
-    (every-member (λ x. not (ring_of t x == ring_of t p)) (neighbours t p) q (k.phases p e).other_ring (neighbour-concurrent t p q k e h))
+    (in-every (λ x. not (ring_of t x == ring_of t p)) (neighbours t p) q (k.phases p e).other_ring (neighbour-concurrent t p q k e h))
     (sym same)
 
 pub in-ring : (t : Tables) (p : ℕ) → KeepsRules t → is_enabled t p ≡ true → (ring_of t p ≡ 1) ⊎ (ring_of t p ≡ 2)
@@ -100,7 +100,7 @@ third t p q r k e f g ne nf = elim (in-ring t p k e) [
 
 -- both lists have a phase that one of them has
 pub same-member : (xs ys : List ℕ) (p : ℕ) → same_phases xs ys ≡ true → is_phase p ≡ true → is_in xs p ≡ is_in ys p
-same-member xs ys p h ph = same (is_in xs p) (is_in ys p) (every-phase (λ x. if is_in xs x then is_in ys x else not (is_in ys x)) p h ph)
+same-member xs ys p h ph = same (is_in xs p) (is_in ys p) (every-phase (λ x. if is_in xs x then is_in ys x else not (is_in ys x)) h p ph)
   where
     same : (a b : Bool) → (if a then b else not b) ≡ true → a ≡ b
     same true b e = sym e
@@ -120,7 +120,7 @@ in-common t p q r x k hp hq h =
     (found-some (λ y. are_concurrent t p y && are_concurrent t q y) all_phases r (phase-listed r (enabled-phase t r ep.1)) (and_from _ _ hp hq)) in
     let lists : same_phases (neighbours t p) (neighbours t q) ≡ true =
     under (share_a_phase t p q) _
-    (every-phase (λ y. not (share_a_phase t p y) || same_phases (neighbours t p) (neighbours t y)) q (k.phases p ep.0).shared_list (enabled-phase t q eq.0))
+    (every-phase (λ y. not (share_a_phase t p y) || same_phases (neighbours t p) (neighbours t y)) (k.phases p ep.0).shared_list q (enabled-phase t q eq.0))
     shared in
     concurrent-neighbour t q x eq.0
     (sym (same-member (neighbours t p) (neighbours t q) x lists (enabled-phase t x ex.1)) ∙ neighbour-concurrent t p x k ep.0 h)

@@ -3,14 +3,14 @@ use Rattle.std.proofs.Common.{◌≡◌, ◌≢◌, inl, inr, ℕ, ◌+◌, ◌�
 use Rattle.std.proofs.lemmas.Bool.{and_parts, or_cases, false≢true, leb-true}
 use Rattle.std.proofs.Math.Nat.{le_trans, le-add_right}
 use Rattle.sig_types.proofs.Lists.{eq-true}
+use Rattle.sig_types.proofs.Sets.{every-phase}
 use Rattle.sig_tables.specs.declared.tables.Tables.{Tables}
 use Rattle.sig_tables.specs.Tables.{row, is_enabled, yellow_time, red_clear_time, clearance, red_revert_time}
 use Rattle.sig_tables.specs.Slots.{least_service}
 use Rattle.rule_book.specs.Patterns.{corrects}
 use Rattle.laws.proofs.Standing.{enabled-phase}
 use Rattle.rule_facts.specs.Rules.{KeepsRules}
-use Rattle.rule_facts.specs.Times.{CorrectionHolds, TimesHold}
-use Rattle.rule_facts.proofs.Members.{every-phase}
+use Rattle.plan_facts.specs.Times.{CorrectionHolds, TimesHold}
 
 long-yellow : (t : Tables) (p : ℕ) → KeepsRules t → is_enabled t p ≡ true → 30 ≤ yellow_time t p
 long-yellow t p k e = leb-true 30 (yellow_time t p) (k.phases p e).yellow
@@ -24,8 +24,8 @@ reverted t p q k e f ne =
     one-or (row t p).red_revert (least_service t q) (clearance t q)
     (leb-true _ _ (last (is_enabled t q) (q == p) (nat_le (row t p).red_revert (least_service t q + clearance t q)) f
     (λ s. ne (sym (eq-true q p s)))
-    (every-phase (λ x. not (is_enabled t x) || x == p || nat_le (row t p).red_revert (least_service t x + clearance t x)) q
-    (k.phases p e).revert (enabled-phase t q f))))
+    (every-phase (λ x. not (is_enabled t x) || x == p || nat_le (row t p).red_revert (least_service t x + clearance t x))
+    (k.phases p e).revert q (enabled-phase t q f))))
     (long-clearance t q k f)
   where
     one-or : (r s c : ℕ) → r ≤ s + c → 30 ≤ c → max 1 r ≤ s + c

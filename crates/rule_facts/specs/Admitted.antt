@@ -1,25 +1,34 @@
 -- A history whose tables have all passed the rules: those it opened with, and each download beside those then in force.
-use Rattle.std.specs.Prelude.{◌≡◌, false, List, [], ◌∷◌}
+use Rattle.std.specs.Prelude.{◌≡◌, List, [], Bool}
+use Rattle.sig_types.specs.declared.frame.Mode.TheVariants.{Flash}
 use Rattle.sig_tables.specs.declared.tables.Tables.{Tables}
-use Rattle.sig_tables.specs.Past.{Event, Tick, Input, Install, SetPattern, SetClock, Ask, Cancel, History}
-use Rattle.sig_tables.specs.Decide.{past_of, past_at}
+use Rattle.sig_tables.specs.Past.{Event, Install, Past, History}
+use Rattle.sig_tables.specs.Looking.{last_frame}
+use Rattle.sig_tables.specs.Modes.{same_mode}
+use Rattle.sig_tables.specs.Events.{EachEvent}
+use Rattle.sig_tables.specs.Decide.{past_of, past_at, since_opening}
 use Rattle.rule_book.specs.Rules.{broken, Consistent}
-use Rattle.laws.specs.Safe.{EachApart, EachOne}
+use Rattle.laws.specs.Served.{AllServed}
+use Rattle.laws.specs.Safe.{EachApart, EachOne, EachEnabled}
 use Rattle.laws.specs.Walking.{EachQuiet}
 
--- the opening tables are consistent, and each download broke no rule beside the tables that it replaced
-abbrev pub Admitted : Tables → List Event → Type 0
-Admitted opening [] = Consistent opening
-Admitted opening (Tick ∷ events) = Admitted opening events
-Admitted opening (Input field ∷ events) = Admitted opening events
-Admitted opening (Install t ∷ events) = (broken t (past_of opening events).tables false ≡ []) × Admitted opening events
-Admitted opening (SetPattern n ∷ events) = Admitted opening events
-Admitted opening (SetClock n ∷ events) = Admitted opening events
-Admitted opening (Ask request ∷ events) = Admitted opening events
-Admitted opening (Cancel number ∷ events) = Admitted opening events
+-- the cabinet flashes: its last frame is in Flash
+abbrev pub is_flashing : Past → Bool
+is_flashing past = same_mode (last_frame past.moments).mode Flash
 
--- at every tick no two incompatible phases are on or walk together, no two of one ring are on, and disabled ones are dark
+-- the event may come after these: a download broke no rule beside the tables that it replaces
+abbrev pub IsAdmittedAfter : Tables → List Event → Event → Type 0
+IsAdmittedAfter opening before (Install t) = broken t (past_of opening before).tables (is_flashing (past_of opening before)) ≡ []
+IsAdmittedAfter opening before _ = Unit {0}
+
+-- the opening tables are consistent, and each event may come after those before it
+abbrev pub Admitted : Tables → List Event → Type 0
+Admitted opening events = Consistent opening × EachEvent (IsAdmittedAfter opening) events
+
+-- at every tick no two incompatible phases are on, no two of one ring are on, and only enabled ones are; and where a pattern
+-- forces off served phases alone, no two incompatible ones walk together and disabled ones show no signal
 pub record KeepsApart (h : History) : Type 0 where
   pub apart : EachApart (past_at h).moments
   pub one : EachOne (past_at h).moments
-  pub quiet : EachQuiet (past_at h).moments
+  pub enabled : EachEnabled (past_at h).moments
+  pub quiet : AllServed h.tables (since_opening h) → EachQuiet (past_at h).moments

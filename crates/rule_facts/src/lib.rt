@@ -1,27 +1,31 @@
 //! What consistent tables give the layers above: laws of sides, sequences, goals and patterns that follow from the
-//! consistency rules. The functions have no bodies: each stands for the law of its contract, which callers cite.
+//! consistency rules. The functions do nothing: each stands for the law of its contract, which callers cite.
 #![tactic(auto)]
 
 ghost use Rattle.std.specs.Prelude.{◌≡◌, ◌≤◌, ◌+◌, ℕ, [], ◌∷◌, Bool, true, false, List};
 ghost use Rattle.sig_types.specs.Phases.{is_phase};
 ghost use Rattle.sig_tables.specs.declared.tables.Tables.{Tables};
 ghost use Rattle.sig_tables.specs.Tables.{ring_of, is_enabled, clearance, starts_up};
-ghost use Rattle.sig_tables.specs.Standard.{std8};
+ghost use Rattle.sig_tables.specs.Standard.{std8, max8};
 ghost use Rattle.sig_tables.specs.Sides.{are_concurrent, are_of_one_side};
 ghost use Rattle.sig_tables.specs.Slots.{is_defined, cycle_time, slot_end, least_service, zero_point, force_point, window, permissive_end};
+ghost use Rattle.sig_tables.specs.Splits.{coordinated_phases};
 ghost use Rattle.rule_book.specs.Street.{is_used, comes_after};
 ghost use Rattle.rule_book.specs.Rules.{broken, Consistent};
 ghost use Rattle.sig_tables.specs.Past.{Event, History};
+ghost use Rattle.sig_tables.specs.Decide.{since_opening};
 ghost use Rattle.laws.specs.Lawful.{Sound, SameLayout, Lawful};
 ghost use Rattle.rule_facts.specs.Admitted.{Admitted, KeepsApart};
 ghost use Rattle.rule_facts.specs.Rules.{KeepsRules};
 ghost use Rattle.rule_facts.specs.Sides.{SidesCut, SidesHold};
 ghost use Rattle.rule_facts.specs.Sequences.{SequenceServes};
-ghost use Rattle.rule_facts.specs.Goals.{GoTogether, PreemptFits, coordinated_goal};
-ghost use Rattle.rule_facts.specs.Times.{TimesHold};
-ghost use Rattle.rule_facts.specs.Plan.{PlanHolds};
+ghost use Rattle.plan_facts.specs.Goals.{GoTogether, PreemptFits};
+ghost use Rattle.plan_facts.specs.Times.{TimesHold};
+ghost use Rattle.plan_facts.specs.Plan.{PlanHolds};
 ghost use Rattle.rule_facts.specs.Forces.{AreEnough, force_with, first_turn_out};
 ghost use Rattle.rule_facts.specs.Needed.{BreaksOnly, slow_clearance, long_slots, slots_past, crossed_sides, half_named, both_streets};
+
+use rule_book::standard_consistent;
 
 /// Tables that break no rule keep each rule, by name and row.
 pub fn rules_kept()
@@ -35,10 +39,20 @@ pub fn accepted_consistent()
 {}
 
 /// Consistent tables are sound (NTCIP 1202, rings and concurrency): each enabled phase is in ring 1 or 2, concurrent
-/// phases are in different rings, phases of one side in different rings are concurrent, and so are those of start-up.
+/// phases are in different rings, phases of one side in different rings are concurrent, and so are those of start-up, of
+/// each preempt and of each defined pattern. Each such pattern has its plan (`plan_holds`), and the times are long enough
+/// (`times_hold`).
 pub fn sound()
     ensures { (t : Tables) → Consistent t → Sound t }
 {}
+
+/// The standard tables are sound, so that the laws of safety speak of them.
+pub fn standard_sound()
+    ensures actuated { Sound std8 }
+    ensures recalled { Sound max8 }
+{
+    standard_consistent();
+}
 
 /// Tables that break no rule beside those in force, in a cabinet that does not flash, keep which phases are enabled, their
 /// rings, and which of them are concurrent.
@@ -76,7 +90,7 @@ pub fn times_hold()
 /// side.
 pub fn goals_fit()
     ensures preempts { (t : Tables) → Consistent t → (i : ℕ) → 1 ≤ i → i ≤ 8 → PreemptFits t i }
-    ensures coordinated { (t : Tables) → Consistent t → (n : ℕ) → is_defined t n ≡ true → GoTogether t (coordinated_goal t n) }
+    ensures coordinated { (t : Tables) → Consistent t → (n : ℕ) → is_defined t n ≡ true → GoTogether t (coordinated_phases t n) }
 {}
 
 /// Each defined pattern lays its slots over the cycle so that local zero lies in both coordinated ones and in no other, and
@@ -163,9 +177,10 @@ pub fn needs_rule_12()
 {}
 
 /// A history that opens with consistent tables, and whose downloads each broke no rule beside the tables that they replaced,
-/// is one that the laws of safety speak of: at no tick are two incompatible phases green, yellow, in red clearance or in
-/// walk together, nor two phases of one ring on, and a disabled phase is dark.
+/// is one that the laws of safety speak of. A cabinet that flashes may take tables of another layout. At no tick, whatever
+/// the mode, are two incompatible phases green, yellow or in red clearance together, nor two phases of one ring, and a
+/// disabled phase is red; where a pattern forces off served phases alone, no two incompatible ones walk together.
 pub fn admitted_is_safe()
     ensures lawful { (opening : Tables) (events : List Event) → Admitted opening events → Lawful opening events }
-    ensures apart { (h : History) → Admitted h.tables h.events → KeepsApart h }
+    ensures apart { (h : History) → Admitted h.tables (since_opening h) → KeepsApart h }
 {}

@@ -1,5 +1,9 @@
-use Rattle.laws.proofs.Ends.{each-ends}
+use Rattle.sig_tables.specs.Decide.{since_opening}
+use Rattle.laws.proofs.Ends.{each-clearance, each-green}
 use Rattle.laws.proofs.intervals_last.Goals as goal
 
-pub returns : goal.returns
-returns c = λ h. each-ends h.tables h.events
+pub returns-clause-clearances : goal.returns-clause-clearances
+returns-clause-clearances c = λ h. each-clearance h.tables (since_opening h)
+
+pub returns-clause-greens : goal.returns-clause-greens
+returns-clause-greens c = λ h served. each-green h.tables (since_opening h) served

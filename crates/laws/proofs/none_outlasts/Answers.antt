@@ -1,5 +1,10 @@
+use Rattle.sig_tables.specs.Decide.{since_opening}
 use Rattle.laws.proofs.Within.{each-within}
+use Rattle.laws.proofs.Apart.{each-long}
 use Rattle.laws.proofs.none_outlasts.Goals as goal
 
-pub returns : goal.returns
-returns c = λ h. each-within h.tables h.events
+pub returns-clause-within : goal.returns-clause-within
+returns-clause-within c = λ h. each-within h.tables (since_opening h)
+
+pub returns-clause-yellows : goal.returns-clause-yellows
+returns-clause-yellows c = λ h l. each-long h.tables (since_opening h) l

@@ -1,5 +1,10 @@
+use Rattle.sig_tables.specs.Decide.{since_opening}
 use Rattle.laws.proofs.Apart.{holds}
+use Rattle.laws.proofs.Quiet.{each-quiet}
 use Rattle.laws.proofs.quiet_phases.Goals as goal
 
-pub returns : goal.returns
-returns c = λ h l. (holds h.tables h.events l).quiet
+pub returns-clause-enabled : goal.returns-clause-enabled
+returns-clause-enabled c = λ h l. (holds h.tables (since_opening h) l).enabled
+
+pub returns-clause-signals : goal.returns-clause-signals
+returns-clause-signals c = λ h l served. each-quiet h.tables (since_opening h) l served

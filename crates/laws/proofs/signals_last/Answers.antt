@@ -1,5 +1,9 @@
-use Rattle.laws.proofs.Signals.{each-signals}
+use Rattle.sig_tables.specs.Decide.{since_opening}
+use Rattle.laws.proofs.Signals.{each-walk-ends, each-signals}
 use Rattle.laws.proofs.signals_last.Goals as goal
 
-pub returns : goal.returns
-returns c = λ h. each-signals h.tables h.events
+pub returns-clause-walks : goal.returns-clause-walks
+returns-clause-walks c = λ h. each-walk-ends h.tables (since_opening h)
+
+pub returns-clause-signals : goal.returns-clause-signals
+returns-clause-signals c = λ h served. each-signals h.tables (since_opening h) served

@@ -1,7 +1,0 @@
-use Rattle.std.proofs.Common.{refl}
-use Rattle.sig_tables.specs.Standard.{max8, standard}
-use Rattle.laws.proofs.first_changes.Goals as goal
-
-pub returns : goal.returns
-unfolding max8 standard
-returns c = refl
