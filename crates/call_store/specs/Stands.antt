@@ -1,9 +1,9 @@
 -- What the store keeps is what looking back over the inputs and the frames gives.
-use Rattle.std.specs.Prelude.{◌≤◌, ◌<◌, [], ◌∷◌}
+use Rattle.std.specs.Prelude.{◌≤◌, ◌<◌}
 use Rattle.sig_types.specs.declared.frame.Field.{Field}
 use Rattle.sig_types.specs.declared.frame.Field.TheVariants.{Veh, Ped as Button, Preempt}
 use Rattle.sig_types.specs.Phases.{is_in}
-use Rattle.sig_tables.specs.Past.{Moment, Past}
+use Rattle.sig_tables.specs.Past.{Past}
 use Rattle.sig_tables.specs.Calls.{some_heard, turns_on}
 use Rattle.sig_tables.specs.Layout.{Has}
 use Rattle.sig_tables.specs.Seen.{vehicle_seen, pedestrian_seen, detectors_seen}
@@ -21,7 +21,3 @@ abbrev pub NamesPhase : Field → Type 0
 NamesPhase (Veh q on) = (0 < q) × (q ≤ 16)
 NamesPhase (Button q) = (0 < q) × (q ≤ 16)
 NamesPhase (Preempt n on) = Unit {0}
-
--- the past with one moment more, and no input since
-abbrev pub with_moment : Moment → Past → Past
-with_moment m past = record { tables = past.tables; version = past.version; heard = []; moments = m ∷ past.moments }

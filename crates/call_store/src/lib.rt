@@ -31,10 +31,10 @@ impl Calls {
     ghost use Rattle.sig_tables.specs.declared.tables.Tables.{Tables};
     ghost use Rattle.sig_tables.specs.Past.{Past, Moment, Input};
     ghost use Rattle.sig_tables.specs.Calls.{is_active, is_green};
-    ghost use Rattle.sig_tables.specs.Decide.{opened, with_event};
+    ghost use Rattle.sig_tables.specs.Decide.{opened, with_event, with_moment};
     ghost use Rattle.sig_tables.specs.Layout.{LaidOut, Has};
-    ghost use Rattle.sig_tables.specs.Seen.{frame_seen, vehicle_seen, pedestrian_seen, detectors_seen, demand_seen};
-    ghost use Rattle.call_store.specs.Stands.{CallsStand, NamesPhase, with_moment};
+    ghost use Rattle.sig_tables.specs.Seen.{frame_seen, vehicle_seen, pedestrian_seen, detectors_seen, demand_with};
+    ghost use Rattle.call_store.specs.Stands.{CallsStand, NamesPhase};
 
     /// No call, and no detector on.
     pub fn new() -> Calls
@@ -52,7 +52,7 @@ impl Calls {
     /// button is that of a phase 1 to 16; a preempt input calls no phase.
     pub fn input(&mut self, field: Field, layout: &Layout, shown: &Frame)
         requires phase { NamesPhase field }
-        ensures stands { (past : Past) (sequence : ℕ) → CallsStand self.old past → LaidOut layout.now past.tables sequence
+        ensures stands { (past : Past) → CallsStand self.old past → LaidOut layout.now past.tables
             → shown.now ≡ frame_seen past → CallsStand self.new (with_event (Input field) past) }
     {
         match field {
@@ -75,7 +75,7 @@ impl Calls {
     /// they have maximum recall. There is no plan yet.
     pub fn active(&self, layout: &Layout, plan: Option<&Plan>) -> PhaseSet
         requires free { plan ≡ None }
-        ensures active { (past : Past) (sequence : ℕ) → CallsStand self.now past → LaidOut layout.now past.tables sequence
+        ensures active { (past : Past) → CallsStand self.now past → LaidOut layout.now past.tables
             → Has result (is_active past.tables past.heard (detectors_seen past)) }
     {
         prove!(plan.is_none());
@@ -87,8 +87,8 @@ impl Calls {
     /// recall, or, where they have a walk, by a pedestrian. There is no plan yet.
     pub fn demand(&self, layout: &Layout, red: PhaseSet, plan: Option<&Plan>) -> PhaseSet
         requires free { plan ≡ None }
-        ensures demand { (past : Past) (sequence : ℕ) → CallsStand self.now past → LaidOut layout.now past.tables sequence
-            → Has red (λ p. same_colour (colour_of (frame_seen past) p) Red) → phases_of result ≡ demand_seen past }
+        ensures demand { (past : Past) → CallsStand self.now past → LaidOut layout.now past.tables
+            → Has red (λ p. same_colour (colour_of (frame_seen past) p) Red) → phases_of result ≡ demand_with None past }
     {
         prove!(plan.is_none());
         let by_vehicles = self.vehicle.union(self.detectors);
@@ -129,7 +129,7 @@ impl Calls {
     pub fn step(&mut self, given: &Frame)
         ensures stands { (past : Past) (m : Moment) → CallsStand self.old past → m.frame ≡ given.now
             → m.vehicle ≡ vehicle_seen past → m.pedestrian ≡ pedestrian_seen past → m.detectors ≡ detectors_seen past
-            → CallsStand self.new (with_moment m past) }
+            → CallsStand self.new (with_moment past m) }
     {
         self.vehicle = without_green(self.vehicle, &given.veh);
         self.pedestrian = without_walk(self.pedestrian, &given.ped);
@@ -141,19 +141,15 @@ ghost use Rattle.sig_types.specs.declared.frame.Field.TheVariants.{Veh, Ped as B
 ghost use Rattle.sig_types.specs.declared.frame.Ped.TheVariants.{Walk};
 ghost use Rattle.sig_types.specs.Colour.{same_signal, signal_of};
 ghost use Rattle.sig_tables.specs.declared.tables.Tables.{Tables};
-ghost use Rattle.sig_tables.specs.Past.{Past, Install};
 ghost use Rattle.sig_tables.specs.Calls.{is_green, locks_vehicle, locks_pedestrian};
-ghost use Rattle.sig_tables.specs.Decide.{with_event};
 ghost use Rattle.sig_tables.specs.Layout.{LaidOut};
-ghost use Rattle.call_store.specs.declared.Calls.{Calls};
-ghost use Rattle.call_store.specs.Stands.{CallsStand};
 
 /// Whether a detector's input locks a vehicle call of its phase, 1 to 16: it turns on, the phase is not green, and it
 /// keeps the call of a vehicle that leaves.
 fn locks_vehicle(phase: u8, on: bool, layout: &Layout, shown: &Frame) -> bool
     requires above { 0 < phase }
     requires within { phase ≤ 16 }
-    ensures { (t : Tables) (sequence : ℕ) → LaidOut layout.now t sequence
+    ensures { (t : Tables) → LaidOut layout.now t
         → result ≡ (not (is_green shown.now phase) && locks_vehicle t (Veh phase on) phase) }
 {
     if layout.non_lock.has(phase) {
@@ -169,7 +165,7 @@ fn locks_vehicle(phase: u8, on: bool, layout: &Layout, shown: &Frame) -> bool
 fn locks_pedestrian(phase: u8, layout: &Layout, shown: &Frame) -> bool
     requires above { 0 < phase }
     requires within { phase ≤ 16 }
-    ensures { (t : Tables) (sequence : ℕ) → LaidOut layout.now t sequence
+    ensures { (t : Tables) → LaidOut layout.now t
         → result ≡ (not (same_signal (signal_of shown.now phase) Walk) && locks_pedestrian t (Button phase) phase) }
 {
     if layout.walks.has(phase) {
@@ -178,11 +174,6 @@ fn locks_pedestrian(phase: u8, layout: &Layout, shown: &Frame) -> bool
         false
     }
 }
-
-/// A download leaves all calls as they are.
-pub fn outlast_downloads()
-    ensures { (calls : Calls) (past : Past) (t : Tables) → CallsStand calls past → CallsStand calls (with_event (Install t) past) }
-{}
 
 #[cfg(test)]
 mod tests;

@@ -1,6 +1,7 @@
 -- What the answers on single phases say of the sets and lists of the definitions.
-use Rattle.std.proofs.Common.{◌≡◌, ◌≢◌, ◌<◌, ◌≤◌, ◌+◌, ◌-◌, ℕ, nat_le, Bool, true, false, not, ◌&&◌, ◌||◌, List, refl, sym, ◌∙◌, ap, arith, inl, inr}
+use Rattle.std.proofs.Common.{◌≡◌, ◌≢◌, ◌<◌, ◌≤◌, ◌+◌, ◌-◌, ℕ, nat_le, Bool, true, false, not, ◌&&◌, ◌||◌, Option, refl, sym, ◌∙◌, ap, arith, inl, inr}
 use Rattle.std.proofs.lemmas.Bool.{cases_Bool, false≢true, leb-true, leb-false, le-leb, lt-leb}
+use Rattle.std.proofs.Math.Bool.{and-false, and-true, not-not}
 use Rattle.sig_types.specs.declared.frame.Colour.{Colour}
 use Rattle.sig_types.specs.declared.frame.Colour.TheVariants.{Green, Yellow, Clear, Red}
 use Rattle.sig_types.specs.declared.frame.Ped.TheVariants.{Dont}
@@ -9,29 +10,33 @@ use Rattle.sig_types.specs.declared.frame.Ped.{Ped}
 use Rattle.sig_types.specs.Colour.{same_colour, same_signal, colour_of, signal_of}
 use Rattle.sig_types.proofs.Sets.{in-phases, in-those-is, listed-phase}
 use Rattle.sig_tables.specs.Tables.{is_enabled, has_maximum_recall, gap_time, maximum_time, red_revert_time, least_green}
-use Rattle.sig_tables.specs.Past.{Past, Moment}
+use Rattle.sig_tables.specs.Past.{Past}
 use Rattle.sig_tables.specs.Looking.{in_a_row, run, latched, runs_on, signal_runs_on, shows, lasts_now}
 use Rattle.sig_tables.specs.Sides.{are_incompatible}
 use Rattle.sig_tables.specs.Calls.{is_active, is_green}
-use Rattle.sig_tables.specs.View.{ended_of, has_gap, has_maximum, is_served, is_done, is_startable}
-use Rattle.sig_tables.specs.Seen.{frame_seen, detectors_seen, demand_seen, quiet_seen, opposed_seen, view_seen}
+use Rattle.sig_tables.specs.View.{ended_of, has_gap, has_maximum, is_reasoned, is_served, is_done, is_startable}
+use Rattle.sig_tables.specs.Splits.{keeps_maximum}
+use Rattle.sig_tables.specs.Plain.{RunsPlain}
+use Rattle.sig_tables.proofs.FreeCourse.{unbound-plain}
+use Rattle.sig_tables.specs.Seen.{frame_seen, detectors_seen, demand_seen, quiet_seen, quiet_with, opposed_seen, view_seen}
 use Rattle.sig_tables.proofs.Below.{is-within}
 use Rattle.sig_tables.proofs.Lasting.{lasts-counted, lasts_now-counted}
 
-not-not : (b : Bool) → not (not b) ≡ b
-not-not true = refl
-not-not false = refl
+-- the clearance of phase p ends
+abbrev clears : Past → ℕ → Bool
+clears past p =
+    not (same_colour (colour_of (frame_seen past) p) Red) && same_colour (runs_on p past.tables past.moments (colour_of (frame_seen past) p)) Red
 
 -- whether a clearance ends
 pub clearance-red : (past : Past) (p : ℕ) → is_phase p ≡ true → same_colour (colour_of (frame_seen past) p) Red ≡ true
     → false ≡ is_in (ended_of past.tables past.moments) p
 clearance-red past p h e =
-    sym (in-phases (λ q. not (same_colour (colour_of (frame_seen past) q) Red) && same_colour (runs_on q past.tables past.moments (colour_of (frame_seen past) q)) Red) p h ∙ rw e refl)
+    sym (in-phases (clears past) p h ∙ rw e refl)
 
 pub clearance-other : (past : Past) (p : ℕ) → is_phase p ≡ true → same_colour (colour_of (frame_seen past) p) Red ≡ false
     → same_colour (runs_on p past.tables past.moments (colour_of (frame_seen past) p)) Red ≡ is_in (ended_of past.tables past.moments) p
 clearance-other past p h e =
-    sym (in-phases (λ q. not (same_colour (colour_of (frame_seen past) q) Red) && same_colour (runs_on q past.tables past.moments (colour_of (frame_seen past) q)) Red) p h ∙ rw e refl)
+    sym (in-phases (clears past) p h ∙ rw e refl)
 
 -- a number past sixteen is no phase
 pub past-phases : (p : ℕ) → 16 < p → is_in all_phases p ≡ false
@@ -43,12 +48,8 @@ past-phases p h = elim (cases_Bool (is_in all_phases p)) [
 -- a number past the phases ends no clearance
 pub clearance-none : (past : Past) (p : ℕ) → is_in all_phases p ≡ false → is_in (ended_of past.tables past.moments) p ≡ false
 clearance-none past p h =
-    in-those-is (λ q. not (same_colour (colour_of (frame_seen past) q) Red) && same_colour (runs_on q past.tables past.moments (colour_of (frame_seen past) q)) Red) all_phases p
-    ∙ rw h (nor _)
-  where
-    nor : (b : Bool) → (b && false) ≡ false
-    nor true = refl
-    nor false = refl
+    in-those-is (clears past) all_phases p
+    ∙ rw h (and-false _)
 
 -- a count of n with this tick, tested without it
 counted-one : (n count : ℕ) → 1 ≤ n → nat_le (n - 1) count ≡ nat_le n (count + 1)
@@ -61,30 +62,42 @@ counted-one n count h = elim (cases_Bool (nat_le n (count + 1))) [
 pub flip : (a b x : Bool) → a ≡ x → a ≡ not b → b ≡ not x
 flip a b x e f = sym (not-not b) ∙ ap not (sym f ∙ e)
 
--- a gap
-pub gap-recalled : (past : Past) (p : ℕ) → has_maximum_recall past.tables p ≡ true → false ≡ has_gap (view_seen past) p
-gap-recalled past p e = rw e refl
+-- phase p was quiet for its gap, this tick included
+abbrev quiet_long : Past → ℕ → Bool
+quiet_long past p = lasts_now (gap_time past.tables p) (is_in (quiet_seen past) p) (λ m. is_in m.quiet p) past.moments
 
-pub gap-counted : (past : Past) (p count : ℕ) → has_maximum_recall past.tables p ≡ false → is_in (quiet_seen past) p ≡ true
+-- a gap in Free
+pub gap-is : (past : Past) (p : ℕ) → RunsPlain past
+    → has_gap (view_seen past) p ≡ (not (has_maximum_recall past.tables p) && quiet_long past p)
+gap-is past p r = ap (λ (n : Option ℕ). not (keeps_maximum n past.tables p) && quiet_long past p) (unbound-plain past r)
+
+pub gap-recalled : (past : Past) (p : ℕ) → RunsPlain past → has_maximum_recall past.tables p ≡ true → false ≡ has_gap (view_seen past) p
+gap-recalled past p r e = shut (has_maximum_recall past.tables p) e ∙ sym (gap-is past p r)
+  where
+    shut : (b : Bool) → b ≡ true → false ≡ (not b && lasts_now (gap_time past.tables p) (is_in (quiet_seen past) p) (λ m. is_in m.quiet p) past.moments)
+    shut b e = rw e refl
+
+pub gap-counted : (past : Past) (p count : ℕ) → RunsPlain past → has_maximum_recall past.tables p ≡ false → is_in (quiet_seen past) p ≡ true
     → count ≡ in_a_row (λ m. is_in m.quiet p) past.moments → nat_le (gap_time past.tables p - 1) count ≡ has_gap (view_seen past) p
-gap-counted past p count e quiet is =
+gap-counted past p count r e quiet is =
     let some : 1 ≤ gap_time past.tables p = omega arith in
     counted-one (gap_time past.tables p) count some
     ∙ ap (λ (n : ℕ). nat_le (gap_time past.tables p) (n + 1)) is
     ∙ sym (lasts_now-counted (gap_time past.tables p) true (λ m. is_in m.quiet p) past.moments)
     ∙ gap-now past p (has_maximum_recall past.tables p) (is_in (quiet_seen past) p) e quiet
+    ∙ sym (gap-is past p r)
   where
     gap-now : (past : Past) (p : ℕ) (b q : Bool) → b ≡ false → q ≡ true
         → lasts_now (gap_time past.tables p) true (λ m. is_in m.quiet p) past.moments
         ≡ (not b && lasts_now (gap_time past.tables p) q (λ m. is_in m.quiet p) past.moments)
     gap-now past p b q e f = rw (e, f) refl
 
-pub gap-not-quiet : (past : Past) (p : ℕ) → is_in (quiet_seen past) p ≡ false → has_gap (view_seen past) p ≡ false
-gap-not-quiet past p e =
+pub gap-not-quiet : (past : Past) (p : ℕ) → RunsPlain past → is_in (quiet_seen past) p ≡ false → has_gap (view_seen past) p ≡ false
+gap-not-quiet past p r e =
     let some : 0 < gap_time past.tables p = omega arith in
     let none : lasts_now (gap_time past.tables p) false (λ m. is_in m.quiet p) past.moments ≡ false =
     lasts_now-counted (gap_time past.tables p) false (λ m. is_in m.quiet p) past.moments ∙ lt-leb (gap_time past.tables p) 0 some in
-    gap-off past p (has_maximum_recall past.tables p) (is_in (quiet_seen past) p) e none
+    gap-is past p r ∙ gap-off past p (has_maximum_recall past.tables p) (is_in (quiet_seen past) p) e none
   where
     gap-off : (past : Past) (p : ℕ) (b q : Bool) → q ≡ false
         → lasts_now (gap_time past.tables p) false (λ m. is_in m.quiet p) past.moments ≡ false
@@ -93,12 +106,6 @@ gap-not-quiet past p e =
     gap-off past p false q e n = rw e n
 
 -- a maximum
-pub maximum-none : (past : Past) (p : ℕ) → maximum_time past.tables p ≡ 0 → true ≡ has_maximum (view_seen past) p
-maximum-none past p e = sym (zero-lasts (maximum_time past.tables p) (is_in (opposed_seen past) p) (λ m. is_in m.opposed p) past.moments e)
-  where
-    zero-lasts : (n : ℕ) (now : Bool) (test : Moment → Bool) (moments : List Moment) → n ≡ 0 → lasts_now n now test moments ≡ true
-    zero-lasts n now test moments e = rw e refl
-
 pub maximum-counted : (past : Past) (p count : ℕ) → maximum_time past.tables p ≢ 0 → is_in (opposed_seen past) p ≡ true
     → count ≡ in_a_row (λ m. is_in m.opposed p) past.moments → nat_le (maximum_time past.tables p - 1) count ≡ has_maximum (view_seen past) p
 maximum-counted past p count ne opposed is =
@@ -145,10 +152,6 @@ pub startable-not : (past : Past) (p : ℕ) → (is_enabled past.tables p && sam
 startable-not past p e = rw e refl
 
 -- what is done
-and-true : (b : Bool) → (b && true) ≡ b
-and-true true = refl
-and-true false = refl
-
 pub served-early : (past : Past) (p count least : ℕ) → count ≡ run p Green past.moments
     → least ≡ least_green (latched p Green past.tables past.moments) p → count < least → false ≡ is_served past.tables past.moments p
 served-early past p count least is ls short =
@@ -173,10 +176,11 @@ done-unserved past p e = unserved _ _ e
     unserved true b e = sym e
     unserved false b e = refl
 
-pub done-reason : (past : Past) (p : ℕ) → is_served past.tables past.moments p ≡ true → is_enabled past.tables p ≡ true
+pub done-reason : (past : Past) (p : ℕ) → RunsPlain past → is_served past.tables past.moments p ≡ true → is_enabled past.tables p ≡ true
     → same_colour (colour_of (frame_seen past) p) Green ≡ true
     → (has_gap (view_seen past) p || has_maximum (view_seen past) p) ≡ is_done (view_seen past) p
-done-reason past p s on green = all-of _ _ _ _ on green s
+done-reason past p r s on green =
+    sym (ap (λ (n : Option ℕ). is_reasoned n (view_seen past) p) (unbound-plain past r)) ∙ all-of _ _ _ _ on green s
   where
     all-of : (a b c d : Bool) → a ≡ true → b ≡ true → d ≡ true → c ≡ (a && b && c && d)
     all-of a b c d e f g = rw (e, f, g) (sym (and-true c))
@@ -186,17 +190,20 @@ pub done-not : (past : Past) (p : ℕ) → (is_enabled past.tables p && same_col
 done-not past p e = rw e refl
 
 -- of a Green phase: it is active where it isn't quiet, and opposed where an incompatible phase has demand
-pub quiet-is : (past : Past) (p : ℕ) → is_phase p ≡ true
+pub quiet-is : (past : Past) (p : ℕ) → RunsPlain past → is_phase p ≡ true
     → is_in (quiet_seen past) p ≡ (is_green (frame_seen past) p && not (is_active past.tables past.heard (detectors_seen past) p))
-quiet-is past p h = in-phases (λ q. is_green (frame_seen past) q && not (is_active past.tables past.heard (detectors_seen past) q)) p h
+quiet-is past p r h =
+    ap (λ (n : Option ℕ). is_in (quiet_with n past) p) (unbound-plain past r)
+    ∙ in-phases (λ q. is_green (frame_seen past) q && not (is_active past.tables past.heard (detectors_seen past) q)) p h
 
 pub opposed-is : (past : Past) (p : ℕ) → is_phase p ≡ true
     → is_in (opposed_seen past) p ≡ (is_green (frame_seen past) p && some (are_incompatible past.tables p) (demand_seen past))
 opposed-is past p h = in-phases (λ q. is_green (frame_seen past) q && some (are_incompatible past.tables q) (demand_seen past)) p h
 
-pub quiet-by-active : (past : Past) (p : ℕ) → is_phase p ≡ true → is_green (frame_seen past) p ≡ true
+pub quiet-by-active : (past : Past) (p : ℕ) → RunsPlain past → is_phase p ≡ true → is_green (frame_seen past) p ≡ true
     → is_active past.tables past.heard (detectors_seen past) p ≡ not (is_in (quiet_seen past) p)
-quiet-by-active past p h green = sym (ap not (quiet-is past p h ∙ ap (λ (b : Bool). b && not (is_active past.tables past.heard (detectors_seen past) p)) green) ∙ not-not _)
+quiet-by-active past p r h green =
+    sym (ap not (quiet-is past p r h ∙ ap (λ (b : Bool). b && not (is_active past.tables past.heard (detectors_seen past) p)) green) ∙ not-not _)
 
 pub opposed-by-demand : (past : Past) (p : ℕ) → is_phase p ≡ true → is_green (frame_seen past) p ≡ true
     → some (are_incompatible past.tables p) (demand_seen past) ≡ is_in (opposed_seen past) p

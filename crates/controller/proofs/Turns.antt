@@ -15,41 +15,45 @@ use Rattle.sig_tables.specs.Looking.{start_run, last_frame}
 use Rattle.sig_tables.specs.View.{View}
 use Rattle.sig_tables.specs.Moves.{ring_moves}
 use Rattle.sig_tables.specs.Layout.{Has}
-use Rattle.sig_tables.specs.Decide.{Turn, Rest, StartUp, Rings, Goal, turn_of, first_turn, startup_phases, leaves_start, moves_of, mode_of}
+use Rattle.sig_tables.specs.Decide.{Turn, Rest, StartUp, Rings, Goal, first_turn, startup_phases, leaves_start, moves_of}
+use Rattle.sig_tables.specs.Plain.{plain_turn, plain_mode}
 use Rattle.ring_barrier.specs.declared.view.Changes.{Changes}
 use Rattle.controller.specs.StandsFor.{AreMoves}
 
 -- which turn it is
-pub rests : (t : Tables) (past : List Moment) → is_start (last_frame past).mode ≡ true → start_run past < 60 → Rest ≡ turn_of t past
+pub rests : (t : Tables) (past : List Moment) → is_start (last_frame past).mode ≡ true → start_run past < 60 → Rest ≡ plain_turn t past
 rests t past s few = rw (s, lt-leb 60 (start_run past) few) refl
 
 pub starts : (t : Tables) (past : List Moment) → is_start (last_frame past).mode ≡ true → 60 ≤ start_run past
-    → first_turn (startup_phases t) ≡ turn_of t past
+    → first_turn (startup_phases t) Rings ≡ plain_turn t past
 starts t past s many = rw (s, le-leb 60 (start_run past) many) refl
 
-pub turns : (t : Tables) (past : List Moment) → is_start (last_frame past).mode ≡ false → Rings ≡ turn_of t past
+pub turns : (t : Tables) (past : List Moment) → is_start (last_frame past).mode ≡ false → Rings ≡ plain_turn t past
 turns t past s = rw s refl
 
-pub none-up : (t : Tables) (s : PhaseSet) → Has s (starts_up t) → phases_of s ≡ [] → Rings ≡ first_turn (startup_phases t)
-none-up t s h e = ap first_turn (sym e ∙ those-same (has s) (starts_up t) all_phases (λ p i. h p (listed-phase p i)))
+pub none-up : (t : Tables) (s : PhaseSet) → Has s (starts_up t) → phases_of s ≡ [] → Rings ≡ first_turn (startup_phases t) Rings
+none-up t s h e = ap (λ (xs : List ℕ). first_turn xs Rings) (sym e ∙ those-same (has s) (starts_up t) all_phases (λ p i. h p (listed-phase p i)))
 
-pub some-up : (t : Tables) (s : PhaseSet) → Has s (starts_up t) → (phases_of s ≡ [] → ⊥) → StartUp ≡ first_turn (startup_phases t)
-some-up t s h ne = cons (phases_of s) ne ∙ ap first_turn (those-same (has s) (starts_up t) all_phases (λ p i. h p (listed-phase p i)))
+pub some-up : (t : Tables) (s : PhaseSet) → Has s (starts_up t) → (phases_of s ≡ [] → ⊥) → StartUp ≡ first_turn (startup_phases t) Rings
+some-up t s h ne = cons (phases_of s) ne
+    ∙ ap (λ (xs : List ℕ). first_turn xs Rings) (those-same (has s) (starts_up t) all_phases (λ p i. h p (listed-phase p i)))
   where
-    cons : (xs : List ℕ) → (xs ≡ [] → ⊥) → StartUp ≡ first_turn xs
+    cons : (xs : List ℕ) → (xs ≡ [] → ⊥) → StartUp ≡ first_turn xs Rings
     cons [] ne = absurd (ne refl)
     cons (x ∷ xs) ne = refl
 
 -- and what comes of it
-pub rest-moves : (turn : Turn) (v : View) (changes : Changes) → Rest ≡ turn → ((p : ℕ) → has changes.ends p ≡ false) → ((p : ℕ) → has changes.begins p ≡ false)
+pub rest-moves : (turn : Turn) (v : View) (changes : Changes) → Rest ≡ turn → AreMoves changes (record { ends = []; begins = [] })
     → AreMoves changes (moves_of turn v)
-rest-moves turn v changes e none still = rw (← e) (record { ends = λ p h. none p; begins = λ p h. still p })
+rest-moves turn v changes e none = rw (← e) none
 
-pub up-moves : (turn : Turn) (v : View) (changes : Changes) → StartUp ≡ turn → ((p : ℕ) → has changes.ends p ≡ false) → Has changes.begins (starts_up v.tables)
+pub up-moves : (turn : Turn) (v : View) (changes : Changes) → StartUp ≡ turn
+    → ((p : ℕ) → has changes.ends p ≡ false) → Has changes.begins (starts_up v.tables)
     → AreMoves changes (moves_of turn v)
 up-moves turn v changes e none up = rw (← e) (record { ends = λ p h. none p; begins = λ p h. up p h ∙ sym (in-phases (starts_up v.tables) p h) })
 
-pub ring-moves : (turn : Turn) (v : View) (changes : Changes) → Rings ≡ turn → Has changes.ends (is_in (ring_moves v).ends) → Has changes.begins (is_in (ring_moves v).begins)
+pub ring-moves : (turn : Turn) (v : View) (changes : Changes) → Rings ≡ turn
+    → Has changes.ends (is_in (ring_moves v).ends) → Has changes.begins (is_in (ring_moves v).begins)
     → AreMoves changes (moves_of turn v)
 ring-moves turn v changes e ends begins = rw (← e) (record { ends = ends; begins = begins })
 
@@ -60,17 +64,18 @@ mode_in StartUp = Free
 mode_in Rings = Free
 mode_in (Goal goal) = Free
 
-pub turn-mode : (t : Tables) (past : List Moment) → mode_in (turn_of t past) ≡ mode_of past
+pub turn-mode : (t : Tables) (past : List Moment) → mode_in (plain_turn t past) ≡ plain_mode past
 turn-mode t past = split (is_start (last_frame past).mode) (leaves_start past) (startup_phases t)
   where
-    split : (s l : Bool) (phases : List ℕ) → mode_in (if s then (if l then first_turn phases else Rest) else Rings) ≡ (if s && not l then Start else Free)
+    split : (s l : Bool) (phases : List ℕ)
+        → mode_in (if s then (if l then first_turn phases Rings else Rest) else Rings) ≡ (if s && not l then Start else Free)
     split true true [] = refl
     split true true (p ∷ phases) = refl
     split true false phases = refl
     split false l phases = refl
 
 -- a frame in Start follows one, and not for long
-pub start-from : (past : List Moment) → is_start (mode_of past) ≡ true → (is_start (last_frame past).mode ≡ true) × (start_run past < 60)
+pub start-from : (past : List Moment) → is_start (plain_mode past) ≡ true → (is_start (last_frame past).mode ≡ true) × (start_run past < 60)
 start-from past e = split (is_start (last_frame past).mode) refl (nat_le 60 (start_run past)) refl e
   where
     split : (s : Bool) → is_start (last_frame past).mode ≡ s → (l : Bool) → nat_le 60 (start_run past) ≡ l

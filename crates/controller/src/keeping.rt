@@ -50,10 +50,13 @@ impl Controller {
     ghost use Rattle.sig_tables.specs.Past.{Past, Moment};
     ghost use Rattle.sig_tables.specs.Calls.{is_green};
     ghost use Rattle.sig_tables.specs.Seen.{frame_seen};
+    ghost use Rattle.sig_tables.specs.Plain.{RunsPlain};
+    ghost use Rattle.sig_tables.specs.Decide.{with_moment};
     ghost use Rattle.sig_types.specs.declared.frame.Frame.{Frame};
     ghost use Rattle.sig_tables.specs.Layout.{Has};
     ghost use Rattle.controller.specs.Shows.{is_signalling};
-    ghost use Rattle.controller.specs.StandsFor.{Keeps, SawCalls, StartsOn, tick_count, after};
+    ghost use Rattle.controller.specs.Orders.{SawOrders};
+    ghost use Rattle.controller.specs.StandsFor.{Keeps, SawCalls, StartsOn, tick_count};
 
     /// The phases on which these signals are Walk or Flash; the set that is kept, where they are those of the last frame.
     fn signalling_in(&self, ped: &[Ped; 16]) -> PhaseSet
@@ -69,10 +72,11 @@ impl Controller {
     /// Keeps the frame of a tick, at which these phases were active and opposed.
     pub(crate) fn keep(&mut self, frame: &Frame, active: PhaseSet, opposed: PhaseSet)
         requires few { tick_count self.old < 4294967295 }
-        ensures keeps { (past : Past) (m : Moment) → Keeps self.old past → m.frame ≡ frame.now → m.tables ≡ past.tables → SawCalls past m
+        ensures keeps { (past : Past) (m : Moment) → Keeps self.old past → m.frame ≡ frame.now → m.tables ≡ past.tables
+            → SawOrders past m → SawCalls past m
             → ((p : ℕ) → is_phase p ≡ true → is_in m.quiet p ≡ (is_green (frame_seen past) p && not (has active p)))
             → ((p : ℕ) → is_phase p ≡ true → is_in m.opposed p ≡ (is_green (frame_seen past) p && has opposed p))
-            → StartsOn self.old past m → Keeps self.new (after past m) }
+            → StartsOn self.old past m → RunsPlain (with_moment past m) → Keeps self.new (with_moment past m) }
         ensures ticks { tick_count self.new ≡ tick_count self.old + 1 }
     {
         let in_start = shows_start(frame);
@@ -81,6 +85,7 @@ impl Controller {
         self.calls.step(frame);
         self.clocks.step(frame, active, opposed, &self.tables);
         self.signals.step(frame, &self.tables);
+        self.orders.step(&self.tables);
         self.shown = shown;
         self.signalling = signalling;
         self.last = [

@@ -12,12 +12,14 @@ use sig_types::{Field, Frame, PhaseSet};
 
 mod keeping;
 mod moving;
+mod orders;
 mod seeing;
 mod shown;
 mod turn;
 mod walking;
 
 use moving::first_frame;
+use orders::Orders;
 use shown::Shown;
 
 /// What a controller keeps between ticks.
@@ -40,12 +42,14 @@ pub struct Controller {
     latest: u8,
     /// In Start: for how many frames in a row.
     start_run: u32,
+    /// The pattern in command and the clock.
+    orders: Orders,
 }
 
 impl Controller {
     ghost use Rattle.sig_tables.specs.Past.{History, Input};
     ghost use Rattle.sig_tables.specs.Decide.{decide, ticked, opening, with_one, last_frame_of, past_at};
-    ghost use Rattle.call_store.specs.Stands.{NamesPhase};
+    ghost use Rattle.sig_tables.specs.Plain.{IsStreet};
     ghost use Rattle.controller.specs.StandsFor.{StandsFor, IsFree, tick_count};
 
     /// A cabinet that is opened with these tables, in Start. The command is no pattern of these tables and not 255, so
@@ -56,7 +60,6 @@ impl Controller {
         ensures stands { StandsFor result (opening tables command clock) }
         ensures ticks { tick_count result ≡ 0 }
     {
-        prove!(command != 255 && clock < 864000);
         Controller {
             layout: Layout::of(&tables, 1),
             tables,
@@ -70,6 +73,7 @@ impl Controller {
             last: [0; 2],
             latest: 0,
             start_run: 1,
+            orders: Orders::of(command, clock),
         }
     }
 
@@ -90,7 +94,7 @@ impl Controller {
 
     /// An input from the street: a detector or a push button of a phase, 1 to 16. It shows from the next tick on.
     pub fn input(&mut self, field: Field)
-        requires phase { NamesPhase field }
+        requires street { IsStreet field }
         ensures stands { (h : History) → StandsFor self.old h → StandsFor self.new (with_one h (Input field)) }
         ensures counted { tick_count self.new ≡ tick_count self.old }
     {

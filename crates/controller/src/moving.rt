@@ -1,16 +1,21 @@
 //! What the rings do at a tick, and the colours and the frame that come of it.
 
-ghost use Rattle.std.specs.Prelude.{◌≡◌, ◌<◌, ◌≤◌, ◌&&◌, ℕ, true, not, List, map, [], ◌∷◌, IsTrue};
+ghost use Rattle.std.specs.Prelude.{◌≡◌, ◌<◌, ◌≤◌, ◌&&◌, ℕ, true, not, List, map, [], ◌∷◌, IsTrue, None};
+ghost use Rattle.sig_types.specs.PhaseSet.{phases_of};
 ghost use Rattle.sig_tables.specs.Past.{Past, first_frame};
-ghost use Rattle.sig_tables.specs.Decide.{mode_of};
+ghost use Rattle.sig_tables.specs.Plain.{RunsPlain, plain_mode};
 ghost use Rattle.sig_tables.specs.Seen.{turn_seen};
-ghost use Rattle.controller.specs.StandsFor.{turn_meant};
+ghost use Rattle.sig_tables.specs.Modes.{bound};
+ghost use Rattle.sig_tables.specs.View.{View as Scene};
+ghost use Rattle.sig_tables.specs.Moves.{ring_moves};
+ghost use Rattle.ring_barrier.specs.Shows.{Opens};
+ghost use Rattle.controller.specs.StandsFor.{AreMoves, turn_meant};
 
 use crate::Controller;
 use crate::keeping::shows_start;
 use crate::shown::Shown;
 use crate::turn::Turn;
-use ring_barrier::{Changes, View, changes, is_idle};
+use ring_barrier::{Changes, RingView, View, changes, is_idle};
 use sig_types::{Colour, Frame, Mode, Ped, PhaseSet};
 
 /// What is shown before any tick: all red, in Start.
@@ -30,13 +35,34 @@ pub(crate) fn first_frame() -> Frame
 
 /// The mode of the frame of this turn.
 fn mode_after(turn: Turn) -> Mode
-    ensures { (past : Past) → turn_meant turn ≡ turn_seen past → result ≡ mode_of past.moments }
+    ensures { (past : Past) → RunsPlain past → turn_meant turn ≡ turn_seen past → result ≡ plain_mode past.moments }
 {
     match turn {
         Turn::Rest => Mode::Start,
         Turn::StartUp => Mode::Free,
         Turn::Rings => Mode::Free,
     }
+}
+
+/// No phase ends, and none begins.
+fn no_changes() -> Changes
+    ensures { AreMoves result (record { ends = []; begins = [] }) }
+{
+    Changes {
+        ends: PhaseSet::empty(),
+        begins: PhaseSet::empty(),
+    }
+}
+
+/// Whether the rings rest: neither is open and no phase has demand, so that what is on stays on.
+fn is_resting(opening: [bool; 2], demand: PhaseSet) -> bool
+    ensures { (w : Scene) → bound w.mode ≡ None → Opens opening w → phases_of demand ≡ w.demand → IsTrue result
+        → ring_moves w ≡ record { ends = []; begins = [] } }
+{
+    if opening[0] || opening[1] {
+        return false;
+    }
+    demand.is_empty()
 }
 
 impl Controller {
@@ -46,12 +72,14 @@ impl Controller {
     ghost use Rattle.sig_tables.specs.Sides.{are_incompatible};
     ghost use Rattle.sig_tables.specs.Calls.{is_active};
     ghost use Rattle.sig_tables.specs.Moves.{Moves, ring_moves};
-    ghost use Rattle.sig_tables.specs.Decide.{colour_after, signal_after, colours_of, frame_of, on_of, next_moment};
+    ghost use Rattle.sig_tables.specs.Decide.{colour_after, colours_of, on_of, next_moment};
+    ghost use Rattle.sig_tables.specs.PlainFrame.{plain_signal, plain_frame};
     ghost use Rattle.sig_tables.specs.Layout.{Has};
-    ghost use Rattle.sig_tables.specs.Seen.{frame_seen, detectors_seen, demand_seen, pedestrian_seen, opposed_seen, view_seen, moves_seen};
+    ghost use Rattle.sig_tables.specs.Seen.{frame_seen, detectors_seen, demand_seen, view_seen, moves_seen};
     ghost use Rattle.sig_tables.specs.View.{is_done};
     ghost use Rattle.ring_barrier.specs.Shows.{Shows, Opens};
     ghost use Rattle.controller.specs.Shows.{ShowsColours};
+    ghost use Rattle.controller.specs.Walks.{crossing_seen};
     ghost use Rattle.controller.specs.StandsFor.{Keeps, AreMoves, tick_count};
     ghost use Rattle.sig_types.specs.declared.frame.Colour.TheVariants.{Red};
 
@@ -73,26 +101,33 @@ impl Controller {
         ]
     }
 
-    /// What the rings look at.
+    /// What the rings look at: no pattern binds them, so that what has demand is wanted.
     fn ring_view(&self, opening: [bool; 2], demand: PhaseSet, done: PhaseSet) -> View<'_>
         requires few { tick_count self.now < 4294967295 }
         ensures shows { (past : Past) → Keeps self.now past → Opens opening (view_seen past) → phases_of demand ≡ demand_seen past
             → Has done (is_done (view_seen past)) → Shows result (view_seen past) }
     {
+        let startable = self.startable();
         View {
-            layout: &self.layout,
-            on: self.frame.on,
-            opening,
+            rings: RingView {
+                layout: &self.layout,
+                on: self.frame.on,
+                opening,
+                startable,
+            },
             last: self.last,
             latest: self.latest,
-            demand,
-            startable: self.startable(),
+            wanted: demand,
+            wanted_after: [demand; 2],
+            wanted_across: demand,
+            joining: self.layout.dual_entry.meet(startable),
             done,
+            forced: PhaseSet::empty(),
         }
     }
 
-    /// What both rings do at this tick by the rules of actuated control. Where no ring is open and no phase is done, they
-    /// need not look.
+    /// What both rings do at this tick by the rules of actuated control. Where no ring is open and no phase has demand or
+    /// is done, they need not look.
     fn ring_changes(&self, demand: PhaseSet, active: PhaseSet, opposed: PhaseSet) -> Changes
         requires few { tick_count self.now < 4294967295 }
         ensures changes { (past : Past) → Keeps self.now past → phases_of demand ≡ demand_seen past
@@ -102,11 +137,10 @@ impl Controller {
     {
         let opening = self.opening();
         let done = self.done(active, opposed);
-        if is_idle(opening, done) {
-            Changes {
-                ends: PhaseSet::empty(),
-                begins: PhaseSet::empty(),
-            }
+        if is_idle(opening, done, PhaseSet::empty()) {
+            no_changes()
+        } else if is_resting(opening, demand) {
+            no_changes()
         } else {
             changes(&self.ring_view(opening, demand, done))
         }
@@ -138,10 +172,7 @@ impl Controller {
             → AreMoves result (moves_seen past) }
     {
         match turn {
-            Turn::Rest => Changes {
-                ends: PhaseSet::empty(),
-                begins: PhaseSet::empty(),
-            },
+            Turn::Rest => no_changes(),
             Turn::StartUp => Changes {
                 ends: PhaseSet::empty(),
                 begins: self.layout.starts_up,
@@ -230,8 +261,8 @@ impl Controller {
     /// The frame of this tick, from its colours and signals.
     fn frame_after(&self, turn: Turn, veh: [Colour; 16], ped: [Ped; 16]) -> Frame
         ensures frame { (past : Past) → Keeps self.now past → turn_meant turn ≡ turn_seen past
-            → ped ≡ map (signal_after (turn_seen past) past.tables past.moments (mode_of past.moments) (pedestrian_seen past) (opposed_seen past) veh) all_phases
-            → result ≡ frame_of (turn_seen past) past (pedestrian_seen past) (opposed_seen past) (mode_of past.moments) veh }
+            → ped ≡ map (plain_signal (crossing_seen past) past veh) all_phases
+            → result ≡ plain_frame (crossing_seen past) past veh }
     {
         let red = self.shown_in(&veh).red;
         Frame {

@@ -1,11 +1,11 @@
 //! The pedestrian signals of a tick: what they do by themselves, and where Walk begins (NEMA TS 2: walk, pedestrian
 //! clearance, steady don't walk).
 
-ghost use Rattle.std.specs.Prelude.{◌≡◌, ◌<◌, ◌≤◌, ◌&&◌, ℕ, Bool, true, if◌then◌else◌, List, map, IsTrue};
+ghost use Rattle.std.specs.Prelude.{◌≡◌, ◌<◌, ◌≤◌, ◌&&◌, ℕ, Bool, true, false, if◌then◌else◌, List, map, IsTrue};
 
 use crate::Controller;
 use crate::turn::Turn;
-use ped_clock::{Street, walks};
+use ped_clock::{Crosswalks, walks};
 use ring_barrier::Changes;
 use sig_types::{Ped, PhaseSet};
 
@@ -15,14 +15,16 @@ impl Controller {
     ghost use Rattle.sig_types.specs.Phases.{all_phases, some};
     ghost use Rattle.sig_types.specs.PhaseSet.{has};
     ghost use Rattle.sig_tables.specs.Sides.{are_incompatible};
-    ghost use Rattle.sig_types.specs.Colour.{colour_in, colour_of, signal_of};
+    ghost use Rattle.sig_types.specs.Colour.{signal_of};
     ghost use Rattle.sig_tables.specs.Past.{Past};
     ghost use Rattle.sig_tables.specs.Looking.{signal_runs_on};
     ghost use Rattle.sig_tables.specs.Moves.{Moves};
-    ghost use Rattle.sig_tables.specs.Decide.{Turn as Meant, mode_of, walk_begins, colours_of};
+    ghost use Rattle.sig_tables.specs.Decide.{Turn as Meant};
+    ghost use Rattle.sig_tables.specs.Plain.{plain_mode};
     ghost use Rattle.sig_tables.specs.Layout.{Has};
-    ghost use Rattle.sig_tables.specs.Seen.{frame_seen, demand_seen, pedestrian_seen, opposed_seen, turn_seen};
+    ghost use Rattle.sig_tables.specs.Seen.{frame_seen, demand_seen, turn_seen};
     ghost use Rattle.ped_clock.specs.Walks.{IsStartUp};
+    ghost use Rattle.controller.specs.Walks.{crossing_in, crossing_seen, walk_after};
     ghost use Rattle.controller.specs.StandsFor.{Keeps, AreMoves, turn_meant, tick_count};
 
     /// The signal of a phase, 1 to 16, that follows by itself, where no walk begins.
@@ -42,25 +44,23 @@ impl Controller {
     fn free_walks(&self, startup: bool, moves: Changes, opposed: PhaseSet) -> PhaseSet
         ensures walks { (past : Past) (w : Moves) (turn : Meant) → Keeps self.now past → IsStartUp startup turn → AreMoves moves w
             → Has opposed (λ p. some (are_incompatible past.tables p) (demand_seen past))
-            → Has result (λ p. walk_begins turn past.tables Free (pedestrian_seen past) (opposed_seen past) p
-            (colour_of (frame_seen past) p) (colour_in (colours_of past w) p) (signal_of (frame_seen past) p)) }
+            → Has result (walk_after (crossing_in turn past) Free past w) }
     {
-        let street = Street {
+        let crosswalks = Crosswalks {
             begins: self.shown.red.meet(moves.begins),
             rests: self.shown.green.minus(moves.ends).minus(self.signalling),
             called: self.calls.pedestrian(),
             opposed,
             startup,
         };
-        walks(&self.layout, &street)
+        walks(&self.layout, &crosswalks)
     }
 
     /// The phases on which Walk begins at this tick, after these moves.
     pub(crate) fn walks(&self, turn: Turn, moves: Changes, opposed: PhaseSet) -> PhaseSet
         ensures walks { (past : Past) (w : Moves) → Keeps self.now past → turn_meant turn ≡ turn_seen past → AreMoves moves w
             → Has opposed (λ p. some (are_incompatible past.tables p) (demand_seen past))
-            → Has result (λ p. walk_begins (turn_seen past) past.tables (mode_of past.moments) (pedestrian_seen past)
-            (opposed_seen past) p (colour_of (frame_seen past) p) (colour_in (colours_of past w) p) (signal_of (frame_seen past) p)) }
+            → Has result (walk_after (crossing_seen past) (plain_mode past.moments) past w) }
     {
         match turn {
             Turn::Rest => PhaseSet::empty(),

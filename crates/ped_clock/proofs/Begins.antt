@@ -1,6 +1,7 @@
--- Where Walk begins in Free, from the sets of a street.
-use Rattle.std.proofs.Common.{◌≡◌, ℕ, Bool, true, false, not, ◌&&◌, ◌||◌, nat_le, List, refl, sym, ◌∙◌}
+-- Where Walk begins in Free, from the sets of the crosswalks.
+use Rattle.std.proofs.Common.{◌≡◌, ℕ, Bool, true, false, not, ◌&&◌, ◌||◌, List, refl, sym, ◌∙◌, ap}
 use Rattle.std.proofs.lemmas.Bool.{false≢true}
+use Rattle.std.proofs.Math.Bool.{and-false, or-false, and_assoc}
 use Rattle.sig_types.specs.declared.frame.Colour.{Colour}
 use Rattle.sig_types.specs.declared.frame.Colour.TheVariants.{Green, Red}
 use Rattle.sig_types.specs.declared.frame.Ped.{Ped}
@@ -9,8 +10,9 @@ use Rattle.sig_types.specs.declared.frame.Mode.TheVariants.{Free}
 use Rattle.sig_types.specs.Phases.{is_in}
 use Rattle.sig_types.specs.Colour.{same_colour, same_signal}
 use Rattle.sig_tables.specs.declared.tables.Tables.{Tables}
-use Rattle.sig_tables.specs.Tables.{row, has_pedestrian_recall, starts_with_walk}
-use Rattle.sig_tables.specs.Decide.{Turn, Rest, StartUp, Rings, Goal, walks_at_green, walk_begins}
+use Rattle.sig_tables.specs.Tables.{has_pedestrian_recall, starts_with_walk}
+use Rattle.sig_tables.specs.Course.{Turn, Rest, StartUp, Rings, Goal}
+use Rattle.sig_tables.specs.Walking.{Crossing, has_walk, walks_at_green, walk_begins}
 use Rattle.ped_clock.specs.Walks.{IsStartUp}
 
 -- what asks for Walk with the Green of p, at start-up and at another tick
@@ -28,28 +30,18 @@ after-startup startup Rings t pedestrian p e b = refl
 after-startup startup (Goal goal) t pedestrian p e b = refl
 after-startup startup Rest t pedestrian p e b = absurd e
 
-none : (b : Bool) → (b && false) ≡ false
-none true = refl
-none false = refl
-
 left : (w a : Bool) → (w && (a || false)) ≡ (w && a)
-left true true = refl
-left true false = refl
-left false a = refl
-
-turned : (w a b : Bool) → (w && (a && b)) ≡ (w && a && b)
-turned true a b = refl
-turned false a b = refl
+left w a = ap (λ (b : Bool). w && b) (or-false a)
 
 -- Walk begins, from the colours and the signal as tests
-pub walk-is : (turn : Turn) (t : Tables) (pedestrian opposed : List ℕ) (p : ℕ) (before after : Colour) (signal : Ped)
-    → (nat_le 1 (row t p).walk
-    && (same_colour before Red && same_colour after Green && walks_at_green turn t pedestrian p
-    || same_colour before Green && same_colour after Green && same_signal signal Dont && is_in pedestrian p && not (is_in opposed p)))
-    ≡ walk_begins turn t Free pedestrian opposed p before after signal
-walk-is turn t pedestrian opposed p Red Green signal = left (nat_le 1 (row t p).walk) (walks_at_green turn t pedestrian p)
-walk-is turn t pedestrian opposed p Green Green Dont = turned (nat_le 1 (row t p).walk) (is_in pedestrian p) (not (is_in opposed p))
-walk-is turn t pedestrian opposed p before after signal = none (nat_le 1 (row t p).walk)
+pub walk-is : (c : Crossing) (p : ℕ) (before after : Colour) (signal : Ped)
+    → (has_walk c.tables p
+    && (same_colour before Red && same_colour after Green && walks_at_green c.turn c.tables c.pedestrian p
+    || same_colour before Green && same_colour after Green && same_signal signal Dont && is_in c.pedestrian p && not (is_in c.opposed p)))
+    ≡ walk_begins c Free p before after signal
+walk-is c p Red Green signal = left (has_walk c.tables p) (walks_at_green c.turn c.tables c.pedestrian p)
+walk-is c p Green Green Dont = sym (and_assoc (has_walk c.tables p) (is_in c.pedestrian p) (not (is_in c.opposed p)))
+walk-is c p before after signal = and-false (has_walk c.tables p)
 
 -- what opposes a phase counts only where it is Green
 pub opposed-counts : (green after dont called x y : Bool) → (green ≡ true → x ≡ y)

@@ -1,22 +1,44 @@
-use Rattle.std.proofs.Common.{refl, ◌∙◌, arith}
+use Rattle.std.proofs.Common.{refl, sym, ◌∙◌, arith}
+use Rattle.std.proofs.lemmas.Bool.{and_parts}
+use Rattle.sig_tables.specs.Tables.{is_enabled}
+use Rattle.sig_tables.specs.Calls.{is_green}
 use Rattle.sig_tables.specs.View.{is_done}
-use Rattle.sig_tables.specs.Seen.{view_seen}
-use Rattle.sig_tables.proofs.Below.{below-start, below-more, below-end, phase-is}
-use Rattle.controller.proofs.Seen.{quiet-by-active, opposed-by-demand}
+use Rattle.sig_tables.specs.Seen.{frame_seen, view_seen}
+use Rattle.sig_tables.proofs.Below.{phase-is}
+use Rattle.controller.proofs.Seen.{done-not, quiet-by-active, opposed-by-demand}
+use Rattle.controller.proofs.Visiting.{first-phase, first-in, first-out, visited-start, visited-more, visited-none, visited-all}
 use Rattle.controller.proofs.Controller.done.Goals as goal
 
-pub loop-p-init : goal.loop-p-init
-loop-p-init c = λ past k a o. below-start _ _ c.empty-done.ensures.has
+pub loop-init : goal.loop-init
+loop-init c = λ past k a o.
+    visited-start c.empty-done.result c.meet-rest.result _ (is_done (view_seen past))
+    (λ p h. c.meet-rest.ensures.has p ∙ rw (k.layout.enabled p h, k.shown.green p h) refl) c.empty-done.ensures.has
+    (λ p h out. done-not past p out)
 
-pub loop-p-preserved : goal.loop-p-preserved
-loop-p-preserved c = λ past k a o.
-    let h = phase-is c.loop-p.p (omega arith) (omega arith) in
-    below-more c.loop-p.done c.with_if-done.result c.loop-p.p (is_done (view_seen past)) c.is_done_of.result
-    (c.loop-p.invariant past k a o) c.with_if-done.ensures.has
-    (c.is_done_of.ensures.done past k
-    (c.meet-candidates.ensures.has c.loop-p.p ∙ rw (k.layout.enabled c.loop-p.p h, k.shown.green c.loop-p.p h) refl)
-    (λ green. c.has.ensures.has ∙ a c.loop-p.p h ∙ quiet-by-active past c.loop-p.p h green)
-    (λ green. c.has-in-loop-p.ensures.has ∙ o c.loop-p.p h ∙ opposed-by-demand past c.loop-p.p h green))
+pub loop-preserved : goal.loop-preserved
+loop-preserved c = λ past k a o.
+    let v = c.loop.invariant past k a o in
+    let least = c.first-p.ensures.least in
+    let at = first-phase c.loop.rest c.first-p.result least c.if-p-eq0.false in
+    let h = phase-is c.first-p.result at.0 at.1 in
+    let parts = and_parts (is_enabled past.tables c.first-p.result) (is_green (frame_seen past) c.first-p.result)
+    (v.taken c.first-p.result h (first-in c.loop.rest c.first-p.result least c.if-p-eq0.false)) in
+    visited-more c.loop.done c.loop.rest c.empty.result c.with.result c.with_if-done.result c.minus-rest.result c.loop.counter c.first-p.result _
+    (is_done (view_seen past)) c.is_done.result v least c.if-p-eq0.false
+    c.empty.ensures.has c.with.ensures.has c.minus-rest.ensures.has c.with_if-done.ensures.has
+    (c.is_done.ensures.done past k parts.1 parts.0
+    (c.has.ensures.has ∙ a c.first-p.result h ∙ quiet-by-active past c.first-p.result k.plain h parts.1)
+    (c.has-in-loop.ensures.has ∙ o c.first-p.result h ∙ opposed-by-demand past c.first-p.result h parts.1))
+
+pub returns-then-p-eq0 : goal.returns-then-p-eq0
+returns-then-p-eq0 c = record {
+  done = λ past k a o.
+      visited-none c.loop.done c.loop.rest c.loop.counter _ (is_done (view_seen past)) (c.loop.invariant past k a o)
+      (first-out c.loop.rest (sym c.first-p.ensures.least ∙ c.if-p-eq0.true));
+}
 
 pub returns : goal.returns
-returns c = record { done = λ past k a o. below-end _ _ _ (c.loop-p.invariant past k a o) (omega arith) }
+returns c = record {
+  done = λ past k a o.
+      visited-all c.loop.done c.loop.rest c.loop.counter _ (is_done (view_seen past)) (c.loop.invariant past k a o) (omega (arith, c.loop-test.false));
+}

@@ -4,7 +4,8 @@ use Rattle.sig_types.specs.Colour.{colour_in, colour_of, signal_of}
 use Rattle.sig_types.specs.PhaseSet.{has}
 use Rattle.sig_tables.proofs.Below.{is-within}
 use Rattle.sig_tables.specs.Decide.{colour_after, colours_of}
-use Rattle.sig_tables.specs.Seen.{frame_seen, pedestrian_seen, opposed_seen}
+use Rattle.sig_tables.specs.Seen.{frame_seen}
+use Rattle.controller.specs.Walks.{crossing_in}
 use Rattle.controller.proofs.Filling.{made-at}
 use Rattle.controller.proofs.Seen.{opposed-by-demand}
 use Rattle.controller.proofs.Signals.{begins-is, rests-is}
@@ -13,7 +14,7 @@ use Rattle.controller.proofs.Controller.free_walks.Goals as goal
 pub returns : goal.returns
 returns c = record {
   walks = λ past w turn k s m o.
-      c.walks.ensures.walks past.tables 1 (frame_seen past) (colours_of past w) (pedestrian_seen past) (opposed_seen past) turn k.layout
+      c.walks.ensures.walks (crossing_in turn past) (frame_seen past) (colours_of past w) k.layout
       (record {
         begins = λ p h. begins-is w p past.tables past.moments (colour_of (frame_seen past) p) (colour_in (colours_of past w) p)
             (has c.meet.result p) (has c.args.self.now.shown.red p) (has c.args.moves.begins p) (c.meet.ensures.has p) (k.shown.red p h) (m.begins p h)
@@ -24,5 +25,6 @@ returns c = record {
             (made-at Green (λ q. colour_after w q past.tables past.moments (colour_of (frame_seen past) q)) p h);
         called = c.pedestrian.ensures.has past k.calls;
         opposed = λ p h green. o p h ∙ opposed-by-demand past p h green;
-      }) s;
+        startup = s;
+      });
 }

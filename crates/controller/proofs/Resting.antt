@@ -1,0 +1,58 @@
+-- Where nothing is wanted and no ring is open, the rings rest: what is on stays on.
+use Rattle.std.proofs.Common.{◌≡◌, ◌==◌, ◌&&◌, ◌||◌, ◌++◌, not, if◌then◌else◌, ℕ, Bool, true, false, List, [], ◌∷◌, None, refl, ap}
+use Rattle.std.proofs.Math.Bool.{and-false}
+use Rattle.sig_types.specs.Phases.{is_in, some}
+use Rattle.sig_tables.specs.Tables.{clearance}
+use Rattle.sig_tables.specs.Sides.{are_of_one_side}
+use Rattle.sig_tables.specs.Modes.{bound}
+use Rattle.sig_tables.specs.View.{View, on_phase, is_open, present_side, later, earlier, has_room_in, is_wanted}
+use Rattle.sig_tables.specs.View.{is_served, has_reason, is_forced, greatest_clearance}
+use Rattle.sig_tables.specs.Moves.{is_free_to_leave, is_to_end, ending_in, beginning_of, Moves, ring_moves}
+use Rattle.sig_tables.specs.View.{other_ring}
+use Rattle.sig_tables.proofs.FreeCourse.{forced-unbound}
+
+unwanted : (v : View) (k q : ℕ) → v.demand ≡ [] → is_wanted v k q ≡ false
+unwanted v k q e = ap (λ (xs : List ℕ). if is_in xs q then has_room_in v k q else false) e
+
+some-none : (test : ℕ → Bool) (xs : List ℕ) → ((q : ℕ) → test q ≡ false) → some test xs ≡ false
+some-none test [] none = refl
+some-none test (x ∷ xs) none = rw (none x) (some-none test xs none)
+
+also-unwanted : (b : Bool) (v : View) (k q : ℕ) → v.demand ≡ [] → (b && is_wanted v k q) ≡ false
+also-unwanted b v k q e = rw (unwanted v k q e) (and-false b)
+
+stays-on : (v : View) (r p : ℕ) → v.demand ≡ [] → is_to_end v r p ≡ false
+stays-on v r p e =
+    no-rule _ _ (is_free_to_leave v (other_ring r)) _
+    (some-none (is_wanted v (clearance v.tables p)) (later v r) (λ q. unwanted v (clearance v.tables p) q e))
+    (some-none (λ q. not (are_of_one_side v.tables (present_side v) q) && is_wanted v (greatest_clearance v) q) v.demand
+    (λ q. also-unwanted (not (are_of_one_side v.tables (present_side v) q)) v (greatest_clearance v) q e))
+    (some-none (λ q. not (q == p) && is_wanted v (clearance v.tables p) q) (earlier v r)
+    (λ q. also-unwanted (not (q == p)) v (clearance v.tables p) q e))
+  where
+    no-rule : (a b c d : Bool) → a ≡ false → b ≡ false → d ≡ false → (if not a then (if b then c else d) else true) ≡ false
+    no-rule a b c d e f g = rw (e, f, g) refl
+
+none-ends : (v : View) (r : ℕ) → bound v.mode ≡ None → v.demand ≡ [] → ending_in v r ≡ []
+none-ends v r free e =
+    neither (is_forced v (on_phase v r)) (has_reason v (on_phase v r)) (is_to_end v r (on_phase v r))
+    (is_served v.tables v.past (on_phase v r)) (on_phase v r)
+    (forced-unbound v (on_phase v r) free) (stays-on v r (on_phase v r) e)
+  where
+    neither : (forced reason end served : Bool) (p : ℕ) → forced ≡ false → end ≡ false → (if forced || (reason && end && served) then p ∷ [] else []) ≡ []
+    neither forced true end served p f g = rw (f, g) refl
+    neither forced false end served p f g = rw f refl
+
+none-begins : (v : View) (r : ℕ) → is_open v r ≡ false → beginning_of v r ≡ []
+none-begins v r shut = rw shut refl
+
+pub resting : (v : View) → bound v.mode ≡ None → v.demand ≡ [] → is_open v 1 ≡ false → is_open v 2 ≡ false
+    → ring_moves v ≡ record { ends = []; begins = [] }
+resting v free e one two =
+    alike _ _ _ _ (none-ends v 1 free e) (none-ends v 2 free e) (none-begins v 1 one) (none-begins v 2 two)
+  where
+    both : (a b c d : List ℕ) → Moves
+    both a b c d = record { ends = a ++ b; begins = c ++ d }
+
+    alike : (a b c d : List ℕ) → a ≡ [] → b ≡ [] → c ≡ [] → d ≡ [] → both a b c d ≡ both [] [] [] []
+    alike a b c d e f g h = rw (e, f, g, h) refl
