@@ -20,11 +20,14 @@ gathers xs x place (Ok others) = ap Ok (sym (append_assoc xs (x ∷ []) others))
 gathers xs x place (Err fault) = refl
 
 -- a fault lies within the bindings
-pub fault_is_small : {A : Type 0} (give : Bind → Result A ℕ) → ((bind : Bind) → IfErr (give bind) (λ status. status < 128)) → (binds : List Bind) (place : ℕ) → place + length binds ≤ 128 → IfErr (each_gives give place binds) IsSmall
+pub fault_is_small : {A : Type 0} (give : Bind → Result A ℕ) → ((bind : Bind) → IfErr (give bind) (λ status. status < 128))
+    → (binds : List Bind) (place : ℕ) → place + length binds ≤ 128 → IfErr (each_gives give place binds) IsSmall
 fault_is_small give low [] place few = tt
-fault_is_small give low (bind ∷ binds) place few = small (give bind) (low bind) place (each_gives give (place + 1) binds) (omega (arith, few)) (fault_is_small give low binds (place + 1) (omega (arith, few)))
+fault_is_small give low (bind ∷ binds) place few =
+    small (give bind) (low bind) place (each_gives give (place + 1) binds) (omega (arith, few)) (fault_is_small give low binds (place + 1) (omega (arith, few)))
   where
-    small : {A : Type 0} (first : Result A ℕ) → IfErr first (λ status. status < 128) → (place : ℕ) (others : Result (List A) Fault) → place < 128 → IfErr others IsSmall → IfErr (before first place others) IsSmall
+    small : {A : Type 0} (first : Result A ℕ) → IfErr first (λ status. status < 128) → (place : ℕ) (others : Result (List A) Fault)
+        → place < 128 → IfErr others IsSmall → IfErr (before first place others) IsSmall
     small (Ok x) low place (Ok others) few is = tt
     small (Ok x) low place (Err fault) few is = is
     small (Err status) low place others few is = (low, few)

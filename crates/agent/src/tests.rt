@@ -536,7 +536,7 @@ fn a_walk_meets_every_readable_instance_once(rt: HostRuntime) -> Result<(), Fail
     let street = 23 * 16 + 10 * 2 + 1 + 5 * 48 + 5 * 32 * 16 + 2 + 13 * 8 + 3 * 16 * 2;
     assert!(rt; street == 3391);
     // stage and outcome with the version, clock to mode code, units, requests
-    let own = 5 + 4 + 5 + 10;
+    let own = 5 + 4 + 7 + 10;
     let mut request = read(&octets_of(rt.alloc(), NEXT_OF_ALL)?).ok_or("no message")?;
     let mut ended = false;
     for visited in 0..4000u32 {

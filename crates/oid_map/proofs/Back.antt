@@ -67,7 +67,7 @@ cell_back (UnitCell (suc zero)) h = refl
 cell_back (UnitCell (suc (suc n))) h =
     let one : eqb (suc (suc n)) 1 ≡ false = second (suc (suc n)) (omega arith) in
     let less : suc (suc n) - 1 ≡ suc n = omega arith in
-    let wide : is_between (suc n) 1 5 ≡ true = between_is (suc n) 1 5 (omega arith, omega (arith, h.1)) in
+    let wide : is_between (suc n) 1 7 ≡ true = between_is (suc n) 1 7 (omega arith, omega (arith, h.1)) in
     let up : suc n + 1 ≡ suc (suc n) = omega arith in
     rw (one, less, wide, up) refl
 

@@ -73,7 +73,8 @@ find_rest (a ∷ p) (first ∷ n) xs h = elim (cases_order first a) [
   | inr (inr more) ↦ above more
 ]
   where
-    equal : find (is_before n) (map (λ t. p ++ t) xs) ≡ at_rest p (rest_after p n) xs → first ≡ a → find (is_before (first ∷ n)) (map (λ t. a ∷ (p ++ t)) xs) ≡ at_rest (a ∷ p) (rest_after (a ∷ p) (first ∷ n)) xs
+    equal : find (is_before n) (map (λ t. p ++ t) xs) ≡ at_rest p (rest_after p n) xs → first ≡ a
+        → find (is_before (first ∷ n)) (map (λ t. a ∷ (p ++ t)) xs) ≡ at_rest (a ∷ p) (rest_after (a ∷ p) (first ∷ n)) xs
     equal later e =
         let l : ltb first a ≡ false = le-ltb first a (omega arith) in
         let m : ltb a first ≡ false = le-ltb a first (omega arith) in

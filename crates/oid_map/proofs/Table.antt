@@ -106,7 +106,7 @@ named_status (suc (suc (suc zero))) h = (Target, tt, tt, refl)
 named_status (suc (suc (suc (suc zero)))) h = (ModeCode, tt, tt, refl)
 named_status (suc (suc (suc (suc (suc n))))) h = absurd (omega (arith, h.1))
 
-named_unit : (a : ℕ) → IsBetween a 1 5 → IsReadableInstance (own ++ 3 ∷ a ∷ 0 ∷ [])
+named_unit : (a : ℕ) → IsBetween a 1 7 → IsReadableInstance (own ++ 3 ∷ a ∷ 0 ∷ [])
 named_unit a h =
     let other : eqb (a + 1) 1 ≡ false = ne_eqb (a + 1) 1 (λ e. absurd (omega (arith, e, h.0))) in
     let back : a + 1 - 1 ≡ a = omega arith in
@@ -132,7 +132,7 @@ all_named =
     also scalar (1 to 1) (λ t. IsReadableInstance (own ++ 1 ∷ t)) (λ a h. (Txn a, (h.0, omega (arith, h.1)), inl (omega (arith, h.1)), refl))
     also scalar (7 to 10) (λ t. IsReadableInstance (own ++ 1 ∷ t)) (λ a h. (Txn a, (omega (arith, h.0), h.1), inr (omega (arith, h.0)), refl))
     also scalar (1 to 4) (λ t. IsReadableInstance (own ++ 2 ∷ t)) named_status
-    also scalar (1 to 5) (λ t. IsReadableInstance (own ++ 3 ∷ t)) named_unit
+    also scalar (1 to 7) (λ t. IsReadableInstance (own ++ 3 ∷ t)) named_unit
     also one (1 to 10) (λ t. IsReadableInstance (own ++ 4 ∷ 3 ∷ 1 ∷ t)) (λ a h. (RequestState a, h, tt, refl))
     also tt
 

@@ -10,7 +10,7 @@ pub record Row : Type 0 where
   pub indices : List Range
   pub readable : Bool
 
--- the objects of actuated controllers (NTCIP 1202)
+-- the objects of actuated controllers (after NTCIP 1202; which rows there are is this profile's own)
 abbrev pub asc : List ℕ
 asc = 1 ∷ 3 ∷ 6 ∷ 1 ∷ 4 ∷ 1 ∷ 1206 ∷ 4 ∷ 2 ∷ 1 ∷ []
 
@@ -55,8 +55,8 @@ objects =
     ∷ readable_row (own ++ 1 ∷ []) (7 to 10 ∷ 0 to 0 ∷ [])
     -- clock, counter, target, mode code
     ∷ readable_row (own ++ 2 ∷ []) (1 to 4 ∷ 0 to 0 ∷ [])
-    -- limits of the correction, backup time, extension limit
-    ∷ readable_row (own ++ 3 ∷ []) (1 to 5 ∷ 0 to 0 ∷ [])
+    -- limits of the correction, backup time, extension limit, force mode, offset reference
+    ∷ readable_row (own ++ 3 ∷ []) (1 to 7 ∷ 0 to 0 ∷ [])
     -- priority request and cancel, and the state of each request
     ∷ write_only_row (own ++ 4 ∷ []) (1 to 2 ∷ 0 to 0 ∷ [])
     ∷ readable_row (own ++ 4 ∷ 3 ∷ 1 ∷ []) (1 to 10 ∷ [])

@@ -91,7 +91,7 @@ status_name number =
     else None
 
 abbrev pub unit_name : ℕ → Option Name
-unit_name number = if is_between number 1 5 then Some (CellName (UnitCell (number + 1))) else None
+unit_name number = if is_between number 1 7 then Some (CellName (UnitCell (number + 1))) else None
 
 abbrev pub own_scalar : ℕ → ℕ → Option Name
 own_scalar group number =

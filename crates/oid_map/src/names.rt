@@ -1,4 +1,4 @@
-//! What an instance is the name of, and the arcs of each name. The tables are those of NTCIP 1202: a name is the entry,
+//! What an instance is the name of, and the arcs of each name. The tables are after NTCIP 1202: a name is the entry,
 //! the column, and one or two indices. A scalar's instance ends in 0.
 
 ghost use Rattle.std.specs.Prelude.{◌≡◌, ◌+◌, ◌≤◌, ◌↔◌, ◌++◌, ◌∷◌, [], length, IsTrue};
@@ -10,7 +10,7 @@ ghost use Rattle.sig_tables.specs.Cells.{IsCell};
 use ber_code::Oid;
 use sig_tables::Cell;
 
-/// The objects of actuated controllers (NTCIP 1202).
+/// The objects of actuated controllers (after NTCIP 1202).
 pub const ASC: [u32; 10] = [1, 3, 6, 1, 4, 1, 1206, 4, 2, 1];
 
 /// Objects of our own, under the enterprise number for examples (RFC 5612).

@@ -63,8 +63,8 @@ pub const OWN_OBJECTS: [Object; 5] = [
     Object::Scalars(1, Range { least: 7, most: 10 }),
     // clock, counter, target, mode code
     Object::Scalars(2, Range { least: 1, most: 4 }),
-    // limits of the correction, backup time, extension limit
-    Object::Scalars(3, Range { least: 1, most: 5 }),
+    // limits of the correction, backup time, extension limit, force mode, offset reference
+    Object::Scalars(3, Range { least: 1, most: 7 }),
     // the states of the priority requests
     Object::Column([4, 3, 1], Range { least: 1, most: 10 }),
 ];

@@ -216,12 +216,12 @@ fn status_at(number: u32) -> Option<Name>
     }
 }
 
-/// The name of a limit or a time of the unit, 1 to 5: cells 2 to 6.
+/// The name of a limit, a time or a mode of the unit, 1 to 7: cells 2 to 8.
 fn unit_at(number: u32) -> Option<Name>
     ensures reads { result ≡ unit_name number }
     ensures found { IfSome result (λ n. IsName n × (own ++ 3 ∷ number ∷ 0 ∷ [] ≡ arcs_of n)) }
 {
-    if is_between(number, 1, 5) {
+    if is_between(number, 1, 7) {
         Some(Name::Cell(Cell::Unit(number as u8 + 1)))
     } else {
         None

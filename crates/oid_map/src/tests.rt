@@ -30,7 +30,7 @@ fn oid(root: Root, rest: &[u32]) -> Oid {
 }
 
 /// A name under a root, and the next one.
-const STEPS: [(Root, &[u32], Root, &[u32]); 30] = [
+const STEPS: [(Root, &[u32], Root, &[u32]); 31] = [
     (Asc, &[], Asc, &[1, 2, 1, 1, 1]),
     (Asc, &[1, 2, 1, 0, 99], Asc, &[1, 2, 1, 1, 1]),
     (Asc, &[1, 2, 1, 1, 1], Asc, &[1, 2, 1, 1, 2]),
@@ -58,7 +58,8 @@ const STEPS: [(Root, &[u32], Root, &[u32]); 30] = [
     (Own, &[1, 9, 0], Own, &[1, 10, 0]),
     (Own, &[1, 10, 0], Own, &[2, 1, 0]),
     (Own, &[2, 4, 0], Own, &[3, 1, 0]),
-    (Own, &[3, 5, 0], Own, &[4, 3, 1, 1]),
+    (Own, &[3, 5, 0], Own, &[3, 6, 0]),
+    (Own, &[3, 7, 0], Own, &[4, 3, 1, 1]),
     (Own, &[4, 1, 0], Own, &[4, 3, 1, 1]),
     (Own, &[4, 3, 1, 9], Own, &[4, 3, 1, 10]),
 ];
@@ -90,7 +91,7 @@ fn a_walk_meets_each_readable_instance_once(rt: HostRuntime) {
     let street = 23 * 16 + 10 * 2 + 1 + 5 * 48 + 5 * 32 * 16 + 2 + 13 * 8 + 3 * 16 * 2;
     assert!(rt; street == 3391);
     // stage and outcome with the version, clock to mode code, units, requests
-    let own = 5 + 4 + 5 + 10;
+    let own = 5 + 4 + 7 + 10;
     let mut name = Oid::new();
     let mut ended = false;
     for visited in 0..4000u32 {
@@ -184,6 +185,7 @@ fn cells_have_names(rt: HostRuntime) {
         (Asc, &[7, 3, 1, 3, 16, 1], sequence),
         (Own, &[3, 1, 0], Cell::Unit(2)),
         (Own, &[3, 5, 0], Cell::Unit(6)),
+        (Own, &[3, 7, 0], Cell::Unit(8)),
     ] {
         assert!(rt; is_named(root, rest, Name::Cell(want)));
     }
@@ -237,7 +239,7 @@ const NO_OBJECTS: [(Root, &[u32]); 26] = [
     (Own, &[1, 0, 0]),
     (Own, &[1, 11, 0]),
     (Own, &[2, 5, 0]),
-    (Own, &[3, 6, 0]),
+    (Own, &[3, 8, 0]),
     (Own, &[4, 3, 0]),
     (Own, &[4, 3, 1, 11]),
     (Own, &[1, 7, 0, 0]),

@@ -78,7 +78,8 @@ value_again text rest (Int n) is =
     ap (λ (t : List ℕ). value_at (t ++ rest)) head ∙ rw read refl
 value_again text rest (Octets octets) is =
     let head = is.0.2 in
-    let read : tagged_at 4 (4 ∷ ((is.0.0 ++ octets.items) ++ rest)) ≡ Some (octets.items, rest) = ap (λ (t : List ℕ). tagged_at 4 (t ++ rest)) (sym head) ∙ (tagged_exact 4).again text rest octets.items is.0 in
+    let read : tagged_at 4 (4 ∷ ((is.0.0 ++ octets.items) ++ rest)) ≡ Some (octets.items, rest) =
+    ap (λ (t : List ℕ). tagged_at 4 (t ++ rest)) (sym head) ∙ (tagged_exact 4).again text rest octets.items is.0 in
     let short : ltb 64 (length octets.items) ≡ false = le-ltb 64 (length octets.items) is.1 in
     ap (λ (t : List ℕ). value_at (t ++ rest)) head ∙ rw (read, short) refl
 value_again text rest Null is =

@@ -46,13 +46,20 @@ stands_at community bytes made_m m after rest e f p =
 fields_found : (community : List ℕ) (pdu : Pdu) (bytes rest : List ℕ) (m : Message) → fields_at community pdu bytes ≡ Some (m, rest) → PduStands community bytes rest m
 unfolding fields_at
 fields_found community pdu bytes rest m e =
-    let a = bind_some (tagged_at (tag_of pdu) bytes) (λ c. integer_at c.0 >>= λ id. integer_at id.1 >>= λ status. integer_at status.1 >>= λ index. tagged_at 48 index.1 >>= λ list. all_at binding_at 32 list.0 >>= λ binds. cond (eqb (length list.1) 0) (Some (made community pdu id.0 status.0 index.0 binds, c.1)) None) (m, rest) e in
+    let a = bind_some (tagged_at (tag_of pdu) bytes)
+    (λ c. integer_at c.0 >>= λ id. integer_at id.1 >>= λ status. integer_at status.1 >>= λ index. tagged_at 48 index.1 >>= λ list. all_at binding_at 32 list.0 >>= λ binds. cond (eqb (length list.1) 0) (Some (made community pdu id.0 status.0 index.0 binds, c.1)) None) (m, rest) e in
     let content = a.0.0 in
     let after = a.0.1 in
-    let b = bind_some (integer_at content) (λ id. integer_at id.1 >>= λ status. integer_at status.1 >>= λ index. tagged_at 48 index.1 >>= λ list. all_at binding_at 32 list.0 >>= λ binds. cond (eqb (length list.1) 0) (Some (made community pdu id.0 status.0 index.0 binds, after)) None) (m, rest) a.2 in
-    let c = bind_some (integer_at b.0.1) (λ status. integer_at status.1 >>= λ index. tagged_at 48 index.1 >>= λ list. all_at binding_at 32 list.0 >>= λ binds. cond (eqb (length list.1) 0) (Some (made community pdu b.0.0 status.0 index.0 binds, after)) None) (m, rest) b.2 in
-    let d = bind_some (integer_at c.0.1) (λ index. tagged_at 48 index.1 >>= λ list. all_at binding_at 32 list.0 >>= λ binds. cond (eqb (length list.1) 0) (Some (made community pdu b.0.0 c.0.0 index.0 binds, after)) None) (m, rest) c.2 in
-    let f = bind_some (tagged_at 48 d.0.1) (λ list. all_at binding_at 32 list.0 >>= λ binds. cond (eqb (length list.1) 0) (Some (made community pdu b.0.0 c.0.0 d.0.0 binds, after)) None) (m, rest) d.2 in
+    let b = bind_some (integer_at content)
+    (λ id. integer_at id.1 >>= λ status. integer_at status.1 >>= λ index. tagged_at 48 index.1 >>= λ list. all_at binding_at 32 list.0 >>= λ binds. cond (eqb (length list.1) 0) (Some (made community pdu id.0 status.0 index.0 binds, after)) None) (m, rest) a.2 in
+    let c = bind_some (integer_at b.0.1)
+    (λ status. integer_at status.1 >>= λ index. tagged_at 48 index.1 >>= λ list. all_at binding_at 32 list.0 >>= λ binds. cond
+    (eqb (length list.1) 0) (Some (made community pdu b.0.0 status.0 index.0 binds, after)) None) (m, rest) b.2 in
+    let d = bind_some (integer_at c.0.1)
+    (λ index. tagged_at 48 index.1 >>= λ list. all_at binding_at 32 list.0 >>= λ binds. cond (eqb (length list.1) 0)
+    (Some (made community pdu b.0.0 c.0.0 index.0 binds, after)) None) (m, rest) c.2 in
+    let f = bind_some (tagged_at 48 d.0.1)
+    (λ list. all_at binding_at 32 list.0 >>= λ binds. cond (eqb (length list.1) 0) (Some (made community pdu b.0.0 c.0.0 d.0.0 binds, after)) None) (m, rest) d.2 in
     let g = bind_some (all_at binding_at 32 f.0.0) (λ binds. cond (eqb (length f.0.1) 0) (Some (made community pdu b.0.0 c.0.0 d.0.0 binds, after)) None) (m, rest) f.2 in
     let h = let_through (eqb (length f.0.1) 0) (Some (made community pdu b.0.0 c.0.0 d.0.0 g.0, after)) (m, rest) g.2 in
     let same = some_pair_parts (made community pdu b.0.0 c.0.0 d.0.0 g.0) m after rest h.1 in
@@ -133,7 +140,8 @@ is_whole version community rest = int_eq version (pos 0) && leb (length communit
 content_found : (content : List ℕ) (m : Message) → content_of content ≡ Some m → Stands content m
 unfolding content_of
 content_found content m e =
-    let a = bind_some (integer_at content) (λ version. tagged_at 4 version.1 >>= λ community. pdu_at community.0 community.1 >>= λ found. cond (is_whole version.0 community.0 found.1) (Some found.0) None) m e in
+    let a = bind_some (integer_at content)
+    (λ version. tagged_at 4 version.1 >>= λ community. pdu_at community.0 community.1 >>= λ found. cond (is_whole version.0 community.0 found.1) (Some found.0) None) m e in
     let b = bind_some (tagged_at 4 a.0.1) (λ community. pdu_at community.0 community.1 >>= λ found. cond (is_whole a.0.0 community.0 found.1) (Some found.0) None) m a.2 in
     let c = bind_some (pdu_at b.0.0 b.0.1) (λ found. cond (is_whole a.0.0 b.0.0 found.1) (Some found.0) None) m b.2 in
     let d = let_through (is_whole a.0.0 b.0.0 c.0.1) (Some c.0.0) m c.2 in
@@ -163,7 +171,8 @@ content_again : (version community pdu : List ℕ) (m : Message) → IsInteger v
     → content_of (version ++ (community ++ pdu)) ≡ Some m
 unfolding content_of
 content_again version community pdu m versions communities short pdus =
-    let whole : is_whole (pos 0) m.community.items [] ≡ true = and_from (int_eq (pos 0) (pos 0) && leb (length m.community.items) 32) true (and_from true (leb (length m.community.items) 32) refl (le-leb (length m.community.items) 32 short)) refl in
+    let whole : is_whole (pos 0) m.community.items [] ≡ true =
+    and_from (int_eq (pos 0) (pos 0) && leb (length m.community.items) 32) true (and_from true (leb (length m.community.items) 32) refl (le-leb (length m.community.items) 32 short)) refl in
     let last : pdu_at m.community.items pdu ≡ Some (m, []) = ap (pdu_at m.community.items) (sym (append-nil pdu)) ∙ pdu_again pdu [] m pdus in
     rw (integer_exact.again version (community ++ pdu) (pos 0) versions, (tagged_exact 4).again community pdu m.community.items communities, last, whole) refl
 

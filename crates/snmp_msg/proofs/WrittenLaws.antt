@@ -46,7 +46,8 @@ texts_push IsText octets text (v ∷ vs) value are is =
 pub bindings_more : (binds : List Bind) (i : ℕ) (d : Bind) → i < length binds → AreTexts IsBinding (flat_map binding_text (take i binds)) (take i binds)
     → IsBinding (binding_text (get_or binds i d)) (get_or binds i d) → AreTexts IsBinding (flat_map binding_text (take (i + 1) binds)) (take (i + 1) binds)
 bindings_more binds i d below are is =
-    rw (texts_more binding_text binds i d below, take_more binds i d below) (texts_push IsBinding (flat_map binding_text (take i binds)) (binding_text (get_or binds i d)) (take i binds) (get_or binds i d) are is)
+    rw (texts_more binding_text binds i d below, take_more binds i d below)
+    (texts_push IsBinding (flat_map binding_text (take i binds)) (binding_text (get_or binds i d)) (take i binds) (get_or binds i d) are is)
 
 pub pdu_is : (m : Message) → IsInteger (integer_text m.id) m.id → IsInteger (integer_text m.status) m.status → IsInteger (integer_text m.index) m.index
     → AreTexts IsBinding (flat_map binding_text m.binds.items) m.binds.items → length m.binds.items ≤ 32 → length (flat_map binding_text m.binds.items) ≤ 10240 → length (pdu_content m) ≤ 10264

@@ -11,7 +11,8 @@ loop-above-preserved c =
     let first : 8 * group + 1 - (k + 1) ≡ 8 * group - k = omega arith in
     let next : 8 * group + 1 - k ≡ 8 * group - k + 1 = omega arith in
     record {
-      octet = bits_more test k (8 * group - k) c.loop-above.octet c.from.result c.counts_in.result (c.loop-above.invariant.octet ∙ ap (bits test k) next) c.from.ensures c.counts_in.ensures ∙ ap (bits test (k + 1)) (sym first);
+      octet = bits_more test k (8 * group - k) c.loop-above.octet c.from.result c.counts_in.result
+          (c.loop-above.invariant.octet ∙ ap (bits test k) next) c.from.ensures c.counts_in.ensures ∙ ap (bits test (k + 1)) (sym first);
       small = room_more k c.loop-above.octet c.from.result c.counts_in.result c.loop-above.invariant.small c.from.ensures;
     }
 

@@ -30,7 +30,9 @@ loop-preserved c =
     let less : 30 - c.loop.counter ≡ suc (30 - (c.loop.counter + 1)) = omega arith in
     record {
       count = c.push-in-loop.ensures.len ∙ omega arith;
-      goes = rw c.push-in-loop.ensures.items (sym (goes_on arc_at c.loop.name.items (30 - c.loop.counter) (30 - (c.loop.counter + 1)) c.loop.rest.now c.in_ok-arc.arc c.in_ok-arc.after.now less some c.in_ok-arc.ensures) ∙ c.loop.invariant.goes);
+      goes = rw c.push-in-loop.ensures.items
+          (sym (goes_on arc_at c.loop.name.items (30 - c.loop.counter)
+          (30 - (c.loop.counter + 1)) c.loop.rest.now c.in_ok-arc.arc c.in_ok-arc.after.now less some c.in_ok-arc.ensures) ∙ c.loop.invariant.goes);
     }
 
 pub returns-then-is_empty-2 : goal.returns-then-is_empty-2

@@ -24,7 +24,8 @@ returns-then-index-range-2 t c = none_later _ _ _ _ _ _ _ _ _ _ (front_is c.args
 
 pub returns-else-index-range-2 : goal.returns-else-index-range-2
 returns-else-index-range-2 t c = next_after _ _ _ _ _ _ _ _ _ _ _ _ (front_is c.args.indices.now no_range c.in-len1-up.len_at_least) (front_is c.args.name.now 0 c.in-len1-up-name.len_at_least)
-    c.requires.ranges (omega (arith, c.if-index-range.false)) (omega (arith, c.if-range-index.false, c.if-index-range-2.false)) c.push.ensures.items c.if-push_indices.ensures (rw (← c.len-length.ensures.value) c.truncate.ensures.items)
+    c.requires.ranges (omega (arith, c.if-index-range.false))
+    (omega (arith, c.if-range-index.false, c.if-index-range-2.false)) c.push.ensures.items c.if-push_indices.ensures (rw (← c.len-length.ensures.value) c.truncate.ensures.items)
     c.push-in-len1-up-name.ensures.items c.push_least-in-len1-up-name.ensures
 
 pub returns-in-empty : goal.returns-in-empty

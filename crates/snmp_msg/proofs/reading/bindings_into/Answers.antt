@@ -22,7 +22,9 @@ loop-preserved c =
     let less : 32 - c.loop.counter ≡ suc (32 - (c.loop.counter + 1)) = omega arith in
     record {
       count = c.push.ensures.len ∙ omega arith;
-      goes = rw c.push.ensures.items (sym (goes_on binding_at c.loop.binds.items (32 - c.loop.counter) (32 - (c.loop.counter + 1)) c.loop.rest.now c.binding_into.new.bind c.in_ok-rest.rest.now less some c.in_ok-rest.ensures) ∙ c.loop.invariant.goes);
+      goes = rw c.push.ensures.items
+          (sym (goes_on binding_at c.loop.binds.items (32 - c.loop.counter)
+          (32 - (c.loop.counter + 1)) c.loop.rest.now c.binding_into.new.bind c.in_ok-rest.rest.now less some c.in_ok-rest.ensures) ∙ c.loop.invariant.goes);
     }
 
 pub returns-then-is_empty-2 : goal.returns-then-is_empty-2
