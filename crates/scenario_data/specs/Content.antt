@@ -2,8 +2,8 @@
 use Rattle.std.specs.Prelude.{ℕ, List, map}
 use Rattle.sig_types.specs.declared.notes.Way.{Way}
 use Rattle.sig_tables.specs.declared.cells.Cell.{Cell}
-use Rattle.sig_tables.specs.declared.cells.CellValue.{CellValue}
-use Rattle.sig_tables.specs.Cells.{Content, content_of}
+use Rattle.sig_tables.specs.Cells.{Content}
+pub use Rattle.sig_tables.specs.Putting.{put_content}
 use Rattle.scenario_data.specs.declared.scenario.Base.{Base}
 use Rattle.scenario_data.specs.declared.scenario.Cabinet.{Cabinet}
 use Rattle.scenario_data.specs.declared.scenario.Entry.{Entry}
@@ -55,10 +55,6 @@ pub record ScenarioContent : Type 0 where
   pub faults : List Fault
   pub compact : List ℕ
 
--- a cell, with what is put there
-abbrev pub put_content : Cell × CellValue → Cell × Content
-put_content put = (put.0, content_of put.1)
-
 abbrev pub cabinet_content : Cabinet → CabinetContent
 cabinet_content c = record {
   base = c.base;
@@ -82,7 +78,7 @@ abbrev pub load_content : LoadItem → LoadContent
 load_content l = record { round = l.round; cabinet = l.cabinet; cells = map put_content l.cells.items }
 
 abbrev pub frame_content : FrameItem → FrameContent
-frame_content f = record { round = f.round; cabinet = f.cabinet; stream = f.stream; hex = f.hex.items }
+frame_content f = record { round = f.round; cabinet = f.cabinet; stream = f.stream; hex = f.hex }
 
 abbrev pub scenario_content : Scenario → ScenarioContent
 scenario_content s = record {

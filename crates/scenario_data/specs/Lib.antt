@@ -1,2 +1,4 @@
 pub mod Content
 pub mod Causes
+pub mod Opening
+pub mod Inputs

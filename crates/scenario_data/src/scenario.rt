@@ -1,9 +1,10 @@
 //! A scenario: all that a run is given. Rounds and cabinets are counted from 1, times are in ticks of 0.1 s where nothing
 //! else is said.
 
+use crate::octets::FrameOctets;
 use arrayvec::ArrayVec;
 use sig_tables::{Cell, CellValue};
-use sig_types::{Field, Octets, Request, Way};
+use sig_types::{Field, Request, Way};
 
 /// The tables that a cabinet begins with, before its cells: an eight-phase intersection after NEMA TS 2, with values of our
 /// own: minimum recall on the main street, or maximum recall on every phase.
@@ -80,12 +81,12 @@ pub struct PriorityItem {
 }
 
 /// Octets that reach a cabinet on a stream in a round, as they stand.
-#[derive(Debug, PartialEq, Drop)]
+#[derive(Drop)]
 pub struct FrameItem {
     pub round: u32,
     pub cabinet: u32,
     pub stream: Way,
-    pub hex: Octets,
+    pub hex: FrameOctets,
 }
 
 /// Towards a cabinet, or from it.
@@ -120,7 +121,7 @@ pub struct Fault {
 }
 
 /// All that a run is given: `rounds` rounds of `ticks` ticks each, 1 to 64 cabinets, and what happens in each round.
-#[derive(Debug, PartialEq, Drop)]
+#[derive(Drop)]
 pub struct Scenario {
     pub version: u32,
     pub rounds: u32,

@@ -90,7 +90,8 @@ members-back (member k d ms) before all sorted plain under =
     let here = all.0 sorted.0 parts.0 in
     let rest = members-back ms (joined before (member k d no_members)) all.1 sorted.2 parts.1 (under-next before k d ms under.1 sorted.1) in (
       (here.numbers, rest.0),
-      ap (option_and_then (λ e. of_members (members_outline ms) (put k e before))) here.back ∙ ap (of_members (members_outline ms)) (put-last k d before under.0) ∙ rest.1 ∙ ap Some (joined-next before k d ms),
+      ap (option_and_then (λ e. of_members (members_outline ms) (put k e before))) here.back
+          ∙ ap (of_members (members_outline ms)) (put-last k d before under.0) ∙ rest.1 ∙ ap Some (joined-next before k d ms),
     )
 
 items-back : (ds : Items) → EachBack ds → ItemsSorted ds → items_have_float ds ≡ false → ItemsHaveNumbers (items_outline ds) × (of_items (items_outline ds) ≡ Some ds)
@@ -145,7 +146,8 @@ mutual
   of_items-back : (js : json.Items) → IfFound EachBack (of_items js)
   of_items-back json.no_items = tt
   of_items-back (json.item j js) =
-      found-then IsBack EachBack (λ d. option_map (item d) (of_items js)) (λ d here. found-map EachBack EachBack (item d) (λ ds rest. (here, rest)) (of_items js) (of_items-back js)) (of_json j) (of_json-back j)
+      found-then IsBack EachBack (λ d. option_map (item d) (of_items js))
+      (λ d here. found-map EachBack EachBack (item d) (λ ds rest. (here, rest)) (of_items js) (of_items-back js)) (of_json j) (of_json-back j)
 
   of_members-back : (ms : json.Members) (found : Members) → AllBack found → IfFound AllBack (of_members ms found)
   of_members-back json.no_members found all = all

@@ -63,7 +63,8 @@ names-faultless r k ms ds place few none e =
     let g3 = same-faults ticks (array ds) ms refl f3.0 in
     let g4 = same-faults cabinets (array ds) ms refl f4.0 in
     let g5 = inputs-faults r k ms ds place few none in
-    all-none (unknown_faults known [] (with_inputs (array ds) ms)) (field_faults [] new version) (field_faults [] new rounds) (field_faults [] new ticks) (field_faults [] new cabinets) (field_faults [] new (inputs r k))
+    all-none (unknown_faults known [] (with_inputs (array ds) ms)) (field_faults [] new version) (field_faults [] new rounds)
+    (field_faults [] new ticks) (field_faults [] new cabinets) (field_faults [] new (inputs r k))
     (unknown-same known [] (array ds) ms ∙ a.0) g1 g2 g3 g4 g5
   where
     all-none : (u a b c d e : List Cause) → u ≡ [] → a ≡ [] → b ≡ [] → c ≡ [] → d ≡ [] → e ≡ [] → u ++ ((a ++ (b ++ (c ++ (d ++ (e ++ []))))) ++ []) ≡ []
@@ -98,12 +99,14 @@ whole-faultless parts found ms ds says none stands within =
     let here = names-faultless (round_count d) (cabinet_count d) ms ds stands.place few each-none old.0 in
     let cabinets-same = same-cabinets inner ms in
     let names-none : object_of (scenario_shape (round_count new) (cabinet_count new)) [] new ≡ [] =
-    at-same (λ r k. object_of (scenario_shape r k) [] new ≡ []) (round_count d) (cabinet_count d) (round_count new) (cabinet_count new) (sym (same-rounds inner ms)) (sym (ap length cabinets-same)) here in
+    at-same (λ r k. object_of (scenario_shape r k) [] new ≡ []) (round_count d) (cabinet_count d) (round_count new) (cabinet_count new)
+    (sym (same-rounds inner ms)) (sym (ap length cabinets-same)) here in
     let product : product_faults (cabinet_count new * round_count new * tick_count new) ≡ [] =
     ap (λ n. product_faults (n * round_count new * tick_count new)) (ap length cabinets-same) ∙ ap (λ n. product_faults (cabinet_count d * n * tick_count new)) (same-rounds inner ms)
     ∙ ap (λ n. product_faults (cabinet_count d * round_count d * n)) (same-ticks inner ms) ∙ old.1 in
     let tables : all_table_faults 1 (cabinets_of new) ≡ [] = ap (all_table_faults 1) cabinets-same ∙ old.2 in
-    none-both (object_of (scenario_shape (round_count new) (cabinet_count new)) [] new) (product_faults (cabinet_count new * round_count new * tick_count new) ++ all_table_faults 1 (cabinets_of new)) names-none
+    none-both (object_of (scenario_shape (round_count new) (cabinet_count new)) [] new)
+    (product_faults (cabinet_count new * round_count new * tick_count new) ++ all_table_faults 1 (cabinets_of new)) names-none
     (none-both (product_faults (cabinet_count new * round_count new * tick_count new)) (all_table_faults 1 (cabinets_of new)) product tables)
 
 pub whole-said : (parts : Parts) (found : Listed) (text : List ℕ) (ms : Members) (ds : Items) → Says parts (object ms) → Stands found ms ds → text ≡ compact_text (object (with_inputs (array ds) ms))

@@ -34,7 +34,8 @@ put-other name d inputs no_members other = rw other refl
 put-other name d inputs (member l e ms) other = at (slice_cmp nat_cmp name l) refl (put-other name d inputs ms other)
   where
     at : (o : Ordering) → slice_cmp nat_cmp name l ≡ o → put name d (with_inputs inputs ms) ≡ with_inputs inputs (put name d ms)
-        → match_ordering o (member name d (with_inputs inputs (member l e ms))) (member l d (with_inputs inputs ms)) (member l (if bytes_eq l inputs_name then inputs else e) (put name d (with_inputs inputs ms)))
+        → match_ordering o (member name d (with_inputs inputs (member l e ms))) (member l d (with_inputs inputs ms))
+        (member l (if bytes_eq l inputs_name then inputs else e) (put name d (with_inputs inputs ms)))
         ≡ with_inputs inputs (match_ordering o (member name d (member l e ms)) (member l d ms) (member l e (put name d ms)))
     at Less is rest = rw other refl
     at Equal is rest =
@@ -58,7 +59,8 @@ put-inputs d old new no_members sorted = refl
 put-inputs d old new (member l e ms) sorted = at (slice_cmp nat_cmp inputs_name l) refl (put-inputs d old new ms sorted.2)
   where
     at : (o : Ordering) → slice_cmp nat_cmp inputs_name l ≡ o → put inputs_name new (with_inputs old ms) ≡ with_inputs new (put inputs_name d ms)
-        → match_ordering o (member inputs_name new (with_inputs old (member l e ms))) (member l new (with_inputs old ms)) (member l (if bytes_eq l inputs_name then old else e) (put inputs_name new (with_inputs old ms)))
+        → match_ordering o (member inputs_name new (with_inputs old (member l e ms))) (member l new (with_inputs old ms))
+        (member l (if bytes_eq l inputs_name then old else e) (put inputs_name new (with_inputs old ms)))
         ≡ with_inputs new (match_ordering o (member inputs_name d (member l e ms)) (member l d ms) (member l e (put inputs_name d ms)))
     at Less is rest =
         let below : Below inputs_name (member l e ms) = (is, Below-chain inputs_name l ms is sorted.1) in
@@ -79,7 +81,8 @@ get-other name inputs no_members other = refl
 get-other name inputs (member l e ms) other = at (slice_cmp nat_cmp name l) refl (get-other name inputs ms other)
   where
     at : (o : Ordering) → slice_cmp nat_cmp name l ≡ o → get_member name (with_inputs inputs ms) ≡ get_member name ms
-        → match_ordering o (get_member name (with_inputs inputs ms)) (Some (if bytes_eq l inputs_name then inputs else e)) (get_member name (with_inputs inputs ms)) ≡ match_ordering o (get_member name ms) (Some e) (get_member name ms)
+        → match_ordering o (get_member name (with_inputs inputs ms)) (Some (if bytes_eq l inputs_name then inputs else e))
+        (get_member name (with_inputs inputs ms)) ≡ match_ordering o (get_member name ms) (Some e) (get_member name ms)
     at Less is rest = rest
     at Equal is rest =
         let apart : bytes_eq l inputs_name ≡ false = subst (λ n. bytes_eq n inputs_name ≡ false) (equal-names name l is) other in

@@ -19,7 +19,8 @@ none-left (x ∷ xs) ys e = absurd (cc)
 pub none-both : (xs ys : List Cause) → xs ≡ [] → ys ≡ [] → xs ++ ys ≡ []
 none-both xs ys p q = rw (p, q) refl
 
-each-next : (kind : Kind) (path : List Step) (d : Data) (at : ℕ) → kind (then_item path at) d ≡ [] → (ds : Items) (p : ℕ) → at ≡ p + items_len ds → each kind path p ds ≡ [] → each kind path p (both ds (item d no_items)) ≡ []
+each-next : (kind : Kind) (path : List Step) (d : Data) (at : ℕ) → kind (then_item path at) d ≡ [] → (ds : Items) (p : ℕ)
+    → at ≡ p + items_len ds → each kind path p ds ≡ [] → each kind path p (both ds (item d no_items)) ≡ []
 each-next kind path d at here no_items p is e =
     let same : at ≡ p = omega (arith, is) in
     none-both (kind (then_item path p) d) [] (subst (λ n. kind (then_item path n) d ≡ []) same here) refl

@@ -15,5 +15,6 @@ pub made : (o : Option Number) (x : Number) (n m : ℕ) → o ≡ Some x → opt
     → Some (unsigned m) ≡ Some (number_view x)
 made o x n m is view same less =
     let fits : nat_lt m (2 ^ 64) ≡ true = lt-ltb _ _ less in
-    let seen : Some (number_view x) ≡ (if nat_lt m (2 ^ 64) then Some (unsigned m) else None) = sym (ap (option_map number_view) is) ∙ view ∙ ap (λ k. if nat_lt k (2 ^ 64) then Some (unsigned k) else None) same in
+    let seen : Some (number_view x) ≡ (if nat_lt m (2 ^ 64) then Some (unsigned m) else None) =
+    sym (ap (option_map number_view) is) ∙ view ∙ ap (λ k. if nat_lt k (2 ^ 64) then Some (unsigned k) else None) same in
     sym (seen ∙ ap (λ b. if b then Some (unsigned m) else None) fits)

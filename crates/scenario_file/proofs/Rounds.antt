@@ -12,7 +12,8 @@ use Rattle.scenario_file.specs.Listing.{any_input, all_within}
 use Rattle.scenario_file.proofs.Growth.{none-left, none-both}
 
 -- a number that fits one range and lies below the end of another fits that
-whole-within : (most end : ℕ) (path : List Step) (o : Option Data) → faults_of (whole 1 most) path (either o None) ≡ [] → nat_le (whole_of (unwrap_or (either o None) null)) end ≡ true → faults_of (whole 1 end) path (either o None) ≡ []
+whole-within : (most end : ℕ) (path : List Step) (o : Option Data) → faults_of (whole 1 most) path (either o None) ≡ []
+    → nat_le (whole_of (unwrap_or (either o None) null)) end ≡ true → faults_of (whole 1 end) path (either o None) ≡ []
 whole-within most end path None e le = absurd (cc)
 whole-within most end path (Some null) e le = absurd (cc)
 whole-within most end path (Some (boolean b)) e le = absurd (cc)
@@ -27,7 +28,8 @@ whole-within most end path (Some (string s)) e le = absurd (cc)
 whole-within most end path (Some (array ds)) e le = absurd (cc)
 whole-within most end path (Some (object ms)) e le = absurd (cc)
 
-one-within : (rounds cabinets : ℕ) (path : List Step) (d : Data) → any_input path d ≡ [] → nat_le (whole_of (held (round 86400) d)) rounds ≡ true → nat_le (whole_of (held (cabinet_number 64) d)) cabinets ≡ true
+one-within : (rounds cabinets : ℕ) (path : List Step) (d : Data) → any_input path d ≡ []
+    → nat_le (whole_of (held (round 86400) d)) rounds ≡ true → nat_le (whole_of (held (cabinet_number 64) d)) cabinets ≡ true
     → object_of (input_shape rounds cabinets) path d ≡ []
 one-within rounds cabinets path null e r c = absurd (cc)
 one-within rounds cabinets path (boolean b) e r c = absurd (cc)

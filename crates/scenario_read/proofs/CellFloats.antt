@@ -13,7 +13,8 @@ use Rattle.sig_tables.specs.declared.cells.Allowed.TheVariants.{Numbers, Lists}
 use Rattle.sig_tables.specs.Ranges.{allowed_in}
 use Rattle.scenario_read.specs.Paths.{Step}
 use Rattle.scenario_read.specs.Kinds.{Fit, Fits, Wrong, Beyond, fault_at}
-use Rattle.scenario_read.specs.CellLists.{octet_of, octet_at, named_cell, listed_cell, value_place, put_value, item_count, lies, is_cell, content_fits, listed_fits, cell}
+use Rattle.sig_tables.specs.Cells.{lies, is_cell}
+use Rattle.scenario_read.specs.CellLists.{octet_of, octet_at, named_cell, listed_cell, value_place, put_value, item_count, content_fits, listed_fits, cell}
 use Rattle.scenario_read.proofs.Floatless.{Floatless}
 
 fits-alone : (path : List Step) (fit : Fit) → fault_at path fit ≡ [] → fit ≡ Fits
@@ -96,12 +97,15 @@ numbers-floatless d (Sequence s r) by there place low high = two-octets d s r 1 
 numbers-floatless d (Pattern n c) by there place low high = two-octets d n c 1 2 48 5 (omega arith) (omega arith) there by.0 by.1 place low high
 numbers-floatless d (Preempt i c) by there place low high = two-octets d i c 1 4 8 15 (omega arith) (omega arith) there by.0 by.1 place low high
 numbers-floatless d (UnitCell n) by there zero low high = absurd (omega (arith, low))
-numbers-floatless d (UnitCell n) by there (suc zero) low high = from-octet n 1 (unwrap_or (at 1 d) null) by (lies-above n 1 6 there) (omega arith)
+numbers-floatless d (UnitCell n) by there (suc zero) low high = from-octet n 1 (unwrap_or (at 1 d) null) by (lies-above n 1 8 there) (omega arith)
 numbers-floatless d (UnitCell n) by there (suc (suc m)) low high = absurd (omega (arith, high))
 numbers-floatless d (Split s p c) by there zero low high = absurd (omega (arith, low))
-numbers-floatless d (Split s p c) by there (suc zero) low high = from-octet s 1 (unwrap_or (at 1 d) null) by.0 (lies-above s 1 32 (and_parts (lies s 1 32) (lies p 1 16) (and_parts (lies s 1 32 && lies p 1 16) (lies c 3 5) there).0).0) (omega arith)
-numbers-floatless d (Split s p c) by there (suc (suc zero)) low high = from-octet p 1 (unwrap_or (at 2 d) null) by.1 (lies-above p 1 16 (and_parts (lies s 1 32) (lies p 1 16) (and_parts (lies s 1 32 && lies p 1 16) (lies c 3 5) there).0).1) (omega arith)
-numbers-floatless d (Split s p c) by there (suc (suc (suc zero))) low high = from-octet c 3 (unwrap_or (at 3 d) null) by.2 (lies-above c 3 5 (and_parts (lies s 1 32 && lies p 1 16) (lies c 3 5) there).1) (omega arith)
+numbers-floatless d (Split s p c) by there (suc zero) low high =
+    from-octet s 1 (unwrap_or (at 1 d) null) by.0 (lies-above s 1 32 (and_parts (lies s 1 32) (lies p 1 16) (and_parts (lies s 1 32 && lies p 1 16) (lies c 3 5) there).0).0) (omega arith)
+numbers-floatless d (Split s p c) by there (suc (suc zero)) low high =
+    from-octet p 1 (unwrap_or (at 2 d) null) by.1 (lies-above p 1 16 (and_parts (lies s 1 32) (lies p 1 16) (and_parts (lies s 1 32 && lies p 1 16) (lies c 3 5) there).0).1) (omega arith)
+numbers-floatless d (Split s p c) by there (suc (suc (suc zero))) low high =
+    from-octet c 3 (unwrap_or (at 3 d) null) by.2 (lies-above c 3 5 (and_parts (lies s 1 32 && lies p 1 16) (lies c 3 5) there).1) (omega arith)
 numbers-floatless d (Split s p c) by there (suc (suc (suc (suc m)))) low high = absurd (omega (arith, high))
 
 word-first : (d : Data) (word : List ℕ) → as_str d ≡ Some word → has_float d ≡ false
@@ -140,7 +144,8 @@ list-floats ds (Some cell) is e =
     let last : has_float (item_at (value_place cell) ds) ≡ false = content-floatless (allowed_in cell) (put_value cell d) good.2 in
     items-floatless ds (at-place cell d good.0 good.1 named.0 named.1 last)
   where
-    at-place : (cell : Cell) (d : Data) → is_cell cell ≡ true → item_count (array ds) ≡ value_place cell + 1 → NamedBy (array ds) cell → has_float (item_at 0 ds) ≡ false → has_float (item_at (value_place cell) ds) ≡ false
+    at-place : (cell : Cell) (d : Data) → is_cell cell ≡ true → item_count (array ds) ≡ value_place cell + 1 → NamedBy (array ds) cell
+        → has_float (item_at 0 ds) ≡ false → has_float (item_at (value_place cell) ds) ≡ false
         → (place : ℕ) → place < items_len ds → has_float (item_at place ds) ≡ false
     at-place cell d there count by first last zero within = first
     at-place cell d there count by first last (suc n) within = side (nat_le (value_place cell) (suc n)) refl

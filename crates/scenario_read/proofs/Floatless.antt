@@ -111,7 +111,8 @@ at-known path d (f ∷ fields) good e name v known found sorted =
     let parts = none-left (field_faults path d f) (fields_faults path d fields) e in
     choose parts.0 (λ k. at-known path d fields good.1 parts.1 name v k found sorted) (bytes_eq f.name name) refl known
   where
-    choose : field_faults path d f ≡ [] → (is_among (names fields) name ≡ true → has_float v ≡ false) → (b : Bool) → bytes_eq f.name name ≡ b → (b || is_among (names fields) name) ≡ true → has_float v ≡ false
+    choose : field_faults path d f ≡ [] → (is_among (names fields) name ≡ true → has_float v ≡ false) → (b : Bool)
+        → bytes_eq f.name name ≡ b → (b || is_among (names fields) name) ≡ true → has_float v ≡ false
     choose here later true is k =
         let same : f.name ≡ name = (bytes_eq-Decides f.name name).0 is in
         let stood : get f.name d ≡ Some v = ap (λ n. get n d) same ∙ found in
@@ -123,7 +124,8 @@ unknown-none : (known : List (List ℕ)) (path : List Step) (all ms : Members) �
 unknown-none known path all no_members e sorted found good = refl
 unknown-none known path all (member name d ms) e sorted found good = choose (λ k. unknown-none known path all ms k sorted.2 found.1 good) (is_among known name) refl e
   where
-    choose : (unknown_faults known path ms ≡ [] → members_have_float ms ≡ false) → (b : Bool) → is_among known name ≡ b → (if b then unknown_faults known path ms else (FieldCause (path_text (then_named path name)) ∷ unknown_faults known path ms)) ≡ [] → (has_float d || members_have_float ms) ≡ false
+    choose : (unknown_faults known path ms ≡ [] → members_have_float ms ≡ false) → (b : Bool) → is_among known name ≡ b
+        → (if b then unknown_faults known path ms else (FieldCause (path_text (then_named path name)) ∷ unknown_faults known path ms)) ≡ [] → (has_float d || members_have_float ms) ≡ false
     choose rest true is k = rw (good name d is found.0 sorted.0) (rest k)
     choose rest false is k = absurd (cc)
 

@@ -5,7 +5,8 @@ use Rattle.sig_tables.specs.declared.tables.Tables.{Tables}
 use Rattle.rule_book.specs.Rules.{broken, first_of}
 use Rattle.scenario_data.specs.Causes.{Broken as BrokenCause}
 use Rattle.scenario_data.specs.Content.{CabinetContent}
-use Rattle.scenario_read.specs.Faults.{opening_tables, broken_causes, table_faults, first_cause}
+use Rattle.scenario_data.specs.Opening.{opening_tables}
+use Rattle.scenario_read.specs.Faults.{broken_causes, table_faults, first_cause}
 
 none_of : (cab : ℕ) (found : List Broken) → first_of found ≡ Ok tt → broken_causes cab found ≡ []
 none_of cab [] e = refl
@@ -22,6 +23,7 @@ pub keeps-rules : (cab : ℕ) (c : CabinetContent) (t : Tables) → t ≡ openin
 unfolding table_faults
 keeps-rules cab c t is e = subst (λ (s : Tables). broken_causes cab (broken s s false) ≡ []) is (none_of cab (broken t t false) e)
 
-pub breaks-rule : (cab : ℕ) (c : CabinetContent) (t : Tables) (b : Broken) → t ≡ opening_tables c → first_of (broken t t false) ≡ Err b → first_cause (table_faults cab c) ≡ Some (BrokenCause cab b.rule b.row)
+pub breaks-rule : (cab : ℕ) (c : CabinetContent) (t : Tables) (b : Broken) → t ≡ opening_tables c → first_of (broken t t false) ≡ Err b
+    → first_cause (table_faults cab c) ≡ Some (BrokenCause cab b.rule b.row)
 unfolding table_faults
 breaks-rule cab c t b is e = subst (λ (s : Tables). first_cause (broken_causes cab (broken s s false)) ≡ Some (BrokenCause cab b.rule b.row)) is (first_in cab (broken t t false) b e)

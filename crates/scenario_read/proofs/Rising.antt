@@ -44,7 +44,8 @@ pub sorted-put : (name : List ℕ) (d : Data) (ms : Members) → Sorted d → Me
 sorted-put name d no_members here sorted = (here, tt, tt)
 sorted-put name d (member other e ms) here sorted = at (sorted-put name d ms here sorted.2) (slice_cmp nat_cmp name other) refl
   where
-    at : MembersSorted (put name d ms) → (o : Ordering) → slice_cmp nat_cmp name other ≡ o → MembersSorted (match_ordering o (member name d (member other e ms)) (member other d ms) (member other e (put name d ms)))
+    at : MembersSorted (put name d ms) → (o : Ordering) → slice_cmp nat_cmp name other ≡ o
+        → MembersSorted (match_ordering o (member name d (member other e ms)) (member other d ms) (member other e (put name d ms)))
     at rest Less is = (here, (is, Below-chain name other ms is sorted.1), sorted)
     at rest Equal is = (here, sorted.1, sorted.2)
     at rest Greater is = (sorted.0, Below-put other name d ms (nat_list_cmp_total.antisymm other name ∙ ap ordering_reverse is) sorted.1, rest)
@@ -61,7 +62,8 @@ mutual
   of_items-sorted : (js : json.Items) → IfFound ItemsSorted (of_items js)
   of_items-sorted json.no_items = tt
   of_items-sorted (json.item j js) =
-      found-then Sorted ItemsSorted (λ d. option_map (item d) (of_items js)) (λ d here. found-map ItemsSorted ItemsSorted (item d) (λ ds rest. (here, rest)) (of_items js) (of_items-sorted js)) (of_json j) (of_json-sorted j)
+      found-then Sorted ItemsSorted (λ d. option_map (item d) (of_items js))
+      (λ d here. found-map ItemsSorted ItemsSorted (item d) (λ ds rest. (here, rest)) (of_items js) (of_items-sorted js)) (of_json j) (of_json-sorted j)
 
   of_members-sorted : (ms : json.Members) (found : Members) → MembersSorted found → IfFound MembersSorted (of_members ms found)
   of_members-sorted json.no_members found sorted = sorted

@@ -34,6 +34,7 @@ both-none (x ∷ xs) ys e = absurd (cc)
 pub faultless-parts : (d : Data) → faults d ≡ []
     → (object_of (scenario_shape (round_count d) (cabinet_count d)) [] d ≡ []) × (product_faults (cabinet_count d * round_count d * tick_count d) ≡ []) × (all_table_faults 1 (cabinets_of d) ≡ [])
 faultless-parts d e =
-    let names = both-none (object_of (scenario_shape (round_count d) (cabinet_count d)) [] d) (product_faults (cabinet_count d * round_count d * tick_count d) ++ all_table_faults 1 (cabinets_of d)) e in
+    let names = both-none (object_of (scenario_shape (round_count d) (cabinet_count d)) [] d)
+    (product_faults (cabinet_count d * round_count d * tick_count d) ++ all_table_faults 1 (cabinets_of d)) e in
     let rest = both-none (product_faults (cabinet_count d * round_count d * tick_count d)) (all_table_faults 1 (cabinets_of d)) names.1 in
     (names.0, rest.0, rest.1)

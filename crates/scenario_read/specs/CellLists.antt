@@ -1,6 +1,6 @@
 -- A cell of the tables and what is put there, as a list: a word, the numbers of its row and column, and a number or a text in
 -- hexadecimal digits.
-use Rattle.std.specs.Prelude.{ℕ, ◌+◌, ◌==◌, ◌&&◌, nat_le, Bool, if◌then◌else◌, List, [], codes, length, bytes_eq, Option, Some, None, option_and_then, unwrap_or, Result, Ok, Err}
+use Rattle.std.specs.Prelude.{ℕ, ◌+◌, ◌==◌, ◌&&◌, nat_le, if◌then◌else◌, List, [], codes, length, bytes_eq, Option, Some, None, option_and_then, unwrap_or, Result, Ok, Err}
 use Rattle.hex.specs.declared.error.FromHexError.{FromHexError}
 use Rattle.hex.specs.Hex.{decode_of}
 use Rattle.serde_json.specs.Data.{Num, unsigned, negative, float, Data, null, boolean, number, string, array, object}
@@ -10,7 +10,7 @@ use Rattle.sig_tables.specs.declared.cells.Cell.{Cell}
 use Rattle.sig_tables.specs.declared.cells.Cell.TheVariants.{Phase, Sequence, Split, Pattern, Preempt, Unit as UnitCell}
 use Rattle.sig_tables.specs.declared.cells.Allowed.{Allowed}
 use Rattle.sig_tables.specs.declared.cells.Allowed.TheVariants.{Numbers, Lists}
-use Rattle.sig_tables.specs.Cells.{Content, Number, Octets}
+use Rattle.sig_tables.specs.Cells.{Content, Number, Octets, is_cell}
 use Rattle.sig_tables.specs.Ranges.{allowed_in}
 use Rattle.scenario_read.specs.Kinds.{Fit, Wrong, Kind, fault_at, within, whole_fits, items_in}
 
@@ -63,19 +63,6 @@ put_value cell d = unwrap_or (at (value_place cell) d) null
 -- how many items a list has
 abbrev pub item_count : Data → ℕ
 item_count d = items_len (items_in d)
-
--- a number lies from least to most
-abbrev pub lies : ℕ → ℕ → ℕ → Bool
-lies n least most = nat_le least n && nat_le n most
-
--- the cells that there are
-abbrev pub is_cell : Cell → Bool
-is_cell (Phase p c) = lies p 1 16 && lies c 2 23
-is_cell (Sequence s r) = lies s 1 16 && lies r 1 2
-is_cell (Split s p c) = lies s 1 32 && lies p 1 16 && lies c 3 5
-is_cell (Pattern n c) = lies n 1 48 && lies c 2 5
-is_cell (Preempt i c) = lies i 1 8 && lies c 4 15
-is_cell (UnitCell n) = lies n 1 6
 
 -- at most 16 octets fit, and text that cannot be read as octets is of the wrong kind
 abbrev pub decoded_fits : Result (List ℕ) FromHexError → Fit

@@ -1,45 +1,14 @@
 -- All faults of a scenario's value, in the order of the checks: names and values, then the number of ticks, then the tables.
-use Rattle.std.specs.Prelude.{ℕ, ◌+◌, ◌*◌, ◌&&◌, nat_le, false, true, Bool, if◌then◌else◌, List, [], ◌∷◌, ◌++◌, codes, Option, Some, None, Result, Ok, Err}
+use Rattle.std.specs.Prelude.{ℕ, ◌+◌, ◌*◌, nat_le, false, if◌then◌else◌, List, [], ◌∷◌, ◌++◌, codes, Option, Some, None}
 use Rattle.serde_json.specs.Data.{Data}
 use Rattle.sig_types.specs.declared.notes.Broken.{Broken}
-use Rattle.sig_tables.specs.declared.tables.Tables.{Tables}
-use Rattle.sig_tables.specs.declared.cells.Cell.{Cell}
-use Rattle.sig_tables.specs.declared.cells.CellFault.{CellFault}
-use Rattle.sig_tables.specs.Cells.{Content, with_content}
-use Rattle.sig_tables.specs.Ranges.{fits_of}
-use Rattle.sig_tables.specs.Standard.{std8, max8}
 use Rattle.rule_book.specs.Rules.{broken}
-use Rattle.scenario_data.specs.declared.scenario.Base.{Base}
-use Rattle.scenario_data.specs.declared.scenario.Base.TheVariants.{Std8, Max8}
 use Rattle.scenario_data.specs.Causes.{Cause, Limit, Broken as BrokenCause}
 use Rattle.scenario_data.specs.Content.{CabinetContent}
-use Rattle.scenario_read.specs.CellLists.{is_cell}
+use Rattle.scenario_data.specs.Opening.{opening_tables}
 use Rattle.scenario_read.specs.Fields.{object_of}
 use Rattle.scenario_read.specs.Table.{scenario_shape}
 use Rattle.scenario_read.specs.Content.{round_count, tick_count, cabinet_count, cabinets_of}
-
--- the standard tables
-abbrev pub base_tables : Base → Tables
-base_tables Std8 = std8
-base_tables Max8 = max8
-
--- a value fits its cell
-abbrev pub is_ok : {A : Type 0} → Result A CellFault → Bool
-is_ok (Ok a) = true
-is_ok (Err e) = false
-
--- the tables after a cell was put; one that there isn't, or whose value doesn't fit, changes nothing
-abbrev pub with_put : Tables → Cell × Content → Tables
-with_put t put = if is_cell put.0 && is_ok (fits_of put.0 put.1) then with_content t put.0 put.1 else t
-
--- the tables after cells were put in order
-abbrev pub with_cells : Tables → List (Cell × Content) → Tables
-with_cells t [] = t
-with_cells t (put ∷ puts) = with_cells (with_put t put) puts
-
--- the tables that a cabinet opens with: its base, with its cells put in order
-abbrev pub opening_tables : CabinetContent → Tables
-opening_tables c = with_cells (base_tables c.base) c.cells
 
 -- the broken rules of a cabinet as faults
 abbrev pub broken_causes : ℕ → List Broken → List Cause

@@ -1,13 +1,13 @@
 //! A cell of the tables and what is put there, as a list of a scenario: a word, the numbers of its row and column, and a
-//! number or a text in hexadecimal digits (the objects of NTCIP 1202).
+//! number or a text in hexadecimal digits (columns after NTCIP 1202).
 
 ghost use Rattle.std.specs.Prelude.{◌≡◌, ◌≤◌, length, IsTrue};
 ghost use Rattle.serde_json.specs.View.{view};
-ghost use Rattle.sig_tables.specs.Cells.{IsCell, content_of};
+ghost use Rattle.sig_tables.specs.Cells.{IsCell, is_cell, content_of};
 ghost use Rattle.sig_tables.specs.Ranges.{allowed_in};
 ghost use Rattle.scenario_data.specs.Content.{put_content};
 ghost use Rattle.scenario_read.specs.Kinds.{fault_at};
-ghost use Rattle.scenario_read.specs.CellLists.{octet_at, octet_of, named_cell, listed_cell, value_place, item_count, is_cell, octets_fits, content_fits, content_in, cell, cell_of};
+ghost use Rattle.scenario_read.specs.CellLists.{octet_at, octet_of, named_cell, listed_cell, value_place, item_count, octets_fits, content_fits, content_in, cell, cell_of};
 ghost use Rattle.scenario_read.specs.Readers.{steps_of, Answers};
 
 use crate::place::{Place, refuse};

@@ -15,7 +15,6 @@ mod values;
 pub use inputs::input_in;
 pub use reading::{read, text};
 pub use scenario::{Parts, checked_parts, scenario_from};
-pub use tables::opening_tables;
 
 #[cfg(test)]
 mod tests;

@@ -1,8 +1,8 @@
 //! Refusals in the words of the program, with texts and lines that another program made from the same rules, and rows
 //! worked by hand; and what a scenario holds.
 
-use crate::{opening_tables, read, text};
-use scenario_data::{Base, ReadFail, Refusal, Scenario};
+use crate::{read, text};
+use scenario_data::{Base, ReadFail, Refusal, Scenario, opening_tables};
 use sig_tables::{Cell, CellValue, Tables};
 use sig_types::Field;
 use std::alloc::{AllocError, Global};
@@ -22,7 +22,7 @@ fn told(alloc: Global, text: &str) -> Result<String, AllocError> {
     }
 }
 
-const REFUSALS: [(&str, &str); 27] = [
+const REFUSALS: [(&str, &str); 29] = [
     ("", "not JSON"),
     ("1", "field ."),
     ("{}", "field version"),
@@ -114,6 +114,14 @@ const REFUSALS: [(&str, &str); 27] = [
     (
         "{\"cabinets\":[{\"cells\":[[\"sequence\",1,1,\"012\"]]}],\"rounds\":1,\"ticks\":1,\"version\":1}",
         "field cabinets[0].cells[0]",
+    ),
+    (
+        "{\"cabinets\":[{\"cells\":[[\"unit\",7,2],[\"unit\",8,1],[\"unit\",8,3]]}],\"rounds\":1,\"ticks\":1,\"version\":1}",
+        "limit cabinets[0].cells[2]",
+    ),
+    (
+        "{\"cabinets\":[{\"cells\":[[\"unit\",7,1],[\"unit\",9,1]]}],\"rounds\":1,\"ticks\":1,\"version\":1}",
+        "field cabinets[0].cells[1]",
     ),
     (
         "{\"community\":\"public\",\"cabinets\":[{}],\"rounds\":1,\"ticks\":1,\"version\":1}",

@@ -43,13 +43,17 @@ tree-returns-in-Null-clause-ok t c =
 pub tree-returns-in-Some-tree_items-clause-ok : goal.tree-returns-in-Some-tree_items-clause-ok
 tree-returns-in-Some-tree_items-clause-ok t c =
     let first : c.args.reader.now ≡ token_of c.in_ok-token.token ∷ c.next.new.self = grind arith in
-    let opened = ap (converted of_json) (ap (value c.args.depth) (first ∙ ap (λ k. token_of k ∷ c.next.new.self) c.in-BeginArray.is) ∙ value-begin_array c.args.depth c.next.new.self (omega arith)) ∙ converted-array (items (value (c.args.depth - 1)) (length c.next.new.self) c.next.new.self) in
+    let opened = ap (converted of_json)
+    (ap (value c.args.depth) (first ∙ ap (λ k. token_of k ∷ c.next.new.self) c.in-BeginArray.is)
+    ∙ value-begin_array c.args.depth c.next.new.self (omega arith)) ∙ converted-array (items (value (c.args.depth - 1)) (length c.next.new.self) c.next.new.self) in
     opened ∙ ap (parse_map array) c.in-Some-tree_items.ensures.ok ∙ ap (λ d. Some (d, c.tree_items.new.reader)) (sym (view-Array c.in-Some-tree_items.items))
 
 pub tree-returns-in-Some-tree_members-clause-ok : goal.tree-returns-in-Some-tree_members-clause-ok
 tree-returns-in-Some-tree_members-clause-ok t c =
     let first : c.args.reader.now ≡ token_of c.in_ok-token.token ∷ c.next.new.self = grind arith in
-    let opened = ap (converted of_json) (ap (value c.args.depth) (first ∙ ap (λ k. token_of k ∷ c.next.new.self) c.in-BeginObject.is) ∙ value-begin_object c.args.depth c.next.new.self (omega arith)) ∙ converted-object (members (value (c.args.depth - 1)) (length c.next.new.self) c.next.new.self) in
+    let opened = ap (converted of_json)
+    (ap (value c.args.depth) (first ∙ ap (λ k. token_of k ∷ c.next.new.self) c.in-BeginObject.is)
+    ∙ value-begin_object c.args.depth c.next.new.self (omega arith)) ∙ converted-object (members (value (c.args.depth - 1)) (length c.next.new.self) c.next.new.self) in
     opened ∙ ap (parse_map object) c.in-Some-tree_members.ensures.ok ∙ ap (λ d. Some (d, c.tree_members.new.reader)) (sym (view-Object c.in-Some-tree_members.members))
 
 pub tree_items-items-preserved : goal.tree_items-items-preserved

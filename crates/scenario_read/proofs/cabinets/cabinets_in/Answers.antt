@@ -9,4 +9,5 @@ use Rattle.scenario_read.proofs.cabinets.cabinets_in.Goals as goal
 pub returns-in-Err-clause-read : goal.returns-in-Err-clause-read
 returns-in-Err-clause-read c =
     let l = c.loop-place in
-    Walked-refused (object_of cabinet_shape) _ cabinet_of c.args.items.now.items (map cabinet_content l.found.items) l.place c.index.result.now c.in-Err.fail (omega arith) (rw (← c.index.ensures) c.in-Err.ensures) l.invariant.0
+    Walked-refused (object_of cabinet_shape) _ cabinet_of c.args.items.now.items
+    (map cabinet_content l.found.items) l.place c.index.result.now c.in-Err.fail (omega arith) (rw (← c.index.ensures) c.in-Err.ensures) l.invariant.0

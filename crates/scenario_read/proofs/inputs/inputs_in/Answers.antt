@@ -8,4 +8,5 @@ use Rattle.scenario_read.proofs.inputs.inputs_in.Goals as goal
 pub returns-in-Err : goal.returns-in-Err
 returns-in-Err c =
     let l = c.loop-place in
-    Walked-refused (object_of (input_shape c.args.rounds c.args.cabinets)) _ (input_of c.args.rounds c.args.cabinets) c.args.items.now.items l.found.items l.place c.index.result.now c.in-Err.fail (omega arith) (rw (← c.index.ensures) c.in-Err.ensures) l.invariant
+    Walked-refused (object_of (input_shape c.args.rounds c.args.cabinets)) _
+    (input_of c.args.rounds c.args.cabinets) c.args.items.now.items l.found.items l.place c.index.result.now c.in-Err.fail (omega arith) (rw (← c.index.ensures) c.in-Err.ensures) l.invariant

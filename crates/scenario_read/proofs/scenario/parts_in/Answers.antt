@@ -25,7 +25,8 @@ returns-in-Err-inputs_at-clause-read c =
     let count : c.len.result ≡ cabinet_count d = long ∙ sym (length-map c.in-Ok.cabinets.items cabinet_content) ∙ ap length c.in-Ok.ensures.read.1 in
     let fail = c.in-Err-inputs_at.fail in
     let refused : Refuses fail (field_faults [] d (inputs (round_count d) (cabinet_count d))) =
-    at-same (λ r k. Refuses fail (field_faults [] d (inputs r k))) c.in_ok-rounds.rounds c.len.result (round_count d) (cabinet_count d) c.in_ok-rounds.ensures.read.1 count c.in-Err-inputs_at.ensures in
+    at-same (λ r k. Refuses fail (field_faults [] d (inputs r k))) c.in_ok-rounds.rounds c.len.result (round_count d)
+    (cabinet_count d) c.in_ok-rounds.ensures.read.1 count c.in-Err-inputs_at.ensures in
     subst (λ (causes : List Cause). Refuses fail causes) (sym known)
     (after-four fail _ _ _ _ _ c.in_ok-version.ensures.read.0 c.in_ok-rounds.ensures.read.0 c.in_ok-ticks.ensures.read.0 c.in-Ok.ensures.read.0 refused)
 
