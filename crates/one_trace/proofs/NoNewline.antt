@@ -1,5 +1,6 @@
 -- No line holds a newline but at its end.
-use Rattle.std.proofs.Common.{◌≡◌, ◌≢◌, ℕ, ℤ, pos, negsuc, ◌<◌, ◌^◌, ◌==◌, ◌&&◌, not, suc, zero, Bool, true, List, [], ◌∷◌, ◌++◌, get_or, length, map, codes, decimal, Option, Some, None, Result, Ok, Err, refl, arith, lit<, ◌/◌, ◌%◌}
+use Rattle.std.proofs.Common.{◌≡◌, ◌≢◌, ℕ, ℤ, pos, negsuc, ◌<◌, ◌^◌, ◌==◌, ◌&&◌, not, suc, zero, Bool, true, List, [], ◌∷◌, ◌++◌, get_or, length, map}
+use Rattle.std.proofs.Common.{codes, decimal, Option, Some, None, Result, Ok, Err, refl, arith, lit<, ◌/◌, ◌%◌}
 use Rattle.std.specs.Fmt.{signed_decimal}
 use Rattle.std.specs.Int.{w32}
 use Rattle.std.specs.Int.RustNames.{FitsSigned}
@@ -18,7 +19,7 @@ use Rattle.trace_text.specs.declared.lines.Line.{Line}
 use Rattle.trace_text.specs.declared.lines.Line.TheVariants.{S, F, R, M, J, L, A, Z}
 use Rattle.trace_text.specs.IsLine.{IsLine, FitsRun, FitsRuns, FitsMode, FitsNote, FitsLoad}
 use Rattle.trace_text.specs.Line.{line_words, note_words, load_words}
-use Rattle.trace_text.specs.Texts.{colour_letter, signal_letter, colours_text, signals_text, mode_text, run_text, reply_text}
+use Rattle.trace_text.specs.Texts.{colour_letter, signal_letter, colours_text, signals_text, mode_text, run_word, reply_text}
 use Rattle.trace_text.specs.Words.{Lacks, spaced, unended}
 use Rattle.trace_text.proofs.Cuts.{lacks_head, lacks_tail}
 use Rattle.trace_text.proofs.RunWords.{digits_lack}
@@ -105,12 +106,13 @@ abbrev OneLineEach : List (List ℕ) → Type 0
 OneLineEach [] = Unit {0}
 OneLineEach (word ∷ words) = OneLine word × OneLineEach words
 
-run_word : (run : ℕ × ℕ) → FitsRun run → OneLine (run_text run)
-run_word run fits = joined (decimal run.0) (codes "*" ++ decimal run.1) (number run.0 fits.0) (λ e. omega arith, number run.1 fits.1)
+one_line_run : (run : ℕ × ℕ) → FitsRun run → OneLine (run_word run)
+one_line_run run fits = joined (decimal run.0) (codes "*" ++ decimal run.1) (number run.0 fits.0) (λ e. omega arith, number run.1 fits.1)
 
-run_words : (runs : List (ℕ × ℕ)) → FitsRuns runs → OneLineEach (map run_text runs)
+run_words : (runs : List (ℕ × ℕ)) → FitsRuns runs → OneLineEach (map run_word runs)
 run_words [] fits = tt
-run_words (run ∷ runs) fits = (run_word run (fits 0 (omega arith)), run_words runs (λ k low. fits (suc k) (let below : k < length runs = low in omega arith)))
+run_words (run ∷ runs) fits =
+    (one_line_run run (fits 0 (omega arith)), run_words runs (λ k low. fits (suc k) (let below : k < length runs = low in omega arith)))
 
 reply_word : (reply : Option (ArrayVec ℕ)) → OneLine (reply_text reply)
 reply_word None = literal (codes "-") refl
@@ -140,7 +142,8 @@ frame_each : (cab tick : ℕ) (veh : List Colour) (ped : List Ped) (m : Mode) (c
     → OneLineEach (line_words (F cab tick veh ped m counter target version))
 frame_each cab tick veh ped m counter target version is =
     let fits = is.1 in
-    let ends : OneLineEach (decimal counter ∷ decimal target ∷ decimal version ∷ []) = (number counter fits.5, (number target fits.6, (number version fits.7, tt))) in
+    let ends : OneLineEach (decimal counter ∷ decimal target ∷ decimal version ∷ [])
+    = (number counter fits.5, (number target fits.6, (number version fits.7, tt))) in
     let shown : OneLineEach (colours_text veh ∷ signals_text ped ∷ mode_text m ∷ decimal counter ∷ decimal target ∷ decimal version ∷ []) =
     (letters colour_letter colour_other veh, (letters signal_letter signal_other ped, (mode_word m fits.4, ends))) in
     (literal (codes "F") refl, (number cab fits.0, (number tick fits.1, shown)))

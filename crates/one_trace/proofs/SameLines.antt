@@ -1,5 +1,6 @@
 -- The words of a line tell the line, and so does its text.
-use Rattle.std.proofs.Common.{◌≡◌, ℕ, ℤ, ◌<◌, ◌^◌, List, [], ◌∷◌, ◌++◌, get_or, drop, decimal, Option, Result, Ok, Err, refl, sym, ap, ◌∙◌, arith, ◌==◌, append-nil}
+use Rattle.std.proofs.Common.{◌≡◌, ℕ, ℤ, ◌<◌, ◌^◌, List, [], ◌∷◌, ◌++◌, get_or, drop, decimal, Option, Result, Ok, Err, refl, sym, ap, ◌∙◌, arith}
+use Rattle.std.proofs.Common.{◌==◌, append-nil}
 use Rattle.std.proofs.lemmas.List.{append_cancel_right}
 use Rattle.std.specs.List.{slice_split}
 use Rattle.arrayvec.specs.ArrayVec.{ArrayVec}
@@ -17,8 +18,8 @@ use Rattle.trace_text.specs.Words.{unended}
 use Rattle.trace_text.proofs.Endings.{unended-ended}
 use Rattle.trace_text.proofs.FirstWords.{kind, kind_told, first_word, first_letter}
 use Rattle.trace_text.proofs.Spaces.{line_split}
-use Rattle.one_trace.proofs.SameWords.{same_number, same_signed, same_colours, same_signals, same_runs, same_reply}
-use Rattle.one_trace.proofs.SameModes.{same_mode}
+use Rattle.one_trace.proofs.SameWords.{same_number, same_signed, colours_told, signals_told, same_runs, same_reply}
+use Rattle.one_trace.proofs.SameModes.{mode_told}
 
 -- the word at a place
 abbrev word : ℕ → List (List ℕ) → List ℕ
@@ -134,9 +135,9 @@ frame_is cab tick veh ped m counter target version fits (F c t v p n k g w) is e
     let also = is.1 in
     let same_cab : cab ≡ c = same_number cab c fits.0 also.0 (word_told 1 _ _ e) in
     let same_tick : tick ≡ t = same_number tick t fits.1 also.1 (word_told 2 _ _ e) in
-    let same_veh : veh ≡ v = same_colours veh v (word_told 3 _ _ e) in
-    let same_ped : ped ≡ p = same_signals ped p (word_told 4 _ _ e) in
-    let same_m : m ≡ n = same_mode m n fits.4 also.4 (word_told 5 _ _ e) in
+    let same_veh : veh ≡ v = colours_told veh v (word_told 3 _ _ e) in
+    let same_ped : ped ≡ p = signals_told ped p (word_told 4 _ _ e) in
+    let same_m : m ≡ n = mode_told m n fits.4 also.4 (word_told 5 _ _ e) in
     let same_counter : counter ≡ k = same_number counter k fits.5 also.5 (word_told 6 _ _ e) in
     let same_target : target ≡ g = same_number target g fits.6 also.6 (word_told 7 _ _ e) in
     let same_version : version ≡ w = same_number version w fits.7 also.7 (word_told 8 _ _ e) in
@@ -166,7 +167,8 @@ load_is : (cab id : ℕ) (r : Result ℕ Broken) → Fits (L cab id r) → (b : 
 load_is cab id r fits (L c i s) is e = same_load cab id r c i s fits.0 fits.1 fits.2 is.1.0 is.1.1 is.1.2 e
 load_is cab id r fits b is e = absurd (let told = kinds_told (L cab id r) b e in omega (arith, told))
 
-reply_is : (cab pass : ℕ) (r : Option (ArrayVec ℕ)) → Fits (A cab pass r) → (b : Line) → IsWorded b → line_words (A cab pass r) ≡ line_words b → A cab pass r ≡ b
+reply_is : (cab pass : ℕ) (r : Option (ArrayVec ℕ)) → Fits (A cab pass r) → (b : Line) → IsWorded b
+    → line_words (A cab pass r) ≡ line_words b → A cab pass r ≡ b
 reply_is cab pass r fits (A c p s) is e =
     let same : cab ≡ c = same_number cab c fits.0 is.1.0 (word_told 1 _ _ e) in
     let count : pass ≡ p = same_number pass p fits.1 is.1.1 (word_told 2 _ _ e) in

@@ -58,7 +58,8 @@ module _ (m n c d : ℕ) (low : m < 2 ^ 8) (below : n < 2 ^ 8) (e : 80 ∷ (deci
   same_preempt : m ≡ n
   same_preempt =
       let end : c ≡ d = same_end in
-      let cut : 80 ∷ decimal m ≡ 80 ∷ decimal n = append_cancel_right (80 ∷ decimal m) (80 ∷ decimal n) (d ∷ []) (ap (λ c. 80 ∷ (decimal m ++ c ∷ [])) (sym end) ∙ e) in
+      let cut : 80 ∷ decimal m ≡ 80 ∷ decimal n
+      = append_cancel_right (80 ∷ decimal m) (80 ∷ decimal n) (d ∷ []) (ap (λ c. 80 ∷ (decimal m ++ c ∷ [])) (sym end) ∙ e) in
       same_pattern 80 m n low below cut
 
 start_is : (b : Mode) → mode_text mode.Start ≡ mode_text b → mode.Start ≡ b
@@ -114,14 +115,14 @@ module _ (n : ℕ) (low : n < 2 ^ 8) where
   exit_is (mode.Dwell k) fits e = absurd (let told = same_end n k 120 100 low fits e in omega (arith, told))
   exit_is b fits e = absurd (let told = letters_told (mode.Exit n) b e in omega (arith, told))
 
-pub same_mode : (a b : Mode) → FitsMode a → FitsMode b → mode_text a ≡ mode_text b → a ≡ b
-same_mode mode.Start b fits also e = start_is b e
-same_mode mode.Free b fits also e = free_is b e
-same_mode (mode.Seek n) b fits also e = seek_is n fits b also e
-same_mode (mode.Coord n) b fits also e = coord_is n fits b also e
-same_mode mode.Ending b fits also e = ending_is b e
-same_mode mode.Flash b fits also e = flash_is b e
-same_mode (mode.Entry n) b fits also e = entry_is n fits b also e
-same_mode (mode.Track n) b fits also e = track_is n fits b also e
-same_mode (mode.Dwell n) b fits also e = dwell_is n fits b also e
-same_mode (mode.Exit n) b fits also e = exit_is n fits b also e
+pub mode_told : (a b : Mode) → FitsMode a → FitsMode b → mode_text a ≡ mode_text b → a ≡ b
+mode_told mode.Start b fits also e = start_is b e
+mode_told mode.Free b fits also e = free_is b e
+mode_told (mode.Seek n) b fits also e = seek_is n fits b also e
+mode_told (mode.Coord n) b fits also e = coord_is n fits b also e
+mode_told mode.Ending b fits also e = ending_is b e
+mode_told mode.Flash b fits also e = flash_is b e
+mode_told (mode.Entry n) b fits also e = entry_is n fits b also e
+mode_told (mode.Track n) b fits also e = track_is n fits b also e
+mode_told (mode.Dwell n) b fits also e = dwell_is n fits b also e
+mode_told (mode.Exit n) b fits also e = exit_is n fits b also e

@@ -7,7 +7,7 @@ use Rattle.trace_text.specs.Line.{line_text}
 use Rattle.trace_text.proofs.Cuts.{one_cut}
 use Rattle.safe_trace.specs.TraceText.{AreLines, lines_text}
 use Rattle.run_text.specs.Runnable.{Runnable}
-use Rattle.run_text.specs.Lines.{run_lines, run_text}
+use Rattle.run_text.specs.Lines.{run_lines, trace_of}
 use Rattle.run_text.specs.Streets.{StreetsSafe}
 use Rattle.run_text.proofs.Streets.{streets-safe}
 use Rattle.one_trace.proofs.NoNewline.{no_newline}
@@ -33,7 +33,7 @@ same_lines (x ∷ xs) (y ∷ ys) are also e =
     let rest : xs ≡ ys = same_lines xs ys are.1 also.1 both.1 in
     rw (first, rest) refl
 
-pub lines_safe : (s : ScenarioContent) → Runnable s → (lines : List Line) → AreLines lines → lines_text lines ≡ run_text s → StreetsSafe s lines
+pub lines_safe : (s : ScenarioContent) → Runnable s → (lines : List Line) → AreLines lines → lines_text lines ≡ trace_of s → StreetsSafe s lines
 lines_safe s run lines are e =
     let own = streets-safe s run in
     subst (StreetsSafe s) (same_lines (run_lines s) lines own.proper are (sym e)) own

@@ -8,7 +8,7 @@ ghost use Rattle.trace_text.specs.IsLine.{IsLine};
 ghost use Rattle.trace_text.specs.Line.{line_text};
 ghost use Rattle.safe_trace.specs.TraceText.{AreLines, lines_text};
 ghost use Rattle.scenario_data.specs.Content.{ScenarioContent};
-ghost use Rattle.run_text.specs.Lines.{run_text};
+ghost use Rattle.run_text.specs.Lines.{trace_of};
 ghost use Rattle.run_text.specs.Runnable.{Runnable};
 ghost use Rattle.run_text.specs.Streets.{StreetsSafe};
 
@@ -24,6 +24,6 @@ pub fn texts_have_one_list()
 
 /// So whatever proper lines have the text of a run, by them every street is safe.
 pub fn any_lines_are_safe()
-    ensures { (s : ScenarioContent) → Runnable s → (lines : List Line) → AreLines lines → lines_text lines ≡ run_text s
+    ensures { (s : ScenarioContent) → Runnable s → (lines : List Line) → AreLines lines → lines_text lines ≡ trace_of s
         → StreetsSafe s lines }
 {}

@@ -1,84 +1,93 @@
--- A run brings a cabinet inputs and ticks alone: its tables stay in force as version 0, and there are as many frames as ticks.
-use Rattle.std.proofs.Common.{◌≡◌, ◌+◌, ◌*◌, sym, ℕ, zero, suc, List, [], ◌∷◌, ◌++◌, length, map, replicate, refl, arith}
+-- A run brings a cabinet inputs from the street and ticks alone: each tick is about Start and Free, its tables stay in force as
+-- version 0, and there are as many frames as ticks.
+use Rattle.std.proofs.Common.{◌≡◌, ◌+◌, ◌*◌, ◌==◌, ◌&&◌, sym, ap, ℕ, zero, suc, Bool, true, false, if◌then◌else◌, List, [], ◌∷◌, ◌++◌, length}
+use Rattle.std.proofs.Common.{map, replicate, refl, arith}
 use Rattle.sig_types.specs.declared.frame.Field.{Field}
 use Rattle.sig_tables.specs.declared.tables.Tables.{Tables}
-use Rattle.sig_tables.specs.Past.{Event, Tick, Input, Install, SetPattern, SetClock, Ask, Cancel, History}
-use Rattle.sig_tables.specs.Decide.{with_one, frames, past_of}
-use Rattle.laws.specs.Lawful.{Sound, Lawful}
+use Rattle.sig_tables.specs.Slots.{is_defined}
+use Rattle.sig_tables.specs.Past.{Event, Tick, Install, History}
+use Rattle.sig_tables.specs.Plain.{IsStreet, OnlyStreet, RunsPlain, Plain}
+use Rattle.sig_tables.specs.Decide.{opening_orders, since_opening, with_one, frames, past_of, past_at}
+use Rattle.sig_tables.proofs.PlainRuns.{runs-plain, all-plain}
 use Rattle.safe_trace.specs.Written.{version_tables}
+use Rattle.scenario_data.specs.declared.scenario.Input.{Input}
 use Rattle.scenario_data.specs.Content.{CabinetContent, ScenarioContent}
-use Rattle.scenario_read.specs.Faults.{opening_tables}
-use Rattle.run_text.specs.Journal.{acts_of, events_of, hears, inputs_of, one_tick}
+use Rattle.scenario_data.specs.Opening.{opening_tables}
+use Rattle.scenario_data.specs.Inputs.{inputs_of}
+use Rattle.run_text.specs.Journal.{acts_of, events_of, hears, one_tick}
 use Rattle.run_text.specs.Cabinets.{after, history_after}
+use Rattle.run_text.specs.Runnable.{AllHeard}
 
--- inputs and ticks alone
-abbrev pub OnlyHeard : List Event → Type 0
-OnlyHeard [] = Unit {0}
-OnlyHeard (Tick ∷ events) = OnlyHeard events
-OnlyHeard (Input field ∷ events) = OnlyHeard events
-OnlyHeard (_ ∷ events) = ⊥
-
--- a history of inputs and ticks alone, opened with these tables
-pub record HeardOnly (t : Tables) (h : History) : Type 0 where
+-- a history of inputs from the street and ticks alone, opened with these tables and with no pattern in command
+pub record StreetAlone (t : Tables) (h : History) : Type 0 where
   pub tables : h.tables ≡ t
-  pub events : OnlyHeard h.events
+  pub free : h.command ≡ 0
+  pub events : OnlyStreet h.events
 
-pub after-heard : (t : Tables) (h : History) (events : List Event) → HeardOnly t h → OnlyHeard events → HeardOnly t (after h events)
-after-heard t h [] o only = o
-after-heard t h (Tick ∷ events) o only = after-heard t (with_one h Tick) events (record { tables = o.tables; events = o.events }) only
-after-heard t h (Input field ∷ events) o only = after-heard t (with_one h (Input field)) events (record { tables = o.tables; events = o.events }) only
-after-heard t h (Install u ∷ events) o only = absurd only
-after-heard t h (SetPattern n ∷ events) o only = absurd only
-after-heard t h (SetClock n ∷ events) o only = absurd only
-after-heard t h (Ask request ∷ events) o only = absurd only
-after-heard t h (Cancel n ∷ events) o only = absurd only
+pub after-street : (t : Tables) (h : History) (events : List Event) → StreetAlone t h → OnlyStreet events → StreetAlone t (after h events)
+after-street t h [] o only = o
+after-street t h (e ∷ events) o only =
+    after-street t (with_one h e) events (record { tables = o.tables; free = o.free; events = (only.0, o.events) }) only.1
 
-replicate-heard : (n : ℕ) → OnlyHeard (events_of (replicate n one_tick))
-replicate-heard zero = tt
-replicate-heard (suc n) = replicate-heard n
+replicate-street : (n : ℕ) → OnlyStreet (events_of (replicate n one_tick))
+replicate-street zero = tt
+replicate-street (suc n) = (tt, replicate-street n)
 
-heard-then : (fields : List Field) (n : ℕ) → OnlyHeard (events_of (map hears fields ++ replicate n one_tick))
-heard-then [] n = replicate-heard n
-heard-then (field ∷ fields) n = heard-then fields n
+-- each of them is a detector or a button of a phase
+abbrev AllStreet : List Field → Type 0
+AllStreet [] = Unit {0}
+AllStreet (field ∷ fields) = IsStreet field × AllStreet fields
 
--- what happens in a round is inputs and ticks
-pub round-heard : (s : ScenarioContent) (round cab : ℕ) → OnlyHeard (events_of (acts_of s round cab))
-round-heard s round cab = heard-then (inputs_of round cab s.inputs) s.ticks
+street-then : (fields : List Field) (n : ℕ) → AllStreet fields → OnlyStreet (events_of (map hears fields ++ replicate n one_tick))
+street-then [] n all = replicate-street n
+street-then (field ∷ fields) n all = (all.0, street-then fields n all.1)
 
-pub history-heard : (s : ScenarioContent) (cab : ℕ) (c : CabinetContent) (rounds : ℕ) → HeardOnly (opening_tables c) (history_after s cab c rounds)
-history-heard s cab c zero = record { tables = refl; events = tt }
-history-heard s cab c (suc rounds) =
-    after-heard (opening_tables c) (history_after s cab c rounds) (events_of (acts_of s (suc rounds) cab)) (history-heard s cab c rounds) (round-heard s (suc rounds) cab)
+inputs-street : (round cab : ℕ) (inputs : List Input) → AllHeard inputs → AllStreet (inputs_of round cab inputs)
+inputs-street round cab [] heard = tt
+inputs-street round cab (i ∷ inputs) heard = split ((i.round == round) && (i.cabinet == cab)) (inputs-street round cab inputs heard.1)
+  where
+    split : (b : Bool) → AllStreet (inputs_of round cab inputs)
+        → AllStreet (if b then i.field ∷ inputs_of round cab inputs else inputs_of round cab inputs)
+    split true rest = (heard.0, rest)
+    split false rest = rest
 
-pub heard-lawful : (t : Tables) (events : List Event) → OnlyHeard events → Sound t → Lawful t events
-heard-lawful t [] o s = s
-heard-lawful t (Tick ∷ events) o s = heard-lawful t events o s
-heard-lawful t (Input field ∷ events) o s = heard-lawful t events o s
-heard-lawful t (Install u ∷ events) o s = absurd o
-heard-lawful t (SetPattern n ∷ events) o s = absurd o
-heard-lawful t (SetClock n ∷ events) o s = absurd o
-heard-lawful t (Ask request ∷ events) o s = absurd o
-heard-lawful t (Cancel n ∷ events) o s = absurd o
+-- what happens in a round is inputs from the street and ticks
+pub round-street : (s : ScenarioContent) (round cab : ℕ) → AllHeard s.inputs → OnlyStreet (events_of (acts_of s round cab))
+round-street s round cab heard = street-then (inputs_of round cab s.inputs) s.ticks (inputs-street round cab s.inputs heard)
 
-pub heard-tables : (t : Tables) (events : List Event) → OnlyHeard events → (version : ℕ) → version_tables t events version ≡ t
-heard-tables t [] o version = refl
-heard-tables t (Tick ∷ events) o version = heard-tables t events o version
-heard-tables t (Input field ∷ events) o version = heard-tables t events o version
-heard-tables t (Install u ∷ events) o version = absurd o
-heard-tables t (SetPattern n ∷ events) o version = absurd o
-heard-tables t (SetClock n ∷ events) o version = absurd o
-heard-tables t (Ask request ∷ events) o version = absurd o
-heard-tables t (Cancel n ∷ events) o version = absurd o
+pub history-street : (s : ScenarioContent) (cab : ℕ) (c : CabinetContent) (rounds : ℕ) → AllHeard s.inputs → c.pattern ≡ 0
+    → StreetAlone (opening_tables c) (history_after s cab c rounds)
+history-street s cab c zero heard free = record { tables = refl; free = free; events = tt }
+history-street s cab c (suc rounds) heard free =
+    after-street (opening_tables c) (history_after s cab c rounds) (events_of (acts_of s (suc rounds) cab))
+    (history-street s cab c rounds heard free) (round-street s (suc rounds) cab heard)
 
-pub heard-version : (t : Tables) (events : List Event) → OnlyHeard events → (past_of t events).version ≡ 0
-heard-version t [] o = refl
-heard-version t (Tick ∷ events) o = heard-version t events o
-heard-version t (Input field ∷ events) o = heard-version t events o
-heard-version t (Install u ∷ events) o = absurd o
-heard-version t (SetPattern n ∷ events) o = absurd o
-heard-version t (SetClock n ∷ events) o = absurd o
-heard-version t (Ask request ∷ events) o = absurd o
-heard-version t (Cancel n ∷ events) o = absurd o
+-- no pattern is in command, and no flash
+no-pattern : (t u : Tables) (command : ℕ) → command ≡ 0 → is_defined u command ≡ false
+no-pattern t u command e = ap (is_defined u) e
+
+no-flash : (command : ℕ) → command ≡ 0 → (command == 255) ≡ false
+no-flash command e = ap (λ (n : ℕ). n == 255) e
+
+-- the next tick is about Start and Free alone, and so was each before
+pub street-runs : (t : Tables) (h : History) → StreetAlone t h → RunsPlain (past_at h)
+street-runs t h o = runs-plain h.tables h.command h.clock h.events (no-pattern t h.tables h.command o.free) (no-flash h.command o.free) o.events
+
+pub street-plain : (t : Tables) (h : History) → StreetAlone t h → Plain h.tables (since_opening h)
+street-plain t h o = all-plain h.tables h.command h.clock h.events (no-pattern t h.tables h.command o.free) (no-flash h.command o.free) o.events
+
+-- its tables stay in force, and are never replaced
+pub street-tables : (t : Tables) (command clock : ℕ) (events : List Event) → OnlyStreet events → (version : ℕ)
+    → version_tables t (events ++ opening_orders command clock) version ≡ t
+street-tables t command clock [] o version = refl
+street-tables t command clock (Install u ∷ events) o version = absurd o.0
+street-tables t command clock (_ ∷ events) o version = street-tables t command clock events o.1 version
+
+pub street-version : (t : Tables) (command clock : ℕ) (events : List Event) → OnlyStreet events
+    → (past_of t (events ++ opening_orders command clock)).version ≡ 0
+street-version t command clock [] o = refl
+street-version t command clock (Install u ∷ events) o = absurd o.0
+street-version t command clock (_ ∷ events) o = street-version t command clock events o.1
 
 -- the number of ticks among events
 abbrev pub tick_count : List Event → ℕ
@@ -91,14 +100,10 @@ pub after-length : (h : History) (events : List Event) → length (frames (after
 after-length h [] = sym (omega arith)
 after-length h (Tick ∷ events) =
     let more : length (frames (with_one h Tick)) ≡ suc (length (frames h)) = refl in
-    let rest : length (frames (after (with_one h Tick) events)) ≡ length (frames (with_one h Tick)) + tick_count events = after-length (with_one h Tick) events in
+    let rest : length (frames (after (with_one h Tick) events)) ≡ length (frames (with_one h Tick)) + tick_count events
+    = after-length (with_one h Tick) events in
     omega (arith, more, rest)
-after-length h (Input field ∷ events) = after-length (with_one h (Input field)) events
-after-length h (Install u ∷ events) = after-length (with_one h (Install u)) events
-after-length h (SetPattern n ∷ events) = after-length (with_one h (SetPattern n)) events
-after-length h (SetClock n ∷ events) = after-length (with_one h (SetClock n)) events
-after-length h (Ask request ∷ events) = after-length (with_one h (Ask request)) events
-after-length h (Cancel n ∷ events) = after-length (with_one h (Cancel n)) events
+after-length h (e ∷ events) = after-length (with_one h e) events
 
 replicate-count : (n : ℕ) → tick_count (events_of (replicate n one_tick)) ≡ n
 replicate-count zero = refl

@@ -1,25 +1,30 @@
 -- The lines of a run are lines of a trace; each frame's line has version 0, and there is none of a download.
-use Rattle.std.proofs.Common.{◌≡◌, ◌<◌, ◌≤◌, ◌+◌, ◌*◌, ◌^◌, ◌==◌, ℕ, zero, suc, Bool, true, false, if◌then◌else◌, List, [], ◌∷◌, ◌++◌, length, refl, mul-le-mul, arith}
+use Rattle.std.proofs.Common.{◌≡◌, ◌<◌, ◌≤◌, ◌+◌, ◌*◌, ◌^◌, ◌==◌, ℕ, zero, suc, Bool, true, false, if◌then◌else◌, List, [], ◌∷◌, ◌++◌, length, refl}
+use Rattle.std.proofs.Common.{sym, subst, mul-le-mul, arith}
 use Rattle.sig_types.specs.declared.frame.Mode.TheVariants.{Start, Free}
 use Rattle.sig_types.specs.declared.frame.Frame.{Frame}
 use Rattle.sig_tables.specs.declared.tables.Tables.{Tables}
-use Rattle.sig_tables.specs.Past.{Event, Tick, Input, Install, SetPattern, SetClock, Ask, Cancel, History}
-use Rattle.sig_tables.specs.Decide.{decide, last_frame_of, frames, with_one}
+use Rattle.sig_tables.specs.Past.{Event, Tick, History}
+use Rattle.sig_tables.specs.Seen.{sight_seen, moves_seen}
+use Rattle.sig_tables.specs.Ticking.{colours_of}
+use Rattle.sig_tables.specs.Plain.{OnlyStreet}
+use Rattle.sig_tables.specs.Decide.{decide, last_frame_of, frames, past_at, with_one}
+use Rattle.sig_tables.proofs.FreeFrame.{frame-plain as moment-plain}
 use Rattle.trace_text.specs.declared.lines.Line.{Line}
 use Rattle.trace_text.specs.declared.lines.Line.TheVariants.{S, F, R, M, J, L, A, Z}
 use Rattle.trace_text.specs.IsLine.{IsLine, FitsMode}
 use Rattle.scenario_data.specs.Content.{CabinetContent, ScenarioContent}
-use Rattle.scenario_read.specs.Faults.{opening_tables}
+use Rattle.scenario_data.specs.Opening.{opening_tables}
 use Rattle.safe_trace.specs.Safe.{told}
 use Rattle.safe_trace.specs.TraceText.{AreLines}
 use Rattle.safe_trace.specs.Whole.{downloads}
 use Rattle.safe_trace.proofs.NoDownloads.{AllFirst}
 use Rattle.run_text.specs.Frames.{has_line}
 use Rattle.run_text.specs.Journal.{acts_of, events_of}
-use Rattle.run_text.specs.Cabinets.{opened, history_after}
-use Rattle.run_text.specs.Runnable.{Runnable}
+use Rattle.run_text.specs.Cabinets.{opening_history, history_after}
+use Rattle.run_text.specs.Runnable.{CanOpen, AllOpen, Runnable}
 use Rattle.run_text.specs.Lines.{shown_line, tick_lines, event_lines, events_lines, cabinet_lines, each_lines, rounds_lines, opening_lines, run_lines}
-use Rattle.run_text.proofs.StreetHeard.{HeardOnly, OnlyHeard, heard-version, history-heard, history-length, round-heard, round-count, tick_count}
+use Rattle.run_text.proofs.StreetHeard.{StreetAlone, street-runs, street-version, history-street, history-length, round-street, round-count, tick_count}
 use Rattle.run_text.proofs.StreetRuns.{journal-is-line}
 
 -- a frame's line has version 0, and no line is of a download
@@ -52,7 +57,8 @@ pub told-first : (cab : ℕ) (lines : List Line) → AllPlain lines → AllFirst
 told-first cab [] h = tt
 told-first cab (F c tick veh ped mode counter target version ∷ lines) h = split (c == cab) (told-first cab lines h.1)
   where
-    split : (b : Bool) → AllFirst (told cab lines) → AllFirst (if b then (tick, record { colours = veh; signals = ped; version = version }) ∷ told cab lines else told cab lines)
+    split : (b : Bool) → AllFirst (told cab lines)
+        → AllFirst (if b then (tick, record { colours = veh; signals = ped; mode = mode; version = version }) ∷ told cab lines else told cab lines)
     split true rest = (h.0.1, rest)
     split false rest = rest
 told-first cab (L c id outcome ∷ lines) h = absurd h.0.1
@@ -76,21 +82,23 @@ pub record FrameFits (f : Frame) : Type 0 where
   pub target : f.target ≡ 0
   pub version : f.version ≡ 0
 
-pub decide-fits : (t : Tables) (h : History) → HeardOnly t h → FrameFits (decide h)
-decide-fits t h only = record {
-  veh = refl;
-  ped = refl;
-  mode = either _;
-  counter = refl;
-  target = refl;
-  version = heard-version h.tables h.events only.events;
-}
+pub decide-fits : (t : Tables) (h : History) → StreetAlone t h → FrameFits (decide h)
+decide-fits t h o =
+    subst FrameFits (sym (moment-plain (past_at h) (sight_seen (past_at h)) (colours_of (past_at h) (moves_seen (past_at h))) (street-runs t h o)))
+    (record {
+      veh = refl;
+      ped = refl;
+      mode = either _;
+      counter = refl;
+      target = refl;
+      version = street-version h.tables h.command h.clock h.events o.events;
+    })
   where
     either : (b : Bool) → FitsMode (if b then Start else Free)
     either true = tt
     either false = tt
 
-opening-fits : (c : CabinetContent) → FrameFits (last_frame_of (opened c))
+opening-fits : (c : CabinetContent) → FrameFits (last_frame_of (opening_history c))
 opening-fits c = record { veh = refl; ped = refl; mode = tt; counter = refl; target = refl; version = refl }
 
 frame-plain : (cab tick : ℕ) (f : Frame) → cab < 2 ^ 32 → tick < 2 ^ 32 → FrameFits f → AllPlain (shown_line cab tick f ∷ [])
@@ -107,45 +115,43 @@ tick-plain cab tick last next low small fits = split (has_line last next)
     split true = frame-plain cab tick next low small fits
     split false = tt
 
-pub events-plain : (t : Tables) (cab : ℕ) (h : History) (events : List Event) → HeardOnly t h → OnlyHeard events → cab < 2 ^ 32
+pub events-plain : (t : Tables) (cab : ℕ) (h : History) (events : List Event) → StreetAlone t h → OnlyStreet events → cab < 2 ^ 32
     → length (frames h) + tick_count events ≤ 2 ^ 32 → AllPlain (events_lines cab h events)
 events-plain t cab h [] o only low small = tt
 events-plain t cab h (Tick ∷ events) o only low small =
     let more : length (frames (with_one h Tick)) ≡ suc (length (frames h)) = refl in
     plain-append (event_lines cab h Tick) (events_lines cab (with_one h Tick) events)
     (tick-plain cab (length (frames h)) (last_frame_of h) (decide h) low (omega (arith, small)) (decide-fits t h o))
-    (events-plain t cab (with_one h Tick) events (record { tables = o.tables; events = o.events }) only low (omega (arith, small, more)))
-events-plain t cab h (Input field ∷ events) o only low small =
-    events-plain t cab (with_one h (Input field)) events (record { tables = o.tables; events = o.events }) only low small
-events-plain t cab h (Install u ∷ events) o only low small = absurd only
-events-plain t cab h (SetPattern n ∷ events) o only low small = absurd only
-events-plain t cab h (SetClock n ∷ events) o only low small = absurd only
-events-plain t cab h (Ask request ∷ events) o only low small = absurd only
-events-plain t cab h (Cancel n ∷ events) o only low small = absurd only
+    (events-plain t cab (with_one h Tick) events (record { tables = o.tables; free = o.free; events = (only.0, o.events) }) only.1 low
+    (omega (arith, small, more)))
+events-plain t cab h (e ∷ events) o only low small =
+    events-plain t cab (with_one h e) events (record { tables = o.tables; free = o.free; events = (only.0, o.events) }) only.1 low small
 
--- the lines of all cabinets are such, where those of each cabinet are
-pub each-plain : (lines : ℕ → CabinetContent → List Line) (first : ℕ) (cabinets : List CabinetContent) → first + length cabinets ≤ 2 ^ 32
-    → ((n : ℕ) (d : CabinetContent) → n < 2 ^ 32 → AllPlain (lines n d)) → AllPlain (each_lines lines first cabinets)
-each-plain lines first [] few each = tt
-each-plain lines first (d ∷ cabinets) few each =
+-- the lines of all cabinets are such, where those of each cabinet that can open are
+pub each-plain : (lines : ℕ → CabinetContent → List Line) (first : ℕ) (cabinets : List CabinetContent) → AllOpen cabinets
+    → first + length cabinets ≤ 2 ^ 32 → ((n : ℕ) (d : CabinetContent) → CanOpen d → n < 2 ^ 32 → AllPlain (lines n d))
+    → AllPlain (each_lines lines first cabinets)
+each-plain lines first [] able few each = tt
+each-plain lines first (d ∷ cabinets) able few each =
     let more : length (d ∷ cabinets) ≡ suc (length cabinets) = refl in
-    plain-append (lines first d) (each_lines lines (first + 1) cabinets) (each first d (omega (arith, more, few)))
-    (each-plain lines (first + 1) cabinets (omega (arith, more, few)) each)
+    plain-append (lines first d) (each_lines lines (first + 1) cabinets) (each first d able.0 (omega (arith, more, few)))
+    (each-plain lines (first + 1) cabinets able.1 (omega (arith, more, few)) each)
 
 module _ (s : ScenarioContent) (run : Runnable s) where
-  opening-plain : (n : ℕ) (d : CabinetContent) → n < 2 ^ 32 → AllPlain (opening_lines n d)
-  opening-plain n d low = frame-plain n 0 (last_frame_of (opened d)) low (omega arith) (opening-fits d)
+  opening-plain : (n : ℕ) (d : CabinetContent) → CanOpen d → n < 2 ^ 32 → AllPlain (opening_lines n d)
+  opening-plain n d can low = frame-plain n 0 (last_frame_of (opening_history d)) low (omega arith) (opening-fits d)
 
-  cabinet-plain : (done : ℕ) → done + 1 ≤ s.rounds → (n : ℕ) (d : CabinetContent) → n < 2 ^ 32 → AllPlain (cabinet_lines s done n d)
-  cabinet-plain done within n d low =
+  cabinet-plain : (done : ℕ) → done + 1 ≤ s.rounds → (n : ℕ) (d : CabinetContent) → CanOpen d → n < 2 ^ 32
+      → AllPlain (cabinet_lines s done n d)
+  cabinet-plain done within n d can low =
       let few_rounds : s.rounds ≤ 86400 = run.few_rounds in
       let few_ticks : s.ticks ≤ 600 = run.few_ticks in
       let product : done * s.ticks ≤ 86400 * 600 = mul-le-mul (let l : done ≤ 86400 = omega (arith, within, few_rounds) in l) few_ticks in
       let long : length (frames (history_after s n d done)) ≡ done * s.ticks + 1 = history-length s n d done in
       let count : tick_count (events_of (acts_of s (done + 1) n)) ≡ s.ticks = round-count s (done + 1) n in (
         (journal-is-line s (done + 1) n low run.some_ticks run.few_ticks run.few_inputs, tt),
-        events-plain (opening_tables d) n (history_after s n d done) (events_of (acts_of s (done + 1) n)) (history-heard s n d done)
-            (round-heard s (done + 1) n) low (omega (arith, product, long, count, few_ticks)),
+        events-plain (opening_tables d) n (history_after s n d done) (events_of (acts_of s (done + 1) n))
+            (history-street s n d done run.heard can.free) (round-street s (done + 1) n run.heard) low (omega (arith, product, long, count, few_ticks)),
       )
 
   rounds-plain : (done n : ℕ) → done + n ≡ s.rounds → AllPlain (rounds_lines s done n)
@@ -155,7 +161,7 @@ module _ (s : ScenarioContent) (run : Runnable s) where
       let few_cabinets : length s.cabinets ≤ 64 = run.few_cabinets in (
         ((tt, omega (arith, e, few_rounds)), tt),
         plain-append (each_lines (cabinet_lines s done) 1 s.cabinets) (rounds_lines s (done + 1) n)
-            (each-plain (cabinet_lines s done) 1 s.cabinets (omega (arith, few_cabinets)) (cabinet-plain done (omega (arith, e))))
+            (each-plain (cabinet_lines s done) 1 s.cabinets run.can_open (omega (arith, few_cabinets)) (cabinet-plain done (omega (arith, e))))
             (rounds-plain (done + 1) n (omega (arith, e))),
       )
 
@@ -165,6 +171,6 @@ module _ (s : ScenarioContent) (run : Runnable s) where
       let few_cabinets : length s.cabinets ≤ 64 = run.few_cabinets in (
         ((run.one_line, tt), tt),
         plain-append (each_lines opening_lines 1 s.cabinets) (rounds_lines s 0 s.rounds ++ Z s.rounds ∷ [])
-            (each-plain opening_lines 1 s.cabinets (omega (arith, few_cabinets)) opening-plain)
+            (each-plain opening_lines 1 s.cabinets run.can_open (omega (arith, few_cabinets)) opening-plain)
             (plain-append (rounds_lines s 0 s.rounds) (Z s.rounds ∷ []) (rounds-plain 0 s.rounds (omega arith)) (((tt, omega (arith, few_rounds)), tt), tt)),
       )

@@ -1,13 +1,15 @@
 -- The runs of some acts are the longest, and their numbers are small.
-use Rattle.std.proofs.Common.{◌≡◌, ◌≢◌, ◌<◌, ◌≤◌, ◌+◌, ◌∙◌, ◌^◌, ◌==◌, ◌&&◌, sym, ℕ, zero, suc, Bool, true, false, if◌then◌else◌, List, [], ◌∷◌, ◌++◌, length, map, replicate, get_or, refl, arith}
+use Rattle.std.proofs.Common.{◌≡◌, ◌≢◌, ◌<◌, ◌≤◌, ◌+◌, ◌∙◌, ◌^◌, ◌==◌, ◌&&◌, sym, ℕ, zero, suc, Bool, true, false, if◌then◌else◌, List, [], ◌∷◌, ◌++◌}
+use Rattle.std.proofs.Common.{length, map, replicate, get_or, refl, arith}
 use Rattle.std.proofs.lemmas.Bool.{eqb-false, eqb-true}
 use Rattle.std.proofs.lemmas.List.{length-append, length-map, length-replicate}
 use Rattle.sig_types.specs.declared.frame.Field.{Field}
 use Rattle.scenario_data.specs.declared.scenario.Input.{Input}
 use Rattle.scenario_data.specs.Content.{ScenarioContent}
+use Rattle.scenario_data.specs.Inputs.{inputs_of}
 use Rattle.trace_text.specs.declared.lines.Line.TheVariants.{J}
 use Rattle.trace_text.specs.IsLine.{IsLine, AreLongest, FitsRuns}
-use Rattle.run_text.specs.Journal.{Act, acts_of, hears, inputs_of, one_tick, runs_of, with_run}
+use Rattle.run_text.specs.Journal.{Act, acts_of, hears, one_tick, runs_of, with_run}
 
 abbrev Run : Type 0
 Run = ℕ × ℕ

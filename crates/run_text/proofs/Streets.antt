@@ -1,23 +1,23 @@
 -- By the lines of a run every street is safe, and the versions of each cabinet are whole.
 use Rattle.std.proofs.Common.{◌+◌, ◌∙◌, sym, subst, ℕ, List, [], ◌∷◌, inl, inr, refl}
-use Rattle.sig_tables.specs.declared.tables.Tables.{Tables}
 use Rattle.sig_tables.specs.Past.{History}
-use Rattle.rule_book.specs.Rules.{Consistent}
+use Rattle.sig_tables.specs.Decide.{since_opening}
 use Rattle.rule_facts.proofs.Facts.{sound}
-use Rattle.laws.specs.Lawful.{Lawful}
-use Rattle.safe_trace.specs.Safe.{Safe, street_of}
+use Rattle.laws.specs.Lawful.{Sound}
+use Rattle.laws.proofs.Served.{plain-served, street-lawful}
+use Rattle.safe_trace.specs.Safe.{Safe, intersection_of}
 use Rattle.safe_trace.specs.Whole.{Whole}
 use Rattle.safe_trace.proofs.History.{history-safe}
 use Rattle.safe_trace.proofs.NoDownloads.{is-whole}
 use Rattle.scenario_data.specs.Content.{CabinetContent, ScenarioContent}
-use Rattle.scenario_read.specs.Faults.{opening_tables}
+use Rattle.scenario_data.specs.Opening.{opening_tables}
 use Rattle.run_text.specs.Frames.{has_line}
 use Rattle.run_text.specs.Cabinets.{IsNumbered, IsCabinet, history_after}
 use Rattle.run_text.specs.Runnable.{AllOpen, CanOpen, Runnable}
-use Rattle.run_text.specs.Lines.{run_lines, run_text}
+use Rattle.run_text.specs.Lines.{run_lines, trace_of}
 use Rattle.run_text.specs.Streets.{StreetsSafe, TellsSafeStreets}
 use Rattle.run_text.proofs.StreetTold.{run-told}
-use Rattle.run_text.proofs.StreetHeard.{HeardOnly, heard-lawful, heard-tables, history-heard}
+use Rattle.run_text.proofs.StreetHeard.{StreetAlone, street-tables, street-plain, history-street}
 use Rattle.run_text.proofs.StreetLines.{are-lines, no-downloads, told-first, run-plain}
 use Rattle.run_text.proofs.StreetChanges.{tells}
 
@@ -29,14 +29,16 @@ can-open cab first c (d ∷ cabinets) (inr later) all = can-open cab (first + 1)
 
 -- the street of each cabinet is safe
 pub run-safe : (s : ScenarioContent) (cab : ℕ) (c : CabinetContent) → Runnable s → IsCabinet s cab c
-    → Safe (street_of cab (λ version. opening_tables c) (run_lines s))
+    → Safe (intersection_of cab (λ version. opening_tables c) (run_lines s))
 run-safe s cab c run is =
     let h : History = history_after s cab c s.rounds in
-    let only : HeardOnly (opening_tables c) (history_after s cab c s.rounds) = history-heard s cab c s.rounds in
-    let consistent : Consistent (opening_tables c) = (can-open cab 1 c s.cabinets is run.can_open).consistent in
+    let can : CanOpen c = can-open cab 1 c s.cabinets is run.can_open in
+    let only : StreetAlone (opening_tables c) (history_after s cab c s.rounds) = history-street s cab c s.rounds run.heard can.free in
+    let own : Sound h.tables = subst Sound (sym only.tables) (sound (opening_tables c) can.consistent) in
     history-safe h (λ version. opening_tables c) has_line cab (run_lines s)
-    (λ version. sym (heard-tables h.tables h.events only.events version ∙ only.tables))
-    (subst (λ (t : Tables). Lawful t h.events) (sym only.tables) (heard-lawful (opening_tables c) h.events only.events (sound (opening_tables c) consistent)))
+    (λ version. sym (street-tables h.tables h.command h.clock h.events only.events version ∙ only.tables))
+    (street-lawful h.tables h.command h.clock h.events own only.events)
+    (plain-served h.tables (since_opening h) (street-plain (opening_tables c) h only))
     tells (run-told s cab c is)
 
 -- the versions of every cabinet are whole
@@ -52,5 +54,5 @@ streets-safe s run = record {
   undisturbed = λ cab. no-downloads cab (run_lines s) (run-plain s run);
 }
 
-pub tells-safe-streets : (s : ScenarioContent) → Runnable s → TellsSafeStreets s (run_text s)
+pub tells-safe-streets : (s : ScenarioContent) → Runnable s → TellsSafeStreets s (trace_of s)
 tells-safe-streets s run = (run_lines s, refl, streets-safe s run)

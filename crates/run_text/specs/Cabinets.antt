@@ -3,7 +3,7 @@ use Rattle.std.specs.Prelude.{ℕ, ◌+◌, ◌≡◌, ◌⊎◌, zero, suc, Lis
 use Rattle.sig_tables.specs.Past.{Event, History}
 use Rattle.sig_tables.specs.Decide.{with_one, opening}
 use Rattle.scenario_data.specs.Content.{CabinetContent, ScenarioContent}
-use Rattle.scenario_read.specs.Faults.{opening_tables}
+use Rattle.scenario_data.specs.Opening.{opening_tables}
 use Rattle.run_text.specs.Journal.{acts_of, events_of}
 
 -- the cabinet has this number among those from a first number on
@@ -16,8 +16,8 @@ abbrev pub IsCabinet : ScenarioContent → ℕ → CabinetContent → Type 0
 IsCabinet s cab c = IsNumbered cab c 1 s.cabinets
 
 -- the history of a cabinet to which nothing has happened
-abbrev pub opened : CabinetContent → History
-opened c = opening (opening_tables c) c.pattern c.clock
+abbrev pub opening_history : CabinetContent → History
+opening_history c = opening (opening_tables c) c.pattern c.clock
 
 -- the history after these events, in their order
 abbrev pub after : History → List Event → History
@@ -26,5 +26,5 @@ after h (e ∷ events) = after (with_one h e) events
 
 -- the history of a cabinet after so many rounds
 abbrev pub history_after : ScenarioContent → ℕ → CabinetContent → ℕ → History
-history_after s cab c zero = opened c
+history_after s cab c zero = opening_history c
 history_after s cab c (suc rounds) = after (history_after s cab c rounds) (events_of (acts_of s (suc rounds) cab))

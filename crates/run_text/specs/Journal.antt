@@ -1,20 +1,14 @@
 -- What happens at a cabinet in a round, in order; and how its journal line tells that.
-use Rattle.std.specs.Prelude.{ℕ, ◌+◌, ◌==◌, ◌&&◌, if◌then◌else◌, List, [], ◌∷◌, ◌++◌, map, replicate}
+use Rattle.std.specs.Prelude.{ℕ, ◌+◌, ◌==◌, if◌then◌else◌, List, [], ◌∷◌, ◌++◌, map, replicate}
 use Rattle.sig_types.specs.declared.frame.Field.{Field}
 use Rattle.sig_tables.specs.Past.{Event, Tick, Input as InputEvent}
-use Rattle.scenario_data.specs.declared.scenario.Input.{Input}
 use Rattle.scenario_data.specs.Content.{ScenarioContent}
+use Rattle.scenario_data.specs.Inputs.{inputs_of}
 
 -- what a pass does to a cabinet; each pass brings events of its own kind: 0 the inputs from the street, 4 the ticks
 pub record Act : Type 0 where
   pub pass : ℕ
   pub event : Event
-
--- the inputs of a round at a cabinet, in the order of the list
-abbrev pub inputs_of : ℕ → ℕ → List Input → List Field
-inputs_of round cab [] = []
-inputs_of round cab (i ∷ inputs) =
-    if (i.round == round) && (i.cabinet == cab) then i.field ∷ inputs_of round cab inputs else inputs_of round cab inputs
 
 -- an input is heard in pass 0
 abbrev pub hears : Field → Act

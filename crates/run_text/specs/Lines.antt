@@ -1,7 +1,7 @@
 -- The lines of a run, and its text: round by round and cabinet by cabinet, each from the cabinet's own history.
 use Rattle.std.specs.Prelude.{ℕ, ◌+◌, zero, suc, if◌then◌else◌, List, [], ◌∷◌, ◌++◌, length}
 use Rattle.sig_types.specs.declared.frame.Frame.{Frame}
-use Rattle.sig_tables.specs.Past.{Event, Tick, Input, Install, SetPattern, SetClock, Ask, Cancel, History}
+use Rattle.sig_tables.specs.Past.{Event, Tick, History}
 use Rattle.sig_tables.specs.Decide.{decide, last_frame_of, frames, with_one}
 use Rattle.trace_text.specs.declared.lines.Line.{Line}
 use Rattle.trace_text.specs.declared.lines.Line.TheVariants.{S, F, R, J, Z}
@@ -9,7 +9,7 @@ use Rattle.safe_trace.specs.TraceText.{lines_text}
 use Rattle.scenario_data.specs.Content.{CabinetContent, ScenarioContent}
 use Rattle.run_text.specs.Frames.{has_line}
 use Rattle.run_text.specs.Journal.{acts_of, events_of, runs_of}
-use Rattle.run_text.specs.Cabinets.{opened, history_after}
+use Rattle.run_text.specs.Cabinets.{opening_history, history_after}
 
 -- the line of a frame after so many ticks of a cabinet
 abbrev pub shown_line : ℕ → ℕ → Frame → Line
@@ -19,15 +19,11 @@ shown_line cab tick f = F cab tick f.veh f.ped f.mode f.counter f.target f.versi
 abbrev pub tick_lines : ℕ → ℕ → Frame → Frame → List Line
 tick_lines cab tick last next = if has_line last next then shown_line cab tick next ∷ [] else []
 
--- the lines of an event at a cabinet: a tick has those of its frame, whose number is that of the frames before it
+-- the lines of an event at a cabinet: a tick has those of its frame, whose number is that of the frames before it; no other
+-- event has any
 abbrev pub event_lines : ℕ → History → Event → List Line
 event_lines cab h Tick = tick_lines cab (length (frames h)) (last_frame_of h) (decide h)
-event_lines cab h (Input field) = []
-event_lines cab h (Install tables) = []
-event_lines cab h (SetPattern pattern) = []
-event_lines cab h (SetClock clock) = []
-event_lines cab h (Ask request) = []
-event_lines cab h (Cancel number) = []
+event_lines cab h _ = []
 
 -- the lines of these events in their order
 abbrev pub events_lines : ℕ → History → List Event → List Line
@@ -55,12 +51,12 @@ rounds_lines s done (suc n) = round_lines s done ++ rounds_lines s (done + 1) n
 
 -- the line of what a cabinet shows before any tick
 abbrev pub opening_lines : ℕ → CabinetContent → List Line
-opening_lines cab c = shown_line cab 0 (last_frame_of (opened c)) ∷ []
+opening_lines cab c = shown_line cab 0 (last_frame_of (opening_history c)) ∷ []
 
 -- the lines of a run: its scenario, what each cabinet shows before any tick, the rounds, and the end
 abbrev pub run_lines : ScenarioContent → List Line
 run_lines s = S s.compact ∷ (each_lines opening_lines 1 s.cabinets ++ (rounds_lines s 0 s.rounds ++ Z s.rounds ∷ []))
 
 -- the trace of a scenario
-abbrev pub run_text : ScenarioContent → List ℕ
-run_text s = lines_text (run_lines s)
+abbrev pub trace_of : ScenarioContent → List ℕ
+trace_of s = lines_text (run_lines s)

@@ -1,11 +1,11 @@
 -- What every scenario that was read without a fault has: its numbers in range, its tables consistent.
 use Rattle.std.specs.Prelude.{ℕ, ◌*◌, ◌≤◌, ◌<◌, ◌≡◌, List, [], ◌∷◌, length}
+use Rattle.sig_tables.specs.Plain.{IsStreet}
 use Rattle.rule_book.specs.Rules.{Consistent}
-use Rattle.call_store.specs.Stands.{NamesPhase}
 use Rattle.trace_text.specs.Words.{Lacks}
 use Rattle.scenario_data.specs.declared.scenario.Input.{Input}
 use Rattle.scenario_data.specs.Content.{CabinetContent, ScenarioContent}
-use Rattle.scenario_read.specs.Faults.{opening_tables}
+use Rattle.scenario_data.specs.Opening.{opening_tables}
 
 -- a cabinet opens with consistent tables, runs free, and its clock is a tick of the day
 pub record CanOpen (c : CabinetContent) : Type 0 where
@@ -25,10 +25,10 @@ pub record InReach (rounds cabinets : ℕ) (i : Input) : Type 0 where
   pub some_cabinet : 1 ≤ i.cabinet
   pub in_cabinets : i.cabinet ≤ cabinets
 
--- each input is that of a phase 1 to 16
+-- each input is a detector or a button of a phase 1 to 16
 abbrev pub AllHeard : List Input → Type 0
 AllHeard [] = Unit {0}
-AllHeard (i ∷ inputs) = NamesPhase i.field × AllHeard inputs
+AllHeard (i ∷ inputs) = IsStreet i.field × AllHeard inputs
 
 -- each input reaches a round that is run and a cabinet that there is
 abbrev pub AllInReach : ℕ → ℕ → List Input → Type 0

@@ -1,15 +1,16 @@
 -- An interval of the street is a run of the moments that has ended.
-use Rattle.std.proofs.Common.{◌≡◌, ℕ, zero, suc, ◌+◌, ◌-◌, ◌<◌, ◌≤◌, Bool, true, false, List, [], ◌∷◌, length, refl, sym, ◌∙◌, ap, subst, arith, inl, inr, ◌⊎◌}
+use Rattle.std.proofs.Common.{◌≡◌, ℕ, zero, suc, ◌+◌, ◌-◌, ◌<◌, ◌≤◌, Bool, true, false, List, [], ◌∷◌, length, refl, sym, ◌∙◌, ap, subst, arith, inl}
+use Rattle.std.proofs.Common.{inr, ◌⊎◌}
 use Rattle.sig_types.specs.declared.frame.Frame.{Frame}
 use Rattle.sig_tables.specs.declared.tables.Tables.{Tables}
 use Rattle.sig_tables.specs.Past.{Moment}
 use Rattle.sig_tables.specs.Looking.{last_frame, in_a_row, begun}
+use Rattle.laws.specs.Each.{EachMoment}
 use Rattle.safe_trace.proofs.SoFar.{so_far, so_far-next, so_far-first}
 
 -- the tables of each moment are those of the version of its frame
 abbrev pub HasTables : (ℕ → Tables) → List Moment → Type 0
-HasTables tables [] = Unit {0}
-HasTables tables (m ∷ past) = (tables m.frame.version ≡ m.tables) × HasTables tables past
+HasTables tables moments = EachMoment (λ past m. tables m.frame.version ≡ m.tables) moments
 
 module _ (tables : ℕ → Tables) (look : Frame → Bool) where
   -- the run of the last moments that pass: its length, and the tables of its first moment
@@ -64,7 +65,8 @@ module _ (tables : ℕ → Tables) (look : Frame → Bool) where
   ran moments zero zero short each during before =
       let one : (m : Moment) × (so_far 0 moments ≡ m ∷ []) = so_far-first moments short in
       let r : Run (one.0 ∷ []) 1 (tables one.0.frame.version)
-      = run-begins one.0 [] (head-look one.0 [] (so_far 0 moments) true one.1 (during 0 (omega arith) (omega arith))) (inl refl) (head-tables one.0 [] (so_far 0 moments) one.1 (each 0)) in
+      = run-begins one.0 [] (head-look one.0 [] (so_far 0 moments) true one.1 (during 0 (omega arith) (omega arith))) (inl refl)
+      (head-tables one.0 [] (so_far 0 moments) one.1 (each 0)) in
       subst (λ (x : List Moment). Run x 1 (tables (last_frame x).version)) (sym one.1) r
   ran moments (suc first) zero short each during before =
       let s : first + 1 < length moments = omega (arith, short) in
@@ -72,7 +74,8 @@ module _ (tables : ℕ → Tables) (look : Frame → Bool) where
       let r : Run (next.0 ∷ so_far first moments) 1 (tables next.0.frame.version)
       = run-begins next.0 (so_far first moments) (head-look next.0 _ (so_far (first + 1) moments) true next.1 (during (first + 1) (omega arith) (omega arith)))
       (inr (before first (omega arith))) (head-tables next.0 _ (so_far (first + 1) moments) next.1 (each (first + 1))) in
-      let one : Run (so_far (first + 1) moments) 1 (force moments (first + 1)) = subst (λ (x : List Moment). Run x 1 (tables (last_frame x).version)) (sym next.1) r in
+      let one : Run (so_far (first + 1) moments) 1 (force moments (first + 1))
+      = subst (λ (x : List Moment). Run x 1 (tables (last_frame x).version)) (sym next.1) r in
       let more : first + 1 ≡ suc first = omega arith in
       let same : suc first ≡ suc first + 0 = omega arith in
       subst (λ (k : ℕ). Run (so_far k moments) 1 (force moments (suc first))) same (subst (λ (k : ℕ). Run (so_far k moments) 1 (force moments k)) more one)
@@ -84,22 +87,18 @@ module _ (tables : ℕ → Tables) (look : Frame → Bool) where
       let r : Run (next.0 ∷ so_far (first + j) moments) (j + 1 + 1) (force moments first)
       = run-goes next.0 (so_far (first + j) moments) (j + 1) (force moments first)
       (head-look next.0 _ (so_far (first + j + 1) moments) true next.1 (during (first + j + 1) (omega arith) (omega arith))) known in
-      let all : Run (so_far (first + j + 1) moments) (j + 1 + 1) (force moments first) = subst (λ (x : List Moment). Run x (j + 1 + 1) (force moments first)) (sym next.1) r in
+      let all : Run (so_far (first + j + 1) moments) (j + 1 + 1) (force moments first)
+      = subst (λ (x : List Moment). Run x (j + 1 + 1) (force moments first)) (sym next.1) r in
       let more : first + j + 1 ≡ first + suc j = omega arith in
       let long : j + 1 + 1 ≡ suc j + 1 = omega arith in
-      subst (λ (k : ℕ). Run (so_far k moments) (suc j + 1) (force moments first)) more (subst (λ (k : ℕ). Run (so_far (first + j + 1) moments) k (force moments first)) long all)
+      subst (λ (k : ℕ). Run (so_far k moments) (suc j + 1) (force moments first)) more
+      (subst (λ (k : ℕ). Run (so_far (first + j + 1) moments) k (force moments first)) long all)
 
   -- where an interval ends, the moments have ended its run
   pub record Ended (moments : List Moment) (first end : ℕ) : Type 0 where
     pub m : Moment
-    pub n : Moment
     pub past : List Moment
-    pub all : so_far end moments ≡ m ∷ n ∷ past
-    pub was : so_far (end - 1) moments ≡ n ∷ past
-    pub long : first + in_a_row (λ k. look k.frame) (n ∷ past) ≡ end
-    pub latches : (now : Tables) → begun (λ k. look k.frame) now (n ∷ past) ≡ force moments first
-
-  pub ended-from : (moments : List Moment) (first end : ℕ) (all : List Moment) → 0 < length all → (m : Moment) → so_far end moments ≡ m ∷ all → so_far (end - 1) moments ≡ all
-      → first + in_a_row (λ k. look k.frame) all ≡ end → ((now : Tables) → begun (λ k. look k.frame) now all ≡ force moments first) → Ended moments first end
-  ended-from moments first end [] some m e w l t = absurd (omega (arith, some))
-  ended-from moments first end (n ∷ past) some m e w l t = record { m = m; n = n; past = past; all = e; was = w; long = l; latches = t }
+    pub all : so_far end moments ≡ m ∷ past
+    pub was : so_far (end - 1) moments ≡ past
+    pub long : first + in_a_row (λ k. look k.frame) past ≡ end
+    pub latches : (now : Tables) → begun (λ k. look k.frame) now past ≡ force moments first

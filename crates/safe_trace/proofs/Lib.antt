@@ -2,10 +2,12 @@ pub mod SoFar
 pub mod Told
 pub mod Intervals
 pub mod AfterDont
-pub mod Versions
+pub mod Ways
 pub mod Street
 pub mod Lasting
+pub mod History
+pub mod Versions
 pub mod Lines
 pub mod NoDownloads
-pub mod History
 pub mod Refused
+pub mod Allowed

@@ -5,22 +5,22 @@ use Rattle.sig_tables.specs.Past.{Moment}
 use Rattle.sig_tables.specs.Decide.{frames_in}
 use Rattle.trace_text.specs.declared.lines.Line.{Line}
 use Rattle.trace_text.specs.declared.lines.Line.TheVariants.{F, L}
-use Rattle.safe_trace.specs.Safe.{Shown, told}
+use Rattle.safe_trace.specs.Safe.{Indications, told}
 use Rattle.safe_trace.specs.Written.{shown_by, written}
 use Rattle.safe_trace.specs.Whole.{downloads, Whole}
 use Rattle.safe_trace.proofs.Lines.{told-append, downloads-append, told-frame, one-download}
 use Rattle.safe_trace.proofs.Versions.{Within}
 
 -- each of these is of version 0
-abbrev pub AllFirst : List (ℕ × Shown) → Type 0
+abbrev pub AllFirst : List (ℕ × Indications) → Type 0
 AllFirst [] = Unit {0}
 AllFirst (line ∷ lines) = (line.1.version ≡ 0) × AllFirst lines
 
-all-append : (lines more : List (ℕ × Shown)) → AllFirst lines → AllFirst more → AllFirst (lines ++ more)
+all-append : (lines more : List (ℕ × Indications)) → AllFirst lines → AllFirst more → AllFirst (lines ++ more)
 all-append [] more h k = k
 all-append (line ∷ lines) more h k = (h.0, all-append lines more h.1 k)
 
-all-second : (lines more : List (ℕ × Shown)) → AllFirst (lines ++ more) → AllFirst more
+all-second : (lines more : List (ℕ × Indications)) → AllFirst (lines ++ more) → AllFirst more
 all-second [] more h = h
 all-second (line ∷ lines) more h = all-second lines more h.1
 
@@ -39,7 +39,7 @@ is-whole cab lines first none = record {
   frames = λ before after tick veh ped mode counter target version e.
       let parts : told cab lines ≡ told cab before ++ told cab (F cab tick veh ped mode counter target version ∷ after)
       = ap (λ (x : List Line). told cab x) e ∙ told-append cab before (F cab tick veh ped mode counter target version ∷ after) in
-      let all : AllFirst ((tick, record { colours = veh; signals = ped; version = version }) ∷ told cab after)
+      let all : AllFirst ((tick, record { colours = veh; signals = ped; mode = mode; version = version }) ∷ told cab after)
       = subst AllFirst (told-frame cab tick veh ped mode counter target version after)
       (all-second (told cab before) (told cab (F cab tick veh ped mode counter target version ∷ after)) (subst AllFirst parts first)) in
       let sum : downloads cab lines ≡ downloads cab before + downloads cab (F cab tick veh ped mode counter target version ∷ after)

@@ -5,12 +5,13 @@ use Rattle.sig_types.specs.declared.frame.Frame.{Frame}
 use Rattle.sig_tables.specs.Past.{Moment}
 use Rattle.sig_tables.specs.Looking.{last_frame}
 use Rattle.sig_tables.specs.Decide.{frames_in}
-use Rattle.safe_trace.specs.Safe.{Shown, dark, shown_at}
+use Rattle.safe_trace.specs.Safe.{Indications, dark, shown_at}
 use Rattle.safe_trace.specs.Written.{shown_by, TellsChanges, written}
 use Rattle.safe_trace.proofs.SoFar.{so_far, here, earlier, so_far-all}
 
 -- lines one after another
-shown-append : (tick : ℕ) (before : Shown) (lines more : List (ℕ × Shown)) → shown_at tick before (lines ++ more) ≡ shown_at tick (shown_at tick before lines) more
+shown-append : (tick : ℕ) (before : Indications) (lines more : List (ℕ × Indications))
+    → shown_at tick before (lines ++ more) ≡ shown_at tick (shown_at tick before lines) more
 shown-append tick before [] more = refl
 shown-append tick before (line ∷ lines) more = shown-append tick (if nat_le line.0 tick then line.1 else before) lines more
 
@@ -19,7 +20,7 @@ length-frames [] = refl
 length-frames (m ∷ past) = ap suc (length-frames past)
 
 -- a line more, which has come by a tick or not
-shown-line : (tick n : ℕ) (before : Shown) (f : Frame) (b : Bool) → nat_le n tick ≡ b
+shown-line : (tick n : ℕ) (before : Indications) (f : Frame) (b : Bool) → nat_le n tick ≡ b
     → shown_at tick before ((n, shown_by f) ∷ []) ≡ (if b then shown_by f else before)
 shown-line tick n before f b e = rw e refl
 
@@ -31,7 +32,7 @@ shown-by-frames has_line tells tick (m ∷ []) =
     shown-line tick 0 dark m.frame true (le-leb _ _ n) ∙ ap (λ (x : List Moment). shown_by (last_frame x)) (sym (here tick m [] n))
 shown-by-frames has_line tells tick (m ∷ n ∷ past) = step (shown-by-frames has_line tells tick (n ∷ past))
   where
-    lines : List (ℕ × Shown)
+    lines : List (ℕ × Indications)
     lines = written has_line (frames_in (n ∷ past))
 
     same-length : length (frames_in (n ∷ past)) ≡ length (n ∷ past)
@@ -41,7 +42,7 @@ shown-by-frames has_line tells tick (m ∷ n ∷ past) = step (shown-by-frames h
         → shown_at tick dark (written has_line (frames_in (m ∷ n ∷ past))) ≡ shown_by (last_frame (so_far tick (m ∷ n ∷ past)))
     step known = split (has_line n.frame m.frame) refl (nat_le (length (n ∷ past)) tick) refl
       where
-        put : (b : Bool) → List (ℕ × Shown)
+        put : (b : Bool) → List (ℕ × Indications)
         put b = if b then (length (frames_in (n ∷ past)), shown_by m.frame) ∷ [] else []
 
         split : (b : Bool) → has_line n.frame m.frame ≡ b → (c : Bool) → nat_le (length (n ∷ past)) tick ≡ c
@@ -58,7 +59,8 @@ shown-by-frames has_line tells tick (m ∷ n ∷ past) = step (shown-by-frames h
         split false e true come =
             shown-append tick dark lines (put false)
             ∙ known
-            ∙ ap (λ (x : List Moment). shown_by (last_frame x)) (so_far-all tick (n ∷ past) (let l : length (n ∷ past) ≤ tick = leb-true _ _ come in omega arith))
+            ∙ ap (λ (x : List Moment). shown_by (last_frame x))
+            (so_far-all tick (n ∷ past) (let l : length (n ∷ past) ≤ tick = leb-true _ _ come in omega arith))
             ∙ sym (tells n.frame m.frame e)
             ∙ ap (λ (x : List Moment). shown_by (last_frame x)) (sym (here tick m (n ∷ past) (leb-true _ _ come)))
         split false e false come =

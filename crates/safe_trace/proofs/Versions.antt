@@ -2,15 +2,15 @@
 use Rattle.std.proofs.Common.{◌≡◌, ◌≢◌, ◌<◌, ◌≤◌, ◌+◌, ◌==◌, ℕ, false, if◌then◌else◌, List, [], ◌∷◌, length, refl, ◌∙◌, arith}
 use Rattle.std.proofs.lemmas.Bool.{ne_eqb, eq-eqb}
 use Rattle.sig_tables.specs.declared.tables.Tables.{Tables}
-use Rattle.sig_tables.specs.Past.{Event, Tick, Input, Install, SetPattern, SetClock, Ask, Cancel, Moment, Past}
+use Rattle.sig_tables.specs.Past.{Event, Tick, Install, Moment, Past}
 use Rattle.sig_tables.specs.Decide.{past_of}
+use Rattle.laws.specs.Each.{EachMoment}
 use Rattle.safe_trace.specs.Written.{version_tables}
 use Rattle.safe_trace.proofs.Intervals.{HasTables}
 
 -- each frame is of one of the versions so far
 abbrev pub Within : ℕ → List Moment → Type 0
-Within version [] = Unit {0}
-Within version (m ∷ past) = (m.frame.version ≤ version) × Within version past
+Within version moments = EachMoment (λ past m. m.frame.version ≤ version) moments
 
 within-more : (version : ℕ) (moments : List Moment) → Within version moments → Within (version + 1) moments
 within-more version [] h = tt
@@ -40,11 +40,13 @@ pub versions : (opening : Tables) (events : List Event) → Versions (version_ta
 versions opening [] = record { each = (refl, tt); now = refl; within = (omega arith, tt); some = omega arith }
 versions opening (Tick ∷ events) = ticked (versions opening events)
   where
-    ticked : Versions (version_tables opening events) (past_of opening events) → Versions (version_tables opening (Tick ∷ events)) (past_of opening (Tick ∷ events))
+    ticked : Versions (version_tables opening events) (past_of opening events)
+        → Versions (version_tables opening (Tick ∷ events)) (past_of opening (Tick ∷ events))
     ticked v = record { each = (v.now, same-tables _ _ (λ n. refl) _ v.each); now = v.now; within = (omega arith, v.within); some = omega arith }
 versions opening (Install t ∷ events) = installed (versions opening events)
   where
-    installed : Versions (version_tables opening events) (past_of opening events) → Versions (version_tables opening (Install t ∷ events)) (past_of opening (Install t ∷ events))
+    installed : Versions (version_tables opening events) (past_of opening events)
+        → Versions (version_tables opening (Install t ∷ events)) (past_of opening (Install t ∷ events))
     installed v = record {
       each = same-tables _ (λ n. if n == (past_of opening events).version + 1 then t else version_tables opening events n) (λ n. refl) _
           (install (version_tables opening events) t (past_of opening events).version (past_of opening events).moments v.within v.each);
@@ -52,8 +54,6 @@ versions opening (Install t ∷ events) = installed (versions opening events)
       within = within-more _ _ v.within;
       some = v.some;
     }
-versions opening (Input field ∷ events) = let v : Versions (version_tables opening events) (past_of opening events) = versions opening events in record { each = same-tables _ _ (λ n. refl) _ v.each; now = v.now; within = v.within; some = v.some }
-versions opening (SetPattern n ∷ events) = let v : Versions (version_tables opening events) (past_of opening events) = versions opening events in record { each = same-tables _ _ (λ n. refl) _ v.each; now = v.now; within = v.within; some = v.some }
-versions opening (SetClock n ∷ events) = let v : Versions (version_tables opening events) (past_of opening events) = versions opening events in record { each = same-tables _ _ (λ n. refl) _ v.each; now = v.now; within = v.within; some = v.some }
-versions opening (Ask request ∷ events) = let v : Versions (version_tables opening events) (past_of opening events) = versions opening events in record { each = same-tables _ _ (λ n. refl) _ v.each; now = v.now; within = v.within; some = v.some }
-versions opening (Cancel number ∷ events) = let v : Versions (version_tables opening events) (past_of opening events) = versions opening events in record { each = same-tables _ _ (λ n. refl) _ v.each; now = v.now; within = v.within; some = v.some }
+versions opening (_ ∷ events) =
+    let v : Versions (version_tables opening events) (past_of opening events) = versions opening events in
+    record { each = same-tables _ _ (λ n. refl) _ v.each; now = v.now; within = v.within; some = v.some }

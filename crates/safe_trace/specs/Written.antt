@@ -3,19 +3,19 @@ use Rattle.std.specs.Prelude.{ℕ, ◌+◌, ◌==◌, ◌≡◌, Bool, false, if
 use Rattle.sig_types.specs.declared.frame.Frame.{Frame}
 use Rattle.sig_tables.specs.declared.tables.Tables.{Tables}
 use Rattle.sig_tables.specs.Past.{Event, Install, History}
-use Rattle.sig_tables.specs.Decide.{past_of}
-use Rattle.safe_trace.specs.Safe.{Shown}
+use Rattle.sig_tables.specs.Decide.{past_of, since_opening}
+use Rattle.safe_trace.specs.Safe.{Indications}
 
 -- what a frame shows
-abbrev pub shown_by : Frame → Shown
-shown_by f = record { colours = f.veh; signals = f.ped; version = f.version }
+abbrev pub shown_by : Frame → Indications
+shown_by f = record { colours = f.veh; signals = f.ped; mode = f.mode; version = f.version }
 
 -- a rule for which frames have a line, given the frame before: one without a line shows what the one before showed
 abbrev pub TellsChanges : (Frame → Frame → Bool) → Type 0
 TellsChanges has_line = (last next : Frame) → has_line last next ≡ false → shown_by next ≡ shown_by last
 
 -- what is told of these frames, given the newest first, by such a rule: the oldest is that of tick 0, and has a line
-abbrev pub written : (Frame → Frame → Bool) → List Frame → List (ℕ × Shown)
+abbrev pub written : (Frame → Frame → Bool) → List Frame → List (ℕ × Indications)
 written has_line [] = []
 written has_line (f ∷ []) = (0, shown_by f) ∷ []
 written has_line (g ∷ f ∷ before) =
@@ -30,4 +30,4 @@ version_tables opening (_ ∷ events) version = version_tables opening events ve
 
 -- the tables of each version of a history
 abbrev pub tables_of : History → ℕ → Tables
-tables_of h version = version_tables h.tables h.events version
+tables_of h version = version_tables h.tables (since_opening h) version

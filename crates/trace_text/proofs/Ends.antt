@@ -1,5 +1,5 @@
 -- A line's text with its newline, and the line that a scenario's text makes.
-use Rattle.std.proofs.Common.{◌≡◌, ℕ, List, [], ◌∷◌, ◌++◌, get_or, drop, Option, Some, None, refl, sym, ap, ◌∙◌, arith, append-nil, subst}
+use Rattle.std.proofs.Common.{◌≡◌, ◌≢◌, ℕ, List, [], ◌∷◌, ◌++◌, length, get_or, drop, Option, Some, None, refl, sym, ap, ◌∙◌, arith, append-nil, length-append, subst}
 use Rattle.std.proofs.lemmas.List.{append_cancel_right}
 use Rattle.trace_text.specs.declared.lines.Line.{Line}
 use Rattle.trace_text.specs.declared.lines.Line.TheVariants.{S, F, R, M, J, L, A, Z}
@@ -18,6 +18,10 @@ ReadsUnended IsOne bytes found = Reads IsOne (λ line. unended (line_words line)
 ended_text : (l : Line) → line_text l ≡ unended (line_words l) ++ 10 ∷ []
 unfolding line_text
 ended_text l = sym (unended-ended (line_words l))
+
+-- a text is never empty, since it has its newline
+pub some_text : (l : Line) → line_text l ≢ []
+some_text l none = absurd (omega (arith, ap length (sym (ended_text l) ∙ none), length-append (unended (line_words l)) (10 ∷ [])))
 
 pub none_ended : (bytes : List ℕ) → ((front : List ℕ) → bytes ≡ front ++ 10 ∷ [] → ⊥) → Reads IsLine line_text bytes None
 none_ended bytes h = reads_none (λ l is e. h (unended (line_words l)) (e ∙ ended_text l))

@@ -33,7 +33,8 @@ module _ (w1 w2 w3 w4 w5 w6 w7 w8 : List ℕ) where
   frame_only P h l is e = absurd (let told = kind_told l 70 _ e in omega (arith, told))
 
   abbrev ReadsShown : Option (List Colour × List Ped × Mode) → Type 0
-  ReadsShown found = Reads (λ (s : List Colour × List Ped × Mode). (length s.0 ≡ 16) × (length s.1 ≡ 16) × FitsMode s.2) (λ (s : List Colour × List Ped × Mode). colours_text s.0 ∷ signals_text s.1 ∷ mode_text s.2 ∷ []) (w3 ∷ w4 ∷ w5 ∷ []) found
+  ReadsShown found = Reads (λ (s : List Colour × List Ped × Mode). (length s.0 ≡ 16) × (length s.1 ≡ 16) × FitsMode s.2)
+      (λ (s : List Colour × List Ped × Mode). colours_text s.0 ∷ signals_text s.1 ∷ mode_text s.2 ∷ []) (w3 ∷ w4 ∷ w5 ∷ []) found
 
   abbrev ReadsThree : Option (ℕ × ℕ × ℕ) → Type 0
   ReadsThree found = Reads (λ (n : ℕ × ℕ × ℕ). (n.0 < 2 ^ 32) × (n.1 < 2 ^ 32) × (n.2 < 2 ^ 32)) (λ (n : ℕ × ℕ × ℕ). decimal n.0 ∷ decimal n.1 ∷ decimal n.2 ∷ []) (w6 ∷ w7 ∷ w8 ∷ []) found
@@ -63,7 +64,9 @@ module _ (w1 w2 w3 w4 w5 w6 w7 w8 : List ℕ) where
       same_frame _ _ shown three _ _ (v, p, m) (k, g, n) same_cab same_tick same_shown same_three))
 
 -- eight borrowed words, one by one
-pub eight_words : (words : List (Bor (List ℕ))) → length words ≡ 8 → plain words ≡ (get_or words 0 no_word).now ∷ (get_or words 1 no_word).now ∷ (get_or words 2 no_word).now ∷ (get_or words 3 no_word).now ∷ (get_or words 4 no_word).now ∷ (get_or words 5 no_word).now ∷ (get_or words 6 no_word).now ∷ (get_or words 7 no_word).now ∷ []
+pub eight_words : (words : List (Bor (List ℕ))) → length words ≡ 8
+    → plain words ≡ (get_or words 0 no_word).now ∷ (get_or words 1 no_word).now ∷ (get_or words 2 no_word).now ∷
+    (get_or words 3 no_word).now ∷ (get_or words 4 no_word).now ∷ (get_or words 5 no_word).now ∷ (get_or words 6 no_word).now ∷ (get_or words 7 no_word).now ∷ []
 eight_words [] e = absurd (omega arith)
 eight_words (a ∷ []) e = absurd (omega arith)
 eight_words (a ∷ b ∷ []) e = absurd (omega arith)

@@ -4,7 +4,7 @@ use Rattle.std.proofs.lemmas.Bool.{cases_lt}
 use Rattle.std.proofs.lemmas.List.{take_all, take_more, map-append, length-map, length-append, get_or_push, get_or_append_left, get_or-map, get_or-take}
 use Rattle.trace_text.specs.IsLine.{FitsRun, FitsRuns, AreLongest}
 use Rattle.trace_text.specs.Reads.{Reads}
-use Rattle.trace_text.specs.Texts.{run_text}
+use Rattle.trace_text.specs.Texts.{run_word}
 use Rattle.trace_text.proofs.Reading.{reads_none, reads_some, none_reads, some_reads}
 
 abbrev Run : Type 0
@@ -40,17 +40,17 @@ each_push P d xs x h p k low =
 
 -- the first i words are these runs, as long as they can be, and no others; before is the pass of the last
 pub record RunsSoFar (words : List (List ℕ)) (runs : List Run) (before : Option ℕ) (i : ℕ) : Type 0 where
-  pub read : map run_text runs ≡ take i words
+  pub read : map run_word runs ≡ take i words
   pub many : length runs ≡ i
   pub fits : FitsRuns runs
   pub full : (k : ℕ) → k < length runs → 0 < (run_at runs k).1
   pub apart : (k : ℕ) → k + 1 < length runs → (run_at runs k).0 ≢ (run_at runs (k + 1)).0
   pub none_before : length runs ≡ 0 → before ≡ None
   pub one_before : (k : ℕ) → length runs ≡ k + 1 → before ≡ Some (run_at runs k).0
-  pub only : (others : List Run) → FitsRuns others → words ≡ map run_text others → runs ≡ take i others
+  pub only : (others : List Run) → FitsRuns others → words ≡ map run_word others → runs ≡ take i others
 
 abbrev pub ReadsRuns : List (List ℕ) → Option (List Run) → Type 0
-ReadsRuns words found = Reads (λ runs. AreLongest runs × FitsRuns runs) (map run_text) words found
+ReadsRuns words found = Reads (λ runs. AreLongest runs × FitsRuns runs) (map run_word) words found
 
 pub no_runs : (words : List (List ℕ)) → RunsSoFar words [] None 0
 no_runs words = record {
@@ -65,20 +65,20 @@ no_runs words = record {
 }
 
 pub none_empty : (words : List (List ℕ)) → length words ≡ 0 → ReadsRuns words None
-none_empty words empty = reads_none (λ others is e. let same : length words ≡ length others = ap length e ∙ length-map others run_text in let some = is.0.some in omega arith)
+none_empty words empty = reads_none (λ others is e. let same : length words ≡ length others = ap length e ∙ length-map others run_word in let some = is.0.some in omega arith)
 
 module _ (words : List (List ℕ)) (runs : List Run) (before : Option ℕ) (i : ℕ) (so_far : RunsSoFar words runs before i) (within : i < length words) where
-  word_at : (others : List Run) → words ≡ map run_text others → (i < length others) × (get_or words i [] ≡ run_text (run_at others i))
+  word_at : (others : List Run) → words ≡ map run_word others → (i < length others) × (get_or words i [] ≡ run_word (run_at others i))
   word_at others e =
-      let same : length words ≡ length others = ap length e ∙ length-map others run_text in
+      let same : length words ≡ length others = ap length e ∙ length-map others run_word in
       let low : i < length others = omega arith in
-      (low, rw e (get_or-map run_text others i (0, 0) [] low))
+      (low, rw e (get_or-map run_word others i (0, 0) [] low))
 
-  pub none_word : Reads FitsRun run_text (get_or words i []) None → ReadsRuns words None
+  pub none_word : Reads FitsRun run_word (get_or words i []) None → ReadsRuns words None
   none_word h = reads_none (λ others is e. let at = word_at others e in none_reads h (run_at others i) (is.1 i at.0) at.1)
 
-  module _ (run : Run) (read : Reads FitsRun run_text (get_or words i []) (Some run)) where
-    run_is : (others : List Run) → FitsRuns others → words ≡ map run_text others → run ≡ run_at others i
+  module _ (run : Run) (read : Reads FitsRun run_word (get_or words i []) (Some run)) where
+    run_is : (others : List Run) → FitsRuns others → words ≡ map run_word others → run ≡ run_at others i
     run_is others fits e = let at = word_at others e in some_reads read (run_at others i) (fits i at.0) at.1
 
     pub none_hollow : run.1 ≡ 0 → ReadsRuns words None
@@ -87,7 +87,7 @@ module _ (words : List (List ℕ)) (runs : List Run) (before : Option ℕ) (i : 
         let full : 0 < (run_at others i).1 = is.0.full i at.0 in
         let same : run.1 ≡ (run_at others i).1 = ap (λ (r : Run). r.1) (run_is others is.1 e) in omega arith)
 
-    none_next : (j : ℕ) → j + 1 ≡ i → before ≡ Some run.0 → (others : List Run) → AreLongest others × FitsRuns others → words ≡ map run_text others → ⊥
+    none_next : (j : ℕ) → j + 1 ≡ i → before ≡ Some run.0 → (others : List Run) → AreLongest others × FitsRuns others → words ≡ map run_word others → ⊥
     none_next j next same others is e =
         let at = word_at others e in
         let last : Some run.0 ≡ Some (run_at runs j).0 = sym same ∙ so_far.one_before j (so_far.many ∙ sym next) in
@@ -96,7 +96,7 @@ module _ (words : List (List ℕ)) (runs : List Run) (before : Option ℕ) (i : 
         let here : run ≡ run_at others (j + 1) = rw next (run_is others is.1 e) in
         is.0.apart j (omega arith) (ap (λ (r : Run). r.0) (sym front) ∙ sym pass ∙ ap (λ (r : Run). r.0) here)
 
-    none_at : (j : ℕ) → j ≡ i → before ≡ Some run.0 → (others : List Run) → AreLongest others × FitsRuns others → words ≡ map run_text others → ⊥
+    none_at : (j : ℕ) → j ≡ i → before ≡ Some run.0 → (others : List Run) → AreLongest others × FitsRuns others → words ≡ map run_word others → ⊥
     none_at zero first same others is e = let none : None ≡ Some run.0 = sym (so_far.none_before (so_far.many ∙ sym first)) ∙ same in cc
     none_at (suc j) next same others is e = none_next j (omega arith) same others is e
 
@@ -122,7 +122,7 @@ module _ (words : List (List ℕ)) (runs : List Run) (before : Option ℕ) (i : 
         let long : length (runs ++ run ∷ []) ≡ length runs + 1 = length-append runs (run ∷ []) in
         let many = so_far.many in
         record {
-          read = rw (map-append run_text runs (run ∷ []), take_more words i [] within) (rw (so_far.read, read.value.1) refl);
+          read = rw (map-append run_word runs (run ∷ []), take_more words i [] within) (rw (so_far.read, read.value.1) refl);
           many = omega arith;
           fits = each_push FitsRun (0, 0) runs run so_far.fits read.value.0;
           full = each_push (λ (r : Run). 0 < r.1) (0, 0) runs run so_far.full some;
@@ -137,4 +137,4 @@ pub all_runs : (words : List (List ℕ)) (runs : List Run) (before : Option ℕ)
 all_runs words runs before i so_far whole some = let many = so_far.many in reads_some
     (record { some = omega arith; full = so_far.full; apart = so_far.apart }, so_far.fits)
     (sym (so_far.read ∙ take_all i words (omega arith)))
-    (λ others is e. let same : length words ≡ length others = ap length e ∙ length-map others run_text in so_far.only others is.1 e ∙ take_all i others (omega arith))
+    (λ others is e. let same : length words ≡ length others = ap length e ∙ length-map others run_word in so_far.only others is.1 e ∙ take_all i others (omega arith))

@@ -28,7 +28,8 @@ module _ {X : Type 0} (letter : X → ℕ) (d : X) (word : List ℕ) where
 
   pub some_letters : ((x y : X) → letter x ≡ letter y → x ≡ y) → (xs : List X) → length word ≡ 16 → length xs ≡ 16 → SameLetters xs 16 → ReadsLetters (Some xs)
   some_letters apart xs long sixteen same = reads_some sixteen
-      (ext_get_or 0 word (map letter xs) (long ∙ sym (length-map xs letter ∙ sixteen)) (λ k low. let within : k < length xs = omega arith in sym (get_or-map letter xs k d 0 within ∙ same k (omega arith))))
+      (ext_get_or 0 word (map letter xs) (long ∙ sym (length-map xs letter ∙ sixteen))
+      (λ k low. let within : k < length xs = omega arith in sym (get_or-map letter xs k d 0 within ∙ same k (omega arith))))
       (λ ys other e. ext_get_or d xs ys (sixteen ∙ sym other) (λ k low. apart _ _ (same k (omega arith) ∙ letter_at ys other e k (omega arith))))
 
   -- one letter more

@@ -19,7 +19,7 @@ use Rattle.trace_text.specs.declared.lines.Line.{Line}
 use Rattle.trace_text.specs.declared.lines.Line.TheVariants.{S, F, R, M, J, L, A, Z}
 use Rattle.trace_text.specs.IsLine.{IsWorded, FitsRun, FitsRuns, FitsMode, FitsNote}
 use Rattle.trace_text.specs.Line.{line_words, note_words}
-use Rattle.trace_text.specs.Texts.{colour_letter, signal_letter, mode_text, run_text}
+use Rattle.trace_text.specs.Texts.{colour_letter, signal_letter, mode_text, run_word}
 use Rattle.trace_text.specs.Words.{Lacks, unended}
 use Rattle.trace_text.specs.Reads.{Reads}
 use Rattle.trace_text.proofs.Cuts.{lacks_head, lacks_tail}
@@ -112,7 +112,7 @@ abbrev pub WordsLack : List (List ℕ) → Type 0
 WordsLack [] = Unit {0}
 WordsLack (word ∷ words) = LacksAll 32 word × WordsLack words
 
-runs_lack : (runs : List (ℕ × ℕ)) → FitsRuns runs → WordsLack (map run_text runs)
+runs_lack : (runs : List (ℕ × ℕ)) → FitsRuns runs → WordsLack (map run_word runs)
 runs_lack [] fits = tt
 runs_lack (run ∷ runs) fits =
     let first : FitsRun run = fits 0 (omega arith) in (

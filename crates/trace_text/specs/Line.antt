@@ -5,7 +5,7 @@ use Rattle.sig_types.specs.declared.frame.Frame.{Frame}
 use Rattle.sig_types.specs.declared.notes.Broken.{Broken}
 use Rattle.sig_types.specs.declared.notes.MasterNote.{MasterNote}
 use Rattle.sig_types.specs.declared.notes.MasterNote.TheVariants as note
-use Rattle.trace_text.specs.Texts.{colours_text, signals_text, mode_text, run_text, reply_text}
+use Rattle.trace_text.specs.Texts.{colours_text, signals_text, mode_text, run_word, reply_text}
 use Rattle.trace_text.specs.Words.{line_of}
 use Rattle.trace_text.specs.declared.lines.Line.{Line}
 use Rattle.trace_text.specs.declared.lines.Line.TheVariants.{S, F, R, M, J, L, A, Z}
@@ -33,7 +33,7 @@ line_words (F cab tick veh ped mode counter target version) =
     ∷ decimal counter ∷ decimal target ∷ decimal version ∷ []
 line_words (R round) = codes "R" ∷ decimal round ∷ []
 line_words (M note) = note_words note
-line_words (J cab runs) = codes "J" ∷ decimal cab ∷ map run_text runs
+line_words (J cab runs) = codes "J" ∷ decimal cab ∷ map run_word runs
 line_words (L cab id outcome) = load_words cab id outcome
 line_words (A cab pass reply) = codes "A" ∷ decimal cab ∷ decimal pass ∷ reply_text reply ∷ []
 line_words (Z rounds) = codes "Z" ∷ decimal rounds ∷ []
@@ -41,23 +41,3 @@ line_words (Z rounds) = codes "Z" ∷ decimal rounds ∷ []
 -- the text of a line, with its newline
 unfoldable pub line_text : Line → List ℕ
 line_text line = line_of (line_words line)
-
--- the line of a frame after a tick of a cabinet
-abbrev pub frame_line : ℕ → ℕ → Frame → List ℕ
-frame_line cab tick f = line_text (F cab tick f.veh f.ped f.mode f.counter f.target f.version)
-
--- the line that opens a trace with its scenario
-abbrev pub scenario_line : List ℕ → List ℕ
-scenario_line json = line_text (S json)
-
--- the line that opens a round
-abbrev pub round_line : ℕ → List ℕ
-round_line round = line_text (R round)
-
--- the line of a cabinet's journal of a round
-abbrev pub journal_line : ℕ → List (ℕ × ℕ) → List ℕ
-journal_line cab runs = line_text (J cab runs)
-
--- the line that ends a trace
-abbrev pub end_line : ℕ → List ℕ
-end_line rounds = line_text (Z rounds)

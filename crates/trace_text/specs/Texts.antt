@@ -44,8 +44,8 @@ mode_text (mode.Dwell preempt) = codes "P" ++ (decimal preempt ++ codes "d")
 mode_text (mode.Exit preempt) = codes "P" ++ (decimal preempt ++ codes "x")
 
 -- the word of a run of a journal: the pass, a star, and how many events in a row are that pass's
-abbrev pub run_text : ℕ × ℕ → List ℕ
-run_text run = decimal run.0 ++ (codes "*" ++ decimal run.1)
+abbrev pub run_word : ℕ × ℕ → List ℕ
+run_word run = decimal run.0 ++ (codes "*" ++ decimal run.1)
 
 -- octets in lower-case hexadecimal
 abbrev pub octets_text : ArrayVec ℕ → List ℕ

@@ -5,7 +5,7 @@ ghost use Rattle.std.specs.List.{slice_split};
 ghost use Rattle.hex.specs.Hex.{encode_lower};
 ghost use Rattle.trace_text.specs.IsLine.{AreLongest, FitsRun, FitsRuns, IsReply, FitsReply, IsOctets};
 ghost use Rattle.trace_text.specs.Reads.{Reads};
-ghost use Rattle.trace_text.specs.Texts.{run_text, reply_text, octets_text};
+ghost use Rattle.trace_text.specs.Texts.{run_word, reply_text, octets_text};
 ghost use Rattle.trace_text.specs.Words.{Lacks};
 
 use crate::lines::Runs;
@@ -23,7 +23,7 @@ pub fn words_of(alloc: Global, bytes: &[u8]) -> Result<Vec<&[u8]>, AllocError>
 
 /// The runs, in longest runs, whose words these are.
 pub fn runs_of(alloc: Global, words: &[&[u8]]) -> Result<Option<Runs>, AllocError>
-    ensures { IfOk result (Reads (λ runs. AreLongest runs × FitsRuns runs) (map run_text) (map (λ word. word.now) words.now)) }
+    ensures { IfOk result (Reads (λ runs. AreLongest runs × FitsRuns runs) (map run_word) (map (λ word. word.now) words.now)) }
 {
     if words.is_empty() {
         return Ok(None);
@@ -59,7 +59,7 @@ fn is_pass(before: Option<u32>, pass: u32) -> bool
 
 /// The run whose word it is.
 fn run_of(word: &[u8]) -> Option<(u32, u32)>
-    ensures { Reads FitsRun run_text word.now result }
+    ensures { Reads FitsRun run_word word.now result }
 {
     let (pass, count) = match around_star(word) {
         Some(parts) => parts,

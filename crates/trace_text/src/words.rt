@@ -3,7 +3,7 @@
 ghost use Rattle.std.specs.Prelude.{◌≡◌, ◌++◌, ◌∷◌, [], OnOk, map};
 ghost use Rattle.std.specs.Fmt.{signed_decimal, decimal};
 ghost use Rattle.hex.specs.Hex.{encode_lower};
-ghost use Rattle.trace_text.specs.Texts.{colours_text, signals_text, mode_text, run_text, colour_letter, signal_letter};
+ghost use Rattle.trace_text.specs.Texts.{colours_text, signals_text, mode_text, run_word, colour_letter, signal_letter};
 ghost use Rattle.trace_text.specs.Words.{spaced};
 
 use sig_types::{Colour, Mode, Ped};
@@ -91,7 +91,7 @@ fn stage(out: &mut Vec<u8>, preempt: u8, letter: u8) -> Result<(), AllocError>
 
 /// The runs, each behind a space.
 pub fn runs(out: &mut Vec<u8>, runs: &[(u32, u32)]) -> Result<(), AllocError>
-    ensures { OnOk result (out.new.items ≡ out.old.items ++ spaced (map run_text runs.now)) }
+    ensures { OnOk result (out.new.items ≡ out.old.items ++ spaced (map run_word runs.now)) }
 {
     for run in runs {
         number(out, run.0)?;

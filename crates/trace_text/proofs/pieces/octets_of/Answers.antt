@@ -15,7 +15,8 @@ returns-then-is_empty c = none_empty _ _ c.in-Ok.ensures.ok (search rules)
 pub returns-in-Ok-try_from : goal.returns-in-Ok-try_from
 returns-in-Ok-try_from c =
     let same = c.in-Ok-try_from.ensures.0 ∙ c.as_slice.ensures.value in
-    some_octets _ _ c.in-Ok.ensures.ok (rw c.deref.ensures.value at (c.in_ok-is_lower.ensures.0 c.if-not-branch.false)) (search rules) _ same (rw c.as_slice.ensures.value at c.in-Ok-try_from.ensures.1)
+    some_octets _ _ c.in-Ok.ensures.ok (rw c.deref.ensures.value at (c.in_ok-is_lower.ensures.0 c.if-not-branch.false))
+    (search rules) _ same (rw c.as_slice.ensures.value at c.in-Ok-try_from.ensures.1)
 
 pub returns : goal.returns
 returns c = none_long _ _ c.in-Ok.ensures.ok (rw c.as_slice.ensures.value at c.in-Err-try_from.ensures)

@@ -9,10 +9,13 @@ pub returns-then-run-eq0 : goal.returns-then-run-eq0
 returns-then-run-eq0 c = none_hollow _ _ _ _ c.loop-word.invariant (in_plain _ _ c.loop-word-test.true) c.in-Some.run' (rw (plain_at _ _ c.loop-word-test.true) c.in-Some.ensures) c.if-run-eq0.true
 
 pub returns-then-is_pass : goal.returns-then-is_pass
-returns-then-is_pass c = none_same _ _ _ _ c.loop-word.invariant (in_plain _ _ c.loop-word-test.true) c.in-Some.run' (rw (plain_at _ _ c.loop-word-test.true) c.in-Some.ensures) (c.is_pass.ensures.0 c.if-is_pass.true)
+returns-then-is_pass c =
+    none_same _ _ _ _ c.loop-word.invariant (in_plain _ _ c.loop-word-test.true) c.in-Some.run' (rw (plain_at _ _ c.loop-word-test.true) c.in-Some.ensures) (c.is_pass.ensures.0 c.if-is_pass.true)
 
 pub loop-word-preserved : goal.loop-word-preserved
-loop-word-preserved c = rw c.in_ok-push.ensures.items (next_run _ _ _ _ c.loop-word.invariant (in_plain _ _ c.loop-word-test.true) c.in-Some.run' (rw (plain_at _ _ c.loop-word-test.true) c.in-Some.ensures) (omega (arith, c.if-run-eq0.false))
+loop-word-preserved c =
+    rw c.in_ok-push.ensures.items
+    (next_run _ _ _ _ c.loop-word.invariant (in_plain _ _ c.loop-word-test.true) c.in-Some.run' (rw (plain_at _ _ c.loop-word-test.true) c.in-Some.ensures) (omega (arith, c.if-run-eq0.false))
     (λ same. let t : true ≡ false = sym (c.is_pass.ensures.1 same) ∙ c.if-is_pass.false in cc))
 
 pub returns : goal.returns

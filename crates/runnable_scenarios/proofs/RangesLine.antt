@@ -1,10 +1,12 @@
 -- The compact text of a value is one line: a string has its newlines escaped, and nothing else has any.
-use Rattle.std.proofs.Common.{◌≡◌, ◌≢◌, ◌/◌, ◌%◌, ◌+◌, ◌==◌, ◌||◌, ℕ, zero, suc, pos, negsuc, ℤ, Bool, true, false, cond, nat_lt, List, [], ◌∷◌, ◌++◌, decimal, refl, subst, arith}
+use Rattle.std.proofs.Common.{◌≡◌, ◌≢◌, ◌/◌, ◌%◌, ◌+◌, ◌==◌, ◌||◌, ℕ, zero, suc, pos, negsuc, ℤ, Bool, true, false, cond, nat_lt, List, [], ◌∷◌, ◌++◌}
+use Rattle.std.proofs.Common.{decimal, refl, subst, arith}
 use Rattle.std.proofs.lemmas.Bool.{false≢true, ltb-false}
 use Rattle.std.specs.Char.{digit_char}
 use Rattle.std.specs.Fmt.{digit_glyph, digits_onto, digits, signed_decimal}
 use Rattle.json.specs.Print.{escape_letter, escape_byte, escape, quoted}
-use Rattle.serde_json.specs.Data.{Num, unsigned, negative, float, Data, null, boolean, number, string, array, object, Items, no_items, item, Members, no_members, member}
+use Rattle.serde_json.specs.Data.{Num, unsigned, negative, float, Data, null, boolean, number, string, array, object, Items, no_items, item, Members}
+use Rattle.serde_json.specs.Data.{no_members, member}
 use Rattle.serde_json.specs.Written.{number_text, comma_if, compact_text, items_text, members_text}
 use Rattle.trace_text.specs.Words.{Lacks}
 
@@ -111,7 +113,8 @@ mutual
   items-line : (later : Bool) (ds : Items) → OneLine (items_text later ds)
   items-line later no_items = (omega arith, tt)
   items-line later (item d ds) =
-      both-lines (comma_if later) (compact_text d ++ items_text true ds) (comma-line later) (both-lines (compact_text d) (items_text true ds) (compact-line d) (items-line true ds))
+      both-lines (comma_if later) (compact_text d ++ items_text true ds) (comma-line later)
+      (both-lines (compact_text d) (items_text true ds) (compact-line d) (items-line true ds))
 
   members-line : (later : Bool) (ms : Members) → OneLine (members_text later ms)
   members-line later no_members = (omega arith, tt)

@@ -1,12 +1,14 @@
 -- What stands at the names of a value without faults.
-use Rattle.std.proofs.Common.{◌≡◌, ◌≤◌, ◌&&◌, ℕ, Bool, true, false, nat_le, if◌then◌else◌, List, [], ◌∷◌, ◌++◌, length, Option, Some, None, unwrap_or, refl, arith}
+use Rattle.std.proofs.Common.{◌≡◌, ◌≤◌, ◌&&◌, ℕ, Bool, true, false, nat_le, if◌then◌else◌, List, [], ◌∷◌, ◌++◌, length, Option, Some, None, unwrap_or}
+use Rattle.std.proofs.Common.{refl, arith}
 use Rattle.std.proofs.lemmas.Bool.{leb-true}
 use Rattle.serde_json.specs.Data.{unsigned, negative, float, Data, null, boolean, number, string, array, object, Items, no_items, item}
 use Rattle.serde_json.specs.Events.{items_len}
 use Rattle.scenario_data.specs.Causes.{Cause}
 use Rattle.scenario_read.specs.Paths.{Step, then_named}
 use Rattle.scenario_read.specs.Kinds.{Fit, Fits, Wrong, Beyond, Kind, fault_at, within, whole, each, items_in, list_of}
-use Rattle.scenario_read.specs.Fields.{Field, Shape, held, value_of, faults_of, field_faults, fields_faults, names, known_fields, unknown_faults, alternative_faults, object_of}
+use Rattle.scenario_read.specs.Fields.{Field, Shape, held, value_of, faults_of, field_faults, fields_faults, names, known_fields, unknown_faults}
+use Rattle.scenario_read.specs.Fields.{alternative_faults, object_of}
 use Rattle.scenario_read.specs.Content.{whole_of, each_of}
 
 pub none-left : (xs ys : List Cause) → xs ++ ys ≡ [] → (xs ≡ []) × (ys ≡ [])
@@ -72,4 +74,5 @@ object-in shape path (string s) e = absurd (cc)
 object-in shape path (array ds) e = absurd (cc)
 object-in shape path (object ms) e =
     none-left (fields_faults path (object ms) shape.fields) (alternative_faults path (object ms) shape.alternatives)
-    (none-left (unknown_faults (names (known_fields shape (object ms))) path ms) (fields_faults path (object ms) shape.fields ++ alternative_faults path (object ms) shape.alternatives) e).1
+    (none-left (unknown_faults (names (known_fields shape (object ms))) path ms)
+    (fields_faults path (object ms) shape.fields ++ alternative_faults path (object ms) shape.alternatives) e).1

@@ -13,9 +13,9 @@ use Rattle.scenario_read.specs.Content.{round_count, tick_count, cabinet_count, 
 use Rattle.scenario_read.specs.Faults.{product_faults, all_table_faults, faults}
 use Rattle.scenario_read.specs.Answers.{IsScenario}
 use Rattle.run_text.specs.Runnable.{Runnable}
-use Rattle.run_text.proofs.RangesParts.{none-left, whole-in, list-in, each-length, held-in, object-in}
-use Rattle.run_text.proofs.RangesLine.{line-lacks, compact-line}
-use Rattle.run_text.proofs.RangesCabinets.{all-open, all-heard, all-reach}
+use Rattle.runnable_scenarios.proofs.RangesParts.{none-left, whole-in, list-in, each-length, held-in, object-in}
+use Rattle.runnable_scenarios.proofs.RangesLine.{line-lacks, compact-line}
+use Rattle.runnable_scenarios.proofs.RangesCabinets.{all-open, all-heard, all-reach}
 
 product-in : (n : ℕ) → product_faults n ≡ [] → n ≤ 55296000
 product-in n e = from (nat_le n 55296000) refl e
@@ -52,7 +52,8 @@ value-runs d e =
     let in_rounds = whole-in 1 86400 (then_named [] rounds.name) (held rounds d) (held-in [] d rounds own.rounds_clean) in
     let in_ticks = whole-in 1 600 (then_named [] ticks.name) (held ticks d) (held-in [] d ticks own.ticks_clean) in
     let in_cabinets = list-in 1 64 (object_of cabinet_shape) (then_named [] cabinets.name) (held cabinets d) (held-in [] d cabinets own.cabinets_clean) in
-    let in_inputs = list-in 0 1000000 (object_of (input_shape r n)) (then_named [] (inputs r n).name) (held (inputs r n) d) (held-in [] d (inputs r n) own.inputs_clean) in
+    let in_inputs = list-in 0 1000000 (object_of (input_shape r n)) (then_named [] (inputs r n).name) (held (inputs r n) d)
+    (held-in [] d (inputs r n) own.inputs_clean) in
     let some_cabinets = each-length cabinet_of (items_in (held cabinets d)) in
     let some_inputs = each-length (input_of r n) (items_in (held (inputs r n) d)) in
     record {

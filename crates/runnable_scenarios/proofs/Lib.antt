@@ -1,0 +1,4 @@
+pub mod RangesParts
+pub mod RangesLine
+pub mod RangesCabinets
+pub mod Ranges
