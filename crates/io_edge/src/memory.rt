@@ -1,7 +1,7 @@
 //! Sources and sinks in memory, some of whose calls fail, by their numbers from 1; and a gate that is always open.
 //! A listed number is of 32 bits, so of the calls past 4,294,967,295 none fails by the list.
 
-ghost use Rattle.std.specs.Prelude.{◌≡◌, ◌<◌, ◌≤◌, ◌+◌, ◌-◌, ◌↔◌, ◌⊎◌, [], ℕ, Some, take, drop, length, min, IfOk, OnErr, IsErr, IsTrue, vec_len, vec_capacity};
+ghost use Rattle.std.specs.Prelude.{◌≡◌, ◌<◌, ◌≤◌, ◌+◌, ◌-◌, ◌↔◌, ◌⊎◌, [], ℕ, Some, take, drop, length, min, IfOk, OnOk, OnErr, IsErr, IsTrue, vec_len, vec_capacity};
 ghost use Rattle.io_edge.specs.Edge.{Rises, Reads, Appends};
 ghost use Rattle.io_edge.specs.Calls.{FailsAt, one_more};
 
@@ -55,7 +55,7 @@ impl Source for MemSource {
         ensures fault { OnErr result (Rises (source_faults self.old) (source_faults self.new)) }
         ensures kept { source_faults self.old ≤ source_faults self.new }
         ensures failed { IsErr result ↔ FailsAt (failing_reads self.old) (reads_so_far self.old) }
-        ensures counts { IfOk result (λ _. source_faults self.new ≡ source_faults self.old) }
+        ensures counts { OnOk result (source_faults self.new ≡ source_faults self.old) }
         ensures counts_fault { OnErr result (source_faults self.new ≡ one_more (source_faults self.old)) }
         ensures list { failing_reads self.new ≡ failing_reads self.old }
         ensures counted { reads_so_far self.new ≡ one_more (reads_so_far self.old) }
@@ -132,7 +132,7 @@ impl Sink for MemSink {
         ensures fault { OnErr result (Rises (sink_faults self.old) (sink_faults self.new)) }
         ensures kept { sink_faults self.old ≤ sink_faults self.new }
         ensures failed { IsErr result ↔ (FailsAt (failing_writes self.old) (writes_so_far self.old) ⊎ ((room_left self.old ≡ 0) × (0 < length piece.now))) }
-        ensures counts { IfOk result (λ _. sink_faults self.new ≡ sink_faults self.old) }
+        ensures counts { OnOk result (sink_faults self.new ≡ sink_faults self.old) }
         ensures counts_fault { OnErr result (sink_faults self.new ≡ one_more (sink_faults self.old)) }
         ensures room { IfOk result (λ n. room_left self.new + n ≡ room_left self.old) }
         ensures room_kept { OnErr result (room_left self.new ≡ room_left self.old) }

@@ -12,7 +12,7 @@ use Rattle.std.specs.List.Sorted.{IsSorted, IsStable, ties}
 use Rattle.sig_types.specs.declared.frame.Field.{Field}
 use Rattle.sig_types.specs.declared.frame.Field.TheVariants.{Veh}
 use Rattle.scenario_data.specs.declared.scenario.Input.{Input}
-use Rattle.run_text.specs.Journal.{inputs_of}
+use Rattle.scenario_data.specs.Inputs.{inputs_of}
 use Rattle.round_inputs.specs.Order.{ComesLater, IsDue, is_of, by_time, input_at, field_in}
 use Rattle.round_inputs.proofs.Later.{later-than}
 
@@ -37,7 +37,8 @@ not-own round cab i other = split (is_of round cab i) refl
 not-before : (i j : Input) → is_lt (by_time i j) ≡ false → ComesLater i.round i.cabinet j.round j.cabinet
 not-before i j e = split (nat_cmp i.round j.round) (nat_cmp i.cabinet j.cabinet) (ranked i.round j.round _ refl) (ranked i.cabinet j.cabinet _ refl) e
   where
-    split : (a b : Ordering) → MatchOrdering a (i.round < j.round) (i.round ≡ j.round) (j.round < i.round) → MatchOrdering b (i.cabinet < j.cabinet) (i.cabinet ≡ j.cabinet) (j.cabinet < i.cabinet)
+    split : (a b : Ordering) → MatchOrdering a (i.round < j.round) (i.round ≡ j.round) (j.round < i.round)
+        → MatchOrdering b (i.cabinet < j.cabinet) (i.cabinet ≡ j.cabinet) (j.cabinet < i.cabinet)
         → is_lt (ordering_then a b) ≡ false → ComesLater i.round i.cabinet j.round j.cabinet
     split Less b p q k = absurd (cc)
     split Equal Less p q k = absurd (cc)
@@ -51,7 +52,8 @@ times-total = then_total (on_total (λ (i : Input). i.round) nat_cmp_total) (on_
 -- in a sorted list each input comes at the time of an earlier place or later
 pub rises : (xs : List Input) → IsSorted by_time xs → (i j : ℕ) → i ≤ j → j < length xs
     → ComesLater (input_at xs j).round (input_at xs j).cabinet (input_at xs i).round (input_at xs i).cabinet
-rises xs sorted i j le below = not-before (input_at xs j) (input_at xs i) (sorted_far (λ x y. is_lt (by_time x y)) (ranks_by times-total (λ x. x)) xs sorted i j (record { round = 0; cabinet = 0; field = Veh 0 false }) le below)
+rises xs sorted i j le below = not-before (input_at xs j) (input_at xs i)
+    (sorted_far (λ x y. is_lt (by_time x y)) (ranks_by times-total (λ x. x)) xs sorted i j (record { round = 0; cabinet = 0; field = Veh 0 false }) le below)
 
 -- ---- lists
 
@@ -73,7 +75,8 @@ own-first : (round cab n : ℕ) (xs : List Input) → ((k : ℕ) → k < n → k
 own-first round cab zero xs own = refl
 own-first round cab (suc n) [] own = refl
 own-first round cab (suc n) (i ∷ xs) own =
-    rw (own 0 (omega arith) (omega arith)) (ap (λ (fields : List Field). i.field ∷ fields) (own-first round cab n xs (λ k low below. own (suc k) (omega (arith, low)) (omega (arith, below)))))
+    rw (own 0 (omega arith) (omega arith))
+    (ap (λ (fields : List Field). i.field ∷ fields) (own-first round cab n xs (λ k low below. own (suc k) (omega (arith, low)) (omega (arith, below)))))
 
 at-dropped : (xs : List Input) (n k : ℕ) → input_at (drop n xs) k ≡ input_at xs (n + k)
 at-dropped xs n k = get_or-drop n xs k (record { round = 0; cabinet = 0; field = Veh 0 false })
@@ -84,7 +87,8 @@ pub passed : (round cab : ℕ) (xs : List Input) (at from : ℕ) → at ≤ from
 passed round cab xs at from le none =
     let here : at + (from - at) ≡ from = omega arith in
     ap (λ n. inputs_of round cab (drop n xs)) (sym here) ∙ ap (inputs_of round cab) (sym (drop-drop (from - at) at xs))
-    ∙ past-others round cab (from - at) (drop at xs) (λ k low below. ap (is_of round cab) (at-dropped xs at k) ∙ none (at + k) (omega arith) (omega (arith, low)))
+    ∙ past-others round cab (from - at) (drop at xs)
+    (λ k low below. ap (is_of round cab) (at-dropped xs at k) ∙ none (at + k) (omega arith) (omega (arith, low)))
 
 -- what stands from one place to another is all that there is of the round and the cabinet
 pub spanned : (round cab : ℕ) (xs : List Input) (from end : ℕ) → from ≤ end
@@ -95,16 +99,19 @@ spanned round cab xs from end le own none =
     let here : from + (end - from) ≡ end = omega arith in
     let behind : inputs_of round cab (drop (end - from) (drop from xs)) ≡ [] =
     ap (inputs_of round cab) (drop-drop (end - from) from xs ∙ ap (λ n. drop n xs) here)
-    ∙ none-own round cab (drop end xs) (λ k below. ap (is_of round cab) (at-dropped xs end k) ∙ none (end + k) (omega arith) (omega (arith, below, length-drop end xs))) in
+    ∙ none-own round cab (drop end xs)
+    (λ k below. ap (is_of round cab) (at-dropped xs end k) ∙ none (end + k) (omega arith) (omega (arith, below, length-drop end xs))) in
     sym (append-nil _) ∙ ap (λ (rest : List Field). map field_in (take (end - from) (drop from xs)) ++ rest) (sym behind)
-    ∙ own-first round cab (end - from) (drop from xs) (λ k low below. ap (is_of round cab) (at-dropped xs from k) ∙ own (from + k) (omega arith) (omega (arith, low)))
+    ∙ own-first round cab (end - from) (drop from xs)
+    (λ k low below. ap (is_of round cab) (at-dropped xs from k) ∙ own (from + k) (omega arith) (omega (arith, low)))
 
 -- ---- the span of a round and a cabinet
 
 -- an input that is not due is none of a later round and cabinet
 pub early-not-own : (round cab r c : ℕ) (i : Input) → ComesLater r c round cab → (IsDue round cab i → ⊥) → is_of r c i ≡ false
 early-not-own round cab r c i later early =
-    not-own r c i (λ e f. early (record { rounds = omega (arith, e, later.rounds); cabinets = λ same. omega (arith, f, later.cabinets (omega (arith, e, same))) }))
+    not-own r c i (λ e f. early
+    (record { rounds = omega (arith, e, later.rounds); cabinets = λ same. omega (arith, f, later.cabinets (omega (arith, e, same))) }))
 
 -- behind the span no input is of the round and the cabinet
 pub none-behind : (round cab : ℕ) (xs : List Input) (from end : ℕ) → IsSorted by_time xs → from ≤ end
@@ -114,14 +121,19 @@ none-behind round cab xs from end sorted le due stop k low below =
     let first = due (omega arith) in
     let next = rises xs sorted from end le (omega arith) in
     let last = rises xs sorted end k low below in
-    not-own round cab (input_at xs k) (λ e f. false≢true (sym (stop (omega arith)) ∙ time-own round cab (input_at xs end) (same-round first next last e) (same-cabinet first next last e f)))
+    not-own round cab (input_at xs k)
+    (λ e f. false≢true (sym (stop (omega arith)) ∙ time-own round cab (input_at xs end) (same-round first next last e) (same-cabinet first next last e f)))
   where
-    same-round : ComesLater (input_at xs from).round (input_at xs from).cabinet round cab → ComesLater (input_at xs end).round (input_at xs end).cabinet (input_at xs from).round (input_at xs from).cabinet
-        → ComesLater (input_at xs k).round (input_at xs k).cabinet (input_at xs end).round (input_at xs end).cabinet → (input_at xs k).round ≡ round → (input_at xs end).round ≡ round
+    same-round : ComesLater (input_at xs from).round (input_at xs from).cabinet round cab
+        → ComesLater (input_at xs end).round (input_at xs end).cabinet (input_at xs from).round (input_at xs from).cabinet
+        → ComesLater (input_at xs k).round (input_at xs k).cabinet (input_at xs end).round (input_at xs end).cabinet → (input_at xs k).round ≡ round
+        → (input_at xs end).round ≡ round
     same-round a b d e = omega (arith, a.rounds, b.rounds, d.rounds, e)
 
-    same-cabinet : ComesLater (input_at xs from).round (input_at xs from).cabinet round cab → ComesLater (input_at xs end).round (input_at xs end).cabinet (input_at xs from).round (input_at xs from).cabinet
-        → ComesLater (input_at xs k).round (input_at xs k).cabinet (input_at xs end).round (input_at xs end).cabinet → (input_at xs k).round ≡ round → (input_at xs k).cabinet ≡ cab → (input_at xs end).cabinet ≡ cab
+    same-cabinet : ComesLater (input_at xs from).round (input_at xs from).cabinet round cab
+        → ComesLater (input_at xs end).round (input_at xs end).cabinet (input_at xs from).round (input_at xs from).cabinet
+        → ComesLater (input_at xs k).round (input_at xs k).cabinet (input_at xs end).round (input_at xs end).cabinet → (input_at xs k).round ≡ round
+        → (input_at xs k).cabinet ≡ cab → (input_at xs end).cabinet ≡ cab
     same-cabinet a b d e f = omega (arith, a.rounds, b.rounds, d.rounds, a.cabinets, b.cabinets, d.cabinets, e, f)
 
 own-not-later : (round cab r c : ℕ) (i : Input) → is_of round cab i ≡ true → ComesLater r c round (cab + 1) → is_of r c i ≡ false
@@ -147,7 +159,8 @@ pub span-own : (xs : List Input) (at from end round cab : ℕ) → Spans xs at f
     → map field_in (take (end - from) (drop from xs)) ≡ inputs_of round cab (drop at xs)
 span-own xs at from end round cab s =
     spanned round cab xs from end s.long s.own (none-behind round cab xs from end s.sorted s.long s.due s.stop)
-    ∙ passed round cab xs at from s.front (λ k low high. early-not-own round cab round cab (input_at xs k) (record { rounds = omega arith; cabinets = λ same. omega arith }) (s.before k low high))
+    ∙ passed round cab xs at from s.front
+    (λ k low high. early-not-own round cab round cab (input_at xs k) (record { rounds = omega arith; cabinets = λ same. omega arith }) (s.before k low high))
 
 pub span-later : (xs : List Input) (at from end round cab : ℕ) → Spans xs at from end round cab
     → (r c : ℕ) → ComesLater r c round (cab + 1) → inputs_of r c (drop end xs) ≡ inputs_of r c (drop at xs)
@@ -179,16 +192,20 @@ filtered round cab [] = refl
 filtered round cab (i ∷ xs) = split (is_of round cab i) (filtered round cab xs)
   where
     split : (b : Bool) → inputs_of round cab xs ≡ map field_in (filter (is_of round cab) xs)
-        → (if b then i.field ∷ inputs_of round cab xs else inputs_of round cab xs) ≡ map field_in (cond b (i ∷ filter (is_of round cab) xs) (filter (is_of round cab) xs))
+        → (if b then i.field ∷ inputs_of round cab xs else inputs_of round cab xs) ≡ map field_in (cond b (i ∷ filter (is_of round cab) xs)
+        (filter (is_of round cab) xs))
     split true rest = ap (λ (fields : List Field). i.field ∷ fields) rest
     split false rest = rest
 
 -- an input ties with one of the round and the cabinet where it is of them itself
 tied : (i j : Input) → ties (λ x y. is_lt (by_time x y)) i j ≡ is_of i.round i.cabinet j
-tied i j = split (nat_cmp i.round j.round) (nat_cmp i.cabinet j.cabinet) (nat_cmp j.round i.round) (nat_cmp j.cabinet i.cabinet) (ranked i.round j.round _ refl) (ranked i.cabinet j.cabinet _ refl) (ranked j.round i.round _ refl) (ranked j.cabinet i.cabinet _ refl)
+tied i j = split (nat_cmp i.round j.round) (nat_cmp i.cabinet j.cabinet) (nat_cmp j.round i.round) (nat_cmp j.cabinet i.cabinet)
+    (ranked i.round j.round _ refl) (ranked i.cabinet j.cabinet _ refl) (ranked j.round i.round _ refl) (ranked j.cabinet i.cabinet _ refl)
   where
-    split : (a b d e : Ordering) → MatchOrdering a (i.round < j.round) (i.round ≡ j.round) (j.round < i.round) → MatchOrdering b (i.cabinet < j.cabinet) (i.cabinet ≡ j.cabinet) (j.cabinet < i.cabinet)
-        → MatchOrdering d (j.round < i.round) (j.round ≡ i.round) (i.round < j.round) → MatchOrdering e (j.cabinet < i.cabinet) (j.cabinet ≡ i.cabinet) (i.cabinet < j.cabinet)
+    split : (a b d e : Ordering) → MatchOrdering a (i.round < j.round) (i.round ≡ j.round) (j.round < i.round)
+        → MatchOrdering b (i.cabinet < j.cabinet) (i.cabinet ≡ j.cabinet) (j.cabinet < i.cabinet)
+        → MatchOrdering d (j.round < i.round) (j.round ≡ i.round) (i.round < j.round)
+        → MatchOrdering e (j.cabinet < i.cabinet) (j.cabinet ≡ i.cabinet) (i.cabinet < j.cabinet)
         → (not (is_lt (ordering_then a b)) && not (is_lt (ordering_then d e))) ≡ is_of i.round i.cabinet j
     split Less b d e p q r s = sym (not-own i.round i.cabinet j (λ same other. omega (arith, p, same)))
     split Greater b Less e p q r s = sym (not-own i.round i.cabinet j (λ same other. omega (arith, p, same)))

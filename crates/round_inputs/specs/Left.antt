@@ -1,7 +1,7 @@
 -- What a queue of inputs still gives: the inputs of each round and cabinet that come after those already given.
 use Rattle.std.specs.Prelude.{ℕ, ◌≡◌, ◌≤◌, ◌<◌, List, length, drop}
 use Rattle.scenario_data.specs.declared.scenario.Input.{Input}
-use Rattle.run_text.specs.Journal.{inputs_of}
+use Rattle.scenario_data.specs.Inputs.{inputs_of}
 use Rattle.round_inputs.specs.Order.{ComesLater, IsDue, input_at}
 use Rattle.round_inputs.specs.declared.RoundInputs.{RoundInputs}
 

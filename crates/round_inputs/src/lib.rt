@@ -5,7 +5,7 @@
 ghost use Rattle.std.specs.Prelude.{◌≡◌, ◌≤◌, ◌<◌, ◌+◌, ◌-◌, ◌↔◌, ℕ, List, length, map, take, drop, true, false, IfOk, IsOk, IsTrue, vec_len};
 ghost use Rattle.std.specs.List.Sorted.{IsSorted};
 ghost use Rattle.scenario_data.specs.declared.scenario.Input.{Input};
-ghost use Rattle.run_text.specs.Journal.{inputs_of};
+ghost use Rattle.scenario_data.specs.Inputs.{inputs_of};
 ghost use Rattle.round_inputs.specs.Order.{ComesLater, IsDue, is_of, by_time, input_at, field_in};
 
 use scenario_data::Input;

@@ -4,14 +4,16 @@ use Rattle.scenario_data.specs.Content.{ScenarioContent}
 use Rattle.scenario_data.specs.declared.refusal.Refusal.{Refusal}
 use Rattle.scenario_read.specs.Answers.{IsScenario, IsFirstFault}
 use Rattle.scenario_read.proofs.OneAnswer.{no-fault-beside}
-use Rattle.run_text.proofs.Ranges.{runs}
+use Rattle.runnable_scenarios.proofs.Ranges.{runs}
 use Rattle.run_text.proofs.Streets.{tells-safe-streets}
 use Rattle.station.specs.declared.status.Status.{Status}
 use Rattle.station.specs.declared.status.Status.TheVariants.{Done, Usage, Scenario, NotATrace, ReadFault, WriteFault, NoMemory}
-use Rattle.station.specs.Answers.{IsShort, WritesSafe, HoldsScenario, HasFault, IsLengthRefusal, NamesFault, IsNoScenario, IsRefusedFor, IsLengthLimit, Tells, AppendsOutput}
+use Rattle.station.specs.Answers.{IsShort, WritesSafe, HoldsScenario, HasFault, IsLengthRefusal, NamesFault, IsNoScenario, IsRefusedFor, IsLengthLimit}
+use Rattle.station.specs.Answers.{Tells, AppendsOutput}
 
 -- the trace that was appended at Done tells safe streets
-pub safe_done : (status : Status) (left old new : Option (List ℕ)) (ended : Type 0) → AppendsOutput status left ended old new → status ≡ Done → WritesSafe left old new
+pub safe_done : (status : Status) (left old new : Option (List ℕ)) (ended : Type 0) → AppendsOutput status left ended old new → status ≡ Done
+    → WritesSafe left old new
 safe_done status left old new ended wrote done =
     let (s, is, appends) = subst (λ (x : Status). AppendsOutput x left ended old new) done wrote in
     (s, is, appends, tells-safe-streets s (runs is.0 s is.3))
@@ -31,7 +33,9 @@ short_only input holds long = let short : length input ≤ 16777216 = told_short
 
 limit_only : (refusal : Refusal) (input : List ℕ) → IsRefusedFor refusal (Some input) → 16777216 < length input → IsLengthLimit refusal
 limit_only refusal input (inl (limit, more)) long = limit
-limit_only refusal input (inr (other, fault)) long = let short : length input ≤ 16777216 = (told_fault input refusal fault).0 in absurd (omega (arith, short, long))
+limit_only refusal input (inr (other, fault)) long =
+    let short : length input ≤ 16777216 = (told_fault input refusal fault).0 in
+    absurd (omega (arith, short, long))
 
 fault_only : (refusal : Refusal) (input : List ℕ) → IsRefusedFor refusal (Some input) → IsShort input → IsFirstFault input refusal
 fault_only refusal input (inl (limit, more)) short = absurd (omega (arith, short, more))
@@ -67,7 +71,8 @@ pub due_done : (status : Status) (left : Option (List ℕ)) (unread unwritten : 
 due_done status None unread unwritten tells = tt
 due_done Done (Some input) unread unwritten tells = λ short s is sound put. inl refl
 due_done Usage (Some input) unread unwritten tells = absurd tells
-due_done (Scenario refusal) (Some input) unread unwritten tells = λ short s is sound put. absurd (no-fault-beside input s refusal is (fault_only refusal input tells short))
+due_done (Scenario refusal) (Some input) unread unwritten tells = λ short s is sound put. absurd (no-fault-beside input s refusal is
+    (fault_only refusal input tells short))
 due_done (NotATrace fault) (Some input) unread unwritten tells = absurd tells
 due_done ReadFault (Some input) unread unwritten tells = λ short s is sound put. absurd (sound tells)
 due_done WriteFault (Some input) unread unwritten tells = λ short s is sound put. absurd (put tells.0)

@@ -8,7 +8,7 @@ use Rattle.controller.specs.declared.Controller.{Controller}
 use Rattle.controller.specs.StandsFor.{StandsFor, tick_count}
 use Rattle.run_text.specs.Cabinets.{after}
 use Rattle.round_inputs.specs.Order.{field_in}
-use Rattle.station.specs.Rounds.{AllNamed, Runs, heard}
+use Rattle.station.specs.Rounds.{AllStreet, Runs, heard}
 use Rattle.station.proofs.Histories.{runs_heard}
 
 -- the controller has come to a history, which the inputs from a place on make the final one
@@ -18,8 +18,9 @@ HearsOn k inputs i done final = (reached : History) × Runs k reached done × (a
 next_input : (inputs : List Input) (i : ℕ) (d : Input) → i < length inputs → drop i inputs ≡ get_or inputs i d ∷ drop (i + 1) inputs
 next_input inputs i d more = rw add-one (drop-cons inputs i d more)
 
-pub named_on : (inputs : List Input) (i : ℕ) (d : Input) → i < length inputs → AllNamed (map field_in (drop i inputs)) → AllNamed (map field_in (drop (i + 1) inputs))
-named_on inputs i d more named = (subst (λ (xs : List Input). AllNamed (map field_in xs)) (next_input inputs i d more) named).1
+pub street_on : (inputs : List Input) (i : ℕ) (d : Input) → i < length inputs → AllStreet (map field_in (drop i inputs))
+    → AllStreet (map field_in (drop (i + 1) inputs))
+street_on inputs i d more street = (subst (λ (xs : List Input). AllStreet (map field_in xs)) (next_input inputs i d more) street).1
 
 pub hears_on : (was now : Controller) (inputs : List Input) (i : ℕ) (d : Input) (done : ℕ) (final : History) → i < length inputs
     → ((h : History) → StandsFor was h → StandsFor now (with_one h (Heard (get_or inputs i d).field))) → tick_count now ≡ tick_count was
@@ -30,7 +31,8 @@ hears_on was now inputs i d done final more stands counted (reached, runs, ends)
   subst (λ (xs : List Input). after reached (heard (map field_in xs)) ≡ final) (next_input inputs i d more) ends,
 )
 
-pub heard_all : (k : Controller) (inputs : List Input) (i : ℕ) (done : ℕ) (final : History) → length inputs ≤ i → HearsOn k inputs i done final → Runs k final done
+pub heard_all : (k : Controller) (inputs : List Input) (i : ℕ) (done : ℕ) (final : History) → length inputs ≤ i → HearsOn k inputs i done final
+    → Runs k final done
 heard_all k inputs i done final all (reached, runs, ends) =
     let none : drop i inputs ≡ [] = drop_all i inputs all in
     let same : reached ≡ final = subst (λ (xs : List Input). after reached (heard (map field_in xs)) ≡ final) none ends in

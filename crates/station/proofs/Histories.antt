@@ -15,7 +15,8 @@ use Rattle.station.specs.Rounds.{Runs, heard, round_acts}
 
 pub text_append : (lines more : List Line) → lines_text (lines ++ more) ≡ lines_text lines ++ lines_text more
 text_append [] more = refl
-text_append (line ∷ lines) more = ap (λ (x : List ℕ). line_text line ++ x) (text_append lines more) ∙ sym (append_assoc (line_text line) (lines_text lines) (lines_text more))
+text_append (line ∷ lines) more = ap (λ (x : List ℕ). line_text line ++ x) (text_append lines more)
+    ∙ sym (append_assoc (line_text line) (lines_text lines) (lines_text more))
 
 tick_events : (n : ℕ) → events_of (replicate n one_tick) ≡ replicate n Tick
 tick_events zero = refl
@@ -30,7 +31,8 @@ after_heard : (h : History) (fields : List Field) (events : List Event) → afte
 after_heard h [] events = refl
 after_heard h (field ∷ fields) events = after_heard (with_one h (Heard field)) fields events
 
-heard_lines : (cab : ℕ) (h : History) (fields : List Field) (events : List Event) → events_lines cab h (heard fields ++ events) ≡ events_lines cab (after h (heard fields)) events
+heard_lines : (cab : ℕ) (h : History) (fields : List Field) (events : List Event)
+    → events_lines cab h (heard fields ++ events) ≡ events_lines cab (after h (heard fields)) events
 heard_lines cab h [] events = refl
 heard_lines cab h (field ∷ fields) events = heard_lines cab (with_one h (Heard field)) fields events
 
@@ -39,11 +41,14 @@ pub round_after : (h : History) (fields : List Field) (n : ℕ) → after (after
 round_after h fields n = sym (ap (λ (events : List Event). after h events) (round_events fields n) ∙ after_heard h fields (replicate n Tick))
 
 -- and have all its lines
-pub round_ticks : (cab : ℕ) (h : History) (fields : List Field) (n : ℕ) → events_lines cab (after h (heard fields)) (replicate n Tick) ≡ events_lines cab h (events_of (round_acts fields n))
-round_ticks cab h fields n = sym (ap (λ (events : List Event). events_lines cab h events) (round_events fields n) ∙ heard_lines cab h fields (replicate n Tick))
+pub round_ticks : (cab : ℕ) (h : History) (fields : List Field) (n : ℕ)
+    → events_lines cab (after h (heard fields)) (replicate n Tick) ≡ events_lines cab h (events_of (round_acts fields n))
+round_ticks cab h fields n = sym (ap (λ (events : List Event). events_lines cab h events) (round_events fields n)
+    ∙ heard_lines cab h fields (replicate n Tick))
 
 -- one tick more
-pub runs_ticked : (was now : Controller) (h : History) (done : ℕ) → Runs was h done → StandsFor now (ticked h) → tick_count now ≡ tick_count was + 1 → Runs now (ticked h) (done + 1)
+pub runs_ticked : (was now : Controller) (h : History) (done : ℕ) → Runs was h done → StandsFor now (ticked h) → tick_count now ≡ tick_count was + 1
+    → Runs now (ticked h) (done + 1)
 runs_ticked was now h done so stands counted = record {
   stands = stands;
   counted = omega (arith, counted, so.counted);
@@ -51,7 +56,8 @@ runs_ticked was now h done so stands counted = record {
 }
 
 -- one input more
-pub runs_heard : (was now : Controller) (h : History) (done : ℕ) (field : Field) → Runs was h done → StandsFor now (with_one h (Heard field)) → tick_count now ≡ tick_count was
+pub runs_heard : (was now : Controller) (h : History) (done : ℕ) (field : Field) → Runs was h done → StandsFor now (with_one h (Heard field))
+    → tick_count now ≡ tick_count was
     → Runs now (with_one h (Heard field)) done
 runs_heard was now h done field so stands counted = record {
   stands = stands;

@@ -1,15 +1,15 @@
--- The inputs of a round at a cabinet: each is that of a phase, and there are no more than in the whole list.
+-- The inputs of a round at a cabinet: each is that of a phase from the street, and there are no more than in the whole list.
 use Rattle.std.proofs.Common.{◌≤◌, ◌==◌, ◌&&◌, ℕ, Bool, true, false, if◌then◌else◌, List, [], ◌∷◌, length, arith}
 use Rattle.scenario_data.specs.declared.scenario.Input.{Input}
-use Rattle.run_text.specs.Journal.{inputs_of}
+use Rattle.scenario_data.specs.Inputs.{inputs_of}
 use Rattle.run_text.specs.Runnable.{AllHeard}
-use Rattle.station.specs.Rounds.{AllNamed}
+use Rattle.station.specs.Rounds.{AllStreet}
 
-pub all_named : (round cab : ℕ) (inputs : List Input) → AllHeard inputs → AllNamed (inputs_of round cab inputs)
-all_named round cab [] heard = tt
-all_named round cab (i ∷ inputs) heard = split ((i.round == round) && (i.cabinet == cab)) (all_named round cab inputs heard.1)
+pub all_street : (round cab : ℕ) (inputs : List Input) → AllHeard inputs → AllStreet (inputs_of round cab inputs)
+all_street round cab [] heard = tt
+all_street round cab (i ∷ inputs) heard = split ((i.round == round) && (i.cabinet == cab)) (all_street round cab inputs heard.1)
   where
-    split : (b : Bool) → AllNamed (inputs_of round cab inputs) → AllNamed (if b then i.field ∷ inputs_of round cab inputs else inputs_of round cab inputs)
+    split : (b : Bool) → AllStreet (inputs_of round cab inputs) → AllStreet (if b then i.field ∷ inputs_of round cab inputs else inputs_of round cab inputs)
     split true others = (heard.0, others)
     split false others = others
 

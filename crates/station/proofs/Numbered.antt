@@ -2,7 +2,7 @@
 use Rattle.std.proofs.Common.{◌≡◌, ◌≢◌, ◌<◌, ◌≤◌, ◌+◌, ◌*◌, ℕ, zero, suc, List, [], ◌∷◌, ◌++◌, length, drop, get_or, slice_set, refl, sym, ap, subst, arith}
 use Rattle.scenario_data.specs.Content.{CabinetContent, ScenarioContent}
 use Rattle.controller.specs.declared.Controller.{Controller}
-use Rattle.run_text.specs.Cabinets.{opened, history_after}
+use Rattle.run_text.specs.Cabinets.{opening_history, history_after}
 use Rattle.station.specs.Rounds.{Runs, EachRuns}
 
 -- a controller has run for the rounds of the cabinet of this number
@@ -15,7 +15,8 @@ pub record Picked (s : ScenarioContent) (rounds : ℕ → ℕ) (cab i : ℕ) (k 
   pub next : drop i cabinets ≡ c ∷ drop (suc i) cabinets
   pub runs : RunsAt s rounds cab k c
 
-pub picked : (s : ScenarioContent) (rounds : ℕ → ℕ) (first i : ℕ) (d : Controller) (ks : List Controller) (cs : List CabinetContent) → i < length ks → EachRuns s rounds first ks cs
+pub picked : (s : ScenarioContent) (rounds : ℕ → ℕ) (first i : ℕ) (d : Controller) (ks : List Controller) (cs : List CabinetContent) → i < length ks
+    → EachRuns s rounds first ks cs
     → Picked s rounds (first + i) i (get_or ks i d) cs
 picked s rounds first i d [] cs few each = absurd (omega (arith, few))
 picked s rounds first i d (k ∷ ks) [] few each = absurd each
@@ -27,14 +28,16 @@ picked s rounds first (suc i) d (k ∷ ks) (c ∷ cs) few each =
     let place : first + 1 + i ≡ first + suc i = omega arith in
     record { c = found.c; next = found.next; runs = subst (λ (n : ℕ). RunsAt s rounds n (get_or ks i d) found.c) place found.runs }
 
-pub each_length : (s : ScenarioContent) (rounds : ℕ → ℕ) (first : ℕ) (ks : List Controller) (cs : List CabinetContent) → EachRuns s rounds first ks cs → length ks ≡ length cs
+pub each_length : (s : ScenarioContent) (rounds : ℕ → ℕ) (first : ℕ) (ks : List Controller) (cs : List CabinetContent) → EachRuns s rounds first ks cs
+    → length ks ≡ length cs
 each_length s rounds first [] [] each = refl
 each_length s rounds first [] (c ∷ cs) each = absurd each
 each_length s rounds first (k ∷ ks) [] each = absurd each
 each_length s rounds first (k ∷ ks) (c ∷ cs) each = ap suc (each_length s rounds (first + 1) ks cs each.1)
 
 -- the same rounds by another function
-pub each_same : (s : ScenarioContent) (f g : ℕ → ℕ) (first : ℕ) (ks : List Controller) (cs : List CabinetContent) → ((cab : ℕ) → first ≤ cab → cab < first + length ks → f cab ≡ g cab)
+pub each_same : (s : ScenarioContent) (f g : ℕ → ℕ) (first : ℕ) (ks : List Controller) (cs : List CabinetContent)
+    → ((cab : ℕ) → first ≤ cab → cab < first + length ks → f cab ≡ g cab)
     → EachRuns s f first ks cs → EachRuns s g first ks cs
 each_same s f g first [] [] same each = tt
 each_same s f g first [] (c ∷ cs) same each = absurd each
@@ -45,8 +48,10 @@ each_same s f g first (k ∷ ks) (c ∷ cs) same each = (
 )
 
 -- one controller has gone on
-pub each_set : (s : ScenarioContent) (f g : ℕ → ℕ) (first i : ℕ) (k : Controller) (ks : List Controller) (cs : List CabinetContent) (c : CabinetContent) → i < length ks
-    → ((cab : ℕ) → first ≤ cab → cab ≢ first + i → f cab ≡ g cab) → drop i cs ≡ c ∷ drop (suc i) cs → RunsAt s g (first + i) k c → EachRuns s f first ks cs → EachRuns s g first (slice_set ks i k) cs
+pub each_set : (s : ScenarioContent) (f g : ℕ → ℕ) (first i : ℕ) (k : Controller) (ks : List Controller) (cs : List CabinetContent) (c : CabinetContent)
+    → i < length ks
+    → ((cab : ℕ) → first ≤ cab → cab ≢ first + i → f cab ≡ g cab) → drop i cs ≡ c ∷ drop (suc i) cs → RunsAt s g (first + i) k c
+    → EachRuns s f first ks cs → EachRuns s g first (slice_set ks i k) cs
 each_set s f g first i k [] cs c few same next runs each = absurd (omega (arith, few))
 each_set s f g first i k (was ∷ ks) [] c few same next runs each = absurd each
 each_set s f g first zero k (was ∷ ks) (b ∷ cs) c few same next runs each =
@@ -63,9 +68,10 @@ each_set s f g first (suc i) k (was ∷ ks) (b ∷ cs) c few same next runs each
     )
 
 -- one more cabinet is opened
-pub each_opened : (s : ScenarioContent) (first : ℕ) (ks : List Controller) (cs : List CabinetContent) (k : Controller) (c : CabinetContent) → EachRuns s (λ cab. 0) first ks cs → Runs k (opened c) 0
+pub each_opened : (s : ScenarioContent) (first : ℕ) (ks : List Controller) (cs : List CabinetContent) (k : Controller) (c : CabinetContent)
+    → EachRuns s (λ cab. 0) first ks cs → Runs k (opening_history c) 0
     → EachRuns s (λ cab. 0) first (ks ++ k ∷ []) (cs ++ c ∷ [])
-each_opened s first [] [] k c each runs = let none : 0 ≡ 0 * s.ticks = omega arith in (subst (λ (n : ℕ). Runs k (opened c) n) none runs, tt)
+each_opened s first [] [] k c each runs = let none : 0 ≡ 0 * s.ticks = omega arith in (subst (λ (n : ℕ). Runs k (opening_history c) n) none runs, tt)
 each_opened s first [] (b ∷ cs) k c each runs = absurd each
 each_opened s first (j ∷ ks) [] k c each runs = absurd each
 each_opened s first (j ∷ ks) (b ∷ cs) k c each runs = (each.0, each_opened s (first + 1) ks cs k c each.1 runs)

@@ -22,24 +22,33 @@ journal_text cab count n = line_text (J cab (round_runs count n))
 abbrev ticks_text : ℕ → History → List Field → ℕ → List ℕ
 ticks_text cab h fields n = lines_text (events_lines cab (after h (heard fields)) (replicate n Tick))
 
-spelled : (cab count : ℕ) (h : History) (fields : List Field) (n : ℕ) → count ≡ length fields → 1 ≤ n → lines_text (acts_lines cab h (round_acts fields n)) ≡ journal_text cab count n ++ ticks_text cab h fields n
+spelled : (cab count : ℕ) (h : History) (fields : List Field) (n : ℕ) → count ≡ length fields → 1 ≤ n
+    → lines_text (acts_lines cab h (round_acts fields n)) ≡ journal_text cab count n ++ ticks_text cab h fields n
 spelled cab count h fields n e some =
-    ap (λ (runs : List (ℕ × ℕ)). line_text (J cab runs) ++ lines_text (events_lines cab h (events_of (round_acts fields n)))) (runs_told fields n some ∙ ap (λ (k : ℕ). round_runs k n) (sym e))
+    ap (λ (runs : List (ℕ × ℕ)). line_text (J cab runs) ++ lines_text (events_lines cab h (events_of (round_acts fields n))))
+    (runs_told fields n some ∙ ap (λ (k : ℕ). round_runs k n) (sym e))
     ∙ ap (λ (lines : List Line). journal_text cab count n ++ lines_text lines) (sym (round_ticks cab h fields n))
 
 pub acts_first : (old new : Option (List ℕ)) (held : List ℕ) (cab count : ℕ) (h : History) (fields : List Field) (n : ℕ) → count ≡ length fields → 1 ≤ n
     → PutsFront old new held (line_text (J cab (round_runs count n))) → PutsFront old new held (lines_text (acts_lines cab h (round_acts fields n)))
 acts_first old new held cab count h fields n e some p =
-    subst (λ (x : List ℕ). PutsFront old new held x) (sym (spelled cab count h fields n e some)) (front_first old new held (journal_text cab count n) (ticks_text cab h fields n) p)
+    subst (λ (x : List ℕ). PutsFront old new held x) (sym (spelled cab count h fields n e some))
+    (front_first old new held (journal_text cab count n) (ticks_text cab h fields n) p)
 
-pub acts_front : (old mid new : Option (List ℕ)) (held holds : List ℕ) (cab count : ℕ) (h : History) (fields : List Field) (n : ℕ) → count ≡ length fields → 1 ≤ n
-    → Puts old mid held holds (line_text (J cab (round_runs count n))) → PutsFront mid new holds (lines_text (events_lines cab (after h (heard fields)) (replicate n Tick)))
+pub acts_front : (old mid new : Option (List ℕ)) (held holds : List ℕ) (cab count : ℕ) (h : History) (fields : List Field) (n : ℕ) → count ≡ length fields
+    → 1 ≤ n
+    → Puts old mid held holds (line_text (J cab (round_runs count n)))
+    → PutsFront mid new holds (lines_text (events_lines cab (after h (heard fields)) (replicate n Tick)))
     → PutsFront old new held (lines_text (acts_lines cab h (round_acts fields n)))
 acts_front old mid new held holds cab count h fields n e some p q =
-    subst (λ (x : List ℕ). PutsFront old new held x) (sym (spelled cab count h fields n e some)) (puts_front old mid new held holds (journal_text cab count n) (ticks_text cab h fields n) p q)
+    subst (λ (x : List ℕ). PutsFront old new held x) (sym (spelled cab count h fields n e some))
+    (puts_front old mid new held holds (journal_text cab count n) (ticks_text cab h fields n) p q)
 
-pub acts_put : (old mid new : Option (List ℕ)) (held holds last : List ℕ) (cab count : ℕ) (h : History) (fields : List Field) (n : ℕ) → count ≡ length fields → 1 ≤ n
-    → Puts old mid held holds (line_text (J cab (round_runs count n))) → Puts mid new holds last (lines_text (events_lines cab (after h (heard fields)) (replicate n Tick)))
+pub acts_put : (old mid new : Option (List ℕ)) (held holds last : List ℕ) (cab count : ℕ) (h : History) (fields : List Field) (n : ℕ)
+    → count ≡ length fields → 1 ≤ n
+    → Puts old mid held holds (line_text (J cab (round_runs count n)))
+    → Puts mid new holds last (lines_text (events_lines cab (after h (heard fields)) (replicate n Tick)))
     → Puts old new held last (lines_text (acts_lines cab h (round_acts fields n)))
 acts_put old mid new held holds last cab count h fields n e some p q =
-    subst (λ (x : List ℕ). Puts old new held last x) (sym (spelled cab count h fields n e some)) (puts_then old mid new held holds last (journal_text cab count n) (ticks_text cab h fields n) p q)
+    subst (λ (x : List ℕ). Puts old new held last x) (sym (spelled cab count h fields n e some))
+    (puts_then old mid new held holds last (journal_text cab count n) (ticks_text cab h fields n) p q)

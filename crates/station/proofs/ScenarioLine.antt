@@ -17,22 +17,26 @@ unfolding line_text
 spelled compact = refl
 
 -- a front of the pieces is a front of the line
-of_front : (old new : Option (List ℕ)) (held compact : List ℕ) → PutsFront old new held (letter ++ (compact ++ newline)) → PutsFront old new held (line_text (S compact))
+of_front : (old new : Option (List ℕ)) (held compact : List ℕ) → PutsFront old new held (letter ++ (compact ++ newline))
+    → PutsFront old new held (line_text (S compact))
 of_front old new held compact p = subst (λ (x : List ℕ). PutsFront old new held x) (sym (spelled compact)) p
 
 pub line_first : (old new : Option (List ℕ)) (held compact : List ℕ) → PutsFront old new held (83 ∷ 32 ∷ []) → PutsFront old new held (line_text (S compact))
 line_first old new held compact p = of_front old new held compact (front_first old new held letter (compact ++ newline) p)
 
-pub line_second : (old mid new : Option (List ℕ)) (held holds compact : List ℕ) → Puts old mid held holds (83 ∷ 32 ∷ []) → PutsFront mid new holds compact → PutsFront old new held (line_text (S compact))
+pub line_second : (old mid new : Option (List ℕ)) (held holds compact : List ℕ) → Puts old mid held holds (83 ∷ 32 ∷ []) → PutsFront mid new holds compact
+    → PutsFront old new held (line_text (S compact))
 line_second old mid new held holds compact a p =
     of_front old new held compact (puts_front old mid new held holds letter (compact ++ newline) a (front_first mid new holds compact newline p))
 
-pub line_last : (old mid late new : Option (List ℕ)) (held holds last compact : List ℕ) → Puts old mid held holds (83 ∷ 32 ∷ []) → Puts mid late holds last compact → PutsFront late new last (10 ∷ [])
+pub line_last : (old mid late new : Option (List ℕ)) (held holds last compact : List ℕ) → Puts old mid held holds (83 ∷ 32 ∷ [])
+    → Puts mid late holds last compact → PutsFront late new last (10 ∷ [])
     → PutsFront old new held (line_text (S compact))
 line_last old mid late new held holds last compact a b p =
     of_front old new held compact (puts_front old mid new held holds letter (compact ++ newline) a (puts_front mid late new holds last compact newline b p))
 
-pub line_whole : (old mid late new : Option (List ℕ)) (held holds last left compact : List ℕ) → Puts old mid held holds (83 ∷ 32 ∷ []) → Puts mid late holds last compact → Puts late new last left (10 ∷ [])
+pub line_whole : (old mid late new : Option (List ℕ)) (held holds last left compact : List ℕ) → Puts old mid held holds (83 ∷ 32 ∷ [])
+    → Puts mid late holds last compact → Puts late new last left (10 ∷ [])
     → Puts old new held left (line_text (S compact))
 line_whole old mid late new held holds last left compact a b d =
     subst (λ (x : List ℕ). Puts old new held left x) (sym (spelled compact))

@@ -5,7 +5,7 @@ use Rattle.scenario_data.specs.declared.refusal.Refusal.{Refusal}
 use Rattle.scenario_data.specs.declared.refusal.Refusal.TheVariants.{Syntax, Field, Limit, Broken}
 use Rattle.scenario_data.specs.Content.{ScenarioContent}
 use Rattle.scenario_read.specs.Answers.{IsScenario, IsFirstFault}
-use Rattle.run_text.specs.Lines.{run_text}
+use Rattle.run_text.specs.Lines.{trace_of}
 use Rattle.run_text.specs.Streets.{TellsSafeStreets}
 use Rattle.station.specs.declared.status.Status.{Status}
 use Rattle.station.specs.declared.status.Status.TheVariants.{Done, Scenario, NotATrace, ReadFault, WriteFault, NoMemory}
@@ -37,15 +37,15 @@ HasFault left refusal = (bytes : List ℕ) × AreInput left bytes × IsShort byt
 
 -- the input is a scenario, and all of its trace was appended
 abbrev pub WritesTrace : Option (List ℕ) → Option (List ℕ) → Option (List ℕ) → Type 0
-WritesTrace left old new = (s : ScenarioContent) × IsInput left s × Appends old new (run_text s)
+WritesTrace left old new = (s : ScenarioContent) × IsInput left s × Appends old new (trace_of s)
 
--- the input is a scenario, and a front of its trace was appended
+-- the input is a scenario, and a front of its trace was appended, and not all of it
 abbrev pub WritesFront : Option (List ℕ) → Option (List ℕ) → Option (List ℕ) → Type 0
-WritesFront left old new = (s : ScenarioContent) × IsInput left s × AppendsFront old new (run_text s)
+WritesFront left old new = (s : ScenarioContent) × IsInput left s × AppendsFront old new (trace_of s)
 
 -- the input is a scenario, and all of its trace was appended: by its lines every street is safe, and the versions are whole
 abbrev pub WritesSafe : Option (List ℕ) → Option (List ℕ) → Option (List ℕ) → Type 0
-WritesSafe left old new = (s : ScenarioContent) × IsInput left s × Appends old new (run_text s) × TellsSafeStreets s (run_text s)
+WritesSafe left old new = (s : ScenarioContent) × IsInput left s × Appends old new (trace_of s) × TellsSafeStreets s (trace_of s)
 
 -- the refusal is that of the whole input, for its length
 abbrev pub IsLengthLimit : Refusal → Type 0

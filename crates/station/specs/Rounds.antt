@@ -3,7 +3,7 @@ use Rattle.std.specs.Prelude.{ℕ, ◌+◌, ◌*◌, ◌==◌, ◌≡◌, if◌t
 use Rattle.sig_types.specs.declared.frame.Field.{Field}
 use Rattle.sig_tables.specs.Past.{Event, Input as Heard, History}
 use Rattle.sig_tables.specs.Decide.{frames}
-use Rattle.call_store.specs.Stands.{NamesPhase}
+use Rattle.sig_tables.specs.Plain.{IsStreet}
 use Rattle.controller.specs.declared.Controller.{Controller}
 use Rattle.controller.specs.StandsFor.{StandsFor, tick_count}
 use Rattle.trace_text.specs.declared.lines.Line.{Line}
@@ -16,10 +16,10 @@ use Rattle.run_text.specs.Runnable.{Runnable}
 use Rattle.round_inputs.specs.declared.RoundInputs.{RoundInputs}
 use Rattle.round_inputs.specs.Left.{Holds}
 
--- each of these is that of a phase 1 to 16
-abbrev pub AllNamed : List Field → Type 0
-AllNamed [] = Unit {0}
-AllNamed (field ∷ fields) = NamesPhase field × AllNamed fields
+-- each of these is a detector or a button of a phase, 1 to 16
+abbrev pub AllStreet : List Field → Type 0
+AllStreet [] = Unit {0}
+AllStreet (field ∷ fields) = IsStreet field × AllStreet fields
 
 -- inputs as they are heard
 abbrev pub heard : List Field → List Event

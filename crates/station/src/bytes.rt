@@ -65,7 +65,7 @@ pub fn read_all<S: Source>(alloc: Global, source: &mut S) -> Result<Vec<u8>, Rea
     }
 }
 
-/// Writes the whole piece, or a front of it where a write fails.
+/// Writes the whole piece; where a write fails, a front of it, and not all of it.
 pub fn put_all<K: Sink>(sink: &mut K, piece: &[u8]) -> Result<(), Failed>
     ensures ok { OnOk result (Appends (K.written sink.old) (K.written sink.new) piece.now) }
     ensures err { OnErr result (AppendsFront (K.written sink.old) (K.written sink.new) piece.now) }

@@ -7,21 +7,20 @@ ghost use Rattle.safe_trace.specs.TraceText.{lines_text};
 ghost use Rattle.controller.specs.StandsFor.{tick_count};
 ghost use Rattle.scenario_data.specs.Content.{ScenarioContent, cabinet_content, scenario_content};
 ghost use Rattle.run_text.specs.Runnable.{Runnable, CanOpen, AllOpen};
-ghost use Rattle.run_text.specs.Cabinets.{opened, after};
+ghost use Rattle.run_text.specs.Cabinets.{opening_history, after};
 ghost use Rattle.run_text.specs.Journal.{events_of};
 ghost use Rattle.run_text.specs.Lines.{events_lines};
 ghost use Rattle.round_inputs.specs.Order.{field_in};
 ghost use Rattle.station.specs.Bytes.{Puts, PutsFront};
 ghost use Rattle.station.specs.Outbox.{held_by};
-ghost use Rattle.station.specs.Rounds.{AllNamed, Runs, EachRuns, heard, round_acts, acts_lines};
+ghost use Rattle.station.specs.Rounds.{AllStreet, Runs, EachRuns, heard, round_acts, acts_lines};
 
 use crate::lines::{Stop, put_journal, put_tick};
 use crate::outbox::Outbox;
 use controller::Controller;
 use io_edge::Sink;
 use round_inputs::RoundInputs;
-use scenario_data::{Cabinet, Input, Scenario};
-use scenario_read::opening_tables;
+use scenario_data::{Cabinet, Input, Scenario, opening_tables};
 use sig_types::NoMemory;
 use std::alloc::Global;
 
@@ -61,10 +60,10 @@ impl Cabinets {
     }
 }
 
-/// A cabinet to which nothing has happened.
-fn opened(cabinet: &Cabinet) -> Controller
+/// The controller of a cabinet to which nothing has happened.
+fn controller_of(cabinet: &Cabinet) -> Controller
     requires { CanOpen (cabinet_content cabinet.now) }
-    ensures { Runs result (opened (cabinet_content cabinet.now)) 0 }
+    ensures { Runs result (opening_history (cabinet_content cabinet.now)) 0 }
 {
     Controller::open(opening_tables(cabinet), cabinet.pattern, cabinet.clock)
 }
@@ -76,7 +75,7 @@ fn open_all(alloc: Global, cabinets: &[Cabinet]) -> Result<Vec<Controller>, NoMe
 {
     let mut controllers = Vec::new(alloc);
     for cabinet in cabinets {
-        if controllers.push(opened(cabinet)).is_err() {
+        if controllers.push(controller_of(cabinet)).is_err() {
             return Err(NoMemory);
         }
     }
@@ -85,7 +84,7 @@ fn open_all(alloc: Global, cabinets: &[Cabinet]) -> Result<Vec<Controller>, NoMe
 
 /// A cabinet hears its inputs of a round.
 fn hear(controller: &mut Controller, inputs: &[Input])
-    requires { AllNamed (map field_in inputs.now) }
+    requires { AllStreet (map field_in inputs.now) }
     ensures runs { (h : History) → (done : ℕ) → Runs controller.old h done → Runs controller.new (after h (heard (map field_in inputs.now))) done }
     ensures counted { tick_count controller.new ≡ tick_count controller.old }
 {
@@ -137,13 +136,15 @@ pub fn run_cabinet<K: Sink>(
     ticks: u32,
 ) -> Result<(), Stop>
     requires counted { tick_count controller.old ≡ done }
-    requires named { AllNamed (map field_in inputs.now) }
+    requires street { AllStreet (map field_in inputs.now) }
     requires few_inputs { length inputs.now ≤ 1000000 }
     requires few { done + ticks < 4294967295 }
     requires some_ticks { 1 ≤ ticks }
     ensures ok { OnOk result ((h : History) → Runs controller.old h done
-        → Puts (K.written sink.old) (K.written sink.new) (held_by out.old) (held_by out.new) (lines_text (acts_lines cab h (round_acts (map field_in inputs.now) ticks)))) }
-    ensures runs { OnOk result ((h : History) → Runs controller.old h done → Runs controller.new (after h (events_of (round_acts (map field_in inputs.now) ticks))) (done + ticks)) }
+        → Puts (K.written sink.old) (K.written sink.new) (held_by out.old) (held_by out.new)
+        (lines_text (acts_lines cab h (round_acts (map field_in inputs.now) ticks)))) }
+    ensures runs { OnOk result ((h : History) → Runs controller.old h done
+        → Runs controller.new (after h (events_of (round_acts (map field_in inputs.now) ticks))) (done + ticks)) }
     ensures err { OnErr result ((h : History) → Runs controller.old h done
         → PutsFront (K.written sink.old) (K.written sink.new) (held_by out.old) (lines_text (acts_lines cab h (round_acts (map field_in inputs.now) ticks)))) }
     ensures fault { result ≡ Err Stop.WriteFault → Rises (K.faults sink.old) (K.faults sink.new) }

@@ -1,7 +1,9 @@
 //! Which frames have a line in a trace: those that show something else than the one before, and local zeros.
 
 ghost use Rattle.std.specs.Prelude.{◌≡◌};
-ghost use Rattle.run_text.specs.Frames.{has_line, is_local_zero, shows_same, same_colours, same_signals};
+ghost use Rattle.sig_types.specs.Colour.{shows_same, same_colours, same_signals};
+ghost use Rattle.sig_tables.specs.Walking.{is_local_zero};
+ghost use Rattle.run_text.specs.Frames.{has_line};
 
 use sig_types::{Colour, Frame, Mode, Ped};
 
@@ -31,7 +33,7 @@ fn shows_same(last: &Frame, next: &Frame) -> bool
 
 /// Whether a frame in step with a pattern has the counter 0, where the one before hadn't or wasn't in step with it.
 fn is_local_zero(last: &Frame, next: &Frame) -> bool
-    ensures { result ≡ is_local_zero last.now next.now }
+    ensures { result ≡ is_local_zero next.now.mode next.now.counter last.now }
 {
     matches!(next.mode, Mode::Coord(_))
         && next.counter == 0

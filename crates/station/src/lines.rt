@@ -103,7 +103,8 @@ pub fn put_tick<K: Sink>(
     last: &Frame,
     next: &Frame,
 ) -> Result<(), Stop>
-    ensures ok { OnOk result (Puts (K.written sink.old) (K.written sink.new) (held_by out.old) (held_by out.new) (lines_text (tick_lines cab tick last.now next.now))) }
+    ensures ok { OnOk result (Puts (K.written sink.old) (K.written sink.new) (held_by out.old) (held_by out.new)
+        (lines_text (tick_lines cab tick last.now next.now))) }
     ensures err { OnErr result (PutsFront (K.written sink.old) (K.written sink.new) (held_by out.old) (lines_text (tick_lines cab tick last.now next.now))) }
     ensures fault { result ≡ Err Stop.WriteFault → Rises (K.faults sink.old) (K.faults sink.new) }
     ensures kept { K.faults sink.old ≤ K.faults sink.new }
@@ -140,7 +141,8 @@ pub fn put_journal<K: Sink>(
     inputs: u32,
     ticks: u32,
 ) -> Result<(), Stop>
-    ensures ok { OnOk result (Puts (K.written sink.old) (K.written sink.new) (held_by out.old) (held_by out.new) (line_text (Line.J cab (round_runs inputs ticks)))) }
+    ensures ok { OnOk result (Puts (K.written sink.old) (K.written sink.new) (held_by out.old) (held_by out.new)
+        (line_text (Line.J cab (round_runs inputs ticks)))) }
     ensures err { OnErr result (PutsFront (K.written sink.old) (K.written sink.new) (held_by out.old) (line_text (Line.J cab (round_runs inputs ticks)))) }
     ensures fault { result ≡ Err Stop.WriteFault → Rises (K.faults sink.old) (K.faults sink.new) }
     ensures kept { K.faults sink.old ≤ K.faults sink.new }

@@ -7,7 +7,8 @@ ghost use Rattle.scenario_data.specs.declared.refusal.Refusal.{Refusal};
 ghost use Rattle.scenario_read.specs.Answers.{IsScenario, IsFirstFault};
 ghost use Rattle.run_text.specs.Runnable.{Runnable};
 ghost use Rattle.station.specs.Bytes.{nothing_left};
-ghost use Rattle.station.specs.Answers.{IsRun, IsShort, WritesTrace, WritesFront, WritesSafe, IsLengthRefusal, IsLengthLimit, IsAnswer, IsInput, HasFault, NamesFault, IsNoScenario, IsRefusedFor, LeavesRefused, Tells, LeavesInput, AppendsOutput};
+ghost use Rattle.station.specs.Answers.{IsRun, IsShort, WritesTrace, WritesFront, WritesSafe, IsLengthRefusal, IsLengthLimit, IsAnswer, IsInput};
+ghost use Rattle.station.specs.Answers.{HasFault, NamesFault, IsNoScenario, IsRefusedFor, LeavesRefused, Tells, LeavesInput, AppendsOutput};
 
 use crate::bytes::{ReadEnd, read_all};
 use crate::lines::Stop;
@@ -74,7 +75,8 @@ fn scenario_in<S: Source>(alloc: Global, source: &mut S) -> Result<Scenario, Unr
 fn run<S: Source, K: Sink>(alloc: Global, source: &mut S, sink: &mut K) -> Status
     ensures tells { Tells result (S.left source.old) (Rises (S.faults source.old) (S.faults source.new)) (Rises (K.faults sink.old) (K.faults sink.new)) }
     ensures leaves { LeavesInput result (S.left source.old) (S.left source.new) }
-    ensures appends { AppendsOutput result (S.left source.old) (S.left source.new ≡ nothing_left (S.left source.old)) (K.written sink.old) (K.written sink.new) }
+    ensures appends { AppendsOutput result (S.left source.old) (S.left source.new ≡ nothing_left (S.left source.old))
+        (K.written sink.old) (K.written sink.new) }
     ensures kept { (S.faults source.old ≤ S.faults source.new) × (K.faults sink.old ≤ K.faults sink.new) }
 {
     let scenario = match scenario_in(alloc, source) {
@@ -125,7 +127,7 @@ pub fn station<R: Threads + Sync, S: Source, K: Sink, G: Gate + Sync>(
     ensures limit { IsLengthRefusal result → (K.written sink.new ≡ K.written sink.old)
         × IfSome (S.left source.old) (λ input. (16777216 < length input) × (S.left source.new ≡ Some (drop 16777217 input))) }
 
-    // Where writing stops short, the bytes written are a front of the trace.
+    // Where writing stops short, the bytes written are a front of the trace, and not all of it.
     ensures write_fault { result ≡ Status.WriteFault → Rises (K.faults sink.old) (K.faults sink.new) × (S.left source.new ≡ nothing_left (S.left source.old))
         × WritesFront (S.left source.old) (K.written sink.old) (K.written sink.new) }
     ensures no_memory { result ≡ Status.NoMemory → (K.written sink.new ≡ K.written sink.old)
@@ -139,7 +141,8 @@ pub fn station<R: Threads + Sync, S: Source, K: Sink, G: Gate + Sync>(
         → ¬ Rises (S.faults source.old) (S.faults source.new) → IsLengthRefusal result ⊎ (result ≡ Status.NoMemory)) }
     ensures first_fault { IsRun (map string_bytes words.now.items) → IfSome (S.left source.old) (λ input. IsShort input → IsNoScenario input
         → ¬ Rises (S.faults source.old) (S.faults source.new) → NamesFault result input ⊎ (result ≡ Status.NoMemory)) }
-    ensures complete { IsRun (map string_bytes words.now.items) → IfSome (S.left source.old) (λ input. IsShort input → (s : ScenarioContent) → IsScenario input s
+    ensures complete { IsRun (map string_bytes words.now.items) → IfSome (S.left source.old) (λ input. IsShort input
+        → (s : ScenarioContent) → IsScenario input s
         → ¬ Rises (S.faults source.old) (S.faults source.new) → ¬ Rises (K.faults sink.old) (K.faults sink.new)
         → (result ≡ Status.Done) ⊎ (result ≡ Status.NoMemory)) }
 {

@@ -5,7 +5,7 @@ ghost use Rattle.io_edge.specs.Edge.{Rises, Appends};
 ghost use Rattle.safe_trace.specs.TraceText.{lines_text};
 ghost use Rattle.scenario_data.specs.Content.{ScenarioContent, scenario_content};
 ghost use Rattle.run_text.specs.Runnable.{Runnable};
-ghost use Rattle.run_text.specs.Lines.{opening_lines, each_lines, round_lines, rounds_lines, run_text};
+ghost use Rattle.run_text.specs.Lines.{opening_lines, each_lines, round_lines, rounds_lines, trace_of};
 ghost use Rattle.station.specs.Bytes.{AppendsFront, Puts, PutsFront};
 ghost use Rattle.station.specs.Outbox.{held_by};
 ghost use Rattle.station.specs.Rounds.{Between, EachRuns, rest_lines};
@@ -175,8 +175,8 @@ fn put_trace<K: Sink>(
     scenario: Scenario,
 ) -> Result<(), Stop>
     requires { Runnable (scenario_content scenario) }
-    ensures ok { OnOk result (Puts (K.written sink.old) (K.written sink.new) (held_by out.old) (held_by out.new) (run_text (scenario_content scenario))) }
-    ensures err { OnErr result (PutsFront (K.written sink.old) (K.written sink.new) (held_by out.old) (run_text (scenario_content scenario))) }
+    ensures ok { OnOk result (Puts (K.written sink.old) (K.written sink.new) (held_by out.old) (held_by out.new) (trace_of (scenario_content scenario))) }
+    ensures err { OnErr result (PutsFront (K.written sink.old) (K.written sink.new) (held_by out.old) (trace_of (scenario_content scenario))) }
     ensures fault { result ≡ Err Stop.WriteFault → Rises (K.faults sink.old) (K.faults sink.new) }
     ensures kept { K.faults sink.old ≤ K.faults sink.new }
 {
@@ -203,8 +203,8 @@ fn put_whole<K: Sink>(
 ) -> Result<(), Stop>
     requires runnable { Runnable (scenario_content scenario) }
     requires empty { held_by out.old ≡ [] }
-    ensures ok { OnOk result (Appends (K.written sink.old) (K.written sink.new) (run_text (scenario_content scenario))) }
-    ensures err { OnErr result (AppendsFront (K.written sink.old) (K.written sink.new) (run_text (scenario_content scenario))) }
+    ensures ok { OnOk result (Appends (K.written sink.old) (K.written sink.new) (trace_of (scenario_content scenario))) }
+    ensures err { OnErr result (AppendsFront (K.written sink.old) (K.written sink.new) (trace_of (scenario_content scenario))) }
     ensures fault { result ≡ Err Stop.WriteFault → Rises (K.faults sink.old) (K.faults sink.new) }
     ensures kept { K.faults sink.old ≤ K.faults sink.new }
 {
@@ -218,11 +218,11 @@ fn put_whole<K: Sink>(
     }
 }
 
-/// Writes the trace of a scenario, or a front of it.
+/// Writes the trace of a scenario; where it stops short, a front of it, and not all of it.
 pub fn write_trace<K: Sink>(alloc: Global, sink: &mut K, scenario: Scenario) -> Result<(), Stop>
     requires { Runnable (scenario_content scenario) }
-    ensures ok { OnOk result (Appends (K.written sink.old) (K.written sink.new) (run_text (scenario_content scenario))) }
-    ensures err { OnErr result (AppendsFront (K.written sink.old) (K.written sink.new) (run_text (scenario_content scenario))) }
+    ensures ok { OnOk result (Appends (K.written sink.old) (K.written sink.new) (trace_of (scenario_content scenario))) }
+    ensures err { OnErr result (AppendsFront (K.written sink.old) (K.written sink.new) (trace_of (scenario_content scenario))) }
     ensures fault { result ≡ Err Stop.WriteFault → Rises (K.faults sink.old) (K.faults sink.new) }
     ensures kept { K.faults sink.old ≤ K.faults sink.new }
 {

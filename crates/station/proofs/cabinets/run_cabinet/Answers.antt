@@ -9,11 +9,13 @@ use Rattle.station.proofs.cabinets.run_cabinet.Goals as goal
 
 pub returns-in-Err-clause-err : goal.returns-in-Err-clause-err
 returns-in-Err-clause-err g c = λ h runs.
-    acts_first _ _ _ c.args.cab (length c.args.inputs.now) h (map field_in c.args.inputs.now) c.args.ticks (sym (length-map c.args.inputs.now field_in)) c.requires.some_ticks c.in-Err.ensures.err
+    acts_first _ _ _ c.args.cab (length c.args.inputs.now) h (map field_in c.args.inputs.now) c.args.ticks
+    (sym (length-map c.args.inputs.now field_in)) c.requires.some_ticks c.in-Err.ensures.err
 
 pub returns-in-Ok-run_ticks-clause-ok : goal.returns-in-Ok-run_ticks-clause-ok
 returns-in-Ok-run_ticks-clause-ok g c = λ h runs.
-    acts_put _ _ _ _ _ _ c.args.cab (length c.args.inputs.now) h (map field_in c.args.inputs.now) c.args.ticks (sym (length-map c.args.inputs.now field_in)) c.requires.some_ticks
+    acts_put _ _ _ _ _ _ c.args.cab (length c.args.inputs.now) h (map field_in c.args.inputs.now) c.args.ticks
+    (sym (length-map c.args.inputs.now field_in)) c.requires.some_ticks
     c.in-Ok.ensures.ok (c.in-Ok-run_ticks.ensures.ok _ (c.hear.ensures.runs h c.args.done runs))
 
 pub returns-in-Ok-run_ticks-clause-runs : goal.returns-in-Ok-run_ticks-clause-runs
@@ -23,5 +25,6 @@ returns-in-Ok-run_ticks-clause-runs g c = λ h runs.
 
 pub returns-in-Err-run_ticks-clause-err : goal.returns-in-Err-run_ticks-clause-err
 returns-in-Err-run_ticks-clause-err g c = λ h runs.
-    acts_front _ _ _ _ _ c.args.cab (length c.args.inputs.now) h (map field_in c.args.inputs.now) c.args.ticks (sym (length-map c.args.inputs.now field_in)) c.requires.some_ticks
+    acts_front _ _ _ _ _ c.args.cab (length c.args.inputs.now) h (map field_in c.args.inputs.now) c.args.ticks
+    (sym (length-map c.args.inputs.now field_in)) c.requires.some_ticks
     c.in-Ok.ensures.ok (c.in-Err-run_ticks.ensures.err _ (c.hear.ensures.runs h c.args.done runs))

@@ -13,7 +13,12 @@ pub loop-t-preserved : goal.loop-t-preserved
 loop-t-preserved g c = record {
   count = omega (arith, c.tick-next.ensures.counted, c.loop-t.invariant.count);
   goes = λ h runs. ticks_go _ _ _ _ _ _ _ _ _ _ _ _ _ _ h (c.loop-t.invariant.goes h runs)
-      (record { frame = c.frame-last.ensures.frame; decided = c.tick-next.ensures.decided; stands = c.tick-next.ensures.stands; counted = c.tick-next.ensures.counted })
+      (record {
+        frame = c.frame-last.ensures.frame;
+        decided = c.tick-next.ensures.decided;
+        stands = c.tick-next.ensures.stands;
+        counted = c.tick-next.ensures.counted;
+      })
       c.in-Ok.ensures.ok;
   kept = omega (arith, c.loop-t.invariant.kept, c.in-Ok.ensures.kept);
 }
@@ -26,5 +31,10 @@ returns-clause-runs g c = λ h runs. ticks_run _ _ _ _ _ _ _ _ _ h (omega arith)
 
 pub returns-in-Err-clause-err : goal.returns-in-Err-clause-err
 returns-in-Err-clause-err g c = λ h runs. ticks_stop _ _ _ _ _ _ _ _ _ _ _ _ _ h (omega arith) (c.loop-t.invariant.goes h runs)
-    (record { frame = c.frame-last.ensures.frame; decided = c.tick-next.ensures.decided; stands = c.tick-next.ensures.stands; counted = c.tick-next.ensures.counted })
+    (record {
+      frame = c.frame-last.ensures.frame;
+      decided = c.tick-next.ensures.decided;
+      stands = c.tick-next.ensures.stands;
+      counted = c.tick-next.ensures.counted;
+    })
     c.in-Err.ensures.err

@@ -5,7 +5,8 @@ use Rattle.station.proofs.top.is_run.Goals as goal
 
 pub returns-in-len1 : goal.returns-in-len1
 returns-in-len1 c =
-    let one : c.args.words.now.items ≡ c.word-item.result ∷ [] = sym c.as_slice.ensures.value ∙ one_item _ _ c.in-len1.len_at_least c.in-len1.len_below c.word-item.is in
+    let one : c.args.words.now.items ≡ c.word-item.result ∷ [] = sym c.as_slice.ensures.value
+    ∙ one_item _ _ c.in-len1.len_at_least c.in-len1.len_below c.word-item.is in
     let test = bytes_eq-Decides c.as_str.result.now (codes "run") in
     rw one (
       λ t. ap (λ s. s ∷ []) (sym c.as_str.ensures.value ∙ test.0 (sym c.eq.ensures ∙ t)),

@@ -9,10 +9,14 @@ pub returns-in-Ok-write_trace-clause-appends : goal.returns-in-Ok-write_trace-cl
 returns-in-Ok-write_trace-clause-appends g c = (scenario_content c.in-Ok.scenario, c.in-Ok.ensures.scenario, c.in-Ok-write_trace.ensures.ok)
 
 pub returns-in-Err-WriteFault-clause-tells : goal.returns-in-Err-WriteFault-clause-tells
-returns-in-Err-WriteFault-clause-tells g c = (c.in-Err-WriteFault.ensures.fault (ap Err c.in-Err-WriteFault.field-0-is), (scenario_content c.in-Ok.scenario, c.in-Ok.ensures.scenario))
+returns-in-Err-WriteFault-clause-tells g c = (
+  c.in-Err-WriteFault.ensures.fault (ap Err c.in-Err-WriteFault.field-0-is),
+  (scenario_content c.in-Ok.scenario, c.in-Ok.ensures.scenario),
+)
 
 pub returns-in-Err-WriteFault-clause-appends : goal.returns-in-Err-WriteFault-clause-appends
 returns-in-Err-WriteFault-clause-appends g c = (scenario_content c.in-Ok.scenario, c.in-Ok.ensures.scenario, c.in-Err-WriteFault.ensures.err)
 
 pub returns-in-Err-NoMemory-write_trace-clause-appends : goal.returns-in-Err-NoMemory-write_trace-clause-appends
-returns-in-Err-NoMemory-write_trace-clause-appends g c = inr (c.in-Ok.ensures.ended, (scenario_content c.in-Ok.scenario, c.in-Ok.ensures.scenario, c.in-Err-NoMemory-write_trace.ensures.err))
+returns-in-Err-NoMemory-write_trace-clause-appends g c = inr
+    (c.in-Ok.ensures.ended, (scenario_content c.in-Ok.scenario, c.in-Ok.ensures.scenario, c.in-Err-NoMemory-write_trace.ensures.err))

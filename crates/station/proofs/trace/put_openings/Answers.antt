@@ -10,7 +10,9 @@ loop-i-init g c = record {
 
 pub loop-i-preserved : goal.loop-i-preserved
 loop-i-preserved g c = record {
-  goes = λ s. openings_go s c.args.controllers.now.items c.loop-i.i c.index.result.now _ _ _ _ _ _ _ (omega arith) (shown_by c.args.controllers.now.items c.loop-i.i c.index.result.now c.frame-frame.result c.index.ensures c.frame-frame.ensures.frame) (c.loop-i.invariant.goes s) c.in-Ok.ensures.ok;
+  goes = λ s. openings_go s c.args.controllers.now.items c.loop-i.i c.index.result.now _ _ _ _ _ _ _ (omega arith)
+      (shown_by c.args.controllers.now.items c.loop-i.i c.index.result.now c.frame-frame.result c.index.ensures c.frame-frame.ensures.frame)
+      (c.loop-i.invariant.goes s) c.in-Ok.ensures.ok;
   kept = omega (arith, c.loop-i.invariant.kept, c.in-Ok.ensures.kept);
 }
 
@@ -20,4 +22,5 @@ returns-clause-ok g c = λ s each. openings_done s c.args.controllers.now.items 
 pub returns-in-Err-clause-err : goal.returns-in-Err-clause-err
 returns-in-Err-clause-err g c = λ s each.
     openings_stop s c.args.controllers.now.items c.loop-i.i c.index.result.now _ _ _ _ _ _ (omega arith)
-    (shown_by c.args.controllers.now.items c.loop-i.i c.index.result.now c.frame-frame.result c.index.ensures c.frame-frame.ensures.frame) (c.loop-i.invariant.goes s) c.in-Err.ensures.err each
+    (shown_by c.args.controllers.now.items c.loop-i.i c.index.result.now c.frame-frame.result c.index.ensures c.frame-frame.ensures.frame)
+    (c.loop-i.invariant.goes s) c.in-Err.ensures.err each

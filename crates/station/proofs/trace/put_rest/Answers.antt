@@ -12,10 +12,13 @@ pub returns-in-Err-clause-err : goal.returns-in-Err-clause-err
 returns-in-Err-clause-err g c = λ s so. rest_first s _ _ _ _ so.rounds (c.in-Err.ensures.err s so.between.each)
 
 pub returns-in-Err-run_rounds-clause-err : goal.returns-in-Err-run_rounds-clause-err
-returns-in-Err-run_rounds-clause-err g c = λ s so. rest_second s _ _ _ _ _ _ so.rounds (c.in-Ok.ensures.ok s so.between.each) (c.in-Err-run_rounds.ensures.err s so.between)
+returns-in-Err-run_rounds-clause-err g c = λ s so. rest_second s _ _ _ _ _ _ so.rounds (c.in-Ok.ensures.ok s so.between.each)
+    (c.in-Err-run_rounds.ensures.err s so.between)
 
 pub returns-in-Ok-put_line-clause-ok : goal.returns-in-Ok-put_line-clause-ok
-returns-in-Ok-put_line-clause-ok g c = λ s so. rest_put s _ _ _ _ _ _ _ _ _ so.rounds (c.in-Ok.ensures.ok s so.between.each) (c.in-Ok-run_rounds.ensures.ok s so.between) c.in-Ok-put_line.ensures.ok
+returns-in-Ok-put_line-clause-ok g c = λ s so. rest_put s _ _ _ _ _ _ _ _ _ so.rounds (c.in-Ok.ensures.ok s so.between.each)
+    (c.in-Ok-run_rounds.ensures.ok s so.between) c.in-Ok-put_line.ensures.ok
 
 pub returns-clause-err : goal.returns-clause-err
-returns-clause-err g c = λ s so. rest_last s _ _ _ _ _ _ _ _ so.rounds (c.in-Ok.ensures.ok s so.between.each) (c.in-Ok-run_rounds.ensures.ok s so.between) c.in-Err-put_line.ensures.err
+returns-clause-err g c = λ s so. rest_last s _ _ _ _ _ _ _ _ so.rounds (c.in-Ok.ensures.ok s so.between.each)
+    (c.in-Ok-run_rounds.ensures.ok s so.between) c.in-Err-put_line.ensures.err

@@ -12,7 +12,9 @@ pub put_rest-requires : goal.put_rest-requires
 put_rest-requires g c = record { ready = (scenario_content c.args.scenario, c.in-Ok-open.ensures) }
 
 pub returns-in-Ok-put_rest-clause-ok : goal.returns-in-Ok-put_rest-clause-ok
-returns-in-Ok-put_rest-clause-ok g c = text_put (scenario_content c.args.scenario) _ _ _ _ _ _ _ c.as_slice.ensures.value c.in-Ok.ensures.ok (c.in-Ok-put_rest.ensures.ok (scenario_content c.args.scenario) c.in-Ok-open.ensures)
+returns-in-Ok-put_rest-clause-ok g c = text_put (scenario_content c.args.scenario) _ _ _ _ _ _ _ c.as_slice.ensures.value c.in-Ok.ensures.ok
+    (c.in-Ok-put_rest.ensures.ok (scenario_content c.args.scenario) c.in-Ok-open.ensures)
 
 pub returns-clause-err : goal.returns-clause-err
-returns-clause-err g c = text_front (scenario_content c.args.scenario) _ _ _ _ _ _ c.as_slice.ensures.value c.in-Ok.ensures.ok (c.in-Err-put_rest.ensures.err (scenario_content c.args.scenario) c.in-Ok-open.ensures)
+returns-clause-err g c = text_front (scenario_content c.args.scenario) _ _ _ _ _ _ c.as_slice.ensures.value c.in-Ok.ensures.ok
+    (c.in-Err-put_rest.ensures.err (scenario_content c.args.scenario) c.in-Ok-open.ensures)

@@ -4,7 +4,7 @@ use Rattle.trace_text.specs.Line.{line_text}
 use Rattle.trace_text.specs.declared.lines.Line.TheVariants.{R}
 use Rattle.run_text.specs.Cabinets.{history_after}
 use Rattle.station.proofs.Writing.{front_first}
-use Rattle.station.proofs.OneRound.{cabinets_start, turn, turn_named, turn_few, cabinets_go, cabinets_stop, cabinets_put, cabinets_done}
+use Rattle.station.proofs.OneRound.{cabinets_start, turn, turn_street, turn_few, cabinets_go, cabinets_stop, cabinets_put, cabinets_done}
 use Rattle.station.proofs.trace.run_round.Goals as goal
 
 pub returns-in-Err-clause-err : goal.returns-in-Err-clause-err
@@ -21,12 +21,13 @@ pub run_cabinet-requires-clause-counted : goal.run_cabinet-requires-clause-count
 run_cabinet-requires-clause-counted g c =
     let (s, between) = c.requires.ready in
     let so = c.loop-i.invariant.goes s between in
-    (turn s _ _ c.loop-i.i _ c.loop-i.controllers.items _ _ _ _ _ _ _ c.due-inputs.result.now (omega arith) c.index_mut.ensures.value between so (c.due-inputs.ensures s.inputs so.due)).runs.counted
+    (turn s _ _ c.loop-i.i _ c.loop-i.controllers.items _ _ _ _ _ _ _ c.due-inputs.result.now (omega arith) c.index_mut.ensures.value between so
+    (c.due-inputs.ensures s.inputs so.due)).runs.counted
 
-pub run_cabinet-requires-clause-named : goal.run_cabinet-requires-clause-named
-run_cabinet-requires-clause-named g c =
+pub run_cabinet-requires-clause-street : goal.run_cabinet-requires-clause-street
+run_cabinet-requires-clause-street g c =
     let (s, between) = c.requires.ready in
-    turn_named s c.args.done _ c.loop-i.i _ _ c.due-inputs.result.now between (c.due-inputs.ensures s.inputs (c.loop-i.invariant.goes s between).due)
+    turn_street s c.args.done _ c.loop-i.i _ _ c.due-inputs.result.now between (c.due-inputs.ensures s.inputs (c.loop-i.invariant.goes s between).due)
 
 pub run_cabinet-requires-clause-few_inputs : goal.run_cabinet-requires-clause-few_inputs
 run_cabinet-requires-clause-few_inputs g c =
@@ -36,7 +37,8 @@ run_cabinet-requires-clause-few_inputs g c =
 pub returns-in-Err-run_cabinet-clause-err : goal.returns-in-Err-run_cabinet-clause-err
 returns-in-Err-run_cabinet-clause-err g c = λ s between.
     let so = c.loop-i.invariant.goes s between in
-    let t = turn s _ _ c.loop-i.i _ c.loop-i.controllers.items _ _ _ _ _ _ _ c.due-inputs.result.now (omega arith) c.index_mut.ensures.value between so (c.due-inputs.ensures s.inputs so.due) in
+    let t = turn s _ _ c.loop-i.i _ c.loop-i.controllers.items _ _ _ _ _ _ _ c.due-inputs.result.now (omega arith) c.index_mut.ensures.value between so
+    (c.due-inputs.ensures s.inputs so.due) in
     cabinets_stop s _ _ c.loop-i.i _ _ _ _ _ _ _ _ _ so t (c.in-Err-run_cabinet.ensures.err (history_after s (c.loop-i.i + 1) t.c c.args.done) t.runs)
 
 pub loop-i-preserved : goal.loop-i-preserved
@@ -44,9 +46,11 @@ loop-i-preserved g c = record {
   as_many = length-set c.loop-i.controllers.items c.loop-i.i c.run_cabinet.new.controller ∙ c.loop-i.invariant.as_many;
   goes = λ s between.
       let so = c.loop-i.invariant.goes s between in
-      let t = turn s _ _ c.loop-i.i _ c.loop-i.controllers.items _ _ _ _ _ _ _ c.due-inputs.result.now (omega arith) c.index_mut.ensures.value between so (c.due-inputs.ensures s.inputs so.due) in
+      let t = turn s _ _ c.loop-i.i _ c.loop-i.controllers.items _ _ _ _ _ _ _ c.due-inputs.result.now (omega arith) c.index_mut.ensures.value between so
+      (c.due-inputs.ensures s.inputs so.due) in
       let h = history_after s (c.loop-i.i + 1) t.c c.args.done in
-      cabinets_go s _ _ c.loop-i.i _ _ c.loop-i.controllers.items _ _ _ _ _ _ _ _ _ _ c.due-inputs.result.now (omega arith) between so t (c.in-Ok-run_cabinet.ensures.runs h t.runs) (c.in-Ok-run_cabinet.ensures.ok h t.runs)
+      cabinets_go s _ _ c.loop-i.i _ _ c.loop-i.controllers.items _ _ _ _ _ _ _ _ _ _ c.due-inputs.result.now (omega arith) between so t
+      (c.in-Ok-run_cabinet.ensures.runs h t.runs) (c.in-Ok-run_cabinet.ensures.ok h t.runs)
       (c.pass.ensures.holds s.inputs so.due);
   kept = omega (arith, c.loop-i.invariant.kept, c.in-Ok-run_cabinet.ensures.kept);
 }
@@ -55,4 +59,5 @@ pub returns-clause-ok : goal.returns-clause-ok
 returns-clause-ok g c = λ s between. cabinets_put s _ c.loop-i.i c.loop-i.controllers.items _ _ _ _ _ (omega arith) (c.loop-i.invariant.goes s between)
 
 pub returns-clause-goes_on : goal.returns-clause-goes_on
-returns-clause-goes_on g c = λ s between. cabinets_done s _ _ c.loop-i.i c.loop-i.controllers.items _ _ _ _ _ _ _ (omega arith) between (c.loop-i.invariant.goes s between)
+returns-clause-goes_on g c = λ s between. cabinets_done s _ _ c.loop-i.i c.loop-i.controllers.items _ _ _ _ _ _ _ (omega arith) between
+    (c.loop-i.invariant.goes s between)

@@ -1,5 +1,5 @@
 use Rattle.station.proofs.Opening.{runs_free, opens}
-use Rattle.station.proofs.cabinets.opened.Goals as goal
+use Rattle.station.proofs.cabinets.controller_of.Goals as goal
 
 pub open-requires-clause-free : goal.open-requires-clause-free
 open-requires-clause-free c = runs_free c.opening_tables.result c.args.cabinet.now.pattern c.requires.free
