@@ -16,9 +16,9 @@ abbrev pub ticks : ℕ → List Event
 ticks zero = []
 ticks (suc n) = Tick ∷ ticks n
 
--- a controller that was opened in Free, and these events
-abbrev pub opened : Tables → List Event → History
-opened t events = record { tables = t; command = 0; clock = 0; events = events }
+-- the history of a cabinet that was opened in Free, with these events
+abbrev pub free_history : Tables → List Event → History
+free_history t events = record { tables = t; command = 0; clock = 0; events = events }
 
 -- the ticks whose frame shows other colours than the frame before it, the newest first, and what it shows
 abbrev pub changes : ℕ → List Frame → List (ℕ × List Colour)
@@ -35,7 +35,7 @@ change_ticks (x ∷ xs) = x.0 ∷ change_ticks xs
 
 -- the ticks of the first n at which a colour changes
 abbrev pub changed : Tables → ℕ → List ℕ
-changed t n = change_ticks (changes n (frames (opened t (ticks n))))
+changed t n = change_ticks (changes n (frames (free_history t (ticks n))))
 
 -- with the colours of phases 1 to 8
 abbrev pub shorten : List (ℕ × List Colour) → List (ℕ × List Colour)
@@ -44,7 +44,7 @@ shorten (x ∷ xs) = (x.0, take 8 x.1) ∷ shorten xs
 
 -- the colours of phases 1 to 8 at the ticks at which one changes
 abbrev pub shown : Tables → List Event → ℕ → List (ℕ × List Colour)
-shown t events n = shorten (changes n (frames (opened t events)))
+shown t events n = shorten (changes n (frames (free_history t events)))
 
 -- a vehicle comes over the detector of phase p, or leaves it
 abbrev pub detector : ℕ → Bool → Event
