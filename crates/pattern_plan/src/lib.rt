@@ -1,0 +1,20 @@
+//! A pattern laid out over its cycle, once for all ticks that follow it: slots, force points, permissive ends, the window and
+//! the offset (FHWA Signal Timing Manual: cycle, split, offset, force-off, permissive period). No memory is taken.
+#![tactic(auto)]
+
+mod forcing;
+mod holding;
+mod laying;
+mod planning;
+mod side;
+mod standard;
+mod street;
+
+pub use holding::coordinated;
+pub use laying::services;
+pub use planning::{plan, plan_on};
+pub use standard::standard_plan;
+pub use street::Street;
+
+#[cfg(test)]
+mod tests;
