@@ -1,0 +1,2 @@
+pub mod OwnMode
+pub mod Turns

@@ -1,0 +1,12 @@
+pub mod Tallies
+pub mod Each
+pub mod Least
+pub mod Called
+pub mod Covered
+pub mod Dwelt
+pub mod First
+pub mod Goes
+pub mod Runs
+pub mod Listed
+pub mod Others
+pub mod OnPhases

@@ -1,0 +1,9 @@
+use Rattle.std.proofs.Common.{◌≡◌}
+use Rattle.preempt_run.specs.Stands.{step_count}
+use Rattle.preempt_run.proofs.tests.mode_at.Given as goal
+
+abbrev pub invariant-loop-before : goal.invariant-loop-before
+invariant-loop-before l = step_count l.preempts ≡ l.before
+
+abbrev pub invariant-loop-event : goal.invariant-loop-event
+invariant-loop-event l = step_count l.preempts ≡ l.before

@@ -1,0 +1,4 @@
+pub mod Tally
+pub mod Dwelling
+pub mod Stands
+pub mod Goals

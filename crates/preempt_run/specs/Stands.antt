@@ -1,0 +1,40 @@
+-- What is kept of preemption is what looking back over the inputs and the moments gives.
+use Rattle.std.specs.Prelude.{ℕ, ◌≡◌, ◌<◌, ◌≤◌, ◌+◌, ◌==◌, List, length}
+use Rattle.sig_types.specs.Phases.{is_in}
+use Rattle.sig_types.specs.PhaseSet.{has}
+use Rattle.sig_tables.specs.declared.tables.Tables.{Tables}
+use Rattle.sig_tables.specs.Modes.{same_mode, stage_of}
+use Rattle.sig_tables.specs.Past.{Heard, Moment, Past}
+use Rattle.sig_tables.specs.Looking.{in_a_row, last_frame, last_moment}
+use Rattle.sig_tables.specs.Preempts.{preempt_on, preempts_on}
+use Rattle.sig_tables.specs.Seen.{moment_seen}
+use Rattle.preempt_run.specs.declared.Preempts.{Preempts}
+use Rattle.preempt_run.specs.Tally.{TallyStands}
+use Rattle.preempt_run.specs.Dwelling.{dwells_green, dwells_off, EachFits}
+
+-- how many frames have come
+abbrev pub step_count : Preempts → ℕ
+step_count c = c.steps
+
+-- the preempts whose input is on
+unfoldable pub preempts_seen : Past → List ℕ
+preempts_seen past = preempts_on past.heard (moment_seen past)
+
+-- what is kept is what these inputs since the last frame, and these moments, give: the inputs that are on and for how many ticks
+-- each has been; the mode of the last frame, when it began, and when the stages of its preempt began; and for each phase
+-- for how many ticks of dwell it has been Green, and on in no ring
+pub record Keeps (c : Preempts) (heard : List Heard) (past : List Moment) : Type 0 where
+  pub steps : length past ≡ c.steps + 1
+  pub on : (t : Tables) (i : ℕ) → 0 < i → i ≤ 8 → has c.on i ≡ preempt_on (is_in (last_moment t past).preempts i) heard i
+  pub inputs : (i : ℕ) → 0 < i → i ≤ 8 → TallyStands c.inputs c.steps i (λ m. is_in m.preempts i) past
+  pub mode : c.mode ≡ (last_frame past).mode
+  pub mode_run : c.mode_since + in_a_row (λ m. same_mode m.frame.mode c.mode) past ≡ c.steps + 1
+  pub stage_run : c.stage_since + in_a_row (λ m. stage_of m.frame.mode == stage_of c.mode) past ≡ c.steps + 1
+  pub green : (p : ℕ) → 0 < p → p ≤ 16 → TallyStands c.green c.steps p (dwells_green p) past
+  pub off : (p : ℕ) → 0 < p → p ≤ 16 → TallyStands c.off c.steps p (dwells_off p) past
+  pub fits : EachFits past
+
+-- the registers stand for the past: of all that has come they look at the inputs and the moments alone, so that a download, a
+-- command, a clock set or a priority request leaves them as they stand
+abbrev pub PreemptsStand : Preempts → Past → Type 0
+PreemptsStand c past = Keeps c past.heard past.moments
