@@ -1,10 +1,11 @@
 -- What the store keeps is what looking back over the inputs and the frames gives.
-use Rattle.std.specs.Prelude.{◌≤◌, ◌<◌}
+use Rattle.std.specs.Prelude.{ℕ, ◌≤◌, ◌<◌, ◌||◌, Bool, Option, Some, None}
 use Rattle.sig_types.specs.declared.frame.Field.{Field}
 use Rattle.sig_types.specs.declared.frame.Field.TheVariants.{Veh, Ped as Button, Preempt}
 use Rattle.sig_types.specs.Phases.{is_in}
 use Rattle.sig_tables.specs.Past.{Past}
-use Rattle.sig_tables.specs.Calls.{some_heard, turns_on}
+use Rattle.sig_tables.specs.Splits.{split_maximum}
+use Rattle.sig_tables.specs.Calls.{some_heard, turns_on, is_active}
 use Rattle.sig_tables.specs.Layout.{Has}
 use Rattle.sig_tables.specs.Seen.{vehicle_seen, pedestrian_seen, detectors_seen}
 use Rattle.call_store.specs.declared.Calls.{Calls}
@@ -21,3 +22,9 @@ abbrev pub NamesPhase : Field → Type 0
 NamesPhase (Veh q on) = (0 < q) × (q ≤ 16)
 NamesPhase (Button q) = (0 < q) × (q ≤ 16)
 NamesPhase (Preempt n on) = Unit {0}
+
+-- phase p is active at a tick where this pattern binds: by itself, or since the pattern's split holds it to its maximum (of a
+-- disabled phase this says nothing, since activity is only ever looked at on Green)
+abbrev pub is_active_with : Option ℕ → Past → ℕ → Bool
+is_active_with None past p = is_active past.tables past.heard (detectors_seen past) p
+is_active_with (Some n) past p = is_active past.tables past.heard (detectors_seen past) p || split_maximum past.tables n p

@@ -3,10 +3,11 @@
 //! and a tick look at sixteen phases in one step.
 #![tactic(auto)]
 
-ghost use Rattle.std.specs.Prelude.{◌≡◌, ◌<◌, ◌≤◌, ◌&&◌, ◌==◌, not, ℕ, true, None};
+ghost use Rattle.std.specs.Prelude.{◌≡◌, ◌<◌, ◌≤◌, ◌&&◌, ◌||◌, ◌==◌, not, nat_le, ℕ, Bool, true, Option};
 
-use sig_tables::{Layout, Plan};
+use sig_tables::Layout;
 use sig_types::{Colour, Field, Frame, Ped, PhaseSet};
+use split_options::SplitOptions;
 
 mod served;
 
@@ -26,15 +27,16 @@ pub struct Calls {
 impl Calls {
     ghost use Rattle.sig_types.specs.declared.frame.Colour.TheVariants.{Red};
     ghost use Rattle.sig_types.specs.Phases.{is_phase, is_in};
-    ghost use Rattle.sig_types.specs.PhaseSet.{has, phases_of};
+    ghost use Rattle.sig_types.specs.PhaseSet.{phases_of};
     ghost use Rattle.sig_types.specs.Colour.{same_colour, colour_of};
     ghost use Rattle.sig_tables.specs.declared.tables.Tables.{Tables};
     ghost use Rattle.sig_tables.specs.Past.{Past, Moment, Input};
-    ghost use Rattle.sig_tables.specs.Calls.{is_active, is_green};
+    ghost use Rattle.sig_tables.specs.Calls.{is_active, is_called, is_green};
     ghost use Rattle.sig_tables.specs.Decide.{opened, with_event, with_moment};
     ghost use Rattle.sig_tables.specs.Layout.{LaidOut, Has};
-    ghost use Rattle.sig_tables.specs.Seen.{frame_seen, vehicle_seen, pedestrian_seen, detectors_seen, demand_with};
-    ghost use Rattle.call_store.specs.Stands.{CallsStand, NamesPhase};
+    ghost use Rattle.sig_tables.specs.Seen.{frame_seen, vehicle_seen, pedestrian_seen, detectors_seen, demand_with, quiet_with};
+    ghost use Rattle.split_options.specs.Options.{AreBinding};
+    ghost use Rattle.call_store.specs.Stands.{CallsStand, NamesPhase, is_active_with};
 
     /// No call, and no detector on.
     pub fn new() -> Calls
@@ -71,33 +73,61 @@ impl Calls {
         }
     }
 
-    /// The phases that are active at a tick: enabled, and the detector is on or was turned on since the last tick, or
-    /// they have maximum recall. There is no plan yet.
-    pub fn active(&self, layout: &Layout, plan: Option<&Plan>) -> PhaseSet
-        requires free { plan ≡ None }
+    /// The phases that are active by themselves: enabled, and the detector is on or was turned on since the last tick, or they
+    /// have maximum recall.
+    fn active_alone(&self, layout: &Layout) -> PhaseSet
         ensures active { (past : Past) → CallsStand self.now past → LaidOut layout.now past.tables
             → Has result (is_active past.tables past.heard (detectors_seen past)) }
     {
-        prove!(plan.is_none());
         let detected = self.detectors.union(self.turned_on);
         layout.enabled.meet(detected.union(layout.maximum_recall))
     }
 
-    /// The phases that have demand at a tick: enabled, `red` in the last frame, and called by a vehicle, a detector or a
-    /// recall, or, where they have a walk, by a pedestrian. There is no plan yet.
-    pub fn demand(&self, layout: &Layout, red: PhaseSet, plan: Option<&Plan>) -> PhaseSet
-        requires free { plan ≡ None }
-        ensures demand { (past : Past) → CallsStand self.now past → LaidOut layout.now past.tables
-            → Has red (λ p. same_colour (colour_of (frame_seen past) p) Red) → phases_of result ≡ demand_with None past }
+    /// The phases that are active at a tick: by themselves, or since the split of the pattern that binds holds them to their
+    /// maximum.
+    pub fn active(&self, layout: &Layout, options: Option<&SplitOptions>) -> PhaseSet
+        ensures active { (pattern : Option ℕ) (past : Past) → CallsStand self.now past → LaidOut layout.now past.tables
+            → AreBinding options.entry pattern past.tables → Has result (is_active_with pattern past) }
+        ensures quiet { (pattern : Option ℕ) (past : Past) → CallsStand self.now past → LaidOut layout.now past.tables
+            → AreBinding options.entry pattern past.tables → (p : ℕ) → is_phase p ≡ true
+            → is_in (quiet_with pattern past) p ≡ (is_green (frame_seen past) p && not (has result p)) }
     {
-        prove!(plan.is_none());
+        let active = self.active_alone(layout);
+        match options {
+            None => active,
+            Some(options) => active.union(options.maximum),
+        }
+    }
+
+    /// The phases that are called by a vehicle, a detector or a recall of their own, or, where they have a walk, by a
+    /// pedestrian.
+    fn called(&self, layout: &Layout) -> PhaseSet
+        ensures called { (past : Past) → CallsStand self.now past → LaidOut layout.now past.tables
+            → Has result (is_called past.tables (vehicle_seen past) (pedestrian_seen past) (detectors_seen past)) }
+    {
         let by_vehicles = self.vehicle.union(self.detectors);
         let recalled = by_vehicles
             .union(layout.minimum_recall)
             .union(layout.maximum_recall);
-        let by_foot = self.pedestrian.union(layout.pedestrian_recall);
-        let called = recalled.union(layout.walks.meet(by_foot));
-        layout.enabled.meet(red).meet(called)
+        recalled.union(called_on_foot(layout, self.pedestrian))
+    }
+
+    /// The phases that have demand at a tick: enabled, `red` in the last frame, and called; where a pattern binds, also those
+    /// that it calls, and none that it omits.
+    pub fn demand(&self, layout: &Layout, red: PhaseSet, options: Option<&SplitOptions>) -> PhaseSet
+        ensures demand { (pattern : Option ℕ) (past : Past) → CallsStand self.now past → LaidOut layout.now past.tables
+            → AreBinding options.entry pattern past.tables
+            → Has red (λ p. same_colour (colour_of (frame_seen past) p) Red) → phases_of result ≡ demand_with pattern past }
+    {
+        let waiting = layout.enabled.meet(red);
+        let called = self.called(layout);
+        match options {
+            None => waiting.meet(called),
+            Some(options) => {
+                let asking = called.union(called_by(layout, options));
+                served_by(options, waiting).meet(asking)
+            }
+        }
     }
 
     /// The phases with a locked vehicle call.
@@ -139,10 +169,58 @@ impl Calls {
 
 ghost use Rattle.sig_types.specs.declared.frame.Field.TheVariants.{Veh, Ped as Button};
 ghost use Rattle.sig_types.specs.declared.frame.Ped.TheVariants.{Walk};
+ghost use Rattle.sig_types.specs.PhaseSet.{has};
 ghost use Rattle.sig_types.specs.Colour.{same_signal, signal_of};
 ghost use Rattle.sig_tables.specs.declared.tables.Tables.{Tables};
 ghost use Rattle.sig_tables.specs.Calls.{is_green, locks_vehicle, locks_pedestrian};
-ghost use Rattle.sig_tables.specs.Layout.{LaidOut};
+ghost use Rattle.sig_tables.specs.Tables.{row, has_pedestrian_recall};
+ghost use Rattle.sig_tables.specs.Slots.{is_coordinated, is_omitted};
+ghost use Rattle.sig_tables.specs.Splits.{split_minimum, split_maximum, split_pedestrian};
+ghost use Rattle.sig_tables.specs.SplitCalls.{is_called_by};
+ghost use Rattle.sig_tables.specs.Layout.{Has, LaidOut};
+ghost use Rattle.split_options.specs.Options.{SplitSays};
+
+/// The phases that have a walk and are called for it, by these calls of pedestrians or by recall.
+fn called_on_foot(layout: &Layout, calls: PhaseSet) -> PhaseSet
+    ensures { (t : Tables) (asked : ℕ → Bool) → LaidOut layout.now t → Has calls asked
+        → Has result (λ p. nat_le 1 (row t p).walk && (asked p || has_pedestrian_recall t p)) }
+{
+    layout.walks.meet(calls.union(layout.pedestrian_recall))
+}
+
+/// The phases that the pattern of these options holds onto the offset, or whose split calls them for their minimum green or
+/// to their maximum.
+fn recalled_by(options: &SplitOptions) -> PhaseSet
+    ensures { (t : Tables) (n : ℕ) → SplitSays options.now t n
+        → Has result (λ p. is_coordinated t n p || split_minimum t n p || split_maximum t n p) }
+{
+    options
+        .coordinated
+        .union(options.minimum)
+        .union(options.maximum)
+}
+
+/// The phases that have a walk and are called for it by the split.
+fn walks_by(layout: &Layout, options: &SplitOptions) -> PhaseSet
+    ensures { (t : Tables) (n : ℕ) → LaidOut layout.now t → SplitSays options.now t n
+        → Has result (λ p. nat_le 1 (row t p).walk && split_pedestrian t n p) }
+{
+    layout.walks.meet(options.pedestrian)
+}
+
+/// The phases that the pattern of these options calls.
+fn called_by(layout: &Layout, options: &SplitOptions) -> PhaseSet
+    ensures { (t : Tables) (n : ℕ) → LaidOut layout.now t → SplitSays options.now t n → Has result (is_called_by t n) }
+{
+    recalled_by(options).union(walks_by(layout, options))
+}
+
+/// Of these phases those that the pattern of these options serves.
+fn served_by(options: &SplitOptions, phases: PhaseSet) -> PhaseSet
+    ensures { (t : Tables) (n : ℕ) → SplitSays options.now t n → Has result (λ p. has phases p && not (is_omitted t n p)) }
+{
+    phases.minus(options.omitted)
+}
 
 /// Whether a detector's input locks a vehicle call of its phase, 1 to 16: it turns on, the phase is not green, and it
 /// keeps the call of a vehicle that leaves.

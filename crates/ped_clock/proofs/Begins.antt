@@ -1,50 +1,86 @@
--- Where Walk begins in Free, from the sets of the crosswalks.
-use Rattle.std.proofs.Common.{◌≡◌, ℕ, Bool, true, false, not, ◌&&◌, ◌||◌, List, refl, sym, ◌∙◌, ap}
-use Rattle.std.proofs.lemmas.Bool.{false≢true}
-use Rattle.std.proofs.Math.Bool.{and-false, or-false, and_assoc}
+-- Where Walk begins, from the sets of the crosswalks.
+use Rattle.std.proofs.Common.{◌≡◌, ℕ, Bool, true, false, ◌&&◌, ◌||◌, List, Option, Some, refl, subst}
+use Rattle.std.specs.Borrow.{Bor}
+use Rattle.std.proofs.Math.Bool.{or-false}
 use Rattle.sig_types.specs.declared.frame.Colour.{Colour}
 use Rattle.sig_types.specs.declared.frame.Colour.TheVariants.{Green, Red}
 use Rattle.sig_types.specs.declared.frame.Ped.{Ped}
 use Rattle.sig_types.specs.declared.frame.Ped.TheVariants.{Dont}
-use Rattle.sig_types.specs.declared.frame.Mode.TheVariants.{Free}
+use Rattle.sig_types.specs.declared.frame.Mode.{Mode}
+use Rattle.sig_types.specs.declared.frame.Mode.TheVariants.{Free, Seek, Coord}
 use Rattle.sig_types.specs.Phases.{is_in}
 use Rattle.sig_types.specs.Colour.{same_colour, same_signal}
 use Rattle.sig_tables.specs.declared.tables.Tables.{Tables}
 use Rattle.sig_tables.specs.Tables.{has_pedestrian_recall, starts_with_walk}
 use Rattle.sig_tables.specs.Course.{Turn, Rest, StartUp, Rings, Goal}
 use Rattle.sig_tables.specs.Walking.{Crossing, has_walk, walks_at_green, walk_begins}
-use Rattle.ped_clock.specs.Walks.{IsStartUp}
+use Rattle.split_options.specs.declared.SplitOptions.{SplitOptions}
+use Rattle.split_options.specs.Options.{SplitSays, AreBinding}
+use Rattle.ped_clock.specs.declared.beginning.Greens.TheVariants.{Rest as NoGreens, StartUp as StartUpGreens, Rings as RingGreens}
+use Rattle.ped_clock.specs.Walks.{greens_of, is_walking, SaysInCoord}
 
--- what asks for Walk with the Green of p, at start-up and at another tick
-pub at-startup : (startup : Bool) (turn : Turn) (t : Tables) (pedestrian : List ℕ) (p : ℕ) → IsStartUp startup turn → startup ≡ true
+-- what asks for Walk with the Green of p: nothing where the rings rest, and more at start-up than at another tick
+pub at-rest : (turn : Turn) (t : Tables) (pedestrian : List ℕ) (p : ℕ) → greens_of turn ≡ NoGreens → false ≡ walks_at_green turn t pedestrian p
+at-rest Rest t pedestrian p e = refl
+at-rest StartUp t pedestrian p e = absurd (cc e)
+at-rest Rings t pedestrian p e = absurd (cc e)
+at-rest (Goal goal) t pedestrian p e = absurd (cc e)
+
+pub at-startup : (turn : Turn) (t : Tables) (pedestrian : List ℕ) (p : ℕ) → greens_of turn ≡ StartUpGreens
     → (is_in pedestrian p || has_pedestrian_recall t p || starts_with_walk t p) ≡ walks_at_green turn t pedestrian p
-at-startup startup StartUp t pedestrian p e b = refl
-at-startup startup Rings t pedestrian p e b = absurd (false≢true (sym e ∙ b))
-at-startup startup (Goal goal) t pedestrian p e b = absurd (false≢true (sym e ∙ b))
-at-startup startup Rest t pedestrian p e b = absurd e
+at-startup Rest t pedestrian p e = absurd (cc e)
+at-startup StartUp t pedestrian p e = refl
+at-startup Rings t pedestrian p e = absurd (cc e)
+at-startup (Goal goal) t pedestrian p e = absurd (cc e)
 
-pub after-startup : (startup : Bool) (turn : Turn) (t : Tables) (pedestrian : List ℕ) (p : ℕ) → IsStartUp startup turn → startup ≡ false
+pub after-startup : (turn : Turn) (t : Tables) (pedestrian : List ℕ) (p : ℕ) → greens_of turn ≡ RingGreens
     → (is_in pedestrian p || has_pedestrian_recall t p) ≡ walks_at_green turn t pedestrian p
-after-startup startup StartUp t pedestrian p e b = absurd (false≢true (sym b ∙ e))
-after-startup startup Rings t pedestrian p e b = refl
-after-startup startup (Goal goal) t pedestrian p e b = refl
-after-startup startup Rest t pedestrian p e b = absurd e
+after-startup Rest t pedestrian p e = absurd (cc e)
+after-startup StartUp t pedestrian p e = absurd (cc e)
+after-startup Rings t pedestrian p e = refl
+after-startup (Goal goal) t pedestrian p e = refl
 
-left : (w a : Bool) → (w && (a || false)) ≡ (w && a)
-left w a = ap (λ (b : Bool). w && b) (or-false a)
+-- in coordination the options are those of the pattern's split
+pub in-coord : (options : Option (Bor SplitOptions)) (mode : Mode) (t : Tables) (n : ℕ) (o : Bor SplitOptions) → mode ≡ Coord n
+    → options ≡ Some o → SaysInCoord options mode t → SplitSays o.now t n
+in-coord options mode t n o m e says =
+    let coord : SaysInCoord options (Coord n) t = subst (λ (x : Mode). SaysInCoord options x t) m says in
+    subst (λ (q : Option (Bor SplitOptions)). AreBinding q (Some n) t) e coord
 
--- Walk begins, from the colours and the signal as tests
-pub walk-is : (c : Crossing) (p : ℕ) (before after : Colour) (signal : Ped)
-    → (has_walk c.tables p
-    && (same_colour before Red && same_colour after Green && walks_at_green c.turn c.tables c.pedestrian p
-    || same_colour before Green && same_colour after Green && same_signal signal Dont && is_in c.pedestrian p && not (is_in c.opposed p)))
-    ≡ walk_begins c Free p before after signal
-walk-is c p Red Green signal = left (has_walk c.tables p) (walks_at_green c.turn c.tables c.pedestrian p)
-walk-is c p Green Green Dont = sym (and_assoc (has_walk c.tables p) (is_in c.pedestrian p) (not (is_in c.opposed p)))
-walk-is c p before after signal = and-false (has_walk c.tables p)
+pub in-turn : (z w h a : Bool) → (z && (w && h && a)) ≡ (z && w && h && a)
+in-turn true w h a = refl
+in-turn false w h a = refl
 
--- what opposes a phase counts only where it is Green
-pub opposed-counts : (green after dont called x y : Bool) → (green ≡ true → x ≡ y)
-    → (green && after && dont && called && not x) ≡ (green && after && dont && called && not y)
-opposed-counts true after dont called x y e = rw (e refl) refl
-opposed-counts false after dont called x y e = refl
+-- Walk begins, from the colours and the signal as tests: with the Green, or in it, of which x says so
+pub walk-is : (c : Crossing) (mode : Mode) (p : ℕ) (before after : Colour) (signal : Ped) (x : Bool)
+    → (same_colour before Green ≡ true → x ≡ walk_begins c mode p Green Green Dont)
+    → (same_colour before Red && same_colour after Green && walk_begins c mode p Red Green Dont
+    || same_colour before Green && same_colour after Green && same_signal signal Dont && x)
+    ≡ walk_begins c mode p before after signal
+walk-is c Free p Red Green signal x e = or-false (walk_begins c Free p Red Green Dont)
+walk-is c (Seek n) p Red Green signal x e = or-false (walk_begins c (Seek n) p Red Green Dont)
+walk-is c (Coord n) p Red Green signal x e = or-false (walk_begins c (Coord n) p Red Green Dont)
+walk-is c mode p Green Green Dont x e = e refl
+walk-is c mode p Red Green signal x e = refl
+walk-is c mode p before after signal x e = refl
+
+-- no Walk begins with Green in a mode in which none may, and in the others but for Coord it begins where it is asked for
+pub no-green : (c : Crossing) (mode : Mode) (p : ℕ) → is_walking mode ≡ false → false ≡ walk_begins c mode p Red Green Dont
+no-green c Free p e = absurd (cc e)
+no-green c (Seek n) p e = absurd (cc e)
+no-green c (Coord n) p e = absurd (cc e)
+no-green c mode p e = refl
+
+pub with-green : (c : Crossing) (mode : Mode) (p : ℕ) → is_walking mode ≡ true → ((n : ℕ) → mode ≡ Coord n → ⊥)
+    → (has_walk c.tables p && walks_at_green c.turn c.tables c.pedestrian p) ≡ walk_begins c mode p Red Green Dont
+with-green c Free p e not = refl
+with-green c (Seek n) p e not = refl
+with-green c (Coord n) p e not = absurd (not n refl)
+with-green c mode p e not = absurd (cc e)
+
+-- no Walk begins in Green but in Free and Coord
+pub no-rest : (c : Crossing) (mode : Mode) (p : ℕ) → (mode ≡ Free → ⊥) → ((n : ℕ) → mode ≡ Coord n → ⊥)
+    → false ≡ walk_begins c mode p Green Green Dont
+no-rest c Free p free coord = absurd (free refl)
+no-rest c (Coord n) p free coord = absurd (coord n refl)
+no-rest c mode p free coord = refl
