@@ -1,5 +1,6 @@
 -- What the answers on single phases say of the sets and lists of the definitions.
-use Rattle.std.proofs.Common.{◌≡◌, ◌≢◌, ◌<◌, ◌≤◌, ◌+◌, ◌-◌, ℕ, nat_le, Bool, true, false, not, ◌&&◌, ◌||◌, Option, refl, sym, ◌∙◌, ap, arith, inl, inr}
+use Rattle.std.proofs.Common.{◌≡◌, ◌≢◌, ◌<◌, ◌≤◌, ◌+◌, ◌-◌, ℕ, nat_le, Bool, true, false, not}
+use Rattle.std.proofs.Common.{◌&&◌, ◌||◌, Option, Some, None, refl, sym, ◌∙◌, ap, arith, inl, inr}
 use Rattle.std.proofs.lemmas.Bool.{cases_Bool, false≢true, leb-true, leb-false, le-leb, lt-leb}
 use Rattle.std.proofs.Math.Bool.{and-false, and-true, not-not}
 use Rattle.sig_types.specs.declared.frame.Colour.{Colour}
@@ -13,12 +14,13 @@ use Rattle.sig_tables.specs.Tables.{is_enabled, has_maximum_recall, gap_time, ma
 use Rattle.sig_tables.specs.Past.{Past}
 use Rattle.sig_tables.specs.Looking.{in_a_row, run, latched, runs_on, signal_runs_on, shows, lasts_now}
 use Rattle.sig_tables.specs.Sides.{are_incompatible}
-use Rattle.sig_tables.specs.Calls.{is_active, is_green}
+use Rattle.sig_tables.specs.Calls.{is_active, is_green, some_heard, turns_on}
 use Rattle.sig_tables.specs.View.{ended_of, has_gap, has_maximum, is_reasoned, is_served, is_done, is_startable}
-use Rattle.sig_tables.specs.Splits.{keeps_maximum}
-use Rattle.sig_tables.specs.Plain.{RunsPlain}
-use Rattle.sig_tables.proofs.FreeCourse.{unbound-plain}
-use Rattle.sig_tables.specs.Seen.{frame_seen, detectors_seen, demand_seen, quiet_seen, quiet_with, opposed_seen, view_seen}
+use Rattle.sig_tables.specs.Splits.{keeps_maximum, split_maximum}
+use Rattle.sig_tables.specs.Modes.{bound, stage_of}
+use Rattle.sig_tables.specs.Goals.{lesser_times, lesser_green, is_cleared}
+use Rattle.sig_tables.specs.Lesser.{signal_runs_within}
+use Rattle.sig_tables.specs.Seen.{frame_seen, mode_seen, detectors_seen, demand_seen, quiet_seen, quiet_with, opposed_seen, view_seen}
 use Rattle.sig_tables.proofs.Below.{is-within}
 use Rattle.sig_tables.proofs.Lasting.{lasts-counted, lasts_now-counted}
 
@@ -62,42 +64,61 @@ counted-one n count h = elim (cases_Bool (nat_le n (count + 1))) [
 pub flip : (a b x : Bool) → a ≡ x → a ≡ not b → b ≡ not x
 flip a b x e f = sym (not-not b) ∙ ap not (sym f ∙ e)
 
--- phase p was quiet for its gap, this tick included
-abbrev quiet_long : Past → ℕ → Bool
-quiet_long past p = lasts_now (gap_time past.tables p) (is_in (quiet_seen past) p) (λ m. is_in m.quiet p) past.moments
+-- a phase that is not active has no maximum recall, where it is enabled
+max-off : (e x y m : Bool) → e ≡ true → (e && (x || y || m)) ≡ false → m ≡ false
+max-off e x y false on h = refl
+max-off true true y true on h = absurd (false≢true (sym h))
+max-off true false true true on h = absurd (false≢true (sym h))
+max-off true false false true on h = absurd (false≢true (sym h))
+max-off false x y true on h = absurd (false≢true on)
 
--- a gap in Free
-pub gap-is : (past : Past) (p : ℕ) → RunsPlain past
-    → has_gap (view_seen past) p ≡ (not (has_maximum_recall past.tables p) && quiet_long past p)
-gap-is past p r = ap (λ (n : Option ℕ). not (keeps_maximum n past.tables p) && quiet_long past p) (unbound-plain past r)
+quiet-alone : (g a m : Bool) → (a ≡ false → m ≡ false) → (g && not a) ≡ true → m ≡ false
+quiet-alone true false m off h = off refl
+quiet-alone true true m off h = absurd (false≢true h)
+quiet-alone false a m off h = absurd (false≢true h)
 
-pub gap-recalled : (past : Past) (p : ℕ) → RunsPlain past → has_maximum_recall past.tables p ≡ true → false ≡ has_gap (view_seen past) p
-gap-recalled past p r e = shut (has_maximum_recall past.tables p) e ∙ sym (gap-is past p r)
-  where
-    shut : (b : Bool) → b ≡ true → false ≡ (not b && lasts_now (gap_time past.tables p) (is_in (quiet_seen past) p) (λ m. is_in m.quiet p) past.moments)
-    shut b e = rw e refl
+quiet-either : (g a s m : Bool) → (a ≡ false → m ≡ false) → (g && not (a || s)) ≡ true → (m || s) ≡ false
+quiet-either true false false m off h = rw (off refl) refl
+quiet-either true false true m off h = absurd (false≢true h)
+quiet-either true true s m off h = absurd (false≢true h)
+quiet-either false a s m off h = absurd (false≢true h)
 
-pub gap-counted : (past : Past) (p count : ℕ) → RunsPlain past → has_maximum_recall past.tables p ≡ false → is_in (quiet_seen past) p ≡ true
+unkept : (o : Option ℕ) (past : Past) (p : ℕ) → is_phase p ≡ true → is_enabled past.tables p ≡ true → is_in (quiet_with o past) p ≡ true
+    → keeps_maximum o past.tables p ≡ false
+unkept None past p h on q =
+    quiet-alone (is_green (frame_seen past) p) (is_active past.tables past.heard (detectors_seen past) p) (has_maximum_recall past.tables p)
+    (λ e. max-off (is_enabled past.tables p) (is_in (detectors_seen past) p) (some_heard (λ _ field q. turns_on field q) past.heard p)
+    (has_maximum_recall past.tables p) on e)
+    (sym (in-phases (λ x. is_green (frame_seen past) x && not (is_active past.tables past.heard (detectors_seen past) x)) p h) ∙ q)
+unkept (Some n) past p h on q =
+    quiet-either (is_green (frame_seen past) p) (is_active past.tables past.heard (detectors_seen past) p) (split_maximum past.tables n p)
+    (has_maximum_recall past.tables p)
+    (λ e. max-off (is_enabled past.tables p) (is_in (detectors_seen past) p) (some_heard (λ _ field q. turns_on field q) past.heard p)
+    (has_maximum_recall past.tables p) on e)
+    (sym (in-phases (λ x. is_green (frame_seen past) x && not (is_active past.tables past.heard
+    (detectors_seen past) x || split_maximum past.tables n x)) p h) ∙ q)
+
+pub gap-counted : (past : Past) (p count : ℕ) → is_phase p ≡ true → is_enabled past.tables p ≡ true → is_in (quiet_seen past) p ≡ true
     → count ≡ in_a_row (λ m. is_in m.quiet p) past.moments → nat_le (gap_time past.tables p - 1) count ≡ has_gap (view_seen past) p
-gap-counted past p count r e quiet is =
+gap-counted past p count h on quiet is =
     let some : 1 ≤ gap_time past.tables p = omega arith in
     counted-one (gap_time past.tables p) count some
     ∙ ap (λ (n : ℕ). nat_le (gap_time past.tables p) (n + 1)) is
     ∙ sym (lasts_now-counted (gap_time past.tables p) true (λ m. is_in m.quiet p) past.moments)
-    ∙ gap-now past p (has_maximum_recall past.tables p) (is_in (quiet_seen past) p) e quiet
-    ∙ sym (gap-is past p r)
+    ∙ gap-now past p (keeps_maximum (bound (mode_seen past)) past.tables p) (is_in (quiet_seen past) p) (unkept (bound
+    (mode_seen past)) past p h on quiet) quiet
   where
     gap-now : (past : Past) (p : ℕ) (b q : Bool) → b ≡ false → q ≡ true
         → lasts_now (gap_time past.tables p) true (λ m. is_in m.quiet p) past.moments
         ≡ (not b && lasts_now (gap_time past.tables p) q (λ m. is_in m.quiet p) past.moments)
     gap-now past p b q e f = rw (e, f) refl
 
-pub gap-not-quiet : (past : Past) (p : ℕ) → RunsPlain past → is_in (quiet_seen past) p ≡ false → has_gap (view_seen past) p ≡ false
-gap-not-quiet past p r e =
+pub gap-not-quiet : (past : Past) (p : ℕ) → is_in (quiet_seen past) p ≡ false → has_gap (view_seen past) p ≡ false
+gap-not-quiet past p e =
     let some : 0 < gap_time past.tables p = omega arith in
     let none : lasts_now (gap_time past.tables p) false (λ m. is_in m.quiet p) past.moments ≡ false =
     lasts_now-counted (gap_time past.tables p) false (λ m. is_in m.quiet p) past.moments ∙ lt-leb (gap_time past.tables p) 0 some in
-    gap-is past p r ∙ gap-off past p (has_maximum_recall past.tables p) (is_in (quiet_seen past) p) e none
+    gap-off past p (keeps_maximum (bound (mode_seen past)) past.tables p) (is_in (quiet_seen past) p) e none
   where
     gap-off : (past : Past) (p : ℕ) (b q : Bool) → q ≡ false
         → lasts_now (gap_time past.tables p) false (λ m. is_in m.quiet p) past.moments ≡ false
@@ -169,6 +190,30 @@ served-signal past p count least signal is ls long follows =
     both : (a b c : Bool) → a ≡ true → b ≡ c → b ≡ (a && c)
     both a b c e f = rw (e, f) refl
 
+-- what is cleared on the way to a goal
+pub cleared-early : (past : Past) (p count least : ℕ) → count ≡ run p Green past.moments
+    → least ≡ lesser_green past.tables (stage_of (mode_seen past)) (least_green (latched p Green past.tables past.moments) p) → count < least
+    → false ≡ is_cleared (mode_seen past) past.tables past.moments p
+cleared-early past p count least is ls short =
+    let below : run p Green past.moments < lesser_green past.tables (stage_of (mode_seen past)) (least_green (latched p Green past.tables past.moments) p) =
+    rw (is, ls) at short in
+    early _ _ (lt-leb _ _ below)
+  where
+    early : (a b : Bool) → a ≡ false → false ≡ (a && b)
+    early a b e = rw e refl
+
+pub cleared-signal : (past : Past) (p count least : ℕ) (signal : Ped) → count ≡ run p Green past.moments
+    → least ≡ lesser_green past.tables (stage_of (mode_seen past)) (least_green (latched p Green past.tables past.moments) p) → least ≤ count
+    → signal ≡ signal_runs_within (lesser_times past.tables (stage_of (mode_seen past))) p past.tables past.moments (signal_of (frame_seen past) p)
+    → same_signal signal Dont ≡ is_cleared (mode_seen past) past.tables past.moments p
+cleared-signal past p count least signal is ls long follows =
+    let above : lesser_green past.tables (stage_of (mode_seen past)) (least_green (latched p Green past.tables past.moments) p) ≤ run p Green past.moments =
+    rw (is, ls) at long in
+    both _ _ _ (le-leb _ _ above) (ap (λ (x : Ped). same_signal x Dont) follows)
+  where
+    both : (a b c : Bool) → a ≡ true → b ≡ c → b ≡ (a && c)
+    both a b c e f = rw (e, f) refl
+
 pub done-unserved : (past : Past) (p : ℕ) → is_served past.tables past.moments p ≡ false → false ≡ is_done (view_seen past) p
 done-unserved past p e = unserved _ _ e
   where
@@ -176,11 +221,10 @@ done-unserved past p e = unserved _ _ e
     unserved true b e = sym e
     unserved false b e = refl
 
-pub done-reason : (past : Past) (p : ℕ) → RunsPlain past → is_served past.tables past.moments p ≡ true → is_enabled past.tables p ≡ true
+pub done-reason : (past : Past) (p : ℕ) (x : Bool) → is_served past.tables past.moments p ≡ true → is_enabled past.tables p ≡ true
     → same_colour (colour_of (frame_seen past) p) Green ≡ true
-    → (has_gap (view_seen past) p || has_maximum (view_seen past) p) ≡ is_done (view_seen past) p
-done-reason past p r s on green =
-    sym (ap (λ (n : Option ℕ). is_reasoned n (view_seen past) p) (unbound-plain past r)) ∙ all-of _ _ _ _ on green s
+    → x ≡ is_reasoned (bound (mode_seen past)) (view_seen past) p → x ≡ is_done (view_seen past) p
+done-reason past p x s on green e = e ∙ all-of _ _ _ _ on green s
   where
     all-of : (a b c d : Bool) → a ≡ true → b ≡ true → d ≡ true → c ≡ (a && b && c && d)
     all-of a b c d e f g = rw (e, f, g) (sym (and-true c))
@@ -190,21 +234,20 @@ pub done-not : (past : Past) (p : ℕ) → (is_enabled past.tables p && same_col
 done-not past p e = rw e refl
 
 -- of a Green phase: it is active where it isn't quiet, and opposed where an incompatible phase has demand
-pub quiet-is : (past : Past) (p : ℕ) → RunsPlain past → is_phase p ≡ true
-    → is_in (quiet_seen past) p ≡ (is_green (frame_seen past) p && not (is_active past.tables past.heard (detectors_seen past) p))
-quiet-is past p r h =
-    ap (λ (n : Option ℕ). is_in (quiet_with n past) p) (unbound-plain past r)
-    ∙ in-phases (λ q. is_green (frame_seen past) q && not (is_active past.tables past.heard (detectors_seen past) q)) p h
+pub active-is : (quiet green active : Bool) → quiet ≡ (green && not active) → green ≡ true → active ≡ not quiet
+active-is quiet green active e g = sym (ap not (e ∙ ap (λ (b : Bool). b && not active) g) ∙ not-not active)
 
 pub opposed-is : (past : Past) (p : ℕ) → is_phase p ≡ true
     → is_in (opposed_seen past) p ≡ (is_green (frame_seen past) p && some (are_incompatible past.tables p) (demand_seen past))
 opposed-is past p h = in-phases (λ q. is_green (frame_seen past) q && some (are_incompatible past.tables q) (demand_seen past)) p h
 
-pub quiet-by-active : (past : Past) (p : ℕ) → RunsPlain past → is_phase p ≡ true → is_green (frame_seen past) p ≡ true
-    → is_active past.tables past.heard (detectors_seen past) p ≡ not (is_in (quiet_seen past) p)
-quiet-by-active past p r h green =
-    sym (ap not (quiet-is past p r h ∙ ap (λ (b : Bool). b && not (is_active past.tables past.heard (detectors_seen past) p)) green) ∙ not-not _)
-
-pub opposed-by-demand : (past : Past) (p : ℕ) → is_phase p ≡ true → is_green (frame_seen past) p ≡ true
-    → some (are_incompatible past.tables p) (demand_seen past) ≡ is_in (opposed_seen past) p
-opposed-by-demand past p h green = sym (opposed-is past p h ∙ ap (λ (b : Bool). b && some (are_incompatible past.tables p) (demand_seen past)) green)
+-- what is opposed is Green
+pub opposed-green : (past : Past) (p : ℕ) → is_phase p ≡ true
+    → is_in (opposed_seen past) p ≡ (is_green (frame_seen past) p && is_in (opposed_seen past) p)
+opposed-green past p h =
+    opposed-is past p h ∙ again (is_green (frame_seen past) p) (some (are_incompatible past.tables p) (demand_seen past)) ∙ sym (ap (λ
+    (b : Bool). is_green (frame_seen past) p && b) (opposed-is past p h))
+  where
+    again : (a b : Bool) → (a && b) ≡ (a && (a && b))
+    again true b = refl
+    again false b = refl

@@ -5,6 +5,7 @@ use Rattle.sig_tables.specs.Looking.{in_a_row}
 use Rattle.sig_tables.specs.Command.{is_commanded, command_now}
 use Rattle.sig_tables.specs.Clock.{clock_now}
 use Rattle.sig_tables.specs.Showing.{command_shown, clock_shown}
+use Rattle.sig_tables.specs.Seen.{moment_seen}
 use Rattle.controller.specs.declared.orders.Orders.{Orders}
 
 -- for how many ticks the pattern has been in command, where it was commanded since the last frame or not
@@ -15,16 +16,22 @@ ticks_since commanded past = if commanded then 0 else in_a_row (λ m. not m.is_c
 abbrev pub most : ℕ
 most = 4294967295
 
--- the orders are those that looking back gives, and the clock does not drift
+-- the number of ticks that were counted
+abbrev pub order_ticks : Orders → ℕ
+order_ticks o = o.ticks
+
+-- the orders are those that looking back gives
 pub record OrdersStand (o : Orders) (past : Past) : Type 0 where
   pub command : o.command ≡ command_shown past
   pub since : o.since ≡ min (ticks_since (is_commanded past.commanded) past.moments) most
   pub clock : o.clock ≡ clock_shown past
-  pub no_gain : past.gain ≡ 0
-  pub no_lose : past.lose ≡ 0
+  pub ticks : o.ticks ≡ (moment_seen past).number
+  pub gain : o.gain ≡ past.gain
+  pub lose : o.lose ≡ past.lose
 
 -- the moment saw the orders that the past gives
 pub record SawOrders (past : Past) (m : Moment) : Type 0 where
+  pub number : m.number ≡ (moment_seen past).number + 1
   pub command : m.command ≡ command_now past
   pub is_commanded : m.is_commanded ≡ is_commanded past.commanded
   pub clock : m.clock ≡ clock_now past

@@ -1,10 +1,13 @@
 //! What a controller keeps of a frame: the registers that stand for looking back.
 
-ghost use Rattle.std.specs.Prelude.{◌≡◌, ◌<◌, ◌≤◌, ◌+◌, ◌==◌, ◌&&◌, ℕ, true, not, if◌then◌else◌, get_or};
+ghost use Rattle.std.specs.Prelude.{◌≡◌, ◌<◌, ◌≤◌, ◌+◌, ◌==◌, ◌∷◌, ℕ, true, List, if◌then◌else◌, get_or};
 ghost use Rattle.sig_types.specs.Colour.{is_start};
 
 use crate::Controller;
+use crate::course::{Course, is_coord};
+use crate::seeing::Sight;
 use call_store::signalling;
+use coord_count::Count;
 use sig_types::{Frame, Mode, Ped, PhaseSet};
 
 /// Whether a frame is in Start.
@@ -43,20 +46,29 @@ fn latest_after(before: u8, on: [u8; 2], in_start: bool) -> u8
     }
 }
 
+/// For how many frames in a row a cabinet has been in Start, with one frame more, which is in Start or is not.
+fn start_run_after(before: u32, in_start: bool) -> u32
+    ensures { before < 4294967295 → result ≡ (if in_start then before + 1 else 0) }
+{
+    if in_start {
+        before.saturating_add(1)
+    } else {
+        0
+    }
+}
+
 impl Controller {
     ghost use Rattle.sig_types.specs.Phases.{is_phase, is_in};
-    ghost use Rattle.sig_types.specs.PhaseSet.{has};
-    ghost use Rattle.sig_types.specs.Colour.{is_start};
     ghost use Rattle.sig_tables.specs.Past.{Past, Moment};
-    ghost use Rattle.sig_tables.specs.Calls.{is_green};
-    ghost use Rattle.sig_tables.specs.Seen.{frame_seen};
-    ghost use Rattle.sig_tables.specs.Plain.{RunsPlain};
-    ghost use Rattle.sig_tables.specs.Decide.{with_moment};
+    ghost use Rattle.sig_tables.specs.Decide.{with_moment, next_moment};
     ghost use Rattle.sig_types.specs.declared.frame.Frame.{Frame};
     ghost use Rattle.sig_tables.specs.Layout.{Has};
     ghost use Rattle.controller.specs.Shows.{is_signalling};
-    ghost use Rattle.controller.specs.Orders.{SawOrders};
-    ghost use Rattle.controller.specs.StandsFor.{Keeps, SawCalls, StartsOn, tick_count};
+    ghost use Rattle.controller.specs.Course.{Runs};
+    ghost use Rattle.controller.specs.Sees.{Sees};
+    ghost use Rattle.sig_tables.specs.Choosing.{is_in_step};
+    ghost use Rattle.coord_count.specs.Stands.{CountStands};
+    ghost use Rattle.controller.specs.StandsFor.{Keeps, CountsOn, tick_count, install_count};
 
     /// The phases on which these signals are Walk or Flash; the set that is kept, where they are those of the last frame.
     fn signalling_in(&self, ped: &[Ped; 16]) -> PhaseSet
@@ -69,23 +81,49 @@ impl Controller {
         }
     }
 
-    /// Keeps the frame of a tick, at which these phases were active and opposed.
-    pub(crate) fn keep(&mut self, frame: &Frame, active: PhaseSet, opposed: PhaseSet)
+    /// The count of the cycle with one counter more.
+    fn counted(&self, counter: u32) -> Count
+        ensures kept { (last : ℕ) (before : List ℕ) → CountStands self.now.count (last ∷ before)
+            → CountStands result (counter ∷ last ∷ before) }
+    {
+        let mut count = self.count;
+        count.keep(counter);
+        count
+    }
+
+    /// The count of the cycle after this frame: a tick in step with a pattern counts on, and any other frame may be a pickup.
+    fn count_after(&self, frame: &Frame, course: &Course) -> Count
+        ensures counts { (past : Past) → Runs self.now course.now past → frame.now ≡ (next_moment past).frame
+            → (n : ℕ) → is_in_step frame.now past.version n ≡ true → CountsOn result (with_moment past (next_moment past)) n }
+    {
+        if is_coord(course.mode) {
+            self.counted(frame.counter)
+        } else {
+            Count::new()
+        }
+    }
+
+    /// Keeps the frame of this tick.
+    pub(crate) fn keep(&mut self, frame: &Frame, course: &Course, sight: &Sight)
         requires few { tick_count self.old < 4294967295 }
-        ensures keeps { (past : Past) (m : Moment) → Keeps self.old past → m.frame ≡ frame.now → m.tables ≡ past.tables
-            → SawOrders past m → SawCalls past m
-            → ((p : ℕ) → is_phase p ≡ true → is_in m.quiet p ≡ (is_green (frame_seen past) p && not (has active p)))
-            → ((p : ℕ) → is_phase p ≡ true → is_in m.opposed p ≡ (is_green (frame_seen past) p && has opposed p))
-            → StartsOn self.old past m → RunsPlain (with_moment past m) → Keeps self.new (with_moment past m) }
+        requires of_day { course.now.clock < 864000 }
+        ensures keeps { (past : Past) → Runs self.old course.now past → Sees sight.now past → frame.now ≡ (next_moment past).frame
+            → Keeps self.new (with_moment past (next_moment past)) }
         ensures ticks { tick_count self.new ≡ tick_count self.old + 1 }
+        ensures installs { install_count self.new ≡ install_count self.old }
     {
         let in_start = shows_start(frame);
         let shown = self.shown_in(&frame.veh);
         let signalling = self.signalling_in(&frame.ped);
+        let count = self.count_after(frame, course);
         self.calls.step(frame);
-        self.clocks.step(frame, active, opposed, &self.tables);
+        self.clocks
+            .step(frame, sight.active, sight.opposed, &self.tables);
         self.signals.step(frame, &self.tables);
-        self.orders.step(&self.tables);
+        self.preempts.step(frame);
+        self.requests.step(course.active);
+        self.orders.step(course.command, course.clock);
+        self.count = count;
         self.shown = shown;
         self.signalling = signalling;
         self.last = [
@@ -93,7 +131,7 @@ impl Controller {
             last_after(self.last[1], frame.on[1], in_start),
         ];
         self.latest = latest_after(self.latest, frame.on, in_start);
-        self.start_run = self.start_run.saturating_add(1);
+        self.start_run = start_run_after(self.start_run, in_start);
         self.frame = *frame;
     }
 }

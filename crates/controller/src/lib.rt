@@ -1,26 +1,36 @@
 //! One cabinet's controller: what its phases show after each tick of 0.1 s. Two rings of phases are served by the rules
-//! of actuated control (NEMA TS 2, FHWA Signal Timing Manual); registers stand where the definitions look back.
+//! of actuated control (NEMA TS 2, FHWA Signal Timing Manual), in free operation and in step with the patterns of a timing
+//! plan; preemption, flash, priority requests, commands, clocks and downloads come at any time. Registers stand where the
+//! definitions look back.
 #![tactic(auto)]
 
 ghost use Rattle.std.specs.Prelude.{◌≡◌, ◌<◌, ◌≤◌, ◌+◌};
 
 use call_store::Calls;
+use coord_count::Count;
 use ped_clock::PedClocks;
 use phase_clock::Clocks;
-use sig_tables::{Layout, Tables};
-use sig_types::{Field, Frame, PhaseSet};
+use preempt_run::Preempts;
+use prio_queue::Queue;
+use sig_tables::{Layout, Shown, Tables};
+use sig_types::{Field, Frame, PhaseSet, Request};
 
+mod binding;
+mod by_colour;
+mod colouring;
+mod course;
 mod keeping;
 mod moving;
 mod orders;
+mod reasons;
 mod seeing;
-mod shown;
-mod turn;
 mod walking;
 
-use moving::first_frame;
+use binding::Binding;
+use by_colour::ByColour;
+use colouring::first_frame;
+use course::is_flash;
 use orders::Orders;
-use shown::Shown;
 
 /// What a controller keeps between ticks.
 #[derive(Drop)]
@@ -32,48 +42,65 @@ pub struct Controller {
     calls: Calls,
     clocks: Clocks,
     signals: PedClocks,
+    preempts: Preempts,
+    requests: Queue,
     /// The phases by the colour that the last frame shows.
-    shown: Shown,
+    shown: ByColour,
     /// The phases on which the last frame shows Walk or Flash.
     signalling: PhaseSet,
     /// The phase that was last on in each ring since Start, or 0.
     last: [u8; 2],
     /// A phase of the latest frame since Start that had one on, or 0.
     latest: u8,
-    /// In Start: for how many frames in a row.
+    /// For how many frames in a row the cabinet has been in Start.
     start_run: u32,
-    /// The pattern in command and the clock.
+    /// The pattern in command, the clock and its drift.
     orders: Orders,
+    /// The pattern that was sought or in step last.
+    binding: Binding,
+    /// The counter of its cycle.
+    count: Count,
+    ghost adds: { 0 < tables.unit.add },
+    ghost subtracts: { 0 < tables.unit.subtract },
 }
 
 impl Controller {
-    ghost use Rattle.sig_tables.specs.Past.{History, Input};
+    ghost use Rattle.sig_tables.specs.declared.tables.Tables.{Tables};
+    ghost use Rattle.sig_tables.specs.Past.{History, Input, Install, SetPattern, SetClock, SetDrift, Ask, Cancel};
     ghost use Rattle.sig_tables.specs.Decide.{decide, ticked, opening, with_one, last_frame_of, past_at};
-    ghost use Rattle.sig_tables.specs.Plain.{IsStreet};
-    ghost use Rattle.controller.specs.StandsFor.{StandsFor, IsFree, tick_count};
+    ghost use Rattle.sig_tables.specs.Showing.{ShownAfter};
+    ghost use Rattle.controller.specs.Modes.{is_flash};
+    ghost use Rattle.controller.specs.StandsFor.{StandsFor, CanRun, NamesPlace, tick_count, install_count};
 
-    /// A cabinet that is opened with these tables, in Start. The command is no pattern of these tables and not 255, so
-    /// that the cabinet runs free; the clock is in ticks of the day.
+    /// A cabinet that is opened with these tables, in Start, with a pattern in command, 0 to 255 (254 and those that are
+    /// not defined run free, 255 flashes), and a clock in ticks of the day. The tables' limits of adding and subtracting
+    /// are at least one tick, as those of consistent tables are.
     pub fn open(tables: Tables, command: u8, clock: u32) -> Controller
-        requires free { IsFree tables command }
+        requires tables { CanRun tables }
         requires of_day { clock < 864000 }
         ensures stands { StandsFor result (opening tables command clock) }
         ensures ticks { tick_count result ≡ 0 }
+        ensures installs { install_count result ≡ 0 }
     {
+        let layout = Layout::of(&tables, 1);
         Controller {
-            layout: Layout::of(&tables, 1),
+            layout,
+            binding: Binding::none(&tables, layout),
             tables,
             version: 0,
             frame: first_frame(),
             calls: Calls::new(),
             clocks: Clocks::new(),
             signals: PedClocks::new(),
-            shown: Shown::of(&first_frame().veh),
+            preempts: Preempts::new(),
+            requests: Queue::new(),
+            shown: ByColour::of(&first_frame().veh),
             signalling: PhaseSet::empty(),
             last: [0; 2],
             latest: 0,
             start_run: 1,
             orders: Orders::of(command, clock),
+            count: Count::new(),
         }
     }
 
@@ -83,22 +110,100 @@ impl Controller {
         ensures decided { (h : History) → StandsFor self.old h → result ≡ decide h }
         ensures stands { (h : History) → StandsFor self.old h → StandsFor self.new (ticked h) }
         ensures counted { tick_count self.new ≡ tick_count self.old + 1 }
+        ensures installs { install_count self.new ≡ install_count self.old }
     {
-        let active = self.calls.active(&self.layout, None);
-        let demand = self.calls.demand(&self.layout, self.shown.red, None);
-        let opposed = self.opposed(demand);
-        let frame = self.next_frame(demand, active, opposed);
-        self.keep(&frame, active, opposed);
+        let command = self.commanded();
+        let mode = self.mode(command);
+        self.follow(mode);
+        let course = self.course(mode, command);
+        let sight = self.sight(&course);
+        let frame = self.next_frame(&course, &sight);
+        self.keep(&frame, &course, &sight);
         frame
     }
 
-    /// An input from the street: a detector or a push button of a phase, 1 to 16. It shows from the next tick on.
+    /// An input from the street: a detector or a push button of a phase, 1 to 16, or the input of a preempt, 1 to 8. The
+    /// frames show what comes of it from the next tick on.
     pub fn input(&mut self, field: Field)
-        requires street { IsStreet field }
+        requires place { NamesPlace field }
         ensures stands { (h : History) → StandsFor self.old h → StandsFor self.new (with_one h (Input field)) }
         ensures counted { tick_count self.new ≡ tick_count self.old }
+        ensures installs { install_count self.new ≡ install_count self.old }
     {
         self.calls.input(field, &self.layout, &self.frame);
+        match field {
+            Field::Veh { .. } => {}
+            Field::Ped { .. } => {}
+            Field::Preempt { number, on } => self.preempts.input(number, on),
+        }
+    }
+
+    /// Tables that a download puts in force: at once, and the next tick runs by them. Their limits of adding and
+    /// subtracting are at least one tick.
+    pub fn install(&mut self, tables: Tables)
+        requires tables { CanRun tables }
+        requires few { install_count self.old < 4294967295 }
+        ensures stands { (h : History) → StandsFor self.old h → StandsFor self.new (with_one h (Install tables)) }
+        ensures counted { tick_count self.new ≡ tick_count self.old }
+        ensures installs { install_count self.new ≡ install_count self.old + 1 }
+    {
+        self.layout = Layout::of(&tables, 1);
+        self.binding = Binding::none(&tables, self.layout);
+        self.tables = tables;
+        self.version += 1;
+    }
+
+    /// Commands a pattern, 0 to 255; it counts from the next tick on, and of several between two ticks the last one does.
+    pub fn pattern(&mut self, command: u8)
+        ensures stands { (h : History) → StandsFor self.old h → StandsFor self.new (with_one h (SetPattern command)) }
+        ensures counted { tick_count self.new ≡ tick_count self.old }
+        ensures installs { install_count self.new ≡ install_count self.old }
+    {
+        self.orders.pattern(command);
+    }
+
+    /// Sets the clock, in ticks of the day.
+    pub fn clock(&mut self, time: u32)
+        requires of_day { time < 864000 }
+        ensures stands { (h : History) → StandsFor self.old h → StandsFor self.new (with_one h (SetClock time)) }
+        ensures counted { tick_count self.new ≡ tick_count self.old }
+        ensures installs { install_count self.new ≡ install_count self.old }
+    {
+        self.orders.set_clock(time);
+    }
+
+    /// Sets the drift of the clock: after how many ticks each time it gains one more, and after how many it loses one; 0
+    /// for never.
+    pub fn drift(&mut self, gain: u32, lose: u32)
+        ensures stands { (h : History) → StandsFor self.old h → StandsFor self.new (with_one h (SetDrift gain lose)) }
+        ensures counted { tick_count self.new ≡ tick_count self.old }
+        ensures installs { install_count self.new ≡ install_count self.old }
+    {
+        self.orders.drift(gain, lose);
+    }
+
+    /// A priority request (NTCIP 1211), whose number is 1 to 10. It replaces the one of its number.
+    pub fn request(&mut self, request: Request)
+        requires above { 0 < request.number }
+        requires within { request.number ≤ 10 }
+        ensures stands { (h : History) → StandsFor self.old h → StandsFor self.new (with_one h (Ask request)) }
+        ensures counted { tick_count self.new ≡ tick_count self.old }
+        ensures installs { install_count self.new ≡ install_count self.old }
+    {
+        let ticks = self.orders.ticks();
+        self.requests.request(request, ticks);
+    }
+
+    /// Cancels the priority request of a number, 1 to 10.
+    pub fn cancel(&mut self, number: u8)
+        requires above { 0 < number }
+        requires within { number ≤ 10 }
+        ensures stands { (h : History) → StandsFor self.old h → StandsFor self.new (with_one h (Cancel number)) }
+        ensures counted { tick_count self.new ≡ tick_count self.old }
+        ensures installs { install_count self.new ≡ install_count self.old }
+    {
+        let ticks = self.orders.ticks();
+        self.requests.cancel(number, ticks);
     }
 
     /// The tables in force.
@@ -113,6 +218,28 @@ impl Controller {
         ensures frame { (h : History) → StandsFor self.now h → result ≡ last_frame_of h }
     {
         self.frame
+    }
+
+    /// Whether the cabinet flashes: its last frame is in Flash.
+    pub fn flashing(&self) -> bool
+        ensures flashing { (h : History) → StandsFor self.now h → result ≡ is_flash (last_frame_of h).mode }
+    {
+        is_flash(self.frame.mode)
+    }
+
+    /// What the cabinet shows to management software.
+    pub fn shown(&self) -> Shown
+        ensures shown { (h : History) → StandsFor self.now h → ShownAfter result (past_at h) }
+    {
+        Shown {
+            frame: self.frame,
+            command: self.orders.command(),
+            clock: self.orders.clock(),
+            veh_calls: self.calls.vehicle(),
+            ped_calls: self.calls.pedestrian(),
+            requests: self.requests.states(self.orders.ticks()),
+            version: self.version,
+        }
     }
 }
 

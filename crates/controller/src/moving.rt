@@ -1,48 +1,21 @@
-//! What the rings do at a tick, and the colours and the frame that come of it.
+//! What the rings do at a tick: by the rules of actuated control, within the room that a pattern leaves, or on the way to a
+//! goal.
 
-ghost use Rattle.std.specs.Prelude.{◌≡◌, ◌<◌, ◌≤◌, ◌&&◌, ℕ, true, not, List, map, [], ◌∷◌, IsTrue, None};
+ghost use Rattle.std.specs.Prelude.{◌≡◌, ◌<◌, ◌≤◌, ◌&&◌, ℕ, [], IsTrue};
 ghost use Rattle.sig_types.specs.PhaseSet.{phases_of};
-ghost use Rattle.sig_tables.specs.Past.{Past, first_frame};
-ghost use Rattle.sig_tables.specs.Plain.{RunsPlain, plain_mode};
-ghost use Rattle.sig_tables.specs.Seen.{turn_seen};
-ghost use Rattle.sig_tables.specs.Modes.{bound};
-ghost use Rattle.sig_tables.specs.View.{View as Scene};
+ghost use Rattle.sig_tables.specs.View.{View as Scene, is_forced};
 ghost use Rattle.sig_tables.specs.Moves.{ring_moves};
+ghost use Rattle.sig_tables.specs.Layout.{Has};
 ghost use Rattle.ring_barrier.specs.Shows.{Opens};
-ghost use Rattle.controller.specs.StandsFor.{AreMoves, turn_meant};
+ghost use Rattle.controller.specs.StandsFor.{AreMoves};
 
 use crate::Controller;
-use crate::keeping::shows_start;
-use crate::shown::Shown;
-use crate::turn::Turn;
-use ring_barrier::{Changes, RingView, View, changes, is_idle};
-use sig_types::{Colour, Frame, Mode, Ped, PhaseSet};
-
-/// What is shown before any tick: all red, in Start.
-pub(crate) fn first_frame() -> Frame
-    ensures { result ≡ first_frame }
-{
-    Frame {
-        veh: [Colour::Red; 16],
-        ped: [Ped::Dont; 16],
-        on: [0; 2],
-        mode: Mode::Start,
-        counter: 0,
-        target: 0,
-        version: 0,
-    }
-}
-
-/// The mode of the frame of this turn.
-fn mode_after(turn: Turn) -> Mode
-    ensures { (past : Past) → RunsPlain past → turn_meant turn ≡ turn_seen past → result ≡ plain_mode past.moments }
-{
-    match turn {
-        Turn::Rest => Mode::Start,
-        Turn::StartUp => Mode::Free,
-        Turn::Rings => Mode::Free,
-    }
-}
+use crate::course::{Course, is_coord};
+use crate::seeing::Sight;
+use flash_mode::Turn;
+use ring_barrier::{Changes, RingView, View, changes, changes_toward, is_idle};
+use sig_tables::Layout;
+use sig_types::PhaseSet;
 
 /// No phase ends, and none begins.
 fn no_changes() -> Changes
@@ -54,41 +27,44 @@ fn no_changes() -> Changes
     }
 }
 
-/// Whether the rings rest: neither is open and no phase has demand, so that what is on stays on.
-fn is_resting(opening: [bool; 2], demand: PhaseSet) -> bool
-    ensures { (w : Scene) → bound w.mode ≡ None → Opens opening w → phases_of demand ≡ w.demand → IsTrue result
+/// Whether the rings rest: neither is open, no phase has demand and none is forced off, so that what is on stays on.
+fn is_resting(opening: [bool; 2], demand: PhaseSet, forced: PhaseSet) -> bool
+    ensures { (w : Scene) → Opens opening w → phases_of demand ≡ w.demand → Has forced (is_forced w) → IsTrue result
         → ring_moves w ≡ record { ends = []; begins = [] } }
 {
     if opening[0] || opening[1] {
         return false;
     }
-    demand.is_empty()
+    if demand.is_empty() {
+        forced.is_empty()
+    } else {
+        false
+    }
+}
+
+/// The phases that the rings look at now, and once they are cleared.
+#[derive(Clone, Copy)]
+pub(crate) struct Wanted {
+    pub now: PhaseSet,
+    pub after: [PhaseSet; 2],
+    pub across: PhaseSet,
 }
 
 impl Controller {
-    ghost use Rattle.sig_types.specs.Phases.{is_phase, is_in, some, all_phases};
-    ghost use Rattle.sig_types.specs.PhaseSet.{has, phases_of};
-    ghost use Rattle.sig_types.specs.Colour.{same_colour, colour_in, colour_of, is_start};
-    ghost use Rattle.sig_tables.specs.Sides.{are_incompatible};
-    ghost use Rattle.sig_tables.specs.Calls.{is_active};
-    ghost use Rattle.sig_tables.specs.Moves.{Moves, ring_moves};
-    ghost use Rattle.sig_tables.specs.Decide.{colour_after, colours_of, on_of, next_moment};
-    ghost use Rattle.sig_tables.specs.PlainFrame.{plain_signal, plain_frame};
-    ghost use Rattle.sig_tables.specs.Layout.{Has};
-    ghost use Rattle.sig_tables.specs.Seen.{frame_seen, detectors_seen, demand_seen, view_seen, moves_seen};
-    ghost use Rattle.sig_tables.specs.View.{is_done};
-    ghost use Rattle.ring_barrier.specs.Shows.{Shows, Opens};
-    ghost use Rattle.controller.specs.Shows.{ShowsColours};
-    ghost use Rattle.controller.specs.Walks.{crossing_seen};
-    ghost use Rattle.controller.specs.StandsFor.{Keeps, AreMoves, tick_count};
-    ghost use Rattle.sig_types.specs.declared.frame.Colour.TheVariants.{Red};
-
-    /// Whether the last frame is in Start.
-    fn is_in_start(&self) -> bool
-        ensures start { (past : Past) → Keeps self.now past → result ≡ is_start (frame_seen past).mode }
-    {
-        shows_start(&self.frame)
-    }
+    ghost use Rattle.sig_types.specs.PhaseSet.{has};
+    ghost use Rattle.sig_tables.specs.Past.{Past};
+    ghost use Rattle.sig_tables.specs.Modes.{bound, sequence_in};
+    ghost use Rattle.sig_tables.specs.Splits.{omits};
+    ghost use Rattle.sig_tables.specs.Coordinating.{has_room};
+    ghost use Rattle.sig_tables.specs.Moves.{can_join, goal_moves};
+    ghost use Rattle.sig_tables.specs.Layout.{LaidOut, Ordered};
+    ghost use Rattle.sig_tables.specs.Course.{course_of, Rings};
+    ghost use Rattle.sig_tables.specs.View.{is_done, is_startable, clearance_of};
+    ghost use Rattle.sig_tables.specs.Seen.{mode_seen, demand_seen, turn_seen, view_seen, moves_seen};
+    ghost use Rattle.controller.specs.Course.{Runs};
+    ghost use Rattle.controller.specs.Sees.{Sees};
+    ghost use Rattle.controller.specs.Wanting.{Wants};
+    ghost use Rattle.controller.specs.StandsFor.{Keeps, tick_count};
 
     /// Whether each ring is open at this tick.
     fn opening(&self) -> [bool; 2]
@@ -101,192 +77,176 @@ impl Controller {
         ]
     }
 
-    /// What the rings look at: no pattern binds them, so that what has demand is wanted.
-    fn ring_view(&self, opening: [bool; 2], demand: PhaseSet, done: PhaseSet) -> View<'_>
+    /// Those of the phases that have room where they begin after so many ticks: all of them where no pattern binds.
+    fn with_room(&self, course: &Course, after: u32, among: PhaseSet) -> PhaseSet
+        ensures room { (past : Past) → Runs self.now course.now past
+            → Has result (λ p. has among p && has_room (bound (mode_seen past)) past.tables (course_of past).counter after p) }
+    {
+        if is_coord(course.mode) {
+            self.binding.with_room(course.counter, after, among)
+        } else {
+            among
+        }
+    }
+
+    /// The phases that the pattern which binds never serves; none where no pattern does.
+    fn omitted(&self, course: &Course) -> PhaseSet
+        ensures omitted { (past : Past) → Runs self.now course.now past → Has result (omits (bound (mode_seen past)) past.tables) }
+    {
+        if is_coord(course.mode) {
+            self.binding.options.omitted
+        } else {
+            PhaseSet::empty()
+        }
+    }
+
+    /// The Green phases that the pattern which binds forces off; none where no pattern does.
+    fn forced(&self, course: &Course) -> PhaseSet
+        ensures forced { (past : Past) → Runs self.now course.now past → Has result (is_forced (view_seen past)) }
+    {
+        if is_coord(course.mode) {
+            let green = self.layout.enabled.meet(self.shown.green);
+            self.binding.forced(course.counter, green)
+        } else {
+            PhaseSet::empty()
+        }
+    }
+
+    /// The phases that may join the other ring without a call.
+    fn joining(&self, course: &Course, startable: PhaseSet) -> PhaseSet
+        ensures joining { (past : Past) → Runs self.now course.now past → Has startable (is_startable (view_seen past))
+            → Has result (can_join (view_seen past)) }
+    {
+        let able = self.layout.dual_entry.meet(startable);
+        self.with_room(course, 0, able).minus(self.omitted(course))
+    }
+
+    /// How long what is on in a ring clears, 0 where nothing is, in ticks.
+    fn clearance_of(&self, on: u8) -> u32
+        ensures clearance { (past : Past) → Keeps self.now past → on ≤ 16 → result ≡ clearance_of past.tables on }
+    {
+        if on == 0 {
+            0
+        } else if on > 16 {
+            0
+        } else {
+            self.clearance(on)
+        }
+    }
+
+    /// What is wanted by the rings, of these phases with demand.
+    fn wanted(&self, course: &Course, demand: PhaseSet) -> Wanted
+        ensures wants { (past : Past) → Runs self.now course.now past → phases_of demand ≡ demand_seen past → Wants result (view_seen past) }
+    {
+        let first = self.clearance_of(self.frame.on[0]);
+        let second = self.clearance_of(self.frame.on[1]);
+        Wanted {
+            now: self.with_room(course, 0, demand),
+            after: [
+                self.with_room(course, first, demand),
+                self.with_room(course, second, demand),
+            ],
+            across: self.with_room(course, first.max(second), demand),
+        }
+    }
+
+    /// What both rings do at this tick, where they have to look, with the phases in the order of the sequence in force.
+    fn looking(
+        &self,
+        course: &Course,
+        layout: &Layout,
+        demand: PhaseSet,
+        opening: [bool; 2],
+        done: PhaseSet,
+        forced: PhaseSet,
+    ) -> Changes
         requires few { tick_count self.now < 4294967295 }
-        ensures shows { (past : Past) → Keeps self.now past → Opens opening (view_seen past) → phases_of demand ≡ demand_seen past
-            → Has done (is_done (view_seen past)) → Shows result (view_seen past) }
+        ensures changes { (past : Past) → Runs self.now course.now past → LaidOut layout.now past.tables
+            → Ordered layout.now past.tables (sequence_in past.tables (mode_seen past)) → phases_of demand ≡ demand_seen past
+            → Opens opening (view_seen past) → Has done (is_done (view_seen past)) → Has forced (is_forced (view_seen past))
+            → AreMoves result (ring_moves (view_seen past)) }
     {
         let startable = self.startable();
-        View {
+        let wanted = self.wanted(course, demand);
+        let wanted_after = wanted.after;
+        let on = self.frame.on;
+        let last = self.last;
+        changes(&View {
             rings: RingView {
-                layout: &self.layout,
-                on: self.frame.on,
+                layout,
+                on,
                 opening,
                 startable,
             },
-            last: self.last,
+            last,
             latest: self.latest,
-            wanted: demand,
-            wanted_after: [demand; 2],
-            wanted_across: demand,
-            joining: self.layout.dual_entry.meet(startable),
+            wanted: wanted.now,
+            wanted_after,
+            wanted_across: wanted.across,
+            joining: self.joining(course, startable),
             done,
-            forced: PhaseSet::empty(),
-        }
+            forced,
+        })
     }
 
-    /// What both rings do at this tick by the rules of actuated control. Where no ring is open and no phase has demand or
-    /// is done, they need not look.
-    fn ring_changes(&self, demand: PhaseSet, active: PhaseSet, opposed: PhaseSet) -> Changes
+    /// What both rings do at this tick by the rules of actuated control. Where no ring is open and no phase has demand, is
+    /// done or is forced off, they need not look.
+    fn ring_changes(&self, course: &Course, sight: &Sight) -> Changes
         requires few { tick_count self.now < 4294967295 }
-        ensures changes { (past : Past) → Keeps self.now past → phases_of demand ≡ demand_seen past
-            → Has active (is_active past.tables past.heard (detectors_seen past))
-            → Has opposed (λ p. some (are_incompatible past.tables p) (demand_seen past))
+        ensures changes { (past : Past) → Runs self.now course.now past → Sees sight.now past → turn_seen past ≡ Rings
             → AreMoves result (ring_moves (view_seen past)) }
     {
         let opening = self.opening();
-        let done = self.done(active, opposed);
-        if is_idle(opening, done, PhaseSet::empty()) {
+        let forced = self.forced(course);
+        if is_resting(opening, sight.demand, forced) {
+            return no_changes();
+        }
+        let done = self.done(course, sight);
+        if is_idle(opening, done, forced) {
             no_changes()
-        } else if is_resting(opening, demand) {
-            no_changes()
+        } else if is_coord(course.mode) {
+            self.looking(
+                course,
+                &self.binding.layout,
+                sight.demand,
+                opening,
+                done,
+                forced,
+            )
         } else {
-            changes(&self.ring_view(opening, demand, done))
+            self.looking(course, &self.layout, sight.demand, opening, done, forced)
         }
     }
 
-    /// What the rings do at this tick.
-    pub(crate) fn turn(&self) -> Turn
-        ensures turn { (past : Past) → Keeps self.now past → turn_meant result ≡ turn_seen past }
-    {
-        if self.is_in_start() {
-            if self.start_run < 60 {
-                Turn::Rest
-            } else if self.layout.starts_up.is_empty() {
-                Turn::Rings
-            } else {
-                Turn::StartUp
-            }
-        } else {
-            Turn::Rings
-        }
-    }
-
-    /// The phases that end and those that begin at this tick, of which these have demand, are active and opposed.
-    fn moves(&self, turn: Turn, demand: PhaseSet, active: PhaseSet, opposed: PhaseSet) -> Changes
+    /// What both rings do at this tick on the way to a goal.
+    fn goal_changes(&self, course: &Course, goal: PhaseSet) -> Changes
         requires few { tick_count self.now < 4294967295 }
-        ensures moves { (past : Past) → Keeps self.now past → turn_meant turn ≡ turn_seen past → phases_of demand ≡ demand_seen past
-            → Has active (is_active past.tables past.heard (detectors_seen past))
-            → Has opposed (λ p. some (are_incompatible past.tables p) (demand_seen past))
-            → AreMoves result (moves_seen past) }
+        ensures changes { (past : Past) → Runs self.now course.now past → AreMoves result (goal_moves (view_seen past) (phases_of goal)) }
     {
-        match turn {
+        let on = self.frame.on;
+        let opening = self.opening();
+        let rings = RingView {
+            layout: &self.layout,
+            on,
+            opening,
+            startable: self.startable(),
+        };
+        changes_toward(&rings, goal, self.cleared(course))
+    }
+
+    /// The phases that end and those that begin at this tick.
+    pub(crate) fn moves(&self, course: &Course, sight: &Sight) -> Changes
+        requires few { tick_count self.now < 4294967295 }
+        ensures moves { (past : Past) → Runs self.now course.now past → Sees sight.now past → AreMoves result (moves_seen past) }
+    {
+        match course.turn {
             Turn::Rest => no_changes(),
             Turn::StartUp => Changes {
                 ends: PhaseSet::empty(),
                 begins: self.layout.starts_up,
             },
-            Turn::Rings => self.ring_changes(demand, active, opposed),
+            Turn::Rings => self.ring_changes(course, sight),
+            Turn::Goal(goal) => self.goal_changes(course, goal),
         }
-    }
-
-    /// The colour of a phase, 1 to 16, after these moves.
-    fn colour_after(&self, moves: Changes, phase: u8) -> Colour
-        requires above { 0 < phase }
-        requires within { phase ≤ 16 }
-        requires few { tick_count self.now < 4294967295 }
-        ensures after { (past : Past) (w : Moves) → Keeps self.now past → AreMoves moves w
-            → result ≡ colour_after w phase past.tables past.moments (colour_of (frame_seen past) phase) }
-    {
-        match self.frame.veh[phase as usize - 1] {
-            Colour::Green => {
-                if moves.ends.has(phase) {
-                    Colour::Yellow
-                } else {
-                    Colour::Green
-                }
-            }
-            Colour::Red => {
-                if moves.begins.has(phase) {
-                    Colour::Green
-                } else {
-                    Colour::Red
-                }
-            }
-            Colour::Yellow => self.by_itself(phase),
-            Colour::Clear => self.by_itself(phase),
-        }
-    }
-
-    /// Whether every phase keeps the colour that it has in these of the last frame: none ends or begins, and none is in
-    /// Yellow or red clearance.
-    fn is_still(&self, veh: &[Colour; 16], moves: Changes) -> bool
-        ensures still { (past : Past) (w : Moves) → Keeps self.now past → AreMoves moves w → veh.now ≡ (frame_seen past).veh
-            → IsTrue result → veh.now ≡ colours_of past w }
-    {
-        if moves.ends.is_empty() && moves.begins.is_empty() {
-            self.shown.clearing.is_empty()
-        } else {
-            false
-        }
-    }
-
-    /// The colours after these moves.
-    fn colours(&self, moves: Changes) -> [Colour; 16]
-        requires few { tick_count self.now < 4294967295 }
-        ensures colours { (past : Past) (w : Moves) → Keeps self.now past → AreMoves moves w → result ≡ colours_of past w }
-    {
-        if self.is_still(&self.frame.veh, moves) {
-            return self.frame.veh;
-        }
-        let mut veh = [Colour::Red; 16];
-        for p in 0..16 {
-            veh[p] = self.colour_after(moves, p as u8 + 1);
-        }
-        veh
-    }
-
-    /// The phases by these colours; the sets that are kept, where the colours are those of the last frame.
-    pub(crate) fn shown_in(&self, veh: &[Colour; 16]) -> Shown
-        ensures shown { (past : Past) → Keeps self.now past → ShowsColours result veh.now }
-    {
-        if *veh == self.frame.veh {
-            self.shown
-        } else {
-            Shown::of(veh)
-        }
-    }
-
-    /// The phase of a ring, 1 to 2, that is on in these colours, or 0.
-    fn on_in_ring(&self, red: PhaseSet, ring: u8) -> u8
-        requires above { 0 < ring }
-        requires within { ring ≤ 2 }
-        ensures on { (past : Past) (veh : List Colour) → Keeps self.now past → Has red (λ p. same_colour (colour_in veh p) Red)
-            → result ≡ on_of past.tables veh ring }
-    {
-        self.layout.rings[ring as usize - 1].minus(red).first()
-    }
-
-    /// The frame of this tick, from its colours and signals.
-    fn frame_after(&self, turn: Turn, veh: [Colour; 16], ped: [Ped; 16]) -> Frame
-        ensures frame { (past : Past) → Keeps self.now past → turn_meant turn ≡ turn_seen past
-            → ped ≡ map (plain_signal (crossing_seen past) past veh) all_phases
-            → result ≡ plain_frame (crossing_seen past) past veh }
-    {
-        let red = self.shown_in(&veh).red;
-        Frame {
-            veh,
-            ped,
-            on: [self.on_in_ring(red, 1), self.on_in_ring(red, 2)],
-            mode: mode_after(turn),
-            counter: 0,
-            target: 0,
-            version: self.version,
-        }
-    }
-
-    /// The frame of this tick, at which these phases have demand, are active and opposed.
-    pub(crate) fn next_frame(&self, demand: PhaseSet, active: PhaseSet, opposed: PhaseSet) -> Frame
-        requires few { tick_count self.now < 4294967295 }
-        ensures given { (past : Past) → Keeps self.now past → phases_of demand ≡ demand_seen past
-            → Has active (is_active past.tables past.heard (detectors_seen past))
-            → Has opposed (λ p. some (are_incompatible past.tables p) (demand_seen past))
-            → result ≡ (next_moment past).frame }
-    {
-        let turn = self.turn();
-        let moves = self.moves(turn, demand, active, opposed);
-        let walks = self.walks(turn, moves, opposed);
-        self.frame_after(turn, self.colours(moves), self.signals_after(walks))
     }
 }

@@ -1,95 +1,154 @@
 //! The pedestrian signals of a tick: what they do by themselves, and where Walk begins (NEMA TS 2: walk, pedestrian
 //! clearance, steady don't walk).
 
-ghost use Rattle.std.specs.Prelude.{◌≡◌, ◌<◌, ◌≤◌, ◌&&◌, ℕ, Bool, true, false, if◌then◌else◌, List, map, IsTrue};
+ghost use Rattle.std.specs.Prelude.{◌≡◌, ◌<◌, ◌≤◌, ℕ, Bool, if◌then◌else◌, List, map, IsTrue};
 
 use crate::Controller;
-use crate::turn::Turn;
-use ped_clock::{Crosswalks, walks};
+use crate::course::{Course, is_coord};
+use crate::seeing::Sight;
+use flash_mode::Turn;
+use ped_clock::{Crosswalks, Greens, walks};
 use ring_barrier::Changes;
-use sig_types::{Ped, PhaseSet};
+use sig_types::{Mode, Ped, PhaseSet};
+use split_options::SplitOptions;
+
+/// Whose greens begin in a turn.
+fn greens(turn: Turn) -> Greens
+    ensures { result ≡ greens_of (turn_meant turn) }
+{
+    match turn {
+        Turn::Rest => Greens::Rest,
+        Turn::StartUp => Greens::StartUp,
+        Turn::Rings => Greens::Rings,
+        Turn::Goal(_) => Greens::Rings,
+    }
+}
+
+/// Whether a cabinet in this mode is in step with this pattern.
+fn is_coord_of(mode: Mode, pattern: u8) -> bool
+    ensures { result ≡ same_mode mode (Coord pattern) }
+{
+    match mode {
+        Mode::Coord(other) => other == pattern,
+        _ => false,
+    }
+}
+
+ghost use Rattle.sig_types.specs.declared.frame.Mode.TheVariants.{Coord};
+ghost use Rattle.sig_types.specs.Colour.{same_mode};
+ghost use Rattle.flash_mode.specs.Turns.{turn_meant};
+ghost use Rattle.ped_clock.specs.Walks.{greens_of};
 
 impl Controller {
+    ghost use Rattle.sig_types.specs.declared.frame.Colour.{Colour};
+    ghost use Rattle.sig_tables.specs.Choosing.{mode_reached};
+    ghost use Rattle.sig_tables.specs.Course.{course_of};
+    ghost use Rattle.sig_tables.specs.Walking.{is_local_zero};
+    ghost use Rattle.ped_clock.specs.Walks.{SaysInCoord};
+    ghost use Rattle.controller.specs.Binds.{IsBound};
     ghost use Rattle.sig_types.specs.declared.frame.Ped.TheVariants.{Walk};
-    ghost use Rattle.sig_types.specs.declared.frame.Mode.TheVariants.{Free};
-    ghost use Rattle.sig_types.specs.Phases.{all_phases, some};
+    ghost use Rattle.sig_types.specs.Phases.{all_phases};
     ghost use Rattle.sig_types.specs.PhaseSet.{has};
-    ghost use Rattle.sig_tables.specs.Sides.{are_incompatible};
-    ghost use Rattle.sig_types.specs.Colour.{signal_of};
     ghost use Rattle.sig_tables.specs.Past.{Past};
-    ghost use Rattle.sig_tables.specs.Looking.{signal_runs_on};
+    ghost use Rattle.sig_tables.specs.Goals.{lesser_in};
     ghost use Rattle.sig_tables.specs.Moves.{Moves};
-    ghost use Rattle.sig_tables.specs.Decide.{Turn as Meant};
-    ghost use Rattle.sig_tables.specs.Plain.{plain_mode};
+    ghost use Rattle.sig_tables.specs.Decide.{colours_of};
     ghost use Rattle.sig_tables.specs.Layout.{Has};
-    ghost use Rattle.sig_tables.specs.Seen.{frame_seen, demand_seen, turn_seen};
-    ghost use Rattle.ped_clock.specs.Walks.{IsStartUp};
-    ghost use Rattle.controller.specs.Walks.{crossing_in, crossing_seen, walk_after};
-    ghost use Rattle.controller.specs.StandsFor.{Keeps, AreMoves, turn_meant, tick_count};
+    ghost use Rattle.sig_tables.specs.Seen.{frame_seen, mode_seen};
+    ghost use Rattle.ped_clock.specs.Signals.{lesser_of};
+    ghost use Rattle.controller.specs.Walks.{walk_after, signal_seen};
+    ghost use Rattle.controller.specs.Course.{Runs};
+    ghost use Rattle.controller.specs.Sees.{Sees};
+    ghost use Rattle.controller.specs.StandsFor.{Keeps, AreMoves, tick_count};
 
-    /// The signal of a phase, 1 to 16, that follows by itself, where no walk begins.
-    pub(crate) fn signal_by_itself(&self, phase: u8) -> Ped
+    /// The lesser times of a phase, 1 to 16; none for a phase of the goal.
+    fn lesser_for(&self, course: &Course, phase: u8) -> Option<(u32, u32)>
         requires above { 0 < phase }
         requires within { phase ≤ 16 }
-        requires few { tick_count self.now < 4294967295 }
-        ensures follows { (past : Past) → Keeps self.now past
-            → result ≡ signal_runs_on phase past.tables past.moments (signal_of (frame_seen past) phase) }
+        ensures lesser { (past : Past) → Runs self.now course.now past
+            → lesser_of result ≡ lesser_in past.tables (mode_seen past) phase }
     {
-        let shown = self.frame.ped[phase as usize - 1];
-        self.signals.next(phase, shown, None, &self.tables)
-    }
-
-    /// The phases on which Walk begins at a tick in Free, after these moves, which may be those of start-up; `opposed` are
-    /// those to which an incompatible phase has demand.
-    fn free_walks(&self, startup: bool, moves: Changes, opposed: PhaseSet) -> PhaseSet
-        ensures walks { (past : Past) (w : Moves) (turn : Meant) → Keeps self.now past → IsStartUp startup turn → AreMoves moves w
-            → Has opposed (λ p. some (are_incompatible past.tables p) (demand_seen past))
-            → Has result (walk_after (crossing_in turn past) Free past w) }
-    {
-        let crosswalks = Crosswalks {
-            begins: self.shown.red.meet(moves.begins),
-            rests: self.shown.green.minus(moves.ends).minus(self.signalling),
-            called: self.calls.pedestrian(),
-            opposed,
-            startup,
-        };
-        walks(&self.layout, &crosswalks)
-    }
-
-    /// The phases on which Walk begins at this tick, after these moves.
-    pub(crate) fn walks(&self, turn: Turn, moves: Changes, opposed: PhaseSet) -> PhaseSet
-        ensures walks { (past : Past) (w : Moves) → Keeps self.now past → turn_meant turn ≡ turn_seen past → AreMoves moves w
-            → Has opposed (λ p. some (are_incompatible past.tables p) (demand_seen past))
-            → Has result (walk_after (crossing_seen past) (plain_mode past.moments) past w) }
-    {
-        match turn {
-            Turn::Rest => PhaseSet::empty(),
-            Turn::StartUp => self.free_walks(true, moves, opposed),
-            Turn::Rings => self.free_walks(false, moves, opposed),
+        if course.goal.has(phase) {
+            None
+        } else {
+            course.lesser
         }
     }
 
     /// The signal of a phase, 1 to 16, where Walk begins on these phases.
-    fn signal_after(&self, walks: PhaseSet, phase: u8) -> Ped
+    fn signal_after(&self, course: &Course, walks: PhaseSet, phase: u8) -> Ped
         requires above { 0 < phase }
         requires within { phase ≤ 16 }
         requires few { tick_count self.now < 4294967295 }
-        ensures after { (past : Past) → Keeps self.now past → result ≡ (if has walks phase then Walk
-            else signal_runs_on phase past.tables past.moments (signal_of (frame_seen past) phase)) }
+        ensures after { (past : Past) → Runs self.now course.now past
+            → result ≡ (if has walks phase then Walk else signal_seen past phase) }
     {
         if walks.has(phase) {
             Ped::Walk
         } else {
-            self.signal_by_itself(phase)
+            self.signal_within(phase, self.lesser_for(course, phase))
         }
+    }
+
+    /// What the split asks of the pattern whose coordination a frame of this mode is in, which may be its pickup.
+    fn options_reached(&self, mode: Mode) -> Option<&SplitOptions>
+        ensures options { (past : Past) (veh : List Colour) → IsBound self.now.binding past.tables (mode_seen past)
+            → mode ≡ mode_reached (mode_seen past) past.tables veh → SaysInCoord result mode past.tables }
+    {
+        if is_coord(mode) {
+            Some(&self.binding.options)
+        } else {
+            None
+        }
+    }
+
+    /// Whether a frame of this mode, whose colours this tick gives, is a local zero.
+    fn is_zero(&self, course: &Course, mode: Mode) -> bool
+        ensures zero { (past : Past) → Runs self.now course.now past
+            → result ≡ is_local_zero mode (course_of past).counter (frame_seen past) }
+    {
+        match mode {
+            Mode::Coord(pattern) => {
+                if course.counter != 0 {
+                    false
+                } else if self.frame.counter != 0 {
+                    true
+                } else {
+                    !is_coord_of(self.frame.mode, pattern)
+                }
+            }
+            _ => false,
+        }
+    }
+
+    /// The phases on which Walk begins at this tick, after these moves, in a frame of this mode.
+    pub(crate) fn walks(
+        &self,
+        course: &Course,
+        sight: &Sight,
+        moves: Changes,
+        mode: Mode,
+    ) -> PhaseSet
+        ensures walks { (past : Past) (w : Moves) (veh : List Colour) → Runs self.now course.now past → Sees sight.now past → AreMoves moves w
+            → mode ≡ mode_reached (mode_seen past) past.tables veh → Has result (walk_after past mode (colours_of past w)) }
+    {
+        let crosswalks = Crosswalks {
+            mode,
+            is_zero: self.is_zero(course, mode),
+            greens: greens(course.turn),
+            begins: self.shown.red.meet(moves.begins),
+            rests: self.shown.green.minus(moves.ends).minus(self.signalling),
+            called: self.calls.pedestrian(),
+            opposed: sight.opposed,
+        };
+        walks(&self.layout, self.options_reached(mode), &crosswalks)
     }
 
     /// Whether every phase keeps the signal that it has in these of the last frame: no walk begins, and none shows Walk or
     /// Flash.
     fn is_steady(&self, ped: &[Ped; 16], walks: PhaseSet) -> bool
         ensures steady { (past : Past) (begins : ℕ → Bool) → Keeps self.now past → Has walks begins → ped.now ≡ (frame_seen past).ped
-            → IsTrue result → ped.now ≡ map (λ p. if begins p then Walk
-            else signal_runs_on p past.tables past.moments (signal_of (frame_seen past) p)) all_phases }
+            → IsTrue result → ped.now ≡ map (λ p. if begins p then Walk else signal_seen past p) all_phases }
     {
         if walks.is_empty() {
             self.signalling.is_empty()
@@ -99,18 +158,17 @@ impl Controller {
     }
 
     /// The signals of this tick, where Walk begins on these phases.
-    pub(crate) fn signals_after(&self, walks: PhaseSet) -> [Ped; 16]
+    pub(crate) fn signals_after(&self, course: &Course, walks: PhaseSet) -> [Ped; 16]
         requires few { tick_count self.now < 4294967295 }
-        ensures signals { (past : Past) (begins : ℕ → Bool) → Keeps self.now past → Has walks begins
-            → result ≡ map (λ p. if begins p then Walk
-            else signal_runs_on p past.tables past.moments (signal_of (frame_seen past) p)) all_phases }
+        ensures signals { (past : Past) (begins : ℕ → Bool) → Runs self.now course.now past → Has walks begins
+            → result ≡ map (λ p. if begins p then Walk else signal_seen past p) all_phases }
     {
         if self.is_steady(&self.frame.ped, walks) {
             return self.frame.ped;
         }
         let mut ped = [Ped::Dont; 16];
         for p in 0..16 {
-            ped[p] = self.signal_after(walks, p as u8 + 1);
+            ped[p] = self.signal_after(course, walks, p as u8 + 1);
         }
         ped
     }

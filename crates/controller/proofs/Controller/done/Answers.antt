@@ -5,19 +5,19 @@ use Rattle.sig_tables.specs.Calls.{is_green}
 use Rattle.sig_tables.specs.View.{is_done}
 use Rattle.sig_tables.specs.Seen.{frame_seen, view_seen}
 use Rattle.sig_tables.proofs.Below.{phase-is}
-use Rattle.controller.proofs.Seen.{done-not, quiet-by-active, opposed-by-demand}
+use Rattle.controller.proofs.Seen.{done-not, active-is}
 use Rattle.controller.proofs.Visiting.{first-phase, first-in, first-out, visited-start, visited-more, visited-none, visited-all}
 use Rattle.controller.proofs.Controller.done.Goals as goal
 
 pub loop-init : goal.loop-init
-loop-init c = λ past k a o.
+loop-init c = λ past r s.
     visited-start c.empty-done.result c.meet-rest.result _ (is_done (view_seen past))
-    (λ p h. c.meet-rest.ensures.has p ∙ rw (k.layout.enabled p h, k.shown.green p h) refl) c.empty-done.ensures.has
+    (λ p h. c.meet-rest.ensures.has p ∙ rw (r.keeps.layout.enabled p h, r.keeps.shown.green p h) refl) c.empty-done.ensures.has
     (λ p h out. done-not past p out)
 
 pub loop-preserved : goal.loop-preserved
-loop-preserved c = λ past k a o.
-    let v = c.loop.invariant past k a o in
+loop-preserved c = λ past r s.
+    let v = c.loop.invariant past r s in
     let least = c.first-p.ensures.least in
     let at = first-phase c.loop.rest c.first-p.result least c.if-p-eq0.false in
     let h = phase-is c.first-p.result at.0 at.1 in
@@ -26,19 +26,19 @@ loop-preserved c = λ past k a o.
     visited-more c.loop.done c.loop.rest c.empty.result c.with.result c.with_if-done.result c.minus-rest.result c.loop.counter c.first-p.result _
     (is_done (view_seen past)) c.is_done.result v least c.if-p-eq0.false
     c.empty.ensures.has c.with.ensures.has c.minus-rest.ensures.has c.with_if-done.ensures.has
-    (c.is_done.ensures.done past k parts.1 parts.0
-    (c.has.ensures.has ∙ a c.first-p.result h ∙ quiet-by-active past c.first-p.result k.plain h parts.1)
-    (c.has-in-loop.ensures.has ∙ o c.first-p.result h ∙ opposed-by-demand past c.first-p.result h parts.1))
+    (c.is_done.ensures.done past r parts.0 parts.1
+    (c.has.ensures.has ∙ active-is _ _ _ (s.quiet c.first-p.result h) parts.1)
+    (c.has-in-loop.ensures.has ∙ s.opposed c.first-p.result h))
 
 pub returns-then-p-eq0 : goal.returns-then-p-eq0
 returns-then-p-eq0 c = record {
-  done = λ past k a o.
-      visited-none c.loop.done c.loop.rest c.loop.counter _ (is_done (view_seen past)) (c.loop.invariant past k a o)
+  done = λ past r s.
+      visited-none c.loop.done c.loop.rest c.loop.counter _ (is_done (view_seen past)) (c.loop.invariant past r s)
       (first-out c.loop.rest (sym c.first-p.ensures.least ∙ c.if-p-eq0.true));
 }
 
 pub returns : goal.returns
 returns c = record {
-  done = λ past k a o.
-      visited-all c.loop.done c.loop.rest c.loop.counter _ (is_done (view_seen past)) (c.loop.invariant past k a o) (omega (arith, c.loop-test.false));
+  done = λ past r s.
+      visited-all c.loop.done c.loop.rest c.loop.counter _ (is_done (view_seen past)) (c.loop.invariant past r s) (omega (arith, c.loop-test.false));
 }

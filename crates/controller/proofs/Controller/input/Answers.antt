@@ -1,39 +1,114 @@
-use Rattle.std.proofs.Common.{◌∷◌}
-use Rattle.std.proofs.lemmas.Bool.{ne_eqb}
-use Rattle.sig_tables.specs.Past.{Input}
-use Rattle.sig_tables.proofs.PlainRuns.{runs-plain}
-use Rattle.sig_tables.specs.Decide.{past_at}
+use Rattle.std.proofs.Common.{sym, subst}
+use Rattle.sig_types.specs.declared.frame.Field.{Field}
+use Rattle.sig_types.specs.declared.frame.Field.TheVariants.{Veh, Ped as Button, Preempt as PreemptInput}
+use Rattle.sig_tables.specs.Past.{Past, Input}
+use Rattle.sig_tables.specs.Decide.{past_at, with_event}
+use Rattle.preempt_run.specs.Stands.{PreemptsStand}
+use Rattle.preempt_run.proofs.Others.{stands-other}
 use Rattle.controller.specs.StandsFor.{Keeps}
 use Rattle.controller.proofs.Controller.input.Goals as goal
 
-pub returns-clause-stands : goal.returns-clause-stands
-returns-clause-stands c = λ h stands.
-    let k : Keeps c.args.self.now (past_at h) = stands.keeps in
+pub returns-in-Veh-clause-stands : goal.returns-in-Veh-clause-stands
+returns-in-Veh-clause-stands c = λ h k.
+    let past : Past = past_at h in
     record {
-      keeps = record {
-        plain = runs-plain h.tables h.command h.clock (Input c.args.field ∷ h.events) stands.free.no_pattern
-            (ne_eqb h.command 255 stands.free.not_flash) (c.requires.street, stands.plain);
-        tables = k.tables;
-        layout = k.layout;
-        ordered = k.ordered;
-        version = k.version;
-        frame = k.frame;
-        calls = c.input.ensures.stands (past_at h) k.calls k.layout k.frame;
-        clocks = k.clocks;
-        signals = k.signals;
-        shown = k.shown;
-        signalling = k.signalling;
-        last = k.last;
-        latest = k.latest;
-        start = k.start;
-        orders = record {
-          command = k.orders.command;
-          since = k.orders.since;
-          clock = k.orders.clock;
-          no_gain = k.orders.no_gain;
-          no_lose = k.orders.no_lose;
-        };
+      tables = k.tables;
+      layout = k.layout;
+      ordered = k.ordered;
+      version = k.version;
+      frame = k.frame;
+      calls = c.input.ensures.stands past k.calls k.layout k.frame;
+      clocks = k.clocks;
+      signals = k.signals;
+      preempts = subst (λ (f : Field). PreemptsStand c.args.self.now.preempts (with_event (Input f) past)) (sym c.in-Veh.is) (stands-other _ (Input
+          (Veh c.in-Veh.phase c.in-Veh.on)) past tt k.preempts);
+      requests = λ i a b. let q = k.requests i a b in record { place = q.place; cancelled = q.cancelled; given = q.given; stays = q.stays; active = q.active };
+      shown = k.shown;
+      signalling = k.signalling;
+      names = k.names;
+      last = k.last;
+      latest = k.latest;
+      start = k.start;
+      few_start = k.few_start;
+      orders = record {
+        command = k.orders.command;
+        since = k.orders.since;
+        clock = k.orders.clock;
+        ticks = k.orders.ticks;
+        gain = k.orders.gain;
+        lose = k.orders.lose;
       };
-      free = stands.free;
-      plain = (c.requires.street, stands.plain);
+      binding = k.binding;
+      counts = λ n s. let q = k.counts n s in record { stands = q.stands; within = q.within };
+      old_frame = k.old_frame;
+    }
+
+pub returns-in-Ped-clause-stands : goal.returns-in-Ped-clause-stands
+returns-in-Ped-clause-stands c = λ h k.
+    let past : Past = past_at h in
+    record {
+      tables = k.tables;
+      layout = k.layout;
+      ordered = k.ordered;
+      version = k.version;
+      frame = k.frame;
+      calls = c.input.ensures.stands past k.calls k.layout k.frame;
+      clocks = k.clocks;
+      signals = k.signals;
+      preempts = subst (λ (f : Field). PreemptsStand c.args.self.now.preempts (with_event (Input f) past)) (sym c.in-Ped.is) (stands-other _ (Input
+          (Button c.in-Ped.phase)) past tt k.preempts);
+      requests = λ i a b. let q = k.requests i a b in record { place = q.place; cancelled = q.cancelled; given = q.given; stays = q.stays; active = q.active };
+      shown = k.shown;
+      signalling = k.signalling;
+      names = k.names;
+      last = k.last;
+      latest = k.latest;
+      start = k.start;
+      few_start = k.few_start;
+      orders = record {
+        command = k.orders.command;
+        since = k.orders.since;
+        clock = k.orders.clock;
+        ticks = k.orders.ticks;
+        gain = k.orders.gain;
+        lose = k.orders.lose;
+      };
+      binding = k.binding;
+      counts = λ n s. let q = k.counts n s in record { stands = q.stands; within = q.within };
+      old_frame = k.old_frame;
+    }
+
+pub returns-in-Preempt-clause-stands : goal.returns-in-Preempt-clause-stands
+returns-in-Preempt-clause-stands c = λ h k.
+    let past : Past = past_at h in
+    record {
+      tables = k.tables;
+      layout = k.layout;
+      ordered = k.ordered;
+      version = k.version;
+      frame = k.frame;
+      calls = c.input.ensures.stands past k.calls k.layout k.frame;
+      clocks = k.clocks;
+      signals = k.signals;
+      preempts = subst (λ (f : Field). PreemptsStand c.input-in-Preempt.new.self (with_event (Input f) past)) (sym c.in-Preempt.is)
+          (c.input-in-Preempt.ensures.stands past k.preempts);
+      requests = λ i a b. let q = k.requests i a b in record { place = q.place; cancelled = q.cancelled; given = q.given; stays = q.stays; active = q.active };
+      shown = k.shown;
+      signalling = k.signalling;
+      names = k.names;
+      last = k.last;
+      latest = k.latest;
+      start = k.start;
+      few_start = k.few_start;
+      orders = record {
+        command = k.orders.command;
+        since = k.orders.since;
+        clock = k.orders.clock;
+        ticks = k.orders.ticks;
+        gain = k.orders.gain;
+        lose = k.orders.lose;
+      };
+      binding = k.binding;
+      counts = λ n s. let q = k.counts n s in record { stands = q.stands; within = q.within };
+      old_frame = k.old_frame;
     }

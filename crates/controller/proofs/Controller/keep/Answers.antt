@@ -1,36 +1,62 @@
-use Rattle.std.proofs.Common.{◌≡◌, ◌∷◌, [], ◌<◌, ◌+◌, sym, ◌∙◌, ap, arith}
+use Rattle.std.proofs.Common.{◌≡◌, ◌∷◌, [], ◌&&◌, ◌<◌, ◌≤◌, ◌+◌, ℕ, Bool, true, refl, sym, ◌∙◌, ap, arith, subst}
 use Rattle.sig_types.specs.declared.frame.Frame.{Frame}
-use Rattle.sig_tables.specs.Looking.{last_on}
+use Rattle.sig_types.specs.Colour.{is_start}
+use Rattle.sig_tables.specs.Looking.{last_on, start_run}
+use Rattle.sig_tables.specs.Past.{Moment}
+use Rattle.sig_tables.specs.Calls.{is_green}
+use Rattle.sig_tables.specs.Choosing.{is_in_step}
+use Rattle.sig_tables.specs.Command.{command_now}
+use Rattle.sig_tables.specs.Preempts.{preempts_on}
+use Rattle.sig_tables.specs.Decide.{next_moment, colours_of}
+use Rattle.sig_tables.specs.Seen.{frame_seen, moment_seen, moves_seen}
+use Rattle.preempt_run.proofs.Called.{seen-is}
+use Rattle.preempt_run.proofs.OnPhases.{names-phases}
 use Rattle.controller.specs.Shows.{ShowsColours}
-use Rattle.controller.proofs.Rings.{each-ring, last-next, latest-next, start-next}
+use Rattle.controller.proofs.Rings.{each-ring, last-next, latest-next}
+use Rattle.controller.proofs.Seen.{opposed-green}
+use Rattle.controller.proofs.Sought.{start-again}
+use Rattle.controller.proofs.Pickups.{start-next, few-next, one-more, same-most}
 use Rattle.controller.proofs.Controller.keep.Goals as goal
 
 pub returns-clause-keeps : goal.returns-clause-keeps
-returns-clause-keeps c = λ past m k f t w n q o s r.
-    let shown : ShowsColours c.shown_in-shown.result c.args.frame.now.veh = c.shown_in-shown.ensures.shown past k in
+returns-clause-keeps c = λ past r s f.
+    let m : Moment = next_moment past in
+    let k = r.keeps in
+    let g : m.frame ≡ c.args.frame.now = sym f in
+    let few : start_run past.moments ≤ 60 = k.few_start in
+    let run : c.args.self.now.start_run ≡ start_run past.moments = k.start in
     record {
-      plain = r;
       tables = k.tables;
       layout = k.layout;
       ordered = k.ordered;
       version = k.version;
-      frame = sym f;
-      calls = c.step.ensures.stands past m k.calls f n.vehicle n.pedestrian n.detectors;
-      clocks = c.step-2.ensures.stands past.moments m k.clocks f (t ∙ sym k.tables) q o;
-      signals = c.step-3.ensures.stands past.moments m k.signals f (t ∙ sym k.tables);
-      shown = rw f shown;
-      signalling = c.signalling_in-signalling.ensures.signalling past m.frame k (ap (λ (x : Frame). x.ped) f);
-      last = each-ring (c.last_after.result ∷ c.last_after-2.result ∷ []) 0 (λ r. last_on r (m ∷ past.moments))
-          (c.last_after.ensures ∙ last-next m past.moments c.args.frame.now 1 _ c.shows_start-in_start.result f c.shows_start-in_start.ensures
+      frame = f;
+      calls = c.step.ensures.stands past m k.calls g refl refl refl;
+      clocks = c.step-2.ensures.stands past.moments m k.clocks g (sym k.tables) s.quiet
+          (λ p i. opposed-green past p i ∙ ap (λ (b : Bool). is_green (frame_seen past) p && b) (sym (s.opposed p i)));
+      signals = c.step-3.ensures.stands past.moments m k.signals g (sym k.tables);
+      preempts = c.step-4.ensures.stands past m k.preempts g (sym (seen-is past))
+          (names-phases c.args.frame.now past.tables (colours_of past (moves_seen past)) (ap (λ (x : Frame). x.on) f));
+      requests = c.step-5.ensures.stands past m k.requests (one-more (moment_seen past).number) r.course.active;
+      orders = c.step-6.ensures.stands past m k.orders (record { number = refl; command = refl; is_commanded = refl; clock = refl })
+          r.course.command r.course.clock;
+      shown = subst (λ (x : Frame). ShowsColours c.shown_in-shown.result x.veh) f (c.shown_in-shown.ensures.shown past k);
+      signalling = c.signalling_in-signalling.ensures.signalling past m.frame k (ap (λ (x : Frame). x.ped) g);
+      names = names-phases m.frame past.tables (colours_of past (moves_seen past)) refl;
+      last = each-ring (c.last_after.result ∷ c.last_after-2.result ∷ []) 0 (λ q. last_on q (m ∷ past.moments))
+          (c.last_after.ensures ∙ last-next m past.moments c.args.frame.now 1 _ c.shows_start-in_start.result g c.shows_start-in_start.ensures
           (k.last 1 (omega arith) (omega arith)))
-          (c.last_after-2.ensures ∙ last-next m past.moments c.args.frame.now 2 _ c.shows_start-in_start.result f c.shows_start-in_start.ensures
+          (c.last_after-2.ensures ∙ last-next m past.moments c.args.frame.now 2 _ c.shows_start-in_start.result g c.shows_start-in_start.ensures
           (k.last 2 (omega arith) (omega arith)));
       latest = c.latest_after-self.ensures
-          ∙ latest-next m past.moments c.args.frame.now _ c.shows_start-in_start.result f c.shows_start-in_start.ensures k.latest;
-      start = λ e.
-          let before = s e in
-          let few : c.args.self.now.start_run < 60 = before.1 in
-          let counted : c.saturating_add-self.result ≡ c.args.self.now.start_run + 1 = omega (arith, c.saturating_add-self.ensures) in
-          counted ∙ start-next m past.moments c.args.self.now.start_run e (k.start before.0);
-      orders = c.step-4.ensures.stands past m k.orders k.tables w;
+          ∙ latest-next m past.moments c.args.frame.now _ c.shows_start-in_start.result g c.shows_start-in_start.ensures k.latest;
+      start = c.start_run_after-self.ensures (omega arith)
+          ∙ start-next m past.moments c.args.self.now.start_run c.shows_start-in_start.result
+          (c.shows_start-in_start.ensures ∙ ap (λ (x : Frame). is_start x.mode) f) k.start;
+      few_start = few-next m past.moments
+          (λ now last. start-again past.tables past.version (command_now past) (preempts_on past.heard (moment_seen past)) past.moments
+          (colours_of past (moves_seen past)) last now);
+      binding = k.binding;
+      counts = λ n st. c.count_after-count.ensures.counts past r f n (subst (λ (x : Frame). is_in_step x past.version n ≡ true) g st);
+      old_frame = same-most past.version;
     }

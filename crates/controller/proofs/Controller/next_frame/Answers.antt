@@ -1,24 +1,29 @@
-use Rattle.std.proofs.Common.{◌≡◌, List, map, ◌∙◌, ap, sym}
+use Rattle.std.proofs.Common.{◌≡◌, ℕ, Bool, if◌then◌else◌, List, map, ◌∙◌, ap, sym}
 use Rattle.sig_types.specs.declared.frame.Colour.{Colour}
+use Rattle.sig_types.specs.declared.frame.Mode.{Mode}
+use Rattle.sig_types.specs.declared.frame.Ped.TheVariants.{Walk}
 use Rattle.sig_types.specs.Phases.{all_phases}
-use Rattle.sig_tables.specs.Plain.{plain_mode}
-use Rattle.sig_tables.specs.PlainFrame.{plain_signal, plain_frame}
+use Rattle.sig_tables.specs.Choosing.{mode_reached}
+use Rattle.sig_tables.specs.Course.{course_of}
+use Rattle.sig_tables.specs.Ticking.{frame_of, frame_with}
 use Rattle.sig_tables.specs.Decide.{colours_of}
-use Rattle.sig_tables.specs.Seen.{sight_seen, moves_seen}
-use Rattle.sig_tables.proofs.FreeFrame.{frame-plain}
-use Rattle.controller.specs.Walks.{crossing_seen, walk_after}
+use Rattle.sig_tables.specs.Seen.{sight_seen, mode_seen, moves_seen}
+use Rattle.controller.specs.Walks.{walk_after, signal_seen}
 use Rattle.controller.proofs.Controller.next_frame.Goals as goal
 
 pub returns : goal.returns
 returns c = record {
-  given = λ past k d a o.
-      let turn = c.turn-turn.ensures.turn past k in
-      let moves = c.moves-moves.ensures.moves past k turn d a o in
-      let veh : c.colours.result ≡ colours_of past (moves_seen past) = c.colours.ensures.colours past (moves_seen past) k moves in
-      let ped : c.signals_after.result ≡ map (plain_signal (crossing_seen past) past (colours_of past (moves_seen past))) all_phases =
-      c.signals_after.ensures.signals past (walk_after (crossing_seen past) (plain_mode past.moments) past (moves_seen past)) k
-      (c.walks-walks.ensures.walks past (moves_seen past) k turn moves o) in
-      c.frame_after.ensures.frame past k turn (ped ∙ ap (λ (x : List Colour). map (plain_signal (crossing_seen past) past x) all_phases) (sym veh))
-      ∙ ap (λ (x : List Colour). plain_frame (crossing_seen past) past x) veh
-      ∙ sym (frame-plain past (sight_seen past) (colours_of past (moves_seen past)) k.plain);
+  given = λ past r s.
+      let moves = c.moves-moves.ensures.moves past r s in
+      let veh : c.colours-veh.result ≡ colours_of past (moves_seen past) = c.colours-veh.ensures.colours past (moves_seen past) r.keeps moves in
+      let mode : c.mode_reached-mode.result ≡ mode_reached (mode_seen past) past.tables c.colours-veh.result = c.mode_reached-mode.ensures.reached past r in
+      let walks = c.walks-walks.ensures.walks past (moves_seen past) _ r s moves mode in
+      let ped : c.signals_after.result ≡ map (λ (p : ℕ). if walk_after past c.mode_reached-mode.result (colours_of past
+      (moves_seen past)) p then Walk else signal_seen past p) all_phases =
+      c.signals_after.ensures.signals past (walk_after past c.mode_reached-mode.result (colours_of past (moves_seen past))) r walks in
+      c.frame_after.ensures.frame past r
+      (ped ∙ ap (λ (x : List Colour). map (λ (p : ℕ). if walk_after past c.mode_reached-mode.result x p then Walk else signal_seen past p) all_phases)
+      (sym veh))
+      ∙ ap (λ (m : Mode). frame_of (course_of past) past (sight_seen past) c.colours-veh.result m) mode
+      ∙ ap (λ (x : List Colour). frame_with (course_of past) past (sight_seen past) x) veh;
 }

@@ -1,39 +1,32 @@
-use Rattle.std.proofs.Common.{◌≡◌, refl, sym, ◌∙◌, ap}
-use Rattle.sig_types.specs.declared.frame.Mode.{Mode}
-use Rattle.sig_types.specs.declared.frame.Mode.TheVariants.{Start, Free}
-use Rattle.sig_tables.specs.Course.{Turn, StartUp, Rings}
-use Rattle.sig_tables.specs.Plain.{plain_mode}
-use Rattle.sig_tables.proofs.FreeCourse.{turn-plain}
-use Rattle.sig_tables.specs.Seen.{turn_seen}
-use Rattle.controller.specs.StandsFor.{turn_meant}
-use Rattle.controller.specs.Walks.{crossing_in, crossing_seen, walk_after}
-use Rattle.controller.proofs.Turns.{mode_in, turn-mode}
+use Rattle.std.proofs.Common.{sym, ◌∙◌, ap}
+use Rattle.sig_types.specs.declared.frame.Colour.TheVariants.{Green}
+use Rattle.sig_types.specs.Colour.{colour_in, colour_of, signal_of}
+use Rattle.sig_types.specs.PhaseSet.{has}
+use Rattle.sig_tables.proofs.Below.{is-within}
+use Rattle.sig_tables.specs.Decide.{colour_after, colours_of}
+use Rattle.sig_tables.specs.Seen.{frame_seen}
+use Rattle.ped_clock.specs.Walks.{greens_of}
+use Rattle.controller.specs.Walks.{crossing_seen}
+use Rattle.controller.proofs.Filling.{made-at}
+use Rattle.controller.proofs.Signals.{begins-is, rests-is}
 use Rattle.controller.proofs.Controller.walks.Goals as goal
 
-pub returns-in-Rest : goal.returns-in-Rest
-returns-in-Rest c = record {
-  walks = λ past w k e m o p h.
-      let mode : Start ≡ plain_mode past.moments = ap mode_in (sym (ap turn_meant c.in-Rest.is) ∙ e ∙ turn-plain past k.plain)
-      ∙ turn-mode past.tables past.moments in
-      c.empty.ensures.has p ∙ ap (λ (x : Mode). walk_after (crossing_seen past) x past w p) mode;
-}
-
-pub returns-in-StartUp : goal.returns-in-StartUp
-returns-in-StartUp c = record {
-  walks = λ past w k e m o p h.
-      let turn : StartUp ≡ turn_seen past = sym (ap turn_meant c.in-StartUp.is) ∙ e in
-      let mode : Free ≡ plain_mode past.moments = ap mode_in (turn ∙ turn-plain past k.plain) ∙ turn-mode past.tables past.moments in
-      c.free_walks.ensures.walks past w StartUp k refl m o p h
-      ∙ ap (λ (x : Mode). walk_after (crossing_in StartUp past) x past w p) mode
-      ∙ ap (λ (x : Turn). walk_after (crossing_in x past) (plain_mode past.moments) past w p) turn;
-}
-
-pub returns-in-Rings : goal.returns-in-Rings
-returns-in-Rings c = record {
-  walks = λ past w k e m o p h.
-      let turn : Rings ≡ turn_seen past = sym (ap turn_meant c.in-Rings.is) ∙ e in
-      let mode : Free ≡ plain_mode past.moments = ap mode_in (turn ∙ turn-plain past k.plain) ∙ turn-mode past.tables past.moments in
-      c.free_walks-in-Rings.ensures.walks past w Rings k refl m o p h
-      ∙ ap (λ (x : Mode). walk_after (crossing_in Rings past) x past w p) mode
-      ∙ ap (λ (x : Turn). walk_after (crossing_in x past) (plain_mode past.moments) past w p) turn;
+pub returns : goal.returns
+returns c = record {
+  walks = λ past w veh r s m e.
+      c.walks.ensures.walks (crossing_seen past c.args.mode) (frame_seen past) (colours_of past w) r.keeps.layout
+      (c.options_reached.ensures.options past veh r.bound e)
+      (record {
+        begins = λ p h. begins-is w p past.tables past.moments (colour_of (frame_seen past) p) (colour_in (colours_of past w) p)
+            (has c.meet.result p) (has c.args.self.now.shown.red p) (has c.args.moves.begins p) (c.meet.ensures.has p) (r.keeps.shown.red p h) (m.begins p h)
+            (made-at Green (λ q. colour_after w q past.tables past.moments (colour_of (frame_seen past) q)) p h);
+        rests = λ p h. rests-is w p past.tables past.moments (colour_of (frame_seen past) p) (colour_in (colours_of past w) p) (signal_of (frame_seen past) p)
+            (has c.minus-2.result p) (has c.minus.result p) (has c.args.self.now.shown.green p) (has c.args.moves.ends p) (has c.args.self.now.signalling p)
+            (c.minus-2.ensures.has p (is-within p h)) (c.minus.ensures.has p (is-within p h)) (r.keeps.shown.green p h) (m.ends p h) (r.keeps.signalling p h)
+            (made-at Green (λ q. colour_after w q past.tables past.moments (colour_of (frame_seen past) q)) p h);
+        called = c.pedestrian.ensures.has past r.keeps.calls;
+        opposed = λ p h green. s.opposed p h;
+        greens = c.greens.ensures ∙ ap greens_of r.course.turn;
+        is_zero = c.is_zero.ensures.zero past r;
+      });
 }

@@ -1,0 +1,226 @@
+//! Why a green ends: gap, maximum, force-off or release, and the least that a preempt leaves it (FHWA Signal Timing Manual:
+//! gap-out, max-out, force-off, yield point).
+
+ghost use Rattle.std.specs.Prelude.{◌≡◌, ◌<◌, ◌≤◌, ◌==◌, ℕ, true, not, None, Some};
+
+use crate::Controller;
+use crate::course::{Course, is_coord};
+use crate::seeing::Sight;
+use coord_gate::{filled, released};
+use preempt_run::lesser_green;
+use sig_types::{Ped, PhaseSet};
+
+/// Whether a priority request is active.
+fn is_asked(active: Option<u8>) -> bool
+    ensures { (n : ℕ) → active ≡ some_number n → result ≡ not (n == 0) }
+{
+    match active {
+        Some(_) => true,
+        None => false,
+    }
+}
+
+ghost use Rattle.prio_queue.specs.Places.{some_number};
+
+impl Controller {
+    ghost use Rattle.sig_tables.specs.Coordinating.{extension_of};
+    ghost use Rattle.sig_types.specs.Phases.{is_in};
+    ghost use Rattle.sig_types.specs.declared.frame.Mode.TheVariants.{Coord};
+    ghost use Rattle.sig_tables.specs.Tables.{is_enabled, clearance};
+    ghost use Rattle.sig_tables.specs.Past.{Past};
+    ghost use Rattle.sig_tables.specs.Calls.{is_green};
+    ghost use Rattle.sig_tables.specs.Modes.{bound};
+    ghost use Rattle.sig_tables.specs.Goals.{is_cleared};
+    ghost use Rattle.sig_tables.specs.Layout.{Has};
+    ghost use Rattle.sig_tables.specs.View.{has_gap, has_maximum, is_reasoned, is_done};
+    ghost use Rattle.sig_tables.specs.Seen.{frame_seen, mode_seen, quiet_seen, opposed_seen, view_seen};
+    ghost use Rattle.ring_barrier.specs.Shows.{is_leaving};
+    ghost use Rattle.controller.specs.Course.{Runs};
+    ghost use Rattle.controller.specs.Sees.{Sees};
+    ghost use Rattle.controller.specs.StandsFor.{Keeps, tick_count};
+
+    /// How long a phase, 1 to 16, clears: its yellow change and its red clearance, in ticks.
+    pub(crate) fn clearance(&self, phase: u8) -> u32
+        requires above { 0 < phase }
+        requires within { phase ≤ 16 }
+        ensures clearance { (past : Past) → Keeps self.now past → result ≡ clearance past.tables phase }
+    {
+        let times = self.tables.phase(phase);
+        u32::from(times.yellow_change) + u32::from(times.red_clear)
+    }
+
+    /// Whether an enabled Green phase, 1 to 16, that is not active at this tick has a gap: it was so for its passage time.
+    fn has_gap(&self, phase: u8) -> bool
+        requires above { 0 < phase }
+        requires within { phase ≤ 16 }
+        ensures gap { (past : Past) → Keeps self.now past → is_enabled past.tables phase ≡ true → is_in (quiet_seen past) phase ≡ true
+            → result ≡ has_gap (view_seen past) phase }
+    {
+        self.clocks.quiet(phase) >= u32::from(self.tables.phase(phase).passage.max(1)) - 1
+    }
+
+    /// Whether a Green phase, 1 to 16, is at its maximum: it was opposed for that time, this tick included.
+    fn has_maximum(&self, phase: u8, opposed: bool) -> bool
+        requires above { 0 < phase }
+        requires within { phase ≤ 16 }
+        ensures maximum { (past : Past) → Keeps self.now past → opposed ≡ is_in (opposed_seen past) phase
+            → result ≡ has_maximum (view_seen past) phase }
+    {
+        let maximum = 10 * u32::from(self.tables.phase(phase).maximum);
+        if maximum == 0 {
+            true
+        } else if opposed {
+            self.clocks.pressed(phase) >= maximum - 1
+        } else {
+            false
+        }
+    }
+
+    /// Whether there is a reason to end an enabled Green phase, 1 to 16, where no pattern binds: gap or maximum.
+    fn free_reason(&self, phase: u8, active: bool, opposed: bool) -> bool
+        requires above { 0 < phase }
+        requires within { phase ≤ 16 }
+        ensures reason { (past : Past) → Keeps self.now past → is_enabled past.tables phase ≡ true
+            → active ≡ not (is_in (quiet_seen past) phase) → opposed ≡ is_in (opposed_seen past) phase
+            → result ≡ is_reasoned None (view_seen past) phase }
+    {
+        if active {
+            self.has_maximum(phase, opposed)
+        } else if self.has_gap(phase) {
+            true
+        } else {
+            self.has_maximum(phase, opposed)
+        }
+    }
+
+    /// By how many ticks an active priority request holds a coordinated phase.
+    fn extension(&self, active: Option<u8>) -> u32
+        ensures extension { (past : Past) (n : ℕ) → Keeps self.now past → active ≡ some_number n → result ≡ extension_of past.tables n }
+    {
+        match active {
+            Some(_) => u32::from(self.tables.unit().extension),
+            None => 0,
+        }
+    }
+
+    /// Whether there is a reason to end an enabled Green phase, 1 to 16, where a pattern binds: its release, where the
+    /// pattern holds it, else an active priority request, a gap, or its split filled where force-offs float.
+    fn bound_reason(&self, course: &Course, phase: u8, active: bool) -> bool
+        requires above { 0 < phase }
+        requires within { phase ≤ 16 }
+        requires few { tick_count self.now < 4294967295 }
+        ensures reason { (past : Past) (n : ℕ) → Runs self.now course.now past → mode_seen past ≡ Coord n
+            → is_enabled past.tables phase ≡ true → is_green (frame_seen past) phase ≡ true
+            → active ≡ not (is_in (quiet_seen past) phase) → result ≡ is_reasoned (Some n) (view_seen past) phase }
+    {
+        let plan = &self.binding.plan;
+        if self.binding.options.coordinated.has(phase) {
+            released(plan, course.counter, self.extension(course.active), phase)
+        } else if is_asked(course.active) {
+            true
+        } else if self.gaps(phase, active) {
+            true
+        } else {
+            filled(plan, self.clocks.run(phase), self.clearance(phase), phase)
+        }
+    }
+
+    /// Whether an enabled Green phase, 1 to 16, has a gap, which is active at this tick or is not.
+    fn gaps(&self, phase: u8, active: bool) -> bool
+        requires above { 0 < phase }
+        requires within { phase ≤ 16 }
+        ensures gap { (past : Past) → Keeps self.now past → is_enabled past.tables phase ≡ true
+            → active ≡ not (is_in (quiet_seen past) phase) → result ≡ has_gap (view_seen past) phase }
+    {
+        if active { false } else { self.has_gap(phase) }
+    }
+
+    /// Whether there is a reason to end an enabled Green phase, 1 to 16.
+    fn has_reason(&self, course: &Course, phase: u8, active: bool, opposed: bool) -> bool
+        requires above { 0 < phase }
+        requires within { phase ≤ 16 }
+        requires few { tick_count self.now < 4294967295 }
+        ensures reason { (past : Past) → Runs self.now course.now past → is_enabled past.tables phase ≡ true
+            → is_green (frame_seen past) phase ≡ true → active ≡ not (is_in (quiet_seen past) phase)
+            → opposed ≡ is_in (opposed_seen past) phase
+            → result ≡ is_reasoned (bound (mode_seen past)) (view_seen past) phase }
+    {
+        if is_coord(course.mode) {
+            self.bound_reason(course, phase, active)
+        } else {
+            self.free_reason(phase, active, opposed)
+        }
+    }
+
+    /// Whether an enabled Green phase, 1 to 16, is done: it is served, and there is a reason to end it.
+    fn is_done(&self, course: &Course, phase: u8, active: bool, opposed: bool) -> bool
+        requires above { 0 < phase }
+        requires within { phase ≤ 16 }
+        requires few { tick_count self.now < 4294967295 }
+        ensures done { (past : Past) → Runs self.now course.now past → is_enabled past.tables phase ≡ true
+            → is_green (frame_seen past) phase ≡ true → active ≡ not (is_in (quiet_seen past) phase)
+            → opposed ≡ is_in (opposed_seen past) phase → result ≡ is_done (view_seen past) phase }
+    {
+        if self.is_served(phase) {
+            self.has_reason(course, phase, active, opposed)
+        } else {
+            false
+        }
+    }
+
+    /// The Green phases that are done.
+    pub(crate) fn done(&self, course: &Course, sight: &Sight) -> PhaseSet
+        requires few { tick_count self.now < 4294967295 }
+        ensures done { (past : Past) → Runs self.now course.now past → Sees sight.now past → Has result (is_done (view_seen past)) }
+    {
+        let mut done = PhaseSet::empty();
+        let mut rest = self.layout.enabled.meet(self.shown.green);
+        for _ in 0u32..16 {
+            let p = rest.first();
+            if p == 0 {
+                return done;
+            }
+            rest = rest.minus(PhaseSet::empty().with(p));
+            done = done.with_if(
+                p,
+                self.is_done(course, p, sight.active.has(p), sight.opposed.has(p)),
+            );
+        }
+        done
+    }
+
+    /// Whether a Green phase, 1 to 16, has had the least green that the mode leaves it, and no walk or pedestrian clearance
+    /// of it runs on.
+    fn is_cleared(&self, course: &Course, phase: u8) -> bool
+        requires above { 0 < phase }
+        requires within { phase ≤ 16 }
+        requires few { tick_count self.now < 4294967295 }
+        ensures cleared { (past : Past) → Runs self.now course.now past → is_green (frame_seen past) phase ≡ true
+            → result ≡ is_cleared (mode_seen past) past.tables past.moments phase }
+    {
+        let least = lesser_green(&self.tables, course.mode, self.clocks.latched_least(phase));
+        if self.clocks.run(phase) < least {
+            false
+        } else {
+            self.signal_within(phase, course.lesser) == Ped::Dont
+        }
+    }
+
+    /// The Green phases that are cleared, so that they may end on the way to a goal.
+    pub(crate) fn cleared(&self, course: &Course) -> PhaseSet
+        requires few { tick_count self.now < 4294967295 }
+        ensures cleared { (past : Past) → Runs self.now course.now past → Has result (is_leaving (view_seen past)) }
+    {
+        let mut cleared = PhaseSet::empty();
+        let mut rest = self.shown.green;
+        for _ in 0u32..16 {
+            let p = rest.first();
+            if p == 0 {
+                return cleared;
+            }
+            rest = rest.minus(PhaseSet::empty().with(p));
+            cleared = cleared.with_if(p, self.is_cleared(course, p));
+        }
+        cleared
+    }
+}
