@@ -1,32 +1,207 @@
-//! The download stage of a cabinet (after NTCIP 1201): where the parts of new tables are gathered before they are put in
-//! force. There is no download yet, so the stage is at rest. Nothing here takes memory.
+//! The download stage of a cabinet (transactions after NTCIP 1201): where the parts of new tables are gathered before they
+//! are put in force as a whole. It keeps one copy of the tables, which is made when a download begins, and never changes
+//! those in force: it answers `Accepted` where its own are to take their place. Nothing here takes memory.
 #![tactic(auto)]
 
-ghost use Rattle.std.specs.Prelude.{◌≡◌, None};
+ghost use Rattle.std.specs.Prelude.{◌≡◌, ◌≤◌, List, [], ◌∷◌, Some, map};
 
-use sig_types::StageAnswer;
+use rule_book::judge;
+use sig_tables::{Cell, CellValue, Tables};
+use sig_types::{Broken, StageAnswer};
 
-/// A cabinet's stage.
+mod laws;
+
+pub use laws::{
+    installs_what_keeps_the_rules, nothing_after_done, parts_come_in_order, staged_tables_in_range,
+};
+
+/// Where a stage stands: nothing was begun; parts are taken; all is verified; the tables were put in force.
 #[derive(Clone, Copy, Debug, PartialEq, Eq)]
-pub struct Stage(());
+pub enum Standing {
+    Rest,
+    Open,
+    Checked,
+    Done,
+}
+
+/// A cabinet's stage: the id of the last download that began, how many of its parts were taken, where it stands, the last
+/// answer, and the tables that the download comes to so far.
+#[derive(Drop)]
+pub struct Stage {
+    kept: u32,
+    taken: u16,
+    standing: Standing,
+    last: Option<StageAnswer>,
+    tables: Tables,
+    ghost few: { taken ≤ 60000 },
+}
 
 impl Stage {
-    /// A stage to which nothing was sent.
-    pub fn new() -> Stage {
-        Stage(())
+    ghost use Rattle.sig_tables.specs.Putting.{put_content};
+    ghost use Rattle.stage_txn.specs.Calls.{Call, Begin, Part, Verify, Finish};
+    ghost use Rattle.stage_txn.specs.Answers.{answered, answer_to, first_broken, staged, standing, state_code, last_answer};
+    ghost use Rattle.stage_txn.specs.Stands.{StandsFor};
+
+    /// A stage to which nothing was sent. Its tables are the standard ones until a download begins.
+    pub fn new() -> Stage
+        ensures stands { StandsFor result [] }
+    {
+        Stage {
+            kept: 0,
+            taken: 0,
+            standing: Standing::Rest,
+            last: None,
+            tables: Tables::std8(),
+        }
     }
 
-    /// Where the stage stands: 1 is normal, the only state without downloads.
-    pub fn state(&self) -> u8
-        ensures { result ≡ 1 }
+    /// Keeps what was answered, and answers it.
+    fn answered(&mut self, answer: StageAnswer) -> StageAnswer
+        ensures answer { result ≡ answer }
+        ensures last { self.new.last ≡ Some answer }
+        ensures kept { self.new.kept ≡ self.old.kept }
+        ensures taken { self.new.taken ≡ self.old.taken }
+        ensures standing { self.new.standing ≡ self.old.standing }
+        ensures tables { self.new.tables ≡ self.old.tables }
     {
-        1
+        self.last = Some(answer);
+        answer
+    }
+
+    /// The first rule that the staged tables break beside those in force.
+    #[tactic(auto, unfolding(crate::specs::Answers::first_broken))]
+    fn judged(&self, in_force: &Tables, flashing: bool) -> Result<(), Broken>
+        ensures { result ≡ first_broken self.now.tables in_force.now flashing }
+    {
+        judge(&self.tables, in_force, flashing)
+    }
+
+    /// A download begins under this id, 1 or greater, over the tables in force.
+    pub fn begin(&mut self, id: u32, in_force: &Tables) -> StageAnswer
+        requires some { 1 ≤ id }
+        ensures answer { (calls : List Call) → StandsFor self.old calls → result ≡ answer_to (answered calls) (Begin id in_force.now) }
+        ensures stands { (calls : List Call) → StandsFor self.old calls → StandsFor self.new (Begin id in_force.now ∷ calls) }
+    {
+        if id == self.kept {
+            return self.answered(StageAnswer::Repeated);
+        }
+        if id < self.kept {
+            return self.answered(StageAnswer::WrongToken);
+        }
+        self.kept = id;
+        self.taken = 0;
+        self.standing = Standing::Open;
+        self.tables = *in_force;
+        self.answered(StageAnswer::Staged)
+    }
+
+    /// A part of a download, 1 to 60,000. Its cells are put in order, where it is the next part; a cell that there isn't, or
+    /// whose value doesn't fit, changes nothing.
+    pub fn part(&mut self, id: u32, number: u16, cells: &[(Cell, CellValue)]) -> StageAnswer
+        requires some { 1 ≤ id }
+        requires some_part { 1 ≤ number }
+        requires few_parts { number ≤ 60000 }
+        ensures answer { (calls : List Call) → StandsFor self.old calls
+            → result ≡ answer_to (answered calls) (Part id number (map put_content cells.now)) }
+        ensures stands { (calls : List Call) → StandsFor self.old calls
+            → StandsFor self.new (Part id number (map put_content cells.now) ∷ calls) }
+    {
+        if id != self.kept {
+            return self.answered(StageAnswer::WrongToken);
+        }
+        if number <= self.taken {
+            return self.answered(StageAnswer::Repeated);
+        }
+        if self.standing != Standing::Open || number != self.taken + 1 {
+            return self.answered(StageAnswer::WrongPart(self.taken + 1));
+        }
+        self.tables.put_each(cells);
+        self.taken = number;
+        self.answered(StageAnswer::Staged)
+    }
+
+    /// The download has so many parts: whether all have come, and its tables keep the rules beside those in force, in a
+    /// cabinet that flashes or not.
+    pub fn verify(&mut self, id: u32, total: u16, in_force: &Tables, flashing: bool) -> StageAnswer
+        requires some { 1 ≤ id }
+        ensures answer { (calls : List Call) → StandsFor self.old calls
+            → result ≡ answer_to (answered calls) (Verify id total in_force.now flashing) }
+        ensures stands { (calls : List Call) → StandsFor self.old calls
+            → StandsFor self.new (Verify id total in_force.now flashing ∷ calls) }
+    {
+        if id != self.kept {
+            return self.answered(StageAnswer::WrongToken);
+        }
+        match self.standing {
+            Standing::Checked | Standing::Done => return self.answered(StageAnswer::Repeated),
+            Standing::Rest | Standing::Open => {}
+        }
+        if total != self.taken {
+            return self.answered(StageAnswer::WrongPart(self.taken + 1));
+        }
+        match self.judged(in_force, flashing) {
+            Ok(()) => {
+                self.standing = Standing::Checked;
+                self.answered(StageAnswer::Verified)
+            }
+            Err(broken) => self.answered(StageAnswer::Refused(broken)),
+        }
+    }
+
+    /// The download ends. Where the answer is `Accepted` the staged tables are to be put in force, and nowhere else.
+    pub fn finish(&mut self, id: u32, in_force: &Tables, flashing: bool) -> StageAnswer
+        requires some { 1 ≤ id }
+        ensures answer { (calls : List Call) → StandsFor self.old calls
+            → result ≡ answer_to (answered calls) (Finish id in_force.now flashing) }
+        ensures stands { (calls : List Call) → StandsFor self.old calls
+            → StandsFor self.new (Finish id in_force.now flashing ∷ calls) }
+    {
+        if id != self.kept {
+            return self.answered(StageAnswer::WrongToken);
+        }
+        match self.standing {
+            Standing::Done => return self.answered(StageAnswer::Repeated),
+            Standing::Rest | Standing::Open => return self.answered(StageAnswer::NotVerified),
+            Standing::Checked => {}
+        }
+        match self.judged(in_force, flashing) {
+            Ok(()) => {
+                self.standing = Standing::Done;
+                self.answered(StageAnswer::Accepted)
+            }
+            Err(broken) => {
+                self.standing = Standing::Open;
+                self.answered(StageAnswer::Refused(broken))
+            }
+        }
+    }
+
+    /// The staged tables, as they would be put in force.
+    pub fn staged(&self) -> &Tables
+        ensures { (calls : List Call) → StandsFor self.now calls → result.now ≡ staged (answered calls) }
+    {
+        &self.tables
+    }
+
+    /// Where the stage stands: 1 normal, 2 transaction, 3 verify, 6 done.
+    pub fn state(&self) -> u8
+        ensures { (calls : List Call) → StandsFor self.now calls → result ≡ state_code (standing (answered calls)) }
+    {
+        match self.standing {
+            Standing::Rest => 1,
+            Standing::Open => 2,
+            Standing::Checked => 3,
+            Standing::Done => 6,
+        }
     }
 
     /// The last answer that it gave, if any.
     pub fn last(&self) -> Option<StageAnswer>
-        ensures { result ≡ None }
+        ensures { (calls : List Call) → StandsFor self.now calls → result ≡ last_answer (answered calls) }
     {
-        None
+        self.last
     }
 }
+
+#[cfg(test)]
+mod tests;

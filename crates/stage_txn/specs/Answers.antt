@@ -1,0 +1,113 @@
+-- Where a download stage stands, and what it answers to each call: the first line that applies. Lists have the newest first.
+use Rattle.std.specs.Prelude.{ℕ, ◌+◌, ◌==◌, nat_le, nat_lt, ◌&&◌, Bool, true, false, if◌then◌else◌, List, [], ◌∷◌, Option, Some, None, Result, Ok, Err}
+use Rattle.sig_types.specs.declared.notes.Broken.{Broken}
+use Rattle.sig_types.specs.declared.notes.StageAnswer.{StageAnswer}
+use Rattle.sig_types.specs.declared.notes.StageAnswer.TheVariants.{Staged, Repeated, Verified, Accepted, WrongToken, WrongPart, NotVerified, Refused}
+use Rattle.sig_tables.specs.declared.tables.Tables.{Tables}
+use Rattle.rule_book.specs.Rules.{broken, first_of}
+use Rattle.stage_txn.specs.declared.Standing.{Standing}
+use Rattle.stage_txn.specs.declared.Standing.TheVariants.{Rest, Open, Checked, Done}
+use Rattle.stage_txn.specs.Calls.{Call, Begin, Part, Verify, Finish}
+use Rattle.stage_txn.specs.Calls.{Answered, Deed, Began, Took, Closed, Installed, Reopened, Idle, deeds, kept_by, taken_by, staged_by}
+
+-- where the stage stands: what came last of a begin, a verify that found all well, a finish that installed or that refused
+abbrev pub standing_by : List Deed → Standing
+standing_by [] = Rest
+standing_by (Began id in_force ∷ past) = Open
+standing_by (Took cells ∷ past) = standing_by past
+standing_by (Closed ∷ past) = Checked
+standing_by (Installed ∷ past) = Done
+standing_by (Reopened ∷ past) = Open
+standing_by (Idle ∷ past) = standing_by past
+
+-- the id of the last download that began, or 0
+abbrev pub kept : List Answered → ℕ
+kept past = kept_by (deeds past)
+
+-- the number of its parts that were taken
+abbrev pub taken : List Answered → ℕ
+taken past = taken_by (deeds past)
+
+-- the tables that it comes to so far
+abbrev pub staged : List Answered → Tables
+staged past = staged_by (deeds past)
+
+-- where the stage stands
+abbrev pub standing : List Answered → Standing
+standing past = standing_by (deeds past)
+
+-- parts are taken
+abbrev pub is_open : Standing → Bool
+is_open Open = true
+is_open _ = false
+
+-- the number that tells where a stage stands: 1 normal, 2 transaction, 3 verify, 6 done
+abbrev pub state_code : Standing → ℕ
+state_code Rest = 1
+state_code Open = 2
+state_code Checked = 3
+state_code Done = 6
+
+-- the answer by the rules: this one, or the first rule that the staged tables break
+abbrev pub unless_broken : Result (Unit {0}) Broken → StageAnswer → StageAnswer
+unless_broken (Ok fit) answer = answer
+unless_broken (Err b) answer = Refused b
+
+-- the first rule that the tables break beside those in force, if any
+unfoldable pub first_broken : Tables → Tables → Bool → Result (Unit {0}) Broken
+first_broken t in_force flashing = first_of (broken t in_force flashing)
+
+-- this answer, or the first rule that the tables break beside those in force
+abbrev pub judged : Tables → Tables → Bool → StageAnswer → StageAnswer
+judged t in_force flashing answer = unless_broken (first_broken t in_force flashing) answer
+
+-- to a begin, where this id is kept: the same id again, an older one, or a download that begins
+abbrev pub begin_answer : ℕ → ℕ → StageAnswer
+begin_answer kept id = if id == kept then Repeated else if nat_lt id kept then WrongToken else Staged
+
+-- to a part, where the stage stands so and has taken so many: one that was taken, the next one while it is open, or another
+abbrev pub part_answer : Standing → ℕ → ℕ → StageAnswer
+part_answer stands taken number =
+    if nat_le 1 number && nat_le number taken then Repeated
+    else if is_open stands && number == taken + 1 then Staged
+    else WrongPart (taken + 1)
+
+-- to a verify of all parts or not, with the part that is due and the answer by the rules
+abbrev pub verify_answer : Standing → Bool → ℕ → StageAnswer → StageAnswer
+verify_answer Checked complete due by_rules = Repeated
+verify_answer Done complete due by_rules = Repeated
+verify_answer _ complete due by_rules = if complete then by_rules else WrongPart due
+
+-- to a finish, with the answer by the rules
+abbrev pub finish_answer : Standing → StageAnswer → StageAnswer
+finish_answer Done by_rules = Repeated
+finish_answer Checked by_rules = by_rules
+finish_answer _ by_rules = NotVerified
+
+-- the answer to a call after these: a part, a verify or a finish under another id than the kept one has the wrong token
+abbrev pub answer_to : List Answered → Call → StageAnswer
+answer_to past (Begin id in_force) = begin_answer (kept past) id
+answer_to past (Part id number cells) =
+    if id == kept past then part_answer (standing past) (taken past) number else WrongToken
+answer_to past (Verify id total in_force flashing) =
+    if id == kept past
+    then verify_answer (standing past) (total == taken past) (taken past + 1) (judged (staged past) in_force flashing Verified)
+    else WrongToken
+answer_to past (Finish id in_force flashing) =
+    if id == kept past
+    then finish_answer (standing past) (judged (staged past) in_force flashing Accepted)
+    else WrongToken
+
+-- the calls with this one and its answer
+abbrev pub with_answer : Call → List Answered → List Answered
+with_answer call past = record { call = call; answer = answer_to past call } ∷ past
+
+-- the calls with their answers
+abbrev pub answered : List Call → List Answered
+answered [] = []
+answered (call ∷ calls) = with_answer call (answered calls)
+
+-- the answer to the last call, if any
+abbrev pub last_answer : List Answered → Option StageAnswer
+last_answer [] = None
+last_answer (a ∷ past) = Some a.answer
