@@ -166,7 +166,7 @@ first-long t p ph =
 pub record Holds (t : Tables) (moments : List Moment) : Type 0 where
   pub sound : Sound t
   pub stands : Standing t (last_frame moments)
-  numbered : Numbered (last_frame moments).mode
+  pub numbered : Numbered (last_frame moments).mode
   pub apart : EachApart moments
   pub one : EachOne moments
   pub enabled : EachEnabled moments

@@ -4,6 +4,9 @@ pub mod Intervals
 pub mod Turns
 pub mod Sought
 pub mod Standing
+pub mod OneSide
+pub mod PatternFacts
+pub mod Modes
 pub mod Rings
 pub mod GoalFits
 pub mod Next
@@ -15,6 +18,8 @@ pub mod Ends
 pub mod Served
 pub mod Signals
 pub mod SignalWithin
+pub mod InStep
+pub mod Serving
 pub mod Quiet
 pub mod Search
 pub mod Clocks

@@ -10,13 +10,13 @@ use Rattle.sig_tables.specs.Sides.{are_concurrent}
 use Rattle.sig_tables.specs.Past.{Event}
 use Rattle.sig_tables.specs.Decide.{past_of}
 use Rattle.laws.specs.Lawful.{Lawful}
-use Rattle.laws.specs.Served.{AllServed}
 use Rattle.laws.specs.Safe.{is_on, Apart, OnlyEnabled}
 use Rattle.laws.specs.Walking.{OnGreen, Quiet, EachQuiet}
 use Rattle.laws.proofs.Each.{each-both, each-weaker}
 use Rattle.laws.proofs.Standing.{enabled-phase}
 use Rattle.laws.proofs.Apart.{Holds, holds}
 use Rattle.laws.proofs.Signals.{each-on-green}
+use Rattle.laws.proofs.Serving.{lawful-served}
 
 green-on : (f : Frame) (p : ℕ) → colour_of f p ≡ Green → is_on f p ≡ true
 green-on f p e = rw e refl
@@ -39,10 +39,11 @@ quiet t f apart only g = record {
       ];
 }
 
-pub each-quiet : (opening : Tables) (events : List Event) → Lawful opening events → AllServed opening events → EachQuiet (past_of opening events).moments
-each-quiet opening events lawful served =
+pub each-quiet : (opening : Tables) (events : List Event) → Lawful opening events → EachQuiet (past_of opening events).moments
+each-quiet opening events lawful =
     let h : Holds (past_of opening events).tables (past_of opening events).moments = holds opening events lawful in
     each-weaker (λ past m. Apart m.tables m.frame × (OnlyEnabled m.tables m.frame × OnGreen m.frame)) (λ past m. Quiet m.tables m.frame)
     (λ past m k. quiet m.tables m.frame k.0 k.1.0 k.1.1) (past_of opening events).moments
     (each-both (λ past m. Apart m.tables m.frame) (λ past m. OnlyEnabled m.tables m.frame × OnGreen m.frame) _ h.apart
-    (each-both (λ past m. OnlyEnabled m.tables m.frame) (λ past m. OnGreen m.frame) _ h.enabled (each-on-green opening events served)))
+    (each-both (λ past m. OnlyEnabled m.tables m.frame) (λ past m. OnGreen m.frame) _ h.enabled
+    (each-on-green opening events (lawful-served opening events lawful))))

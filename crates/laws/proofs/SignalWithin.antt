@@ -51,7 +51,7 @@ begins-long c Free p Green Green Dont h = (and_parts _ _ (and_parts _ _ h).0).0
 begins-long c (Coord n) p Green Green Dont h = (and_parts _ _ (and_parts _ _ (and_parts _ _ h).0).0).1
 begins-long c mode p before after signal h = absurd (false≢true h)
 
-long-walk : (t : Tables) (p : ℕ) → has_walk t p ≡ true → 0 < walk_time t p
+pub long-walk : (t : Tables) (p : ℕ) → has_walk t p ≡ true → 0 < walk_time t p
 long-walk t p h = let k : 1 ≤ (row t p).walk = leb-true 1 _ h in omega (arith, k)
 
 -- a phase that showed one signal last has no run of another, and the times of the other are those now in force

@@ -33,14 +33,14 @@ Numbered (Exit i) = is_preempt i ≡ true
 Numbered _ = Unit {0}
 
 -- a mode that preemption asks for: a stage or an exit of a preempt that there is
-abbrev IsStage : Mode → Type 0
+abbrev pub IsStage : Mode → Type 0
 IsStage (Entry i) = is_preempt i ≡ true
 IsStage (Track i) = is_preempt i ≡ true
 IsStage (Dwell i) = is_preempt i ≡ true
 IsStage (Exit i) = is_preempt i ≡ true
 IsStage _ = ⊥
 
-abbrev EachStage : Option Mode → Type 0
+abbrev pub EachStage : Option Mode → Type 0
 EachStage None = Unit {0}
 EachStage (Some mode) = IsStage mode
 
@@ -80,7 +80,7 @@ called-preempt : (j : ℕ) (mode : Mode) → (j ≡ 0) ⊎ (is_preempt j ≡ tru
 called-preempt j mode (inr h) b = h
 called-preempt j mode (inl z) b = absurd (false≢true (sym (ap (nat_le 1) z) ∙ (and_parts (nat_le 1 j) _ b).0))
 
-now-stage : (t : Tables) (on : List ℕ) (past : List Moment) → Numbered (last_frame past).mode → EachStage (stage_now t on past)
+pub now-stage : (t : Tables) (on : List ℕ) (past : List Moment) → Numbered (last_frame past).mode → EachStage (stage_now t on past)
 now-stage t on past h =
     when-stage (breaks_in (preempt_called t on past) (last_frame past).mode) (Some (Entry (preempt_called t on past))) _
     (λ b. called-preempt (preempt_called t on past) (last_frame past).mode (first-preempt (is_preempt_called t on past) all_preempts refl) b)

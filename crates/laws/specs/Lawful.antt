@@ -1,11 +1,12 @@
 -- What is asked of the tables of a history, so that the laws of safety speak of it in every mode.
 use Rattle.std.specs.Prelude.{ℕ, ◌≡◌, ◌≢◌, ◌≤◌, ◌⊎◌, Bool, true, false, List}
+use Rattle.sig_types.specs.Phases.{is_in}
 use Rattle.sig_types.specs.declared.frame.Mode.{Mode}
 use Rattle.sig_types.specs.declared.frame.Mode.TheVariants.{Start, Flash}
 use Rattle.sig_tables.specs.declared.tables.Tables.{Tables}
 use Rattle.sig_tables.specs.Tables.{ring_of, is_enabled, starts_up}
 use Rattle.sig_tables.specs.Sides.{are_concurrent, are_of_one_side}
-use Rattle.sig_tables.specs.Slots.{is_defined}
+use Rattle.sig_tables.specs.Slots.{is_defined, pattern_order}
 use Rattle.sig_tables.specs.Splits.{coordinated_phases}
 use Rattle.sig_tables.specs.Past.{Event, Install}
 use Rattle.sig_tables.specs.Looking.{last_frame}
@@ -17,7 +18,8 @@ use Rattle.plan_facts.specs.Plan.{PlanHolds}
 
 -- each enabled phase is in ring 1 or 2; concurrent phases are in different rings; phases of one side in different rings
 -- are concurrent; the phases of start-up may be on together, and so may those that a defined pattern coordinates and those
--- that a preempt wants on; each defined pattern has a plan; and the times are long enough
+-- that a preempt wants on; each defined pattern has a plan, in the order of which stands each enabled phase; and the times are
+-- long enough
 pub record Sound (t : Tables) : Type 0 where
   pub ring : (p : ℕ) → is_enabled t p ≡ true → (ring_of t p ≡ 1) ⊎ (ring_of t p ≡ 2)
   pub across : (p q : ℕ) → are_concurrent t p q ≡ true → ring_of t p ≢ ring_of t q
@@ -27,6 +29,7 @@ pub record Sound (t : Tables) : Type 0 where
   pub coordinated : (n : ℕ) → is_defined t n ≡ true → GoTogether t (coordinated_phases t n)
   pub preempts : (i : ℕ) → 1 ≤ i → i ≤ 8 → PreemptFits t i
   pub plans : (n : ℕ) → is_defined t n ≡ true → PlanHolds t n
+  pub listed : (n p : ℕ) → is_defined t n ≡ true → is_enabled t p ≡ true → is_in (pattern_order t n (ring_of t p)) p ≡ true
   pub times : TimesHold t
 
 -- two tables have the same enabled phases, rings and concurrent phases

@@ -3,5 +3,6 @@ pub mod Lawful
 pub mod Served
 pub mod Safe
 pub mod Walking
+pub mod InStep
 pub mod Search
 pub mod Clocks

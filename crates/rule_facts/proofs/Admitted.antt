@@ -38,4 +38,4 @@ pub apart : (h : History) → Admitted h.tables (since_opening h) → KeepsApart
 apart h a =
     let l : Lawful h.tables (since_opening h) = lawful h.tables (since_opening h) a in
     let k = holds h.tables (since_opening h) l in
-    record { apart = k.apart; one = k.one; enabled = k.enabled; quiet = λ served. each-quiet h.tables (since_opening h) l served }
+    record { apart = k.apart; one = k.one; enabled = k.enabled; quiet = each-quiet h.tables (since_opening h) l }

@@ -12,12 +12,13 @@ use Rattle.sig_tables.specs.Sides.{are_of_one_side}
 use Rattle.sig_tables.specs.Sums.{times_in, every, before}
 use Rattle.rule_book.specs.Street.{serves_ring, is_of_ring, comes_after, side_comes_before}
 use Rattle.laws.proofs.Standing.{enabled-phase}
+use Rattle.laws.proofs.OneSide.{side-enabled, own, side-mutual}
 use Rattle.rule_facts.specs.Rules.{SequenceRules, KeepsRules}
 use Rattle.rule_facts.specs.Sequences.{RingServed, earlier_sides, SequenceServes}
 use Rattle.rule_facts.proofs.Kept.{none-listed}
 use Rattle.rule_facts.proofs.Members.{Found, some-found, found-some, counted-member, under, same-answer}
-use Rattle.rule_facts.proofs.Street.{side-enabled, in-ring}
-use Rattle.rule_facts.proofs.Sides.{own, side-mutual, side-joined}
+use Rattle.rule_facts.proofs.Street.{in-ring}
+use Rattle.rule_facts.proofs.Sides.{side-joined}
 use Rattle.rule_facts.proofs.Orders.{cut-at, in-before, one-before, before-after, those-append}
 
 -- ring r of a sequence in use

@@ -1,9 +1,9 @@
 -- The sides of the barrier cut the enabled phases, and what is of one side goes together.
-use Rattle.std.proofs.Common.{◌≡◌, ◌≢◌, ◌⊎◌, inl, inr, ℕ, true, false, not, ◌&&◌, ◌||◌, ◌==◌, refl, sym, ◌∙◌, ap, subst}
-use Rattle.std.proofs.lemmas.Bool.{cases_Bool, and_parts, and_from, or_cases, or_left, or_right, both_ways, not-true}
-use Rattle.std.proofs.lemmas.Bool.Decides.{Decides-eqb, eqb_tells}
+use Rattle.std.proofs.Common.{◌≡◌, ◌≢◌, ◌⊎◌, inl, inr, ℕ, true, false, not, ◌&&◌, ◌||◌, ◌==◌, sym, ◌∙◌, ap, subst}
+use Rattle.std.proofs.lemmas.Bool.{cases_Bool, and_parts, or_cases, both_ways, not-true}
+use Rattle.std.proofs.lemmas.Bool.Decides.{eqb_tells}
 use Rattle.sig_types.specs.Phases.{all_phases, is_in, some}
-use Rattle.sig_types.proofs.Lists.{eq-true, phase-listed}
+use Rattle.sig_types.proofs.Lists.{eq-true}
 use Rattle.sig_types.proofs.Sets.{every-phase}
 use Rattle.sig_tables.specs.declared.tables.Tables.{Tables}
 use Rattle.sig_tables.specs.Tables.{ring_of, is_enabled, starts_up}
@@ -12,55 +12,9 @@ use Rattle.rule_book.specs.Street.{neighbours}
 use Rattle.rule_facts.specs.Sides.{SidesCut, SidesHold}
 use Rattle.laws.proofs.Standing.{enabled-phase}
 use Rattle.rule_facts.specs.Rules.{KeepsRules}
-use Rattle.rule_facts.proofs.Members.{Found, some-found, found-some, under}
-use Rattle.rule_facts.proofs.Street.{concurrent-enabled, concurrent-neighbour, side-enabled, concurrent-mutual, across, in-ring, third, in-common}
-
--- how two phases may be of one side
-data OneSide (t : Tables) (p q : ℕ) : Type 0 where
-  Same : p ≡ q → OneSide t p q
-  Beside : are_concurrent t p q ≡ true → OneSide t p q
-  Through : (r : ℕ) → are_concurrent t p r ≡ true → are_concurrent t r q ≡ true → OneSide t p q
-
-one-side : (t : Tables) (p q : ℕ) → are_of_one_side t p q ≡ true → OneSide t p q
-one-side t p q h =
-    elim (or_cases (p == q || are_concurrent t p q) (some (λ r. are_concurrent t p r && are_concurrent t r q) all_phases)
-    (and_parts (is_enabled t p && is_enabled t q) _ h).1) [
-      | inl a ↦ elim (or_cases (p == q) (are_concurrent t p q) a) [
-        | inl e ↦ Same (eq-true p q e)
-        | inr c ↦ Beside c
-      ]
-      | inr s ↦
-          let f : Found (λ r. are_concurrent t p r && are_concurrent t r q) all_phases = some-found _ all_phases s in
-          let b : (are_concurrent t p f.member ≡ true) × (are_concurrent t f.member q ≡ true) = and_parts _ _ f.passes in
-          Through f.member b.0 b.1
-    ]
-
-pub own : (t : Tables) (p : ℕ) → is_enabled t p ≡ true → are_of_one_side t p p ≡ true
-own t p e =
-    and_from (is_enabled t p && is_enabled t p) (p == p || are_concurrent t p p || some (λ r. are_concurrent t p r && are_concurrent t r p) all_phases)
-    (and_from _ _ e e) (or_left (p == p || are_concurrent t p p) _ (or_left (p == p) _ ((Decides-eqb p p).1 refl)))
-
-pub beside : (t : Tables) (p q : ℕ) → are_concurrent t p q ≡ true → are_of_one_side t p q ≡ true
-beside t p q c =
-    let e = concurrent-enabled t p q c in
-    and_from (is_enabled t p && is_enabled t q) (p == q || are_concurrent t p q || some (λ r. are_concurrent t p r && are_concurrent t r q) all_phases)
-    (and_from _ _ e.0 e.1) (or_left (p == q || are_concurrent t p q) _ (or_right (p == q) (are_concurrent t p q) c))
-
-through : (t : Tables) (p r q : ℕ) → are_concurrent t p r ≡ true → are_concurrent t r q ≡ true → are_of_one_side t p q ≡ true
-through t p r q c d =
-    let e = concurrent-enabled t p r c in
-    let f = concurrent-enabled t r q d in
-    and_from (is_enabled t p && is_enabled t q) (p == q || are_concurrent t p q || some (λ x. are_concurrent t p x && are_concurrent t x q) all_phases)
-    (and_from _ _ e.0 f.1)
-    (or_right (p == q || are_concurrent t p q) (some (λ x. are_concurrent t p x && are_concurrent t x q) all_phases)
-    (found-some (λ x. are_concurrent t p x && are_concurrent t x q) all_phases r (phase-listed r (enabled-phase t r e.1)) (and_from _ _ c d)))
-
-pub side-mutual : (t : Tables) (p q : ℕ) → are_of_one_side t p q ≡ true → are_of_one_side t q p ≡ true
-side-mutual t p q h = elim (one-side t p q h) [
-  | Same e ↦ subst (λ (x : ℕ). are_of_one_side t x p ≡ true) e (own t p (side-enabled t p q h).0)
-  | Beside c ↦ beside t q p (concurrent-mutual t p q c)
-  | Through r c d ↦ through t q r p (concurrent-mutual t r q d) (concurrent-mutual t p r c)
-]
+use Rattle.rule_facts.proofs.Members.{Found, some-found, under}
+use Rattle.laws.proofs.OneSide.{Same, Beside, Through, one-side, concurrent-enabled, concurrent-mutual, side-enabled, own, beside, through, side-mutual}
+use Rattle.rule_facts.proofs.Street.{concurrent-neighbour, across, in-ring, third, in-common}
 
 -- phases of one side and ring have the same concurrent phases; those of different rings are concurrent
 alike : (t : Tables) (p q x : ℕ) → KeepsRules t → are_of_one_side t p q ≡ true → ring_of t p ≡ ring_of t q

@@ -7,37 +7,12 @@ use Rattle.sig_types.proofs.Lists.{eq-true, in-those, phase-listed}
 use Rattle.sig_types.proofs.Sets.{in-every, every-phase, in-phases}
 use Rattle.sig_tables.specs.declared.tables.Tables.{Tables}
 use Rattle.sig_tables.specs.Tables.{listed, row, ring_of, is_enabled}
-use Rattle.sig_tables.specs.Sides.{are_concurrent, are_of_one_side}
+use Rattle.sig_tables.specs.Sides.{names, are_concurrent}
 use Rattle.rule_book.specs.Street.{neighbours, same_phases, share_a_phase}
 use Rattle.laws.proofs.Standing.{enabled-phase}
+use Rattle.laws.proofs.OneSide.{concurrent-enabled, concurrent-from}
 use Rattle.rule_facts.specs.Rules.{KeepsRules}
 use Rattle.rule_facts.proofs.Members.{found-some, under}
-
--- q is in the list of p
-abbrev pub names : Tables → ℕ → ℕ → Bool
-names t p q = is_in (listed (row t p).concurrency) q
-
-pub concurrent-enabled : (t : Tables) (p q : ℕ) → are_concurrent t p q ≡ true → (is_enabled t p ≡ true) × (is_enabled t q ≡ true)
-concurrent-enabled t p q h = and_parts (is_enabled t p) (is_enabled t q) (and_parts (is_enabled t p && is_enabled t q) _ h).0
-
-pub side-enabled : (t : Tables) (p q : ℕ) → are_of_one_side t p q ≡ true → (is_enabled t p ≡ true) × (is_enabled t q ≡ true)
-side-enabled t p q h = and_parts (is_enabled t p) (is_enabled t q) (and_parts (is_enabled t p && is_enabled t q) _ h).0
-
-pub concurrent-from : (t : Tables) (p q : ℕ) → is_enabled t p ≡ true → is_enabled t q ≡ true → (names t p q || names t q p) ≡ true
-    → are_concurrent t p q ≡ true
-concurrent-from t p q e f k = and_from (is_enabled t p && is_enabled t q) (names t p q || names t q p) (and_from _ _ e f) k
-
-or-swap : (a b : Bool) → (a || b) ≡ true → (b || a) ≡ true
-or-swap true true h = refl
-or-swap true false h = refl
-or-swap false true h = refl
-or-swap false false h = h
-
-pub concurrent-mutual : (t : Tables) (p q : ℕ) → are_concurrent t p q ≡ true → are_concurrent t q p ≡ true
-concurrent-mutual t p q h =
-    let e = concurrent-enabled t p q h in
-    concurrent-from t q p e.1 e.0
-    (or-swap (names t p q) (names t q p) (and_parts (is_enabled t p && is_enabled t q) (names t p q || names t q p) h).1)
 
 -- q is a neighbour of p
 abbrev pub is_neighbour : Tables → ℕ → ℕ → Bool

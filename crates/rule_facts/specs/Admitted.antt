@@ -6,9 +6,8 @@ use Rattle.sig_tables.specs.Past.{Event, Install, Past, History}
 use Rattle.sig_tables.specs.Looking.{last_frame}
 use Rattle.sig_tables.specs.Modes.{same_mode}
 use Rattle.sig_tables.specs.Events.{EachEvent}
-use Rattle.sig_tables.specs.Decide.{past_of, past_at, since_opening}
+use Rattle.sig_tables.specs.Decide.{past_of, past_at}
 use Rattle.rule_book.specs.Rules.{broken, Consistent}
-use Rattle.laws.specs.Served.{AllServed}
 use Rattle.laws.specs.Safe.{EachApart, EachOne, EachEnabled}
 use Rattle.laws.specs.Walking.{EachQuiet}
 
@@ -25,10 +24,10 @@ IsAdmittedAfter opening before _ = Unit {0}
 abbrev pub Admitted : Tables → List Event → Type 0
 Admitted opening events = Consistent opening × EachEvent (IsAdmittedAfter opening) events
 
--- at every tick no two incompatible phases are on, no two of one ring are on, and only enabled ones are; and where a pattern
--- forces off served phases alone, no two incompatible ones walk together and disabled ones show no signal
+-- at every tick no two incompatible phases are on, no two of one ring are on, and only enabled ones are; no two incompatible ones
+-- walk together, and disabled ones show no signal
 pub record KeepsApart (h : History) : Type 0 where
   pub apart : EachApart (past_at h).moments
   pub one : EachOne (past_at h).moments
   pub enabled : EachEnabled (past_at h).moments
-  pub quiet : AllServed h.tables (since_opening h) → EachQuiet (past_at h).moments
+  pub quiet : EachQuiet (past_at h).moments

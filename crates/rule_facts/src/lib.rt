@@ -178,8 +178,8 @@ pub fn needs_rule_12()
 
 /// A history that opens with consistent tables, and whose downloads each broke no rule beside the tables that they replaced,
 /// is one that the laws of safety speak of. A cabinet that flashes may take tables of another layout. At no tick, whatever
-/// the mode, are two incompatible phases green, yellow or in red clearance together, nor two phases of one ring, and a
-/// disabled phase is red; where a pattern forces off served phases alone, no two incompatible ones walk together.
+/// the mode, are two incompatible phases green, yellow or in red clearance together, nor two phases of one ring, nor do two
+/// incompatible ones walk together, and a disabled phase is red and steady don't walk.
 pub fn admitted_is_safe()
     ensures lawful { (opening : Tables) (events : List Event) → Admitted opening events → Lawful opening events }
     ensures apart { (h : History) → Admitted h.tables (since_opening h) → KeepsApart h }

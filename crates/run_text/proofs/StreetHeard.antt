@@ -6,9 +6,9 @@ use Rattle.sig_types.specs.declared.frame.Field.{Field}
 use Rattle.sig_tables.specs.declared.tables.Tables.{Tables}
 use Rattle.sig_tables.specs.Slots.{is_defined}
 use Rattle.sig_tables.specs.Past.{Event, Tick, Install, History}
-use Rattle.sig_tables.specs.Plain.{IsStreet, OnlyStreet, RunsPlain, Plain}
-use Rattle.sig_tables.specs.Decide.{opening_orders, since_opening, with_one, frames, past_of, past_at}
-use Rattle.sig_tables.proofs.PlainRuns.{runs-plain, all-plain}
+use Rattle.sig_tables.specs.Plain.{IsStreet, OnlyStreet, RunsPlain}
+use Rattle.sig_tables.specs.Decide.{opening_orders, with_one, frames, past_of, past_at}
+use Rattle.sig_tables.proofs.PlainRuns.{runs-plain}
 use Rattle.safe_trace.specs.Written.{version_tables}
 use Rattle.scenario_data.specs.declared.scenario.Input.{Input}
 use Rattle.scenario_data.specs.Content.{CabinetContent, ScenarioContent}
@@ -69,12 +69,9 @@ no-pattern t u command e = ap (is_defined u) e
 no-flash : (command : ℕ) → command ≡ 0 → (command == 255) ≡ false
 no-flash command e = ap (λ (n : ℕ). n == 255) e
 
--- the next tick is about Start and Free alone, and so was each before
+-- the next tick is about Start and Free alone
 pub street-runs : (t : Tables) (h : History) → StreetAlone t h → RunsPlain (past_at h)
 street-runs t h o = runs-plain h.tables h.command h.clock h.events (no-pattern t h.tables h.command o.free) (no-flash h.command o.free) o.events
-
-pub street-plain : (t : Tables) (h : History) → StreetAlone t h → Plain h.tables (since_opening h)
-street-plain t h o = all-plain h.tables h.command h.clock h.events (no-pattern t h.tables h.command o.free) (no-flash h.command o.free) o.events
 
 -- its tables stay in force, and are never replaced
 pub street-tables : (t : Tables) (command clock : ℕ) (events : List Event) → OnlyStreet events → (version : ℕ)

@@ -1,10 +1,9 @@
 -- By the lines of a run every street is safe, and the versions of each cabinet are whole.
 use Rattle.std.proofs.Common.{◌+◌, ◌∙◌, sym, subst, ℕ, List, [], ◌∷◌, inl, inr, refl}
 use Rattle.sig_tables.specs.Past.{History}
-use Rattle.sig_tables.specs.Decide.{since_opening}
 use Rattle.rule_facts.proofs.Facts.{sound}
 use Rattle.laws.specs.Lawful.{Sound}
-use Rattle.laws.proofs.Served.{plain-served, street-lawful}
+use Rattle.laws.proofs.Served.{street-lawful}
 use Rattle.safe_trace.specs.Safe.{Safe, intersection_of}
 use Rattle.safe_trace.specs.Whole.{Whole}
 use Rattle.safe_trace.proofs.History.{history-safe}
@@ -17,7 +16,7 @@ use Rattle.run_text.specs.Runnable.{AllOpen, CanOpen, Runnable}
 use Rattle.run_text.specs.Lines.{run_lines, trace_of}
 use Rattle.run_text.specs.Streets.{StreetsSafe, TellsSafeStreets}
 use Rattle.run_text.proofs.StreetTold.{run-told}
-use Rattle.run_text.proofs.StreetHeard.{StreetAlone, street-tables, street-plain, history-street}
+use Rattle.run_text.proofs.StreetHeard.{StreetAlone, street-tables, history-street}
 use Rattle.run_text.proofs.StreetLines.{are-lines, no-downloads, told-first, run-plain}
 use Rattle.run_text.proofs.StreetChanges.{tells}
 
@@ -38,7 +37,6 @@ run-safe s cab c run is =
     history-safe h (λ version. opening_tables c) has_line cab (run_lines s)
     (λ version. sym (street-tables h.tables h.command h.clock h.events only.events version ∙ only.tables))
     (street-lawful h.tables h.command h.clock h.events own only.events)
-    (plain-served h.tables (since_opening h) (street-plain (opening_tables c) h only))
     tells (run-told s cab c is)
 
 -- the versions of every cabinet are whole

@@ -16,6 +16,7 @@ use Rattle.laws.specs.Served.{AllServed}
 use Rattle.laws.proofs.Each.{at-last, each-moment}
 use Rattle.laws.proofs.Sought.{Numbered, reached-numbered, sought-known}
 use Rattle.laws.proofs.Apart.{holds}
+use Rattle.laws.proofs.Serving.{lawful-served}
 use Rattle.laws.proofs.Quiet.{each-quiet}
 use Rattle.laws.proofs.Ends.{each-clearance, each-green}
 use Rattle.laws.proofs.Follows.{each-follows}
@@ -88,9 +89,10 @@ each-numbered opening events =
     (sought-known _ _ _ _ past.moments (at-last (λ f. Numbered f.mode) tt past.moments h))) events
 
 pub history-safe : (h : History) (tables : ℕ → Tables) (has_line : Frame → Frame → Bool) (cab : ℕ) (lines : List Line)
-    → ((version : ℕ) → tables version ≡ tables_of h version) → Lawful h.tables (since_opening h) → AllServed h.tables (since_opening h)
+    → ((version : ℕ) → tables version ≡ tables_of h version) → Lawful h.tables (since_opening h)
     → TellsChanges has_line → told cab lines ≡ written has_line (frames h) → Safe (intersection_of cab tables lines)
-history-safe h tables has_line cab lines same lawful served tells e =
+history-safe h tables has_line cab lines same lawful tells e =
+    let served : AllServed h.tables (since_opening h) = lawful-served h.tables (since_opening h) lawful in
     let v : Versions (version_tables h.tables (since_opening h)) (past_at h) = versions h.tables (since_opening h) in
     let known = holds h.tables (since_opening h) lawful in
     is-safe (intersection_of cab tables lines) (past_at h).moments v.some
@@ -99,7 +101,7 @@ history-safe h tables has_line cab lines same lawful served tells e =
       tables = same-tables tables (version_tables h.tables (since_opening h)) same _ v.each;
       numbered = each-numbered h.tables (since_opening h);
       apart = known.apart;
-      quiet = each-quiet h.tables (since_opening h) lawful served;
+      quiet = each-quiet h.tables (since_opening h) lawful;
       clearances = each-clearance h.tables (since_opening h);
       greens = each-green h.tables (since_opening h) served;
       follows = each-follows h.tables (since_opening h);

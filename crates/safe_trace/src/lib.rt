@@ -7,11 +7,9 @@ ghost use Rattle.std.specs.Prelude.{◌≡◌, ℕ, Bool, List};
 ghost use Rattle.sig_types.specs.declared.frame.Frame.{Frame};
 ghost use Rattle.sig_tables.specs.Standard.{pair};
 ghost use Rattle.sig_tables.specs.Past.{History};
-ghost use Rattle.sig_tables.specs.Plain.{Plain};
 ghost use Rattle.sig_tables.specs.Decide.{frames, past_at, since_opening};
 ghost use Rattle.trace_text.specs.declared.lines.Line.{Line};
 ghost use Rattle.laws.specs.Lawful.{Lawful};
-ghost use Rattle.laws.specs.Served.{AllServed};
 ghost use Rattle.safe_trace.specs.Safe.{Safe, intersection_of, told};
 ghost use Rattle.safe_trace.specs.Written.{TellsChanges, written, tables_of};
 ghost use Rattle.safe_trace.specs.Whole.{Whole, downloads};
@@ -19,21 +17,13 @@ ghost use Rattle.safe_trace.specs.Rows.{IsRefused, IsRefusedWith, conflict, two_
 ghost use Rattle.safe_trace.specs.Rows.{no_clear, short_clear, long_clear, short_green, short_walk, long_walk, no_flash, short_flash, long_flash, walk_on_red};
 ghost use Rattle.safe_trace.specs.Rows.{slow_yellow, newest_yellow, preempted, short_green_on_entry, short_yellow_on_entry, short_walk_on_entry, short_flash_on_entry, cut_flash};
 
-/// The street of a trace is safe: whatever the inputs, commands and downloads of a cabinet's history, whichever rule chooses the
-/// frames that have a line, as long as one without a line shows what the one before it showed, and whatever other lines
-/// stand between. The tables opened with and those of each download are sound; each download keeps the layout of the tables
-/// before it, but for one that comes while nothing is on. In Start and Free this holds without more; under a pattern where it
-/// forces off served phases alone.
+/// The street of a trace is safe, in every mode: whatever the inputs, commands, preempts, priority requests and downloads of a
+/// cabinet's history, whichever rule chooses the frames that have a line, as long as one without a line shows what the one before it
+/// showed, and whatever other lines stand between. The tables opened with and those of each download are sound; each download keeps the
+/// layout of the tables before it, but for one that comes while nothing is on.
 pub fn trace_is_safe()
-    ensures served { (h : History) (has_line : Frame → Frame → Bool) (cab : ℕ) (lines : List Line)
+    ensures { (h : History) (has_line : Frame → Frame → Bool) (cab : ℕ) (lines : List Line)
         → Lawful h.tables (since_opening h)
-        → AllServed h.tables (since_opening h)
-        → TellsChanges has_line
-        → told cab lines ≡ written has_line (frames h)
-        → Safe (intersection_of cab (tables_of h) lines) }
-    ensures plain { (h : History) (has_line : Frame → Frame → Bool) (cab : ℕ) (lines : List Line)
-        → Lawful h.tables (since_opening h)
-        → Plain h.tables (since_opening h)
         → TellsChanges has_line
         → told cab lines ≡ written has_line (frames h)
         → Safe (intersection_of cab (tables_of h) lines) }

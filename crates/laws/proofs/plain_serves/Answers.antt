@@ -1,5 +1,18 @@
+use Rattle.sig_tables.specs.Decide.{since_opening}
+use Rattle.laws.proofs.Ends.{each-green}
+use Rattle.laws.proofs.Signals.{each-on-green, each-signals}
+use Rattle.laws.proofs.SignalWithin.{each-walk-within}
 use Rattle.laws.proofs.Served.{plain-served}
 use Rattle.laws.proofs.plain_serves.Goals as goal
 
-pub returns : goal.returns
-returns c = plain-served
+pub returns-clause-greens : goal.returns-clause-greens
+returns-clause-greens c = λ h plain. each-green h.tables (since_opening h) (plain-served h.tables (since_opening h) plain)
+
+pub returns-clause-on_green : goal.returns-clause-on_green
+returns-clause-on_green c = λ h plain. each-on-green h.tables (since_opening h) (plain-served h.tables (since_opening h) plain)
+
+pub returns-clause-signals : goal.returns-clause-signals
+returns-clause-signals c = λ h plain. each-signals h.tables (since_opening h) (plain-served h.tables (since_opening h) plain)
+
+pub returns-clause-walks : goal.returns-clause-walks
+returns-clause-walks c = λ h plain. each-walk-within h.tables (since_opening h) (plain-served h.tables (since_opening h) plain)

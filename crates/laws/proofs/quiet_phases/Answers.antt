@@ -7,4 +7,4 @@ pub returns-clause-enabled : goal.returns-clause-enabled
 returns-clause-enabled c = λ h l. (holds h.tables (since_opening h) l).enabled
 
 pub returns-clause-signals : goal.returns-clause-signals
-returns-clause-signals c = λ h l served. each-quiet h.tables (since_opening h) l served
+returns-clause-signals c = λ h l. each-quiet h.tables (since_opening h) l
