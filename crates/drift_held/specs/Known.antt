@@ -1,0 +1,10 @@
+-- Corrections whose counters are known under a clock that drifts.
+use Rattle.sig_tables.specs.Counting.{Correction}
+
+-- a cycle of 90 seconds that dwells up to 100 ticks
+abbrev pub dwelling_90 : Correction
+dwelling_90 = record { cycle = 900; window = 245; mode = 2; dwell = 100; add = 20; subtract = 20 }
+
+-- the same with shortway, up to 20 ticks both ways
+abbrev pub shortway_90 : Correction
+shortway_90 = record { cycle = 900; window = 245; mode = 3; dwell = 100; add = 20; subtract = 20 }

@@ -1,0 +1,2 @@
+pub mod Drifting
+pub mod Known

@@ -1,0 +1,3 @@
+pub mod Correcting
+pub mod Stepping
+pub mod Known
