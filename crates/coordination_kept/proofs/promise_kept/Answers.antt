@@ -1,0 +1,11 @@
+use Rattle.coordination_kept.proofs.Meeting.{meets-each, meets-history, tells-opening}
+use Rattle.coordination_kept.proofs.promise_kept.Goals as goal
+
+pub returns-clause-each : goal.returns-clause-each
+returns-clause-each c = meets-each
+
+pub returns-clause-history : goal.returns-clause-history
+returns-clause-history c = λ h gain lose tells. meets-history h gain lose tells
+
+pub returns-clause-opening : goal.returns-clause-opening
+returns-clause-opening c = tells-opening

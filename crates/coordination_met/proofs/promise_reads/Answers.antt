@@ -1,0 +1,11 @@
+use Rattle.coordination_met.proofs.Reading.{green-read, zero-read, offset-read}
+use Rattle.coordination_met.proofs.promise_reads.Goals as goal
+
+pub returns-clause-green : goal.returns-clause-green
+returns-clause-green c = green-read
+
+pub returns-clause-zero : goal.returns-clause-zero
+returns-clause-zero c = zero-read
+
+pub returns-clause-offset : goal.returns-clause-offset
+returns-clause-offset c = offset-read

@@ -1,0 +1,39 @@
+//! Coordination that is left alone, in every lawful history: each tick is as the laws of a search and of a pattern in step ask, so the
+//! whole promise holds of it. The functions have no bodies: each stands for the laws of its contract.
+//! (FHWA Signal Timing Manual: coordination, offset, transition.)
+#![tactic(auto)]
+
+ghost use Rattle.std.specs.Prelude.{◌≡◌, ◌≤◌, ◌∷◌, List, true};
+ghost use Rattle.sig_tables.specs.Slots.{is_defined};
+ghost use Rattle.sig_tables.specs.Past.{Moment, History};
+ghost use Rattle.sig_tables.specs.Decide.{past_at, since_opening};
+ghost use Rattle.laws.specs.Lawful.{Lawful};
+ghost use Rattle.rule_facts.specs.Admitted.{Admitted};
+ghost use Rattle.undisturbed.specs.Disturbances.{no_drift, quiet_for};
+ghost use Rattle.undisturbed.specs.Bounds.{zero_bound, offset_bound};
+ghost use Rattle.undisturbed.specs.Meets.{MeetsNow, MeetsEach, Meets, is_zero, is_green, has_zero, zero_target};
+
+/// In every lawful history both coordinated phases are green at each local zero. Where nothing disturbs the cabinet for the bound after a
+/// disturbance at which a defined pattern is in command, a local zero comes in time, from whatever state that leaves; and where nothing
+/// disturbs it for the cycles that the correction needs besides, the offset is met by then, and held until the next disturbance. Here a tick at which the clock gains or loses counts as one at
+/// which it is set; where it never drifts this is all that is asked of the history. It is enough that the opening tables are consistent
+/// and each download passed the rules.
+pub fn coordination_is_met()
+    ensures admitted { (h : History) → Admitted h.tables (since_opening h) → MeetsEach no_drift (past_at h).moments }
+    ensures each { (h : History) → Lawful h.tables (since_opening h) → MeetsEach no_drift (past_at h).moments }
+    ensures history { (h : History) → Lawful h.tables (since_opening h) → (past_at h).gain ≡ 0 → (past_at h).lose ≡ 0 → Meets h }
+{}
+
+/// What that says of the last moment: at a local zero both coordinated phases are green; where a defined pattern is in command and the
+/// cabinet has been left undisturbed for the bound, a local zero has come since; and where it has been so for the bound and the
+/// needed cycles, counter and target are equal, so that a local zero then has target 0.
+pub fn promise_reads()
+    ensures green { (m : Moment) (past : List Moment) → MeetsNow no_drift (m ∷ past) → is_zero (m ∷ past) ≡ true
+        → is_green m.frame.mode m.tables m.frame.veh ≡ true }
+    ensures zero { (m : Moment) (past : List Moment) → MeetsNow no_drift (m ∷ past) → is_defined m.tables m.command ≡ true
+        → zero_bound (m ∷ past) m.tables m.command ≤ quiet_for no_drift (m ∷ past) → has_zero no_drift (m ∷ past) ≡ true }
+    ensures offset { (m : Moment) (past : List Moment) → MeetsNow no_drift (m ∷ past) → is_defined m.tables m.command ≡ true
+        → has_zero no_drift (m ∷ past) ≡ true
+        → offset_bound no_drift (m ∷ past) m.tables m.command (zero_target no_drift (m ∷ past)) ≤ quiet_for no_drift (m ∷ past)
+        → m.frame.counter ≡ m.frame.target }
+{}
