@@ -8,6 +8,7 @@ use Rattle.sig_types.specs.declared.frame.Field.{Field}
 use Rattle.trace_text.specs.Line.{line_text}
 use Rattle.trace_text.specs.declared.lines.Line.TheVariants.{R}
 use Rattle.safe_trace.specs.TraceText.{lines_text}
+use Rattle.io_edge.specs.Edge.{Rises}
 use Rattle.scenario_data.specs.declared.scenario.Input.{Input}
 use Rattle.scenario_data.specs.Content.{CabinetContent, ScenarioContent}
 use Rattle.scenario_data.specs.Inputs.{inputs_of}
@@ -157,3 +158,8 @@ cabinets_done s done n i ks start queue first old new held holds all between so 
   each = each_same s (rounds_done done i) (λ cab. done + 1) 1 ks s.cabinets (λ cab least most. done_before done i cab (omega (arith, all, most))) so.each;
   due = holds-next queue s.inputs (done + 1) (i + 1) so.due;
 }
+
+-- a count of faults that rises from a later one has risen
+pub still_rises : (a b c : ℕ) → a ≤ b → Rises b c → Rises a c
+still_rises a b c h (inl r) = let l : a < c = omega arith in inl l
+still_rises a b c h (inr r) = inr r

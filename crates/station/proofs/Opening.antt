@@ -3,24 +3,25 @@ use Rattle.std.proofs.Common.{◌≡◌, ◌<◌, ◌≤◌, ◌+◌, ◌∙◌,
 use Rattle.std.proofs.Common.{refl, sym, ap, subst, arith, add-one, append_assoc, append-nil}
 use Rattle.std.proofs.lemmas.List.{drop_all}
 use Rattle.sig_tables.specs.declared.tables.Tables.{Tables}
-use Rattle.sig_tables.specs.Slots.{is_defined}
 use Rattle.sig_tables.specs.Decide.{opening}
 use Rattle.scenario_data.specs.declared.scenario.Cabinet.{Cabinet}
 use Rattle.scenario_data.specs.Content.{CabinetContent, ScenarioContent, cabinet_content}
 use Rattle.scenario_data.specs.Opening.{opening_tables}
 use Rattle.controller.specs.declared.Controller.{Controller}
-use Rattle.controller.specs.StandsFor.{StandsFor, IsFree, tick_count}
+use Rattle.plan_facts.specs.Times.{CorrectionHolds}
+use Rattle.rule_book.specs.Rules.{Consistent}
+use Rattle.rule_facts.proofs.Facts.{times-hold}
+use Rattle.controller.specs.StandsFor.{StandsFor, CanRun, tick_count}
 use Rattle.run_text.specs.Cabinets.{opening_history}
 use Rattle.run_text.specs.Runnable.{CanOpen, AllOpen}
 use Rattle.station.specs.Rounds.{Runs, EachRuns}
 use Rattle.station.proofs.Numbered.{each_opened}
 
--- no tables have a pattern 0
-none_defined : (t : Tables) → is_defined t 0 ≡ false
-none_defined t = refl
-
-pub runs_free : (t : Tables) (command : ℕ) → command ≡ 0 → IsFree t command
-runs_free t command none = subst (λ (n : ℕ). IsFree t n) (sym none) (record { not_flash = omega arith; no_pattern = none_defined t })
+-- consistent tables can be run
+pub can_run : (t : Tables) (c : CabinetContent) → t ≡ opening_tables c → Consistent (opening_tables c) → CanRun t
+can_run t c same ok =
+    let holds : CorrectionHolds (opening_tables c) = (times-hold (opening_tables c) ok).correction in
+    subst (λ (u : Tables). CanRun u) (sym same) (record { adds = holds.add; subtracts = holds.subtract })
 
 pub opens : (k : Controller) (c : Cabinet) (t : Tables) → t ≡ opening_tables (cabinet_content c) → StandsFor k (opening t c.pattern c.clock)
     → tick_count k ≡ 0 → Runs k (opening_history (cabinet_content c)) 0

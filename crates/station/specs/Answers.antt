@@ -15,6 +15,24 @@ use Rattle.station.specs.Bytes.{AppendsFront, nothing_left}
 abbrev pub IsRun : List (List ℕ) → Type 0
 IsRun words = words ≡ codes "run" ∷ []
 
+-- they are those of the help
+abbrev pub IsHelp : List (List ℕ) → Type 0
+IsHelp words = words ≡ codes "--help" ∷ []
+
+-- they are those of the version
+abbrev pub IsVersion : List (List ℕ) → Type 0
+IsVersion words = words ≡ codes "--version" ∷ []
+
+-- they are a command
+abbrev pub IsCommand : List (List ℕ) → Type 0
+IsCommand words = IsRun words ⊎ (IsHelp words ⊎ IsVersion words)
+
+-- a text was written whole, or a write failed, and a front of the text was written and not all of it
+abbrev pub WritesText : Status → List ℕ → Type 0 → Option (List ℕ) → Option (List ℕ) → Type 0
+WritesText Done text unwritten old new = Appends old new text
+WritesText WriteFault text unwritten old new = unwritten × AppendsFront old new text
+WritesText _ text unwritten old new = ⊥
+
 -- the input is within the limit of 16,777,216 bytes
 abbrev pub IsShort : List ℕ → Type 0
 IsShort input = length input ≤ 16777216

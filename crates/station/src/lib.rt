@@ -5,6 +5,7 @@
 mod bytes;
 mod cabinets;
 mod frames;
+mod help;
 mod lines;
 mod outbox;
 #[cfg(test)]

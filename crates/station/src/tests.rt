@@ -81,7 +81,7 @@ fn other_words_are_usage(rt: HostRuntime) -> Result<(), Fail> {
         &["Run"],
         &["run", "run"],
         &["run", ""],
-        &["--help"],
+        &["--help", "run"],
     ];
     for words in cases {
         // The first read would fail.
@@ -230,6 +230,25 @@ fn each_write_may_fail(rt: HostRuntime) -> Result<(), Fail> {
         assert_eq!(rt; said.as_str(), due);
         assert!(rt; whole.starts_with(written.as_slice()));
         assert_eq!(rt; written.len() == whole.len(), due == "done");
+    }
+    Ok(())
+}
+
+#[test]
+fn help_and_version_write_their_text_and_read_nothing(rt: HostRuntime) -> Result<(), Fail> {
+    let alloc = rt.alloc();
+    for (word, text) in [
+        ("--help", "arterial: a bench for"),
+        ("--version", "arterial 0.4\n"),
+    ] {
+        // The first read would fail.
+        let (said, written) = answer(&rt, alloc, &[word], Vec::new(alloc), (1, 0), 10_000)?;
+        assert_eq!(rt; said.as_str(), "done");
+        assert!(rt; written.as_slice().starts_with(text.as_bytes()));
+        // The first write fails.
+        let (said, written) = answer(&rt, alloc, &[word], Vec::new(alloc), (0, 1), 10_000)?;
+        assert_eq!(rt; said.as_str(), "write fault");
+        assert!(rt; written.is_empty());
     }
     Ok(())
 }

@@ -7,26 +7,38 @@ ghost use Rattle.scenario_data.specs.declared.refusal.Refusal.{Refusal};
 ghost use Rattle.scenario_read.specs.Answers.{IsScenario, IsFirstFault};
 ghost use Rattle.run_text.specs.Runnable.{Runnable};
 ghost use Rattle.station.specs.Bytes.{nothing_left};
-ghost use Rattle.station.specs.Answers.{IsRun, IsShort, WritesTrace, WritesFront, WritesSafe, IsLengthRefusal, IsLengthLimit, IsAnswer, IsInput};
+ghost use Rattle.station.specs.Answers.{IsRun, IsHelp, IsVersion, IsCommand, WritesText, IsShort, WritesTrace, WritesFront, WritesSafe, IsLengthRefusal, IsLengthLimit, IsAnswer, IsInput};
 ghost use Rattle.station.specs.Answers.{HasFault, NamesFault, IsNoScenario, IsRefusedFor, LeavesRefused, Tells, LeavesInput, AppendsOutput};
 
-use crate::bytes::{ReadEnd, read_all};
+use crate::bytes::{ReadEnd, put_all, read_all};
+use crate::help::{HELP, VERSION};
 use crate::lines::Stop;
 use crate::status::Status;
 use crate::trace::write_trace;
-use io_edge::{Gate, Sink, Source};
+use io_edge::{Failed, Gate, Sink, Source};
 use scenario_data::{ReadFail, Refusal, Scenario};
 use scenario_file::read;
 use std::alloc::Global;
 use std::thread::Threads;
 
-/// Whether the words are those of `run`.
-fn is_run(words: &Vec<String>) -> bool
-    ensures { IsTrue result ↔ IsRun (map string_bytes words.now.items) }
+/// Whether there is one word, and it is this one.
+fn is_lone(words: &Vec<String>, name: &str) -> bool
+    ensures { IsTrue result ↔ (map string_bytes words.now.items ≡ name.now ∷ []) }
 {
     match words.as_slice() {
-        [word] => word.as_str() == "run",
+        [word] => word.as_str() == name,
         _ => false,
+    }
+}
+
+/// Writes a text that the program says of itself.
+fn tell<K: Sink>(sink: &mut K, text: &str) -> Status
+    ensures tells { WritesText result text.now (Rises (K.faults sink.old) (K.faults sink.new)) (K.written sink.old) (K.written sink.new) }
+    ensures kept { K.faults sink.old ≤ K.faults sink.new }
+{
+    match put_all(sink, text.as_bytes()) {
+        Ok(()) => Status::Done,
+        Err(Failed) => Status::WriteFault,
     }
 }
 
@@ -92,7 +104,8 @@ fn run<S: Source, K: Sink>(alloc: Global, source: &mut S, sink: &mut K) -> Statu
     }
 }
 
-/// All that the program does: `run` reads a scenario from the source and writes its trace to the sink.
+/// All that the program does: `run` reads a scenario from the source and writes its trace to the sink; `--help` and
+/// `--version` write a text, and read nothing.
 ///
 /// The words are those after the program's name. An input has at most 16,777,216 bytes. `NoMemory` may come
 /// wherever memory is taken; of every other answer the clauses say what it tells of the input and the faults.
@@ -108,16 +121,22 @@ pub fn station<R: Threads + Sync, S: Source, K: Sink, G: Gate + Sync>(
     ensures answers { IsAnswer result }
 
     // Usage comes exactly where the words are no command; nothing is read or written then.
-    ensures usage { result ≡ Status.Usage ↔ ¬ IsRun (map string_bytes words.now.items) }
+    ensures usage { result ≡ Status.Usage ↔ ¬ IsCommand (map string_bytes words.now.items) }
     ensures untouched { result ≡ Status.Usage → (source.new ≡ source.old) × (sink.new ≡ sink.old) }
 
-    // Done: the source was read to its end, its bytes are a scenario, and the whole trace was appended to the sink.
-    ensures done { result ≡ Status.Done → (S.left source.new ≡ nothing_left (S.left source.old))
+    // Help and version: the whole text was written, or a write failed and a front of it was; nothing is read.
+    ensures help { IsHelp (map string_bytes words.now.items) → (source.new ≡ source.old)
+        × WritesText result HELP.now (Rises (K.faults sink.old) (K.faults sink.new)) (K.written sink.old) (K.written sink.new) }
+    ensures version { IsVersion (map string_bytes words.now.items) → (source.new ≡ source.old)
+        × WritesText result VERSION.now (Rises (K.faults sink.old) (K.faults sink.new)) (K.written sink.old) (K.written sink.new) }
+
+    // Done after `run`: the source was read to its end, its bytes are a scenario, and the whole trace was appended to the sink.
+    ensures done { IsRun (map string_bytes words.now.items) → result ≡ Status.Done → (S.left source.new ≡ nothing_left (S.left source.old))
         × WritesTrace (S.left source.old) (K.written sink.old) (K.written sink.new) }
 
     // And the trace is safe: by its frame lines alone every street is safe at every tick, with the tables that its cabinet
     // opened with; the versions are whole.
-    ensures safe { result ≡ Status.Done → WritesSafe (S.left source.old) (K.written sink.old) (K.written sink.new) }
+    ensures safe { IsRun (map string_bytes words.now.items) → result ≡ Status.Done → WritesSafe (S.left source.old) (K.written sink.old) (K.written sink.new) }
 
     // Why a failed read and each refusal come, and that nothing was written then. The path `.` with `Limit` is the input's
     // length alone: no other fault has it.
@@ -128,7 +147,7 @@ pub fn station<R: Threads + Sync, S: Source, K: Sink, G: Gate + Sync>(
         × IfSome (S.left source.old) (λ input. (16777216 < length input) × (S.left source.new ≡ Some (drop 16777217 input))) }
 
     // Where writing stops short, the bytes written are a front of the trace, and not all of it.
-    ensures write_fault { result ≡ Status.WriteFault → Rises (K.faults sink.old) (K.faults sink.new) × (S.left source.new ≡ nothing_left (S.left source.old))
+    ensures write_fault { IsRun (map string_bytes words.now.items) → result ≡ Status.WriteFault → Rises (K.faults sink.old) (K.faults sink.new) × (S.left source.new ≡ nothing_left (S.left source.old))
         × WritesFront (S.left source.old) (K.written sink.old) (K.written sink.new) }
     ensures no_memory { result ≡ Status.NoMemory → (K.written sink.new ≡ K.written sink.old)
         ⊎ ((S.left source.new ≡ nothing_left (S.left source.old)) × WritesFront (S.left source.old) (K.written sink.old) (K.written sink.new)) }
@@ -146,8 +165,12 @@ pub fn station<R: Threads + Sync, S: Source, K: Sink, G: Gate + Sync>(
         → ¬ Rises (S.faults source.old) (S.faults source.new) → ¬ Rises (K.faults sink.old) (K.faults sink.new)
         → (result ≡ Status.Done) ⊎ (result ≡ Status.NoMemory)) }
 {
-    if is_run(words) {
+    if is_lone(words, "run") {
         run(alloc, source, sink)
+    } else if is_lone(words, "--help") {
+        tell(sink, HELP)
+    } else if is_lone(words, "--version") {
+        tell(sink, VERSION)
     } else {
         Status::Usage
     }

@@ -1,6 +1,6 @@
 use Rattle.std.proofs.Common.{false, refl, arith, ◌∙◌}
 use Rattle.sig_types.specs.declared.frame.Field.TheVariants.{Veh}
-use Rattle.station.proofs.Hearing.{street_on, hears_on, heard_all}
+use Rattle.station.proofs.Hearing.{street_on, place_at, hears_on, heard_all}
 use Rattle.station.proofs.cabinets.hear.Goals as goal
 
 pub loop-input-init : goal.loop-input-init
@@ -21,3 +21,9 @@ loop-input-preserved c = record {
 
 pub returns-clause-runs : goal.returns-clause-runs
 returns-clause-runs c = λ h done runs. heard_all _ c.args.inputs.now c.loop-input.input-index done _ (omega arith) (c.loop-input.invariant.runs h done runs)
+
+pub input-requires : goal.input-requires
+input-requires c = record {
+  place = place_at c.args.inputs.now c.loop-input.input-index (record { round = 0; cabinet = 0; field = Veh 0 false })
+      (omega arith) c.loop-input.invariant.street;
+}

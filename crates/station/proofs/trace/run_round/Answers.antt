@@ -4,7 +4,7 @@ use Rattle.trace_text.specs.Line.{line_text}
 use Rattle.trace_text.specs.declared.lines.Line.TheVariants.{R}
 use Rattle.run_text.specs.Cabinets.{history_after}
 use Rattle.station.proofs.Writing.{front_first}
-use Rattle.station.proofs.OneRound.{cabinets_start, turn, turn_street, turn_few, cabinets_go, cabinets_stop, cabinets_put, cabinets_done}
+use Rattle.station.proofs.OneRound.{cabinets_start, turn, turn_street, turn_few, cabinets_go, cabinets_stop, cabinets_put, cabinets_done, still_rises}
 use Rattle.station.proofs.trace.run_round.Goals as goal
 
 pub returns-in-Err-clause-err : goal.returns-in-Err-clause-err
@@ -40,6 +40,9 @@ returns-in-Err-run_cabinet-clause-err g c = λ s between.
     let t = turn s _ _ c.loop-i.i _ c.loop-i.controllers.items _ _ _ _ _ _ _ c.due-inputs.result.now (omega arith) c.index_mut.ensures.value between so
     (c.due-inputs.ensures s.inputs so.due) in
     cabinets_stop s _ _ c.loop-i.i _ _ _ _ _ _ _ _ _ so t (c.in-Err-run_cabinet.ensures.err (history_after s (c.loop-i.i + 1) t.c c.args.done) t.runs)
+
+pub returns-in-Err-run_cabinet-clause-fault : goal.returns-in-Err-run_cabinet-clause-fault
+returns-in-Err-run_cabinet-clause-fault g c = λ e. still_rises _ _ _ c.loop-i.invariant.kept (c.in-Err-run_cabinet.ensures.fault e)
 
 pub loop-i-preserved : goal.loop-i-preserved
 loop-i-preserved g c = record {
