@@ -1,0 +1,229 @@
+"""What a trace tells of one cabinet as it goes on: tables in force, detectors, cycles of a pattern, how each green ended."""
+
+import functools
+import re
+from typing import NamedTuple
+
+from . import answers
+from .lines import NotATrace
+from .plans import plan
+from .tables import ALL, Tables
+
+MODE = re.compile(r"([SFEXKCP])(\d*)([etdx]?)")
+STAGES = {"e": "entry", "t": "track", "d": "dwell", "x": "exit"}
+WORDS = {"S": "start-up", "F": "free", "E": "ending", "X": "flash", "K": "seek", "C": "coordinated"}
+DAY = 864_000
+
+
+class Mode(NamedTuple):
+    """A mode: its letter (S, F, K, C, E, X or P), the number of its pattern or preempt, the stage of a preempt."""
+
+    letter: str
+    number: int
+    stage: str
+
+    @property
+    def words(self):
+        """The mode in words, without its number."""
+        return "preempt" if self.letter == "P" else WORDS[self.letter]
+
+
+def mode_of(text, known={}):
+    """Returns a mode as it is written in an F line."""
+    if text not in known:
+        letter, number, stage = MODE.fullmatch(text).groups()
+        known[text] = Mode(letter, int(number or 0), STAGES.get(stage, ""))
+    return known[text]
+
+
+@functools.lru_cache(maxsize=4096)
+def changes(before, after):
+    """Returns the phases whose letters differ between two frames: phase, letter before, letter now."""
+    return tuple((phase, was, now) for phase, was, now in zip(ALL, before, after) if was != now)
+
+
+class Cycle(NamedTuple):
+    """A cycle of a pattern begins: `pickup` says whether the pattern was taken up, `error` by how many ticks it begins late
+    (above 0) or early (below 0) by the cabinet's clock; None where the pattern's cycle isn't told. `elapsed` counts the
+    ticks since the local zero before, and is None at a pickup."""
+
+    tick: int
+    pattern: int
+    pickup: bool
+    target: int
+    error: int | None
+    elapsed: int | None
+
+
+def changed_elsewhere(scenario, number):
+    """Returns whether tables may be changed by other than the scenario's downloads as they are written: by octets of
+    management software, or by a fault that flips an octet of a download."""
+    flips = any(
+        it["cabinet"] == number and it["kind"] == "flip" and it["stream"] == "load" and it["way"] == "down"
+        for it in scenario.get("faults", ())
+    )
+    part = answers.OWN + "0103"
+    return flips or any(it["cabinet"] == number and part in it["hex"].lower() for it in scenario.get("frames", ()))
+
+
+class Cabinet:
+    """A cabinet of a trace. It is told of frames, inputs and ends of downloads in their order."""
+
+    def __init__(self, scenario, number):
+        setup = scenario["cabinets"][number - 1]
+        self.number = number
+        self.tables, self.told = Tables(setup.get("base", "std8"), setup.get("cells", ())), True
+        self.loads = [it["cells"] for it in scenario.get("loads", ()) if it["cabinet"] == number]
+        self.strange = changed_elsewhere(scenario, number)
+        self.opening = setup.get("pattern", 0)
+        self.clock = Clock(setup)
+        self.frame, self.plans, self.sides = None, {}, {}
+        self.occupied, self.active, self.green = set(), [0] * 17, [0] * 17
+        self.zero = 0
+
+    def plan(self, pattern):
+        """Returns the plan of a pattern by the tables in force, or None."""
+        if pattern not in self.plans:
+            self.plans[pattern] = plan(self.tables, pattern) if self.told else None
+        return self.plans[pattern]
+
+    def side(self, phase):
+        """Returns a phase's side of the barrier by the tables in force, named by its least phase."""
+        if phase not in self.sides:
+            self.sides[phase] = min(self.tables.side(phase), default=phase)
+        return self.sides[phase]
+
+    def ended(self, load):
+        """Puts a download in force, where it was accepted."""
+        if load.version is None:
+            return
+        self.plans, self.sides = {}, {}
+        self.told = self.told and not self.strange and 0 < load.number <= len(self.loads)
+        if self.told:
+            self.tables.put(self.loads[load.number - 1])
+
+    def sensed(self, item):
+        """Keeps for each phase the last tick at which a vehicle was near."""
+        if item.kind != "veh":
+            return
+        if item.on:
+            self.occupied.add(item.number)
+            self.active[item.number] = item.tick + 1
+        elif item.number in self.occupied:
+            self.occupied.discard(item.number)
+            self.active[item.number] = max(self.active[item.number], item.tick)
+
+    def shown(self, frame):
+        """Takes over a frame."""
+        before = self.frame.vehicles if self.frame else "R" * 16
+        for phase, _, shows in changes(before, frame.vehicles):
+            if shows == "G":
+                self.green[phase] = frame.tick
+        self.frame = frame
+
+    def cycle(self, frame):
+        """Returns the cycle that begins with this frame, which isn't taken over yet; None where none does."""
+        mode, before = mode_of(frame.mode), self.frame
+        if mode.letter != "C" or frame.counter != 0:
+            return None
+        pickup = before.mode != frame.mode or before.version != frame.version
+        if not pickup and before.counter == 0 and not self.came_round(frame):
+            return None
+        elapsed = None if pickup else frame.tick - self.zero
+        self.zero = frame.tick
+        return Cycle(frame.tick, mode.number, pickup, frame.target, self.error(mode.number, frame.target), elapsed)
+
+    def came_round(self, frame):
+        """Returns whether the counter, 0 in the frame before too, has gone round the cycle since. While it stands at 0 a line
+        is written for a signal that changes; it stands for less than a cycle there, and for a tick where ticks are skipped."""
+        before = self.frame
+        if (frame.vehicles, frame.pedestrians) == (before.vehicles, before.pedestrians):
+            return True
+        known = self.plan(mode_of(frame.mode).number)
+        if known is None:
+            return False
+        dwells = self.tables.unit(1) == 2
+        return frame.tick - self.zero >= (known.cycle if dwells else known.cycle // 2)
+
+    def error(self, pattern, target):
+        """Returns by how many ticks a cycle begins late or early, on the side from which it is corrected: early where cycles
+        are drawn out (dwell, add-only, and shortway where that takes no more cycles), else late."""
+        known = self.plan(pattern)
+        if known is None:
+            return None
+        add, skip = self.tables.unit(3), self.tables.unit(4)
+        late = self.tables.unit(1) == 3 and -(-(known.cycle - target) // add) > -(-target // skip)
+        return target if late or target == 0 else target - known.cycle
+
+    def is_met(self, cycle):
+        """Returns whether a cycle begins on the offset: to within a tick where the clock drifts."""
+        if cycle.error is None:
+            return False
+        length = self.plan(cycle.pattern).cycle
+        return min(cycle.target, length - cycle.target) <= int(self.clock.gain > 0 or self.clock.lose > 0)
+
+    def recalled(self, phase, mode):
+        """Returns whether a phase has maximum recall, by its options or by the split of the pattern that runs."""
+        split = self.tables.pattern(mode.number, 4) if mode.letter == "C" else 0
+        return self.tables.option(phase, 128) or (split > 0 and self.tables.split(split, phase, 4) in (4, 6))
+
+    def gapped(self, phase, frame, mode):
+        """Returns whether no vehicle was near a phase for its passage time, as its green ends with this frame."""
+        if phase in self.occupied or self.recalled(phase, mode):
+            return False
+        quiet = frame.tick - max(self.active[phase], self.green[phase])
+        return quiet >= max(1, self.tables.phase(phase, 5))
+
+    def ending(self, phase, frame):
+        """Returns how the green of a phase ends with this frame, which isn't taken over yet."""
+        mode = mode_of(frame.mode)
+        if mode.letter != "F" and mode.letter != "C":
+            return mode.words
+        if not self.told:
+            return "not told"
+        if mode.letter == "F":
+            return "gap" if self.gapped(phase, frame, mode) else "maximum"
+        known = self.plan(mode.number)
+        if known is None:
+            return "not told"
+        if phase in known.coordinated:
+            return "yield"
+        if frame.counter >= known.force.get(phase, known.cycle):
+            return "force-off"
+        if self.gapped(phase, frame, mode):
+            return "gap"
+        split = 10 * self.tables.split(self.tables.pattern(mode.number, 4), phase, 3)
+        length = frame.tick - self.green[phase] + self.tables.clearance(phase)
+        return "split filled" if self.tables.unit(7) == 2 and length >= split else "priority"
+
+
+def opened(scenario, number):
+    """Returns a cabinet as it opens; a scenario that has none such isn't one of a trace."""
+    try:
+        return Cabinet(scenario, number)
+    except (AttributeError, KeyError, TypeError, ValueError):
+        raise NotATrace(1) from None
+
+
+class Clock:
+    """A cabinet's clock, in ticks since midnight; it may gain or lose a tick at each so many."""
+
+    def __init__(self, setup):
+        self.value, self.tick = setup.get("clock", 0), 0
+        self.gain, self.lose = setup.get("gain", 0), setup.get("lose", 0)
+
+    def at(self, tick):
+        """Returns the time of day after a tick that is no earlier than the last time the clock was set."""
+        drift = 0
+        if self.gain:
+            drift += tick // self.gain - self.tick // self.gain
+        if self.lose:
+            drift -= tick // self.lose - self.tick // self.lose
+        return (self.value + tick - self.tick + drift) % DAY
+
+    def named(self, ticks, tick):
+        """Takes over a time that a reply names; returns whether the clock was set to another than it showed."""
+        if ticks == self.at(tick):
+            return False
+        self.value, self.tick = ticks, tick
+        return True
