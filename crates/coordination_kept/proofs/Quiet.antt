@@ -82,20 +82,21 @@ zero-owed d m past h = pick (is_defined m.tables m.command)
     pick false = refl
 
 pub offset-owed : (d : Drift) (m : Moment) (past : List Moment)
-    → (has_zero d (m ∷ past) ≡ true → offset_within d (offset_bound d (m ∷ past) m.tables m.command (zero_target d (m ∷ past))) (m ∷ past) ≡ true)
+    → (can_follow d m.tables ≡ true → has_zero d (m ∷ past) ≡ true
+    → offset_within d (offset_bound d (m ∷ past) m.tables m.command (zero_target d (m ∷ past))) (m ∷ past) ≡ true)
     → offset_in_time d (m ∷ past) ≡ true
-offset-owed d m past h = pick (is_defined m.tables m.command) (can_follow d m.tables) (has_zero d (m ∷ past)) refl
+offset-owed d m past h = pick (is_defined m.tables m.command) (can_follow d m.tables) (has_zero d (m ∷ past)) refl refl
   where
-    pick : (a b c : Bool) → has_zero d (m ∷ past) ≡ c
+    pick : (a b c : Bool) → can_follow d m.tables ≡ b → has_zero d (m ∷ past) ≡ c
         → (if a && b && c then offset_within d (offset_bound d (m ∷ past) m.tables m.command (zero_target d (m ∷ past))) (m ∷ past) else true) ≡ true
-    pick true true true e = h e
-    pick true true false e = refl
-    pick true false true e = refl
-    pick true false false e = refl
-    pick false true true e = refl
-    pick false true false e = refl
-    pick false false true e = refl
-    pick false false false e = refl
+    pick true true true f e = h f e
+    pick true true false f e = refl
+    pick true false true f e = refl
+    pick true false false f e = refl
+    pick false true true f e = refl
+    pick false true false f e = refl
+    pick false false true f e = refl
+    pick false false false f e = refl
 
 pub not-defined-zero : (d : Drift) (m : Moment) (past : List Moment) → is_defined m.tables m.command ≡ false → zero_in_time d (m ∷ past) ≡ true
 not-defined-zero d m past e = ap (λ (b : Bool). if b then zero_within d (zero_bound (m ∷ past) m.tables m.command) (m ∷ past) else true) e

@@ -9,18 +9,30 @@ ghost use Rattle.sig_tables.specs.Past.{Moment, History};
 ghost use Rattle.sig_tables.specs.Decide.{past_at, since_opening};
 ghost use Rattle.laws.specs.Lawful.{Lawful};
 ghost use Rattle.rule_facts.specs.Admitted.{Admitted};
-ghost use Rattle.undisturbed.specs.Disturbances.{no_drift, quiet_for};
+ghost use Rattle.undisturbed.specs.Disturbances.{Drift, IsSlow, drift_of, no_drift, quiet_for};
 ghost use Rattle.undisturbed.specs.Bounds.{zero_bound, offset_bound};
 ghost use Rattle.undisturbed.specs.Meets.{MeetsNow, MeetsEach, Meets, is_zero, is_green, has_zero, zero_target};
+ghost use Rattle.coordination_met.specs.Ranged.{EachInRange};
 
 /// In every lawful history both coordinated phases are green at each local zero. Where nothing disturbs the cabinet for the bound after a
 /// disturbance at which a defined pattern is in command, a local zero comes in time, from whatever state that leaves; and where nothing
-/// disturbs it for the cycles that the correction needs besides, the offset is met by then, and held until the next disturbance. Here a tick at which the clock gains or loses counts as one at
-/// which it is set; where it never drifts this is all that is asked of the history. It is enough that the opening tables are consistent
-/// and each download passed the rules.
+/// disturbs it for the cycles that the correction needs besides, the offset is met by then, and held until the next disturbance.
+///
+/// With a clock that drifts, counter and target meet within twice the needed cycles and are then at most one tick apart; one that gains
+/// is followed by shortway alone. The drift is one that a cabinet may have: it gains or loses, not both, at every so manieth tick, 12,000
+/// or more apart; and the tables are in range, so that two of the longest cycles lie between. A drift that changes after the first tick
+/// leaves all this true of the last one, where ticks that came to another time count as ones at which the clock was set. In the same
+/// way any slow drift may be taken, also none, and of none no ranges are asked.
+///
+/// It is enough that the opening tables are consistent and each download passed the rules.
 pub fn coordination_is_met()
+    ensures drifting { (h : History) → Admitted h.tables (since_opening h) → EachInRange h.tables (since_opening h)
+        → IsSlow (drift_of (past_at h)) → Meets h }
+    ensures admitted_even { (h : History) → Admitted h.tables (since_opening h) → (past_at h).gain ≡ 0 → (past_at h).lose ≡ 0 → Meets h }
     ensures admitted { (h : History) → Admitted h.tables (since_opening h) → MeetsEach no_drift (past_at h).moments }
     ensures each { (h : History) → Lawful h.tables (since_opening h) → MeetsEach no_drift (past_at h).moments }
+    ensures each_drift { (h : History) (d : Drift) → Lawful h.tables (since_opening h) → EachInRange h.tables (since_opening h) → IsSlow d
+        → MeetsEach d (past_at h).moments }
     ensures history { (h : History) → Lawful h.tables (since_opening h) → (past_at h).gain ≡ 0 → (past_at h).lose ≡ 0 → Meets h }
 {}
 

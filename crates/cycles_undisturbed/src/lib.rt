@@ -3,17 +3,18 @@
 //! (FHWA Signal Timing Manual: offset, transition.)
 #![tactic(auto)]
 
-ghost use Rattle.std.specs.Prelude.{ℕ, ◌≡◌, ◌≤◌, ◌<◌, ◌+◌, ◌*◌, ◌⊎◌, ◌∷◌, List, true, false};
+ghost use Rattle.std.specs.Prelude.{ℕ, ◌≡◌, ◌≤◌, ◌<◌, ◌+◌, ◌⊎◌, ◌∷◌, List, true, false};
 ghost use Rattle.sig_tables.specs.declared.tables.Tables.{Tables};
-ghost use Rattle.sig_tables.specs.Counting.{HasRoom, begins_cycle, tick_later, needed};
+ghost use Rattle.sig_tables.specs.Counting.{HasRoom, begins_cycle};
 ghost use Rattle.sig_tables.specs.Counters.{correction_of};
 ghost use Rattle.sig_types.specs.declared.frame.Mode.TheVariants.{Coord};
 ghost use Rattle.sig_tables.specs.Slots.{cycle_time};
 ghost use Rattle.sig_tables.specs.Past.{Moment};
-ghost use Rattle.undisturbed.specs.Disturbances.{Drift, is_disturbed, quiet_for};
+ghost use Rattle.drift_held.specs.Drifting.{moved};
+ghost use Rattle.undisturbed.specs.Disturbances.{Drift, drifts, is_disturbed, quiet_for};
 ghost use Rattle.undisturbed.specs.Bounds.{longest_cycle};
-ghost use Rattle.undisturbed.specs.Meets.{is_zero, has_zero, zero_target, zero_within, is_met, offset_within};
-ghost use Rattle.cycles_undisturbed.specs.Cycles.{counters, CountsOn, PicksUp, InCycle, OnCourse};
+ghost use Rattle.undisturbed.specs.Meets.{is_zero, has_zero, zero_target, zero_within, offset_within, can_follow};
+ghost use Rattle.cycles_undisturbed.specs.Cycles.{counters, CountsOn, PicksUp, InCycle, HasTime, step_at, cycles_needed, OnCourse};
 
 /// In step with a pattern, whatever the targets and the disturbances are: from a pickup on, each tick keeps the limits of the
 /// correction, and after each disturbance a local zero comes within the longest cycle.
@@ -27,7 +28,8 @@ pub fn zero_comes_in_time()
 {}
 
 /// Left alone, the counter comes onto the offset: from the first local zero after a disturbance, each quiet tick corrects it and
-/// the target goes on as time does; so within the needed cycles the two are equal, and stay so.
+/// the target goes on as the clock does; so within the needed cycles the two are equal, and stay so. A clock that drifts slowly makes
+/// that twice the needed cycles, and then the two stay within one tick of each other.
 pub fn offset_met_in_time()
     ensures pickup { (n : ℕ) (m l : Moment) (past : List Moment) → PicksUp n m l → begins_cycle (counters n (m ∷ l ∷ past)) ≡ true }
     ensures zero { (t : Tables) (n : ℕ) (m l : Moment) (past : List Moment) → CountsOn t n m l past → is_zero (m ∷ l ∷ past) ≡ true
@@ -35,16 +37,11 @@ pub fn offset_met_in_time()
     ensures begins { (d : Drift) (t : Tables) (n most : ℕ) (m l : Moment) (past : List Moment) → m.frame.mode ≡ Coord n
         → is_disturbed d (m ∷ l ∷ past) ≡ false → has_zero d (l ∷ past) ≡ false → is_zero (m ∷ l ∷ past) ≡ true
         → quiet_for d (l ∷ past) < most → begins_cycle (counters n (m ∷ l ∷ past)) ≡ true → m.frame.target < cycle_time t n
-        → OnCourse d t n most (m ∷ l ∷ past) }
+        → HasRoom (correction_of t n) → (drifts d ≡ true → HasTime d (correction_of t n)) → OnCourse d t n most (m ∷ l ∷ past) }
     ensures step { (d : Drift) (t : Tables) (n most : ℕ) (m l : Moment) (past : List Moment) → is_disturbed d (m ∷ l ∷ past) ≡ false
-        → CountsOn t n m l past → m.frame.target ≡ tick_later (cycle_time t n) l.frame.target → OnCourse d t n most (l ∷ past)
-        → OnCourse d t n most (m ∷ l ∷ past) }
-    ensures met { (d : Drift) (t : Tables) (n most : ℕ) (m : Moment) (past : List Moment) → HasRoom (correction_of t n)
-        → OnCourse d t n most (m ∷ past)
-        → most + needed (correction_of t n) (zero_target d (m ∷ past)) * longest_cycle t n ≤ quiet_for d (m ∷ past) → is_met m ≡ true }
+        → CountsOn t n m l past → m.number ≡ l.number + 1 → m.frame.target ≡ moved (cycle_time t n) (step_at d m.number) l.frame.target
+        → cycle_time m.tables m.command ≡ cycle_time t n → OnCourse d t n most (l ∷ past) → OnCourse d t n most (m ∷ l ∷ past) }
     ensures early { (d : Drift) (most : ℕ) (past : List Moment) → quiet_for d past < most → offset_within d most past ≡ true }
-    ensures holds { (d : Drift) (t : Tables) (n most bound : ℕ) (m l : Moment) (past : List Moment) → HasRoom (correction_of t n)
-        → is_disturbed d (m ∷ l ∷ past) ≡ false → OnCourse d t n most (m ∷ l ∷ past)
-        → most + needed (correction_of t n) (zero_target d (m ∷ l ∷ past)) * longest_cycle t n ≤ bound
-        → offset_within d bound (l ∷ past) ≡ true → offset_within d bound (m ∷ l ∷ past) ≡ true }
+    ensures met { (d : Drift) (t : Tables) (n most : ℕ) (past : List Moment) → OnCourse d t n most past → can_follow d t ≡ true
+        → offset_within d (most + cycles_needed d t n (zero_target d past)) past ≡ true }
 {}

@@ -14,7 +14,7 @@ abbrev pub shifted : ℕ → (ℕ → Drift) → ℕ → Drift
 shifted zero drifts = drifts
 shifted (suc n) drifts = shifted n (next_drifts drifts)
 
-shifted-at : (n : ℕ) (drifts : ℕ → Drift) (i : ℕ) → shifted n drifts i ≡ drifts (n + i)
+pub shifted-at : (n : ℕ) (drifts : ℕ → Drift) (i : ℕ) → shifted n drifts i ≡ drifts (n + i)
 shifted-at zero drifts i = ap drifts (let e : i ≡ 0 + i = omega arith in e)
 shifted-at (suc n) drifts i = shifted-at n (next_drifts drifts) i ∙ ap drifts (let e : suc (n + i) ≡ suc n + i = omega arith in e)
 

@@ -1,8 +1,13 @@
+use Rattle.sig_tables.specs.Decide.{past_at}
+use Rattle.undisturbed.specs.Disturbances.{drift_of}
 use Rattle.coordination_kept.proofs.Meeting.{meets-each, meets-history, tells-opening}
 use Rattle.coordination_kept.proofs.promise_kept.Goals as goal
 
 pub returns-clause-each : goal.returns-clause-each
 returns-clause-each c = meets-each
+
+pub returns-clause-drifting : goal.returns-clause-drifting
+returns-clause-drifting c = λ h tells. meets-each (drift_of (past_at h)) (past_at h).moments tells
 
 pub returns-clause-history : goal.returns-clause-history
 returns-clause-history c = λ h gain lose tells. meets-history h gain lose tells

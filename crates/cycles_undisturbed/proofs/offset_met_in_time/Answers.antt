@@ -1,4 +1,4 @@
-use Rattle.cycles_undisturbed.proofs.Offsets.{pickup-begins, zero-begins, course-begins, course-step, course-met, offset-early, course-holds}
+use Rattle.cycles_undisturbed.proofs.Offsets.{pickup-begins, zero-begins, course-begins, course-step, offset-early, course-holds}
 use Rattle.cycles_undisturbed.proofs.offset_met_in_time.Goals as goal
 
 pub returns-clause-pickup : goal.returns-clause-pickup
@@ -13,11 +13,8 @@ returns-clause-begins c = course-begins
 pub returns-clause-step : goal.returns-clause-step
 returns-clause-step c = course-step
 
-pub returns-clause-met : goal.returns-clause-met
-returns-clause-met c = course-met
-
 pub returns-clause-early : goal.returns-clause-early
 returns-clause-early c = offset-early
 
-pub returns-clause-holds : goal.returns-clause-holds
-returns-clause-holds c = course-holds
+pub returns-clause-met : goal.returns-clause-met
+returns-clause-met c = course-holds
