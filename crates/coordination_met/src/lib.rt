@@ -3,15 +3,16 @@
 //! (FHWA Signal Timing Manual: coordination, offset, transition.)
 #![tactic(auto)]
 
-ghost use Rattle.std.specs.Prelude.{◌≡◌, ◌≤◌, ◌∷◌, List, true};
-ghost use Rattle.sig_tables.specs.Slots.{is_defined};
+ghost use Rattle.std.specs.Prelude.{ℕ, ◌≡◌, ◌⊎◌, ◌≤◌, ◌<◌, ◌+◌, ◌∷◌, List, true, false};
+ghost use Rattle.sig_tables.specs.Slots.{is_defined, cycle_time};
 ghost use Rattle.sig_tables.specs.Past.{Moment, History};
 ghost use Rattle.sig_tables.specs.Decide.{past_at, since_opening};
 ghost use Rattle.laws.specs.Lawful.{Lawful};
 ghost use Rattle.rule_facts.specs.Admitted.{Admitted};
-ghost use Rattle.undisturbed.specs.Disturbances.{Drift, IsSlow, drift_of, no_drift, quiet_for};
+ghost use Rattle.drift_held.specs.Drifting.{IsNear};
+ghost use Rattle.undisturbed.specs.Disturbances.{Drift, IsSlow, drift_of, no_drift, drifts, quiet_for};
 ghost use Rattle.undisturbed.specs.Bounds.{zero_bound, offset_bound};
-ghost use Rattle.undisturbed.specs.Meets.{MeetsNow, MeetsEach, Meets, is_zero, is_green, has_zero, zero_target};
+ghost use Rattle.undisturbed.specs.Meets.{MeetsNow, MeetsEach, Meets, is_zero, is_green, has_zero, zero_target, can_follow};
 ghost use Rattle.coordination_met.specs.Ranged.{EachInRange};
 
 /// In every lawful history both coordinated phases are green at each local zero. Where nothing disturbs the cabinet for the bound after a
@@ -38,14 +39,22 @@ pub fn coordination_is_met()
 
 /// What that says of the last moment: at a local zero both coordinated phases are green; where a defined pattern is in command and the
 /// cabinet has been left undisturbed for the bound, a local zero has come since; and where it has been so for the bound and the
-/// needed cycles, counter and target are equal, so that a local zero then has target 0.
+/// needed cycles, counter and target are equal, so that a local zero then has target 0. With a clock that drifts, where the correction
+/// can follow it, they are equal or one tick apart round the cycle, so that a local zero then has target 0, 1 or one tick less than
+/// the cycle.
 pub fn promise_reads()
-    ensures green { (m : Moment) (past : List Moment) → MeetsNow no_drift (m ∷ past) → is_zero (m ∷ past) ≡ true
+    ensures green { (d : Drift) (m : Moment) (past : List Moment) → MeetsNow d (m ∷ past) → is_zero (m ∷ past) ≡ true
         → is_green m.frame.mode m.tables m.frame.veh ≡ true }
-    ensures zero { (m : Moment) (past : List Moment) → MeetsNow no_drift (m ∷ past) → is_defined m.tables m.command ≡ true
-        → zero_bound (m ∷ past) m.tables m.command ≤ quiet_for no_drift (m ∷ past) → has_zero no_drift (m ∷ past) ≡ true }
-    ensures offset { (m : Moment) (past : List Moment) → MeetsNow no_drift (m ∷ past) → is_defined m.tables m.command ≡ true
-        → has_zero no_drift (m ∷ past) ≡ true
-        → offset_bound no_drift (m ∷ past) m.tables m.command (zero_target no_drift (m ∷ past)) ≤ quiet_for no_drift (m ∷ past)
+    ensures zero { (d : Drift) (m : Moment) (past : List Moment) → MeetsNow d (m ∷ past) → is_defined m.tables m.command ≡ true
+        → zero_bound (m ∷ past) m.tables m.command ≤ quiet_for d (m ∷ past) → has_zero d (m ∷ past) ≡ true }
+    ensures offset { (d : Drift) (m : Moment) (past : List Moment) → MeetsNow d (m ∷ past) → is_defined m.tables m.command ≡ true
+        → has_zero d (m ∷ past) ≡ true → drifts d ≡ false
+        → offset_bound d (m ∷ past) m.tables m.command (zero_target d (m ∷ past)) ≤ quiet_for d (m ∷ past)
         → m.frame.counter ≡ m.frame.target }
+    ensures near { (d : Drift) (m : Moment) (past : List Moment) → MeetsNow d (m ∷ past) → is_defined m.tables m.command ≡ true
+        → has_zero d (m ∷ past) ≡ true → can_follow d m.tables ≡ true
+        → offset_bound d (m ∷ past) m.tables m.command (zero_target d (m ∷ past)) ≤ quiet_for d (m ∷ past)
+        → IsNear (cycle_time m.tables m.command) m.frame.counter m.frame.target }
+    ensures near_zero { (cycle target : ℕ) → 1 < cycle → target < cycle → IsNear cycle 0 target
+        → (target ≡ 0) ⊎ ((target ≡ 1) ⊎ (target + 1 ≡ cycle)) }
 {}

@@ -1,4 +1,4 @@
-use Rattle.coordination_met.proofs.Reading.{green-read, zero-read, offset-read}
+use Rattle.coordination_met.proofs.Reading.{green-read, zero-read, offset-read, near-read, near-zero}
 use Rattle.coordination_met.proofs.promise_reads.Goals as goal
 
 pub returns-clause-green : goal.returns-clause-green
@@ -9,3 +9,9 @@ returns-clause-zero c = zero-read
 
 pub returns-clause-offset : goal.returns-clause-offset
 returns-clause-offset c = offset-read
+
+pub returns-clause-near : goal.returns-clause-near
+returns-clause-near c = near-read
+
+pub returns-clause-near_zero : goal.returns-clause-near_zero
+returns-clause-near_zero c = near-zero
