@@ -1,6 +1,7 @@
 -- Histories whose bounds the check computes.
 use Rattle.std.specs.Prelude.{ℕ, zero, suc, Bool, true, false, if◌then◌else◌, ◌&&◌, List, [], ◌∷◌, length}
 use Rattle.sig_tables.specs.Past.{Event, Tick, Moment}
+use Rattle.sig_tables.specs.Looking.{last_frame}
 use Rattle.sig_tables.specs.Decide.{past_at}
 use Rattle.sig_tables.specs.Standard.{std8}
 use Rattle.sig_tables.specs.Counting.{needed}
@@ -30,6 +31,10 @@ abbrev pub bounds_of : Drift → List Moment → List ℕ
 bounds_of d past =
     quiet_for d past ∷ length (first_zero d past) ∷ zero_target d past ∷ needed (correction_of std8 1) (zero_target d past)
     ∷ pickup_bound past ∷ longest_cycle std8 1 ∷ zero_bound past std8 1 ∷ offset_bound d past std8 1 (zero_target d past) ∷ []
+
+-- the counter and the target of the last moment
+abbrev pub counter_and_target : List Moment → List ℕ
+counter_and_target past = (last_frame past).counter ∷ (last_frame past).target ∷ []
 
 -- all that is asked of a moment, computed
 abbrev pub meets_now : Drift → List Moment → Bool

@@ -7,7 +7,7 @@ ghost use Rattle.std.specs.Prelude.{◌≡◌, [], ◌∷◌, true, false};
 ghost use Rattle.sig_tables.specs.Past.{SetClock, SetPattern, SetDrift};
 ghost use Rattle.undisturbed.specs.Disturbances.{no_drift, quiet_for};
 ghost use Rattle.undisturbed.specs.Meets.{zero_within, offset_within};
-ghost use Rattle.undisturbed.specs.Rows.{ticks, standard_run, throughout, bounds_of, meets_now};
+ghost use Rattle.undisturbed.specs.Rows.{ticks, standard_run, throughout, bounds_of, counter_and_target, meets_now};
 
 /// The standard pattern, picked up as Start ends one tick past its offset: nine cycles, each of at most a thousand ticks.
 pub fn late_by_one()
@@ -22,6 +22,15 @@ pub fn early_by_ten()
     ensures no_sooner { throughout (zero_within no_drift 0) (standard_run 830 (ticks 80 [])) ≡ false }
     ensures met { throughout (offset_within no_drift 11) (standard_run 830 (ticks 80 [])) ≡ true }
     ensures not_met { throughout (offset_within no_drift 10) (standard_run 830 (ticks 80 [])) ≡ false }
+{}
+
+/// A clock that loses one, ten ticks after a pickup on the offset: the counter is then one tick ahead of the target. With a drift that is
+/// known that disturbs nothing, and the offset is held to one tick; five ticks later they are still apart.
+pub fn one_tick_apart()
+    ensures held { throughout (offset_within (record { gain = 0; lose = 70 }) 1) (standard_run 840 (ticks 75 (SetDrift 0 70 ∷ []))) ≡ true }
+    ensures met { counter_and_target (standard_run 840 (ticks 69 (SetDrift 0 70 ∷ []))) ≡ 9 ∷ 9 ∷ [] }
+    ensures apart { counter_and_target (standard_run 840 (ticks 70 (SetDrift 0 70 ∷ []))) ≡ 10 ∷ 9 ∷ [] }
+    ensures still { counter_and_target (standard_run 840 (ticks 75 (SetDrift 0 70 ∷ []))) ≡ 15 ∷ 14 ∷ [] }
 {}
 
 /// A clock set to what it is disturbs nothing; to another time it does, and so does another pattern in command. A drift disturbs
