@@ -20,8 +20,8 @@ ghost use Rattle.coordination_met.specs.Ranged.{EachInRange};
 /// disturbs it for the cycles that the correction needs besides, the offset is met by then, and held until the next disturbance.
 ///
 /// With a clock that drifts, counter and target meet within twice the needed cycles and are then at most one tick apart; one that gains
-/// is followed by shortway alone. The drift is one that a cabinet may have: it gains or loses, not both, at every so manieth tick, 12,000
-/// or more apart; and the tables are in range, so that two of the longest cycles lie between. A drift that changes after the first tick
+/// is followed by shortway alone. The drift is one that a cabinet may have: it gains or loses, not both, a tick every so many, 12,000
+/// or more; and the tables are in range, so that two of the longest cycles lie between. A drift that changes after the first tick
 /// leaves all this true of the last one, where ticks that came to another time count as ones at which the clock was set. In the same
 /// way any slow drift may be taken, also none, and of none no ranges are asked.
 ///
