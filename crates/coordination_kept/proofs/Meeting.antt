@@ -9,9 +9,9 @@ use Rattle.sig_tables.specs.Choosing.{are_coordinated_green}
 use Rattle.sig_tables.specs.Past.{Moment, History, first_moment}
 use Rattle.sig_tables.specs.Looking.{last_frame}
 use Rattle.sig_tables.specs.Decide.{past_at}
-use Rattle.undisturbed.specs.Disturbances.{Drift, drift_of, no_drift, is_disturbed, quiet_for}
+use Rattle.undisturbed.specs.Disturbances.{Drift, drifts, drift_of, no_drift, is_disturbed, quiet_for}
 use Rattle.undisturbed.specs.Bounds.{zero_bound}
-use Rattle.undisturbed.specs.Meets.{is_zero, is_some, is_green, zero_or_now, first_zero, has_zero, MeetsNow, MeetsEach, Meets}
+use Rattle.undisturbed.specs.Meets.{is_zero, is_some, is_green, zero_or_now, first_zero, has_zero, MeetsNow, MeetsEach, Meets, NotSooner}
 use Rattle.sought_in_time.specs.Lasting.{SeekTick, Searches}
 use Rattle.sought_in_time.proofs.Greatest.{pickup-grows}
 use Rattle.sought_in_time.proofs.Searching.{search-short, search-grows, picked-up, least-bound}
@@ -19,7 +19,7 @@ use Rattle.sought_in_time.proofs.Stepping.{step-keeps, pickup-in-time, zero-gree
 use Rattle.cycles_undisturbed.specs.Cycles.{PicksUp, OnCourse}
 use Rattle.cycles_undisturbed.proofs.Zeros.{quiet-none, quiet-more, first-quiet}
 use Rattle.cycles_undisturbed.proofs.Cycles.{cycle-pickup, cycle-step, cycle-in-time}
-use Rattle.cycles_undisturbed.proofs.Offsets.{pickup-begins, zero-begins, course-begins, course-step, course-holds}
+use Rattle.cycles_undisturbed.proofs.Offsets.{pickup-begins, zero-begins, course-begins, course-step, course-holds, course-no-sooner}
 use Rattle.coordination_kept.specs.Facts.{is_coord, SeekFacts, StepFacts, Tells, Elsewhere, Seeks, Steps, TellsEach, Seeking, InStep, Carried}
 use Rattle.coordination_kept.proofs.Quiet.{disturbed-none, quiet-zero, elsewhere-zero, bound-some, bound-pickup, bound-cycle, bound-same}
 use Rattle.coordination_kept.proofs.Quiet.{within-soon, soon-within, zero-owed, offset-owed, not-defined-zero, not-defined-offset, no-zero-green}
@@ -143,6 +143,7 @@ seek-on d n m l past f c waits = decide (is_disturbed d (m ∷ l ∷ past)) refl
 seek-picks : (d : Drift) (n : ℕ) (m l : Moment) (past : List Moment) → SeekFacts d n m l past → Carried d l past → are_coordinated_green m.tables n m.frame.veh ≡ true
     → InStep d m.tables n (m ∷ l ∷ past)
 seek-picks d n m l past f c green = record {
+  room = f.room;
   cycle = cycle-pickup d m.tables n m l past f.room up (why (is_disturbed d (m ∷ l ∷ past)) refl);
   time = pickup-in-time m.tables n m (l ∷ past) (f.alone green) f.counter;
   course = λ has. course (quiet-if d m (l ∷ past) has);
@@ -215,6 +216,7 @@ seek-meets d m l past f c = pick (are_coordinated_green m.tables m.command m.fra
 -- ---- a tick in step
 step-on : (d : Drift) (n : ℕ) (m l : Moment) (past : List Moment) → StepFacts d n m l past → Carried d l past → InStep d m.tables n (m ∷ l ∷ past)
 step-on d n m l past f c = record {
+  room = f.room;
   cycle = cycle-step d m.tables n m l past f.room f.counts old.cycle;
   time = (step-keeps m.tables n m l past f.pair f.plan f.times f.tick old.time).0;
   course = λ has. course has (quiet-if d m (l ∷ past) has);
@@ -308,6 +310,13 @@ pub meets-each : (d : Drift) (past : List Moment) → TellsEach d past → Meets
 meets-each d [] tells = absurd tells
 meets-each d (m ∷ []) tells = (disturbed-meets d m [] tells.0 refl, tt)
 meets-each d (m ∷ l ∷ past) tells = (tick-meets d m l past tells.0 (carries d l past tells.1), meets-each d (l ∷ past) tells.1)
+
+-- by dwell and by add-only no sooner than in the last of the needed cycles
+pub no-sooner : (d : Drift) (n : ℕ) (past : List Moment) → drifts d ≡ false → TellsEach d past → NotSooner d n past
+no-sooner d n [] none tells = tt
+no-sooner d n (m ∷ past) none tells = λ mode zero some other met.
+    let now : InStep d m.tables n (m ∷ past) = (carries d m past tells).in_step n mode in
+    course-no-sooner d m.tables n (zero_bound (m ∷ past) m.tables n) m past none now.room (now.course zero) other some met
 
 -- the moment before any tick neither seeks a pattern nor is in step
 abbrev is_seek : Mode → Bool

@@ -89,6 +89,7 @@ pub record Seeking (d : Drift) (t : Tables) (n : ℕ) (past : List Moment) : Typ
 
 -- what is carried along in step
 pub record InStep (d : Drift) (t : Tables) (n : ℕ) (past : List Moment) : Type 0 where
+  pub room : HasRoom (correction_of t n)
   pub cycle : InCycle d t n past
   pub time : InTime t n (last_frame past).counter past
   pub course : has_zero d past ≡ true → OnCourse d t n (zero_bound past t n) past

@@ -10,8 +10,8 @@ ghost use Rattle.sig_tables.specs.Clock.{day, target_at};
 ghost use Rattle.sig_tables.specs.Decide.{past_at};
 ghost use Rattle.sig_tables.specs.Past.{Moment, History, first_moment};
 ghost use Rattle.drift_held.specs.Drifting.{moved};
-ghost use Rattle.undisturbed.specs.Disturbances.{Drift, drift_of, no_drift, rise, is_disturbed};
-ghost use Rattle.undisturbed.specs.Meets.{MeetsEach, Meets};
+ghost use Rattle.undisturbed.specs.Disturbances.{Drift, drifts, drift_of, no_drift, rise, is_disturbed};
+ghost use Rattle.undisturbed.specs.Meets.{MeetsEach, Meets, NotSooner};
 ghost use Rattle.cycles_undisturbed.specs.Cycles.{step_at};
 ghost use Rattle.coordination_kept.specs.Facts.{TellsEach};
 ghost use Rattle.coordination_kept.specs.Goes.{GoesOn};
@@ -19,11 +19,12 @@ ghost use Rattle.coordination_kept.specs.Goes.{GoesOn};
 /// Where each tick is as the rules of a tick have it, every moment meets what coordination promises: both coordinated phases Green
 /// at each local zero, a local zero in time after each disturbance, and the offset met in time and held: exactly where the clock keeps
 /// time, and to one tick where it drifts. The drift may be any, also none, whatever the clock does; what it does else counts as a clock
-/// that is set.
+/// that is set. By dwell and by add-only a clock that keeps time does not meet the offset before the last of the needed cycles.
 pub fn promise_kept()
     ensures each { (d : Drift) (past : List Moment) → TellsEach d past → MeetsEach d past }
     ensures drifting { (h : History) → TellsEach (drift_of (past_at h)) (past_at h).moments → Meets h }
     ensures history { (h : History) → (past_at h).gain ≡ 0 → (past_at h).lose ≡ 0 → TellsEach no_drift (past_at h).moments → Meets h }
+    ensures no_sooner { (d : Drift) (n : ℕ) (past : List Moment) → drifts d ≡ false → TellsEach d past → NotSooner d n past }
     ensures opening { (d : Drift) (t : Tables) → TellsEach d (first_moment t ∷ []) }
 {}
 

@@ -12,7 +12,7 @@ ghost use Rattle.rule_facts.specs.Admitted.{Admitted};
 ghost use Rattle.drift_held.specs.Drifting.{IsNear};
 ghost use Rattle.undisturbed.specs.Disturbances.{Drift, IsSlow, drift_of, no_drift, drifts, quiet_for};
 ghost use Rattle.undisturbed.specs.Bounds.{zero_bound, offset_bound};
-ghost use Rattle.undisturbed.specs.Meets.{MeetsNow, MeetsEach, Meets, is_zero, is_green, has_zero, zero_target, can_follow};
+ghost use Rattle.undisturbed.specs.Meets.{MeetsNow, MeetsEach, Meets, is_zero, is_green, has_zero, zero_target, can_follow, NotSooner};
 ghost use Rattle.coordination_met.specs.Ranged.{EachInRange};
 
 /// In every lawful history both coordinated phases are green at each local zero. Where nothing disturbs the cabinet for the bound after a
@@ -35,6 +35,12 @@ pub fn coordination_is_met()
     ensures each_drift { (h : History) (d : Drift) → Lawful h.tables (since_opening h) → EachInRange h.tables (since_opening h) → IsSlow d
         → MeetsEach d (past_at h).moments }
     ensures history { (h : History) → Lawful h.tables (since_opening h) → (past_at h).gain ≡ 0 → (past_at h).lose ≡ 0 → Meets h }
+{}
+
+/// The number of cycles that is computed is also the least: by dwell and by add-only, where the clock keeps time and the first local zero
+/// after a disturbance was off its target, counter and target are not equal before the last of the needed cycles.
+pub fn offset_is_met_no_sooner()
+    ensures { (h : History) (n : ℕ) → Admitted h.tables (since_opening h) → NotSooner no_drift n (past_at h).moments }
 {}
 
 /// What that says of the last moment: at a local zero both coordinated phases are green; where a defined pattern is in command and the

@@ -84,7 +84,7 @@ corrects d k number h = by (d.gain == 0) (k.mode == 3) refl refl h
     by false true e f h = inl (eqb-true k.mode 3 f)
     by false false e f h = absurd (false≢true h)
 
-keeps-time : (d : Drift) (number : ℕ) → drifts d ≡ false → step_at d number ≡ Even
+pub keeps-time : (d : Drift) (number : ℕ) → drifts d ≡ false → step_at d number ≡ Even
 keeps-time d number h = by (d.gain == 0) (d.lose == 0) refl refl h
   where
     by : (a b : Bool) → (d.gain == 0) ≡ a → (d.lose == 0) ≡ b → (not a || not b) ≡ false → step_at d number ≡ Even
@@ -94,13 +94,13 @@ keeps-time d number h = by (d.gain == 0) (d.lose == 0) refl refl h
     by false b e f h = absurd (false≢true (sym h))
 
 -- ---- where it keeps time, counters and targets go on as time does
-drifted-even : (n : ℕ) (k : Correction) (steps : ℕ → Step) (t : ℕ) (past : List ℕ) → ((i : ℕ) → steps i ≡ Even) → drifted k n steps t past ≡ counted k n t past
+pub drifted-even : (n : ℕ) (k : Correction) (steps : ℕ → Step) (t : ℕ) (past : List ℕ) → ((i : ℕ) → steps i ≡ Even) → drifted k n steps t past ≡ counted k n t past
 drifted-even zero k steps t past even = refl
 drifted-even (suc n) k steps t past even =
     drifted-even n k (next_drifts steps) (moved k.cycle (steps 0) t) (next_counter k past (moved k.cycle (steps 0) t) ∷ past) (λ i. even (suc i))
     ∙ ap (λ (x : Step). counted k n (moved k.cycle x t) (next_counter k past (moved k.cycle x t) ∷ past)) (even 0)
 
-target-even : (n cycle : ℕ) (steps : ℕ → Step) (t : ℕ) → ((i : ℕ) → steps i ≡ Even) → target_drifted cycle n steps t ≡ gone cycle n t
+pub target-even : (n cycle : ℕ) (steps : ℕ → Step) (t : ℕ) → ((i : ℕ) → steps i ≡ Even) → target_drifted cycle n steps t ≡ gone cycle n t
 target-even zero cycle steps t even = refl
 target-even (suc n) cycle steps t even =
     target-even n cycle (next_drifts steps) (moved cycle (steps 0) t) (λ i. even (suc i)) ∙ ap (λ (x : Step). gone cycle n (moved cycle x t)) (even 0)

@@ -1,23 +1,26 @@
 -- From the first local zero on the counter is brought onto the target, and holds it.
-use Rattle.std.proofs.Common.{◌≡◌, inl, inr, ℕ, ◌+◌, ◌≤◌, ◌<◌, Bool, true, false, nat_le}
+use Rattle.std.proofs.Common.{◌≡◌, ◌≢◌, inl, inr, ℕ, ◌+◌, ◌-◌, ◌*◌, ◌≤◌, ◌<◌, Bool, true, false, nat_le}
 use Rattle.std.proofs.Common.{◌==◌, ◌&&◌, ◌||◌, if◌then◌else◌, List, ◌∷◌, refl, sym, ◌∙◌, ap, subst, arith}
 use Rattle.std.proofs.lemmas.Bool.{false≢true, leb-true, cases_lt}
 use Rattle.sig_types.specs.declared.frame.Mode.TheVariants.{Coord}
 use Rattle.sig_tables.specs.declared.tables.Tables.{Tables}
-use Rattle.sig_tables.specs.Counting.{Correction, HasRoom, next_counter, begins_cycle, last_counter, tick_later}
+use Rattle.sig_tables.specs.Counting.{Correction, HasRoom, next_counter, begins_cycle, last_counter, tick_later, counted, target_after, needed}
 use Rattle.sig_tables.specs.Counters.{correction_of, counters_since}
 use Rattle.sig_tables.specs.Slots.{cycle_time}
 use Rattle.sig_tables.specs.Past.{Moment}
 use Rattle.sig_tables.specs.Looking.{last_frame}
 use Rattle.offset_met.proofs.Looks.{same, exceeds, fits}
-use Rattle.drift_held.specs.Drifting.{Drift as Step, moved, drifted, target_drifted}
+use Rattle.offset_met.proofs.Onto.{gone-is}
+use Rattle.offset_met.proofs.Sooner.{not-sooner-adding}
+use Rattle.drift_held.specs.Drifting.{Drift as Step, Even, moved, drifted, target_drifted}
 use Rattle.drift_held.proofs.Reaching.{shifted, shifted-at, drifted-more, target-more}
 use Rattle.undisturbed.specs.Disturbances.{Drift, drifts, is_disturbed, quiet_for}
-use Rattle.undisturbed.specs.Meets.{is_zero, has_zero, zero_target, is_met, is_near, holds_since, offset_within, can_follow}
+use Rattle.undisturbed.specs.Bounds.{longest_cycle}
+use Rattle.undisturbed.specs.Meets.{is_zero, first_zero, has_zero, zero_target, is_met, is_near, holds_since, offset_within, can_follow}
 use Rattle.cycles_undisturbed.specs.Cycles.{counters, CountsOn, PicksUp, step_at, steps_after, HasTime, are_near, ComesNear, last_number, cycles_needed, OnCourse}
 use Rattle.cycles_undisturbed.proofs.Zeros.{quiet-more, first-older, first-now, has-older, has-now, zero-changes}
 use Rattle.cycles_undisturbed.proofs.Cycles.{counters-on, counters-at, counters-pickup}
-use Rattle.cycles_undisturbed.proofs.Drifting.{comes-near}
+use Rattle.cycles_undisturbed.proofs.Drifting.{comes-near, keeps-time, drifted-even, target-even}
 
 -- a cycle begins at a pickup, and at a local zero in step
 pub pickup-begins : (n : ℕ) (m l : Moment) (past : List Moment) → PicksUp n m l → begins_cycle (counters n (m ∷ l ∷ past)) ≡ true
@@ -77,6 +80,8 @@ course-begins d t n most m l past mode quiet none zero soon begins below room ti
   ticks = 0;
   quiet = nothing _;
   soon = less _ _ _ (quiet-more d m (l ∷ past) quiet) soon;
+  begins = begins;
+  below = below;
   number = nothing m.number;
   counted = refl;
   target = refl;
@@ -121,6 +126,8 @@ course-step d t n most m l past quiet on next later cycle before = record {
   ticks = j + 1;
   quiet = sums _ _ _ _ (quiet-more d m (l ∷ past) quiet) before.quiet;
   soon = before.soon;
+  begins = before.begins;
+  below = before.below;
   number = sums _ _ _ _ next before.number;
   counted = counts;
   target = goes;
@@ -208,3 +215,40 @@ course-holds d t n most past course follows =
         → (if b then holds_since d (most + cycles_needed d t n (last_frame course.start).target) past else true) ≡ true
     pick true late = course.held follows (over _ _ _ _ _ _ (course.comes follows).within (leb-true _ _ late) course.quiet course.soon)
     pick false late = refl
+
+-- by dwell and by add-only it is not met before the last of these cycles, where the clock keeps time
+pub course-no-sooner : (d : Drift) (t : Tables) (n most : ℕ) (m : Moment) (past : List Moment) → drifts d ≡ false → HasRoom (correction_of t n)
+    → OnCourse d t n most (m ∷ past) → t.unit.mode ≢ 3 → 1 ≤ zero_target d (m ∷ past) → m.frame.counter ≡ m.frame.target
+    → quiet_for d (first_zero d (m ∷ past)) + (needed (correction_of t n) (zero_target d (m ∷ past)) - 1) * longest_cycle t n
+    < quiet_for d (m ∷ past)
+course-no-sooner d t n most m past none room course other some met =
+    subst (λ (z : List Moment). quiet_for d z + (needed k (last_frame z).target - 1) * longest_cycle t n < quiet_for d (m ∷ past)) (sym course.first)
+    (sums _ _ _ _ course.quiet
+    (not-sooner-adding k (counters n start) from j room course.begins course.below
+    (subst (λ (z : List Moment). 1 ≤ (last_frame z).target) course.first some) other equal))
+  where
+    k : Correction
+    k = correction_of t n
+
+    start : List Moment
+    start = course.start
+
+    j : ℕ
+    j = course.ticks
+
+    steps : ℕ → Step
+    steps = steps_after d (last_number start)
+
+    from : ℕ
+    from = (last_frame start).target
+
+    even : (i : ℕ) → steps i ≡ Even
+    even i = keeps-time d (last_number start + 1 + i) none
+
+    equal : last_counter (counted k j from (counters n start)) ≡ target_after k j from
+    equal =
+        ap last_counter (sym (drifted-even j k steps from (counters n start) even) ∙ sym course.counted ∙ counters-at n m past course.mode)
+        ∙ met ∙ course.target ∙ target-even j (cycle_time t n) steps from even ∙ gone-is j (cycle_time t n) from course.below
+
+    sums : (q z j need : ℕ) → q ≡ z + j → need < j → z + need < q
+    sums q z j need h i = omega arith

@@ -4,7 +4,7 @@ use Rattle.std.specs.Prelude.{ℕ, Bool, true, false, ◌≡◌, ◌⊎◌, ◌�
 use Rattle.sig_types.specs.declared.frame.Mode.TheVariants.{Coord}
 use Rattle.sig_tables.specs.declared.tables.Tables.{Tables}
 use Rattle.sig_tables.specs.Modes.{same_mode}
-use Rattle.sig_tables.specs.Counting.{Correction, tick_later, next_counter, last_counter, most_a_cycle, needed}
+use Rattle.sig_tables.specs.Counting.{Correction, tick_later, next_counter, last_counter, most_a_cycle, needed, begins_cycle}
 use Rattle.sig_tables.specs.Counters.{correction_of, counters_since}
 use Rattle.sig_tables.specs.Clock.{is_each}
 use Rattle.sig_tables.specs.Slots.{cycle_time}
@@ -96,6 +96,8 @@ pub record OnCourse (d : Drift) (t : Tables) (n most : ℕ) (past : List Moment)
   pub ticks : ℕ
   pub quiet : quiet_for d past ≡ quiet_for d start + ticks
   pub soon : quiet_for d start ≤ most
+  pub begins : begins_cycle (counters n start) ≡ true
+  pub below : (last_frame start).target < cycle_time t n
   pub number : last_number past ≡ last_number start + ticks
   pub counted : counters n past
       ≡ drifted (correction_of t n) ticks (steps_after d (last_number start)) (last_frame start).target (counters n start)

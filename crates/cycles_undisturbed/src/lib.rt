@@ -3,9 +3,9 @@
 //! (FHWA Signal Timing Manual: offset, transition.)
 #![tactic(auto)]
 
-ghost use Rattle.std.specs.Prelude.{ℕ, ◌≡◌, ◌≤◌, ◌<◌, ◌+◌, ◌⊎◌, ◌∷◌, List, true, false};
+ghost use Rattle.std.specs.Prelude.{ℕ, ◌≡◌, ◌≢◌, ◌≤◌, ◌<◌, ◌+◌, ◌-◌, ◌*◌, ◌⊎◌, ◌∷◌, List, true, false};
 ghost use Rattle.sig_tables.specs.declared.tables.Tables.{Tables};
-ghost use Rattle.sig_tables.specs.Counting.{HasRoom, begins_cycle};
+ghost use Rattle.sig_tables.specs.Counting.{HasRoom, begins_cycle, needed};
 ghost use Rattle.sig_tables.specs.Counters.{correction_of};
 ghost use Rattle.sig_types.specs.declared.frame.Mode.TheVariants.{Coord};
 ghost use Rattle.sig_tables.specs.Slots.{cycle_time};
@@ -13,7 +13,7 @@ ghost use Rattle.sig_tables.specs.Past.{Moment};
 ghost use Rattle.drift_held.specs.Drifting.{moved};
 ghost use Rattle.undisturbed.specs.Disturbances.{Drift, drifts, is_disturbed, quiet_for};
 ghost use Rattle.undisturbed.specs.Bounds.{longest_cycle};
-ghost use Rattle.undisturbed.specs.Meets.{is_zero, has_zero, zero_target, zero_within, offset_within, can_follow};
+ghost use Rattle.undisturbed.specs.Meets.{is_zero, first_zero, has_zero, zero_target, zero_within, offset_within, can_follow};
 ghost use Rattle.cycles_undisturbed.specs.Cycles.{counters, CountsOn, PicksUp, InCycle, HasTime, step_at, cycles_needed, OnCourse};
 
 /// In step with a pattern, whatever the targets and the disturbances are: from a pickup on, each tick keeps the limits of the
@@ -29,7 +29,8 @@ pub fn zero_comes_in_time()
 
 /// Left alone, the counter comes onto the offset: from the first local zero after a disturbance, each quiet tick corrects it and
 /// the target goes on as the clock does; so within the needed cycles the two are equal, and stay so. A clock that drifts slowly makes
-/// that twice the needed cycles, and then the two stay within one tick of each other.
+/// that twice the needed cycles, and then the two stay within one tick of each other. By dwell and by add-only they are not equal before
+/// the last of the needed cycles, where the clock keeps time and the first local zero was off the target.
 pub fn offset_met_in_time()
     ensures pickup { (n : ℕ) (m l : Moment) (past : List Moment) → PicksUp n m l → begins_cycle (counters n (m ∷ l ∷ past)) ≡ true }
     ensures zero { (t : Tables) (n : ℕ) (m l : Moment) (past : List Moment) → CountsOn t n m l past → is_zero (m ∷ l ∷ past) ≡ true
@@ -44,4 +45,9 @@ pub fn offset_met_in_time()
     ensures early { (d : Drift) (most : ℕ) (past : List Moment) → quiet_for d past < most → offset_within d most past ≡ true }
     ensures met { (d : Drift) (t : Tables) (n most : ℕ) (past : List Moment) → OnCourse d t n most past → can_follow d t ≡ true
         → offset_within d (most + cycles_needed d t n (zero_target d past)) past ≡ true }
+    ensures no_sooner { (d : Drift) (t : Tables) (n most : ℕ) (m : Moment) (past : List Moment) → drifts d ≡ false
+        → HasRoom (correction_of t n) → OnCourse d t n most (m ∷ past) → t.unit.mode ≢ 3 → 1 ≤ zero_target d (m ∷ past)
+        → m.frame.counter ≡ m.frame.target
+        → quiet_for d (first_zero d (m ∷ past)) + (needed (correction_of t n) (zero_target d (m ∷ past)) - 1) * longest_cycle t n
+        < quiet_for d (m ∷ past) }
 {}

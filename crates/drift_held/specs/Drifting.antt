@@ -1,5 +1,5 @@
 -- The counter under a clock that drifts: at some ticks the clock gains one more, or stays.
-use Rattle.std.specs.Prelude.{◌==◌, if◌then◌else◌, ℕ, zero, suc, ◌≡◌, ◌≢◌, ◌≤◌, ◌<◌, ◌⊎◌, ◌+◌, List, ◌∷◌}
+use Rattle.std.specs.Prelude.{◌==◌, if◌then◌else◌, ℕ, zero, suc, ◌≡◌, ◌≢◌, ◌≤◌, ◌<◌, ◌⊎◌, ◌+◌, ◌%◌, List, ◌∷◌}
 use Rattle.sig_tables.specs.Counting.{Correction, tick_later, next_counter, last_counter}
 
 -- what the clock does at a tick: it rises by one, by two, or stays
@@ -59,3 +59,7 @@ pub record StaysNear (k : Correction) (drifts : ℕ → Drift) (past : List ℕ)
 -- one step of drift, at this tick
 abbrev pub one_step : ℕ → Drift → ℕ → Drift
 one_step tick step n = if n == tick then step else Even
+
+-- such a step at every third tick
+abbrev pub each_third : Drift → ℕ → Drift
+each_third step n = if n % 3 == 2 then step else Even

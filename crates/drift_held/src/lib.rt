@@ -4,8 +4,8 @@
 
 ghost use Rattle.std.specs.Prelude.{ℕ, ◌≡◌, ◌≤◌, ◌<◌, ◌+◌, ◌*◌, List, [], ◌∷◌, true};
 ghost use Rattle.sig_tables.specs.Counting.{Correction, HasRoom, begins_cycle, last_counter, most_a_cycle, needed};
-ghost use Rattle.drift_held.specs.Drifting.{Drift, Loses, Gains, one_step, drifted, target_drifted, Spaced, CanCorrect, StaysNear};
-ghost use Rattle.drift_held.specs.Known.{dwelling_90, shortway_90};
+ghost use Rattle.drift_held.specs.Drifting.{Drift, Loses, Gains, one_step, each_third, drifted, target_drifted, Spaced, CanCorrect, StaysNear};
+ghost use Rattle.drift_held.specs.Known.{dwelling_90, shortway_90, dwelling_1};
 
 /// A clock that drifts is held to one tick of the offset. Its steps are further apart than two of the longest cycles; one
 /// that gains is brought back by shortway alone. From a local zero, or a pickup, counter and target meet within twice the needed
@@ -35,4 +35,13 @@ pub fn gains_are_not_dwelt_away()
     ensures by_one { target_drifted 900 900 (one_step 239 Gains) 0 ≡ 1 }
     ensures dwelt { last_counter (drifted dwelling_90 1000 (one_step 239 Gains) 0 (0 ∷ [])) ≡ 0 }
     ensures further { target_drifted 900 1000 (one_step 239 Gains) 0 ≡ 101 }
+{}
+
+/// A clock that loses every third tick is not followed: its steps are not two of the longest cycles apart. One cycle would do for
+/// one tick, but after twice the longest cycle counter and target are four ticks apart.
+pub fn quick_drift_is_not_held()
+    ensures one { needed dwelling_1 9 ≡ 1 }
+    ensures twice { 2 * (dwelling_1.cycle + most_a_cycle dwelling_1) ≡ 22 }
+    ensures counter { last_counter (drifted dwelling_1 22 (each_third Loses) 9 (0 ∷ [])) ≡ 0 }
+    ensures target { target_drifted 10 22 (each_third Loses) 9 ≡ 4 }
 {}

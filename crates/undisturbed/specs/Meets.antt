@@ -1,19 +1,20 @@
 -- What a history has to meet: coordination that is left alone brings local zeros, both coordinated phases Green, onto the offset.
 -- Each condition looks back from one moment and is asked of every moment, so that a tick owes it of its own moment alone.
-use Rattle.std.specs.Prelude.{ℕ, ◌==◌, ◌&&◌, ◌||◌, nat_le, nat_lt, Bool, true, false, ◌≡◌, if◌then◌else◌, List, [], ◌∷◌}
+use Rattle.std.specs.Prelude.{ℕ, ◌+◌, ◌-◌, ◌*◌, ◌==◌, ◌&&◌, ◌||◌, ◌≤◌, ◌<◌, nat_le, nat_lt, Bool, true, false, ◌≡◌, ◌≢◌, if◌then◌else◌, List, [], ◌∷◌}
 use Rattle.sig_types.specs.declared.frame.Colour.{Colour}
 use Rattle.sig_types.specs.declared.frame.Mode.{Mode}
 use Rattle.sig_types.specs.declared.frame.Mode.TheVariants.{Coord}
 use Rattle.sig_tables.specs.declared.tables.Tables.{Tables}
 use Rattle.sig_tables.specs.Slots.{is_defined, cycle_time}
-use Rattle.sig_tables.specs.Counting.{tick_later}
+use Rattle.sig_tables.specs.Counting.{tick_later, needed}
+use Rattle.sig_tables.specs.Counters.{correction_of}
 use Rattle.sig_tables.specs.Choosing.{are_coordinated_green}
 use Rattle.sig_tables.specs.Walking.{is_local_zero}
 use Rattle.sig_tables.specs.Past.{Moment, History}
 use Rattle.sig_tables.specs.Looking.{last_frame}
 use Rattle.sig_tables.specs.Decide.{past_at}
 use Rattle.undisturbed.specs.Disturbances.{Drift, drift_of, drifts, is_disturbed, quiet_for}
-use Rattle.undisturbed.specs.Bounds.{zero_bound, offset_bound}
+use Rattle.undisturbed.specs.Bounds.{longest_cycle, zero_bound, offset_bound}
 
 -- the last moment is a local zero
 abbrev pub is_zero : List Moment → Bool
@@ -112,3 +113,13 @@ MeetsEach d (m ∷ past) = MeetsNow d (m ∷ past) × MeetsEach d past
 -- the history meets what coordination promises
 abbrev pub Meets : History → Type 0
 Meets h = MeetsEach (drift_of (past_at h)) (past_at h).moments
+
+-- in step with pattern n by dwell or by add-only: where the first local zero was off the target, counter and target are not equal
+-- before the last of the cycles that were needed from there
+abbrev pub NotSooner : Drift → ℕ → List Moment → Type 0
+NotSooner d n [] = Unit {0}
+NotSooner d n (m ∷ past) =
+    m.frame.mode ≡ Coord n → has_zero d (m ∷ past) ≡ true → 1 ≤ zero_target d (m ∷ past) → m.tables.unit.mode ≢ 3
+    → m.frame.counter ≡ m.frame.target
+    → quiet_for d (first_zero d (m ∷ past)) + (needed (correction_of m.tables n) (zero_target d (m ∷ past)) - 1) * longest_cycle m.tables n
+    < quiet_for d (m ∷ past)

@@ -1,6 +1,6 @@
 use Rattle.sig_tables.specs.Decide.{past_at}
 use Rattle.undisturbed.specs.Disturbances.{drift_of}
-use Rattle.coordination_kept.proofs.Meeting.{meets-each, meets-history, tells-opening}
+use Rattle.coordination_kept.proofs.Meeting.{meets-each, meets-history, no-sooner, tells-opening}
 use Rattle.coordination_kept.proofs.promise_kept.Goals as goal
 
 pub returns-clause-each : goal.returns-clause-each
@@ -14,3 +14,6 @@ returns-clause-history c = λ h gain lose tells. meets-history h gain lose tells
 
 pub returns-clause-opening : goal.returns-clause-opening
 returns-clause-opening c = tells-opening
+
+pub returns-clause-no_sooner : goal.returns-clause-no_sooner
+returns-clause-no_sooner c = no-sooner

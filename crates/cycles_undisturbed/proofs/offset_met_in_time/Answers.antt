@@ -1,4 +1,4 @@
-use Rattle.cycles_undisturbed.proofs.Offsets.{pickup-begins, zero-begins, course-begins, course-step, offset-early, course-holds}
+use Rattle.cycles_undisturbed.proofs.Offsets.{pickup-begins, zero-begins, course-begins, course-step, offset-early, course-holds, course-no-sooner}
 use Rattle.cycles_undisturbed.proofs.offset_met_in_time.Goals as goal
 
 pub returns-clause-pickup : goal.returns-clause-pickup
@@ -18,3 +18,6 @@ returns-clause-early c = offset-early
 
 pub returns-clause-met : goal.returns-clause-met
 returns-clause-met c = course-holds
+
+pub returns-clause-no_sooner : goal.returns-clause-no_sooner
+returns-clause-no_sooner c = course-no-sooner
