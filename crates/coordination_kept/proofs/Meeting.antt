@@ -311,12 +311,12 @@ meets-each d [] tells = absurd tells
 meets-each d (m ∷ []) tells = (disturbed-meets d m [] tells.0 refl, tt)
 meets-each d (m ∷ l ∷ past) tells = (tick-meets d m l past tells.0 (carries d l past tells.1), meets-each d (l ∷ past) tells.1)
 
--- by dwell and by add-only no sooner than in the last of the needed cycles
+-- no sooner than in the last of the needed cycles
 pub no-sooner : (d : Drift) (n : ℕ) (past : List Moment) → drifts d ≡ false → TellsEach d past → NotSooner d n past
 no-sooner d n [] none tells = tt
-no-sooner d n (m ∷ past) none tells = λ mode zero some other met.
+no-sooner d n (m ∷ past) none tells = λ mode zero some met.
     let now : InStep d m.tables n (m ∷ past) = (carries d m past tells).in_step n mode in
-    course-no-sooner d m.tables n (zero_bound (m ∷ past) m.tables n) m past none now.room (now.course zero) other some met
+    course-no-sooner d m.tables n (zero_bound (m ∷ past) m.tables n) m past none now.room (now.course zero) some met
 
 -- the moment before any tick neither seeks a pattern nor is in step
 abbrev is_seek : Mode → Bool

@@ -19,7 +19,7 @@ ghost use Rattle.coordination_kept.specs.Goes.{GoesOn};
 /// Where each tick is as the rules of a tick have it, every moment meets what coordination promises: both coordinated phases Green
 /// at each local zero, a local zero in time after each disturbance, and the offset met in time and held: exactly where the clock keeps
 /// time, and to one tick where it drifts. The drift may be any, also none, whatever the clock does; what it does else counts as a clock
-/// that is set. By dwell and by add-only a clock that keeps time does not meet the offset before the last of the needed cycles.
+/// that is set. With a clock that keeps time the offset is not met before the last of the needed cycles.
 pub fn promise_kept()
     ensures each { (d : Drift) (past : List Moment) → TellsEach d past → MeetsEach d past }
     ensures drifting { (h : History) → TellsEach (drift_of (past_at h)) (past_at h).moments → Meets h }

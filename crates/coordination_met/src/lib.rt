@@ -37,8 +37,9 @@ pub fn coordination_is_met()
     ensures history { (h : History) → Lawful h.tables (since_opening h) → (past_at h).gain ≡ 0 → (past_at h).lose ≡ 0 → Meets h }
 {}
 
-/// The number of cycles that is computed is also the least: by dwell and by add-only, where the clock keeps time and the first local zero
-/// after a disturbance was off its target, counter and target are not equal before the last of the needed cycles.
+/// The number of cycles that is computed is also the least: where the clock keeps time and the first local zero after a disturbance was
+/// off its target, counter and target are not equal before the last of the needed cycles. By dwell and by add-only each of the others
+/// takes the cycle and its whole limit, by shortway at least the cycle less what it subtracts.
 pub fn offset_is_met_no_sooner()
     ensures { (h : History) (n : ℕ) → Admitted h.tables (since_opening h) → NotSooner no_drift n (past_at h).moments }
 {}

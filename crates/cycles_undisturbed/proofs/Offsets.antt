@@ -1,5 +1,5 @@
 -- From the first local zero on the counter is brought onto the target, and holds it.
-use Rattle.std.proofs.Common.{◌≡◌, ◌≢◌, inl, inr, ℕ, ◌+◌, ◌-◌, ◌*◌, ◌≤◌, ◌<◌, Bool, true, false, nat_le}
+use Rattle.std.proofs.Common.{◌≡◌, inl, inr, ℕ, ◌+◌, ◌-◌, ◌*◌, ◌≤◌, ◌<◌, Bool, true, false, nat_le}
 use Rattle.std.proofs.Common.{◌==◌, ◌&&◌, ◌||◌, if◌then◌else◌, List, ◌∷◌, refl, sym, ◌∙◌, ap, subst, arith}
 use Rattle.std.proofs.lemmas.Bool.{false≢true, leb-true, cases_lt}
 use Rattle.sig_types.specs.declared.frame.Mode.TheVariants.{Coord}
@@ -11,11 +11,11 @@ use Rattle.sig_tables.specs.Past.{Moment}
 use Rattle.sig_tables.specs.Looking.{last_frame}
 use Rattle.offset_met.proofs.Looks.{same, exceeds, fits}
 use Rattle.offset_met.proofs.Onto.{gone-is}
-use Rattle.offset_met.proofs.Sooner.{not-sooner-adding}
+use Rattle.offset_met.proofs.Sooner.{not-sooner, not-sooner-adding}
 use Rattle.drift_held.specs.Drifting.{Drift as Step, Even, moved, drifted, target_drifted}
 use Rattle.drift_held.proofs.Reaching.{shifted, shifted-at, drifted-more, target-more}
 use Rattle.undisturbed.specs.Disturbances.{Drift, drifts, is_disturbed, quiet_for}
-use Rattle.undisturbed.specs.Bounds.{longest_cycle}
+use Rattle.undisturbed.specs.Bounds.{longest_cycle, shortest_cycle}
 use Rattle.undisturbed.specs.Meets.{is_zero, first_zero, has_zero, zero_target, is_met, is_near, holds_since, offset_within, can_follow}
 use Rattle.cycles_undisturbed.specs.Cycles.{counters, CountsOn, PicksUp, step_at, steps_after, HasTime, are_near, ComesNear, last_number, cycles_needed, OnCourse}
 use Rattle.cycles_undisturbed.proofs.Zeros.{quiet-more, first-older, first-now, has-older, has-now, zero-changes}
@@ -216,16 +216,15 @@ course-holds d t n most past course follows =
     pick true late = course.held follows (over _ _ _ _ _ _ (course.comes follows).within (leb-true _ _ late) course.quiet course.soon)
     pick false late = refl
 
--- by dwell and by add-only it is not met before the last of these cycles, where the clock keeps time
+-- it is not met before the last of these cycles, each of the others at its shortest, where the clock keeps time
 pub course-no-sooner : (d : Drift) (t : Tables) (n most : ℕ) (m : Moment) (past : List Moment) → drifts d ≡ false → HasRoom (correction_of t n)
-    → OnCourse d t n most (m ∷ past) → t.unit.mode ≢ 3 → 1 ≤ zero_target d (m ∷ past) → m.frame.counter ≡ m.frame.target
-    → quiet_for d (first_zero d (m ∷ past)) + (needed (correction_of t n) (zero_target d (m ∷ past)) - 1) * longest_cycle t n
+    → OnCourse d t n most (m ∷ past) → 1 ≤ zero_target d (m ∷ past) → m.frame.counter ≡ m.frame.target
+    → quiet_for d (first_zero d (m ∷ past)) + (needed (correction_of t n) (zero_target d (m ∷ past)) - 1) * shortest_cycle t n
     < quiet_for d (m ∷ past)
-course-no-sooner d t n most m past none room course other some met =
-    subst (λ (z : List Moment). quiet_for d z + (needed k (last_frame z).target - 1) * longest_cycle t n < quiet_for d (m ∷ past)) (sym course.first)
+course-no-sooner d t n most m past none room course some met =
+    subst (λ (z : List Moment). quiet_for d z + (needed k (last_frame z).target - 1) * shortest_cycle t n < quiet_for d (m ∷ past)) (sym course.first)
     (sums _ _ _ _ course.quiet
-    (not-sooner-adding k (counters n start) from j room course.begins course.below
-    (subst (λ (z : List Moment). 1 ≤ (last_frame z).target) course.first some) other equal))
+    (by (t.unit.mode == 3) refl (subst (λ (z : List Moment). 1 ≤ (last_frame z).target) course.first some)))
   where
     k : Correction
     k = correction_of t n
@@ -249,6 +248,12 @@ course-no-sooner d t n most m past none room course other some met =
     equal =
         ap last_counter (sym (drifted-even j k steps from (counters n start) even) ∙ sym course.counted ∙ counters-at n m past course.mode)
         ∙ met ∙ course.target ∙ target-even j (cycle_time t n) steps from even ∙ gone-is j (cycle_time t n) from course.below
+
+    by : (b : Bool) → (t.unit.mode == 3) ≡ b → 1 ≤ from
+        → (needed k from - 1) * (if b then cycle_time t n - t.unit.subtract else longest_cycle t n) < j
+    by true e some = not-sooner k (counters n start) from j room course.begins course.below some equal
+    by false e some = not-sooner-adding k (counters n start) from j room course.begins course.below some
+        (λ three. false≢true (sym e ∙ ap (λ (x : ℕ). x == 3) three)) equal
 
     sums : (q z j need : ℕ) → q ≡ z + j → need < j → z + need < q
     sums q z j need h i = omega arith

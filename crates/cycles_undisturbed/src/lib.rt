@@ -3,7 +3,7 @@
 //! (FHWA Signal Timing Manual: offset, transition.)
 #![tactic(auto)]
 
-ghost use Rattle.std.specs.Prelude.{ℕ, ◌≡◌, ◌≢◌, ◌≤◌, ◌<◌, ◌+◌, ◌-◌, ◌*◌, ◌⊎◌, ◌∷◌, List, true, false};
+ghost use Rattle.std.specs.Prelude.{ℕ, ◌≡◌, ◌≤◌, ◌<◌, ◌+◌, ◌-◌, ◌*◌, ◌⊎◌, ◌∷◌, List, true, false};
 ghost use Rattle.sig_tables.specs.declared.tables.Tables.{Tables};
 ghost use Rattle.sig_tables.specs.Counting.{HasRoom, begins_cycle, needed};
 ghost use Rattle.sig_tables.specs.Counters.{correction_of};
@@ -12,7 +12,7 @@ ghost use Rattle.sig_tables.specs.Slots.{cycle_time};
 ghost use Rattle.sig_tables.specs.Past.{Moment};
 ghost use Rattle.drift_held.specs.Drifting.{moved};
 ghost use Rattle.undisturbed.specs.Disturbances.{Drift, drifts, is_disturbed, quiet_for};
-ghost use Rattle.undisturbed.specs.Bounds.{longest_cycle};
+ghost use Rattle.undisturbed.specs.Bounds.{longest_cycle, shortest_cycle};
 ghost use Rattle.undisturbed.specs.Meets.{is_zero, first_zero, has_zero, zero_target, zero_within, offset_within, can_follow};
 ghost use Rattle.cycles_undisturbed.specs.Cycles.{counters, CountsOn, PicksUp, InCycle, HasTime, step_at, cycles_needed, OnCourse};
 
@@ -29,8 +29,8 @@ pub fn zero_comes_in_time()
 
 /// Left alone, the counter comes onto the offset: from the first local zero after a disturbance, each quiet tick corrects it and
 /// the target goes on as the clock does; so within the needed cycles the two are equal, and stay so. A clock that drifts slowly makes
-/// that twice the needed cycles, and then the two stay within one tick of each other. By dwell and by add-only they are not equal before
-/// the last of the needed cycles, where the clock keeps time and the first local zero was off the target.
+/// that twice the needed cycles, and then the two stay within one tick of each other. Where the clock keeps time and the first local zero
+/// was off the target, they are not equal before the last of the needed cycles, each of the others at its shortest.
 pub fn offset_met_in_time()
     ensures pickup { (n : ℕ) (m l : Moment) (past : List Moment) → PicksUp n m l → begins_cycle (counters n (m ∷ l ∷ past)) ≡ true }
     ensures zero { (t : Tables) (n : ℕ) (m l : Moment) (past : List Moment) → CountsOn t n m l past → is_zero (m ∷ l ∷ past) ≡ true
@@ -46,8 +46,8 @@ pub fn offset_met_in_time()
     ensures met { (d : Drift) (t : Tables) (n most : ℕ) (past : List Moment) → OnCourse d t n most past → can_follow d t ≡ true
         → offset_within d (most + cycles_needed d t n (zero_target d past)) past ≡ true }
     ensures no_sooner { (d : Drift) (t : Tables) (n most : ℕ) (m : Moment) (past : List Moment) → drifts d ≡ false
-        → HasRoom (correction_of t n) → OnCourse d t n most (m ∷ past) → t.unit.mode ≢ 3 → 1 ≤ zero_target d (m ∷ past)
+        → HasRoom (correction_of t n) → OnCourse d t n most (m ∷ past) → 1 ≤ zero_target d (m ∷ past)
         → m.frame.counter ≡ m.frame.target
-        → quiet_for d (first_zero d (m ∷ past)) + (needed (correction_of t n) (zero_target d (m ∷ past)) - 1) * longest_cycle t n
+        → quiet_for d (first_zero d (m ∷ past)) + (needed (correction_of t n) (zero_target d (m ∷ past)) - 1) * shortest_cycle t n
         < quiet_for d (m ∷ past) }
 {}

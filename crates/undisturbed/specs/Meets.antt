@@ -1,6 +1,6 @@
 -- What a history has to meet: coordination that is left alone brings local zeros, both coordinated phases Green, onto the offset.
 -- Each condition looks back from one moment and is asked of every moment, so that a tick owes it of its own moment alone.
-use Rattle.std.specs.Prelude.{ℕ, ◌+◌, ◌-◌, ◌*◌, ◌==◌, ◌&&◌, ◌||◌, ◌≤◌, ◌<◌, nat_le, nat_lt, Bool, true, false, ◌≡◌, ◌≢◌, if◌then◌else◌, List, [], ◌∷◌}
+use Rattle.std.specs.Prelude.{ℕ, ◌+◌, ◌-◌, ◌*◌, ◌==◌, ◌&&◌, ◌||◌, ◌≤◌, ◌<◌, nat_le, nat_lt, Bool, true, false, ◌≡◌, if◌then◌else◌, List, [], ◌∷◌}
 use Rattle.sig_types.specs.declared.frame.Colour.{Colour}
 use Rattle.sig_types.specs.declared.frame.Mode.{Mode}
 use Rattle.sig_types.specs.declared.frame.Mode.TheVariants.{Coord}
@@ -14,7 +14,7 @@ use Rattle.sig_tables.specs.Past.{Moment, History}
 use Rattle.sig_tables.specs.Looking.{last_frame}
 use Rattle.sig_tables.specs.Decide.{past_at}
 use Rattle.undisturbed.specs.Disturbances.{Drift, drift_of, drifts, is_disturbed, quiet_for}
-use Rattle.undisturbed.specs.Bounds.{longest_cycle, zero_bound, offset_bound}
+use Rattle.undisturbed.specs.Bounds.{shortest_cycle, zero_bound, offset_bound}
 
 -- the last moment is a local zero
 abbrev pub is_zero : List Moment → Bool
@@ -114,12 +114,11 @@ MeetsEach d (m ∷ past) = MeetsNow d (m ∷ past) × MeetsEach d past
 abbrev pub Meets : History → Type 0
 Meets h = MeetsEach (drift_of (past_at h)) (past_at h).moments
 
--- in step with pattern n by dwell or by add-only: where the first local zero was off the target, counter and target are not equal
--- before the last of the cycles that were needed from there
+-- in step with pattern n: where the first local zero was off the target, counter and target are not equal before the last of the cycles
+-- that were needed from there, each of the others at its shortest
 abbrev pub NotSooner : Drift → ℕ → List Moment → Type 0
 NotSooner d n [] = Unit {0}
 NotSooner d n (m ∷ past) =
-    m.frame.mode ≡ Coord n → has_zero d (m ∷ past) ≡ true → 1 ≤ zero_target d (m ∷ past) → m.tables.unit.mode ≢ 3
-    → m.frame.counter ≡ m.frame.target
-    → quiet_for d (first_zero d (m ∷ past)) + (needed (correction_of m.tables n) (zero_target d (m ∷ past)) - 1) * longest_cycle m.tables n
+    m.frame.mode ≡ Coord n → has_zero d (m ∷ past) ≡ true → 1 ≤ zero_target d (m ∷ past) → m.frame.counter ≡ m.frame.target
+    → quiet_for d (first_zero d (m ∷ past)) + (needed (correction_of m.tables n) (zero_target d (m ∷ past)) - 1) * shortest_cycle m.tables n
     < quiet_for d (m ∷ past)
