@@ -21,6 +21,8 @@ pub record CabinetContent : Type 0 where
   pub pattern : ℕ
   pub clock : ℕ
   pub section : ℕ
+  pub gain : ℕ
+  pub lose : ℕ
 
 pub record MasterContent : Type 0 where
   pub clock : ℕ
@@ -62,6 +64,8 @@ cabinet_content c = record {
   pattern = c.pattern;
   clock = c.clock;
   section = c.section;
+  gain = c.gain;
+  lose = c.lose;
 }
 
 abbrev pub master_content : MasterSetup → MasterContent

@@ -26,6 +26,10 @@ pub struct Cabinet {
     pub clock: u32,
     /// The section of the master's schedule that it follows, 1 to 8.
     pub section: u8,
+    /// Its clock gains one tick in so many, 12,000 to 864,000; 0 is never.
+    pub gain: u32,
+    /// Its clock loses one tick in so many, 12,000 to 864,000; 0 is never.
+    pub lose: u32,
 }
 
 /// One entry of the master's schedule: from a second of the day on, a section has a pattern.

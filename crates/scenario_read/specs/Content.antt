@@ -57,6 +57,8 @@ cabinet_of d = record {
   pattern = 0;
   clock = whole_of (held clock d);
   section = 1;
+  gain = 0;
+  lose = 0;
 }
 
 -- the vehicle detector or the push button of an input

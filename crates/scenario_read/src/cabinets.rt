@@ -84,6 +84,8 @@ fn cabinet_in(alloc: Global, object: &Value, cabinet: usize) -> Result<Cabinet, 
         pattern: 0,
         clock,
         section: 1,
+        gain: 0,
+        lose: 0,
     })
 }
 
