@@ -21,7 +21,7 @@ use Rattle.scenario_file.proofs.Back.{reads-back}
 
 pub both-read : (bytes text : List ℕ) (parts : Parts) (found : Listed) (ms : Members) (ds : Items) (content : ScenarioContent)
     → IsUtf8 bytes → read bytes ≡ Some (object (with_inputs (array ds) ms)) → MembersSorted ms → Stands found ms ds
-    → faults (object ms) ≡ [] → Says parts (object ms) → all_within parts.rounds (length parts.cabinets.items) found.inputs.items ≡ true
+    → faults (object ms) ≡ [] → Says parts (object ms) → all_within parts.setup.rounds (length parts.setup.cabinets.items) found.inputs.items ≡ true
     → IsUtf8 text → (members_have_float ms ≡ false → text ≡ compact_text (object (with_inputs (array ds) ms))) → content ≡ content_from (with_found parts found) text
     → IsScenario bytes content × IsScenario text content
 both-read bytes text parts found ms ds content utf8 reading sorted stands none says within text-utf8 text-is content-is =

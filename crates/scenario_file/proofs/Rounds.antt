@@ -6,7 +6,7 @@ use Rattle.serde_json.specs.Find.{get}
 use Rattle.scenario_read.specs.Paths.{Step, then_item, then_named}
 use Rattle.scenario_read.specs.Kinds.{Fits, Beyond, whole, fault_at, each}
 use Rattle.scenario_read.specs.Fields.{either, faults_of, held, field_faults, fields_faults, alternative_faults, names, known_fields, unknown_faults, object_of}
-use Rattle.scenario_read.specs.Table.{round, cabinet_number, veh, on, ped, input_shape}
+use Rattle.scenario_read.specs.Table.{round, cabinet_number, input_fields, input_shape}
 use Rattle.scenario_read.specs.Content.{whole_of, each_of, input_of}
 use Rattle.scenario_file.specs.Listing.{any_input, all_within}
 use Rattle.scenario_file.proofs.Growth.{none-left, none-both}
@@ -38,7 +38,7 @@ one-within rounds cabinets path (string s) e r c = absurd (cc)
 one-within rounds cabinets path (array ds) e r c = absurd (cc)
 one-within rounds cabinets path (object ms) e r c =
     let d = object ms in
-    let alternatives = alternative_faults path d ((veh ∷ on ∷ []) ∷ (ped ∷ []) ∷ []) in
+    let alternatives = alternative_faults path d input_fields in
     let known = names (known_fields (input_shape 86400 64) d) in
     let a = none-left (unknown_faults known path ms) (fields_faults path d (round 86400 ∷ cabinet_number 64 ∷ []) ++ alternatives) e in
     let b = none-left (fields_faults path d (round 86400 ∷ cabinet_number 64 ∷ [])) alternatives a.1 in

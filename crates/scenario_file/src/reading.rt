@@ -23,11 +23,15 @@ pub(crate) fn scenario_of(alloc: Global, bytes: &[u8]) -> Option<Scenario>
     let Ok(mut parts) = checked_parts(alloc, &Value::Object(whole.frame)) else {
         return None;
     };
-    if !all_within(&whole.listed.inputs, parts.rounds, parts.cabinets.len()) {
+    if !all_within(
+        &whole.listed.inputs,
+        parts.setup.rounds,
+        parts.setup.cabinets.len(),
+    ) {
         return None;
     }
-    parts.inputs = whole.listed.inputs;
-    Some(scenario_from(alloc, parts, text.into_bytes()))
+    parts.events.inputs = whole.listed.inputs;
+    Some(scenario_from(parts, text.into_bytes()))
 }
 
 /// Reads a scenario, in time and memory that grow with its bytes. The refusal is the first fault in the order of the

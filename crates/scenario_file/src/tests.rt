@@ -85,7 +85,7 @@ const GIVES_UP: [(&str, &str); 5] = [
         "field inputs[1].cabinet",
     ),
     (
-        "{\"inputs\":[{\"cabinet\":2,\"ped\":1,\"round\":1}],\"cabinets\":[{}],\"rounds\":1,\"ticks\":1,\"version\":2}",
+        "{\"inputs\":[{\"cabinet\":2,\"ped\":1,\"round\":1}],\"cabinets\":[{}],\"rounds\":1,\"ticks\":1,\"version\":3}",
         "limit version",
     ),
     (

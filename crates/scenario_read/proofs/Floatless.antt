@@ -10,8 +10,9 @@ use Rattle.serde_json.specs.Find.{get_member, get}
 use Rattle.serde_json.specs.Written.{has_float, items_have_float, members_have_float}
 use Rattle.scenario_data.specs.Causes.{Cause, Field as FieldCause}
 use Rattle.scenario_read.specs.Paths.{Step, path_text, then_named, then_item}
-use Rattle.scenario_read.specs.Kinds.{Kind, is_among, whole, word, flag, each, list_of}
+use Rattle.scenario_read.specs.Kinds.{Kind, is_among, whole, rare, text, word, flag, each, list_of, each_behind, list_behind}
 use Rattle.scenario_read.specs.Fields.{Field, Shape, either, faults_of, field_faults, fields_faults, stands, only_one, all_of, known_fields, names, unknown_faults, chosen_faults, alternative_faults, object_of}
+use Rattle.scenario_read.specs.CellLists.{hex_text}
 use Rattle.scenario_read.specs.Sorted.{Below, Sorted, ItemsSorted, MembersSorted}
 
 -- a value of the kind that has no faults has no float
@@ -31,6 +32,36 @@ whole-floatless least most path (number (float x)) sorted e = absurd (cc)
 whole-floatless least most path (string s) sorted e = refl
 whole-floatless least most path (array ds) sorted e = absurd (cc)
 whole-floatless least most path (object ms) sorted e = absurd (cc)
+
+pub rare-floatless : (least most : ℕ) → Floatless (rare least most)
+rare-floatless least most path null sorted e = refl
+rare-floatless least most path (boolean b) sorted e = refl
+rare-floatless least most path (number (unsigned n)) sorted e = refl
+rare-floatless least most path (number (negative z)) sorted e = refl
+rare-floatless least most path (number (float x)) sorted e = absurd (cc)
+rare-floatless least most path (string s) sorted e = refl
+rare-floatless least most path (array ds) sorted e = absurd (cc)
+rare-floatless least most path (object ms) sorted e = absurd (cc)
+
+pub text-floatless : (least most : ℕ) → Floatless (text least most)
+text-floatless least most path null sorted e = refl
+text-floatless least most path (boolean b) sorted e = refl
+text-floatless least most path (number n) sorted e = absurd (cc)
+text-floatless least most path (string s) sorted e = refl
+text-floatless least most path (array ds) sorted e = absurd (cc)
+text-floatless least most path (object ms) sorted e = absurd (cc)
+
+pub hex-floatless : (most : ℕ) → Floatless (hex_text most)
+hex-floatless most path null sorted e = refl
+hex-floatless most path (boolean b) sorted e = refl
+hex-floatless most path (number n) sorted e = absurd (cc)
+hex-floatless most path (string s) sorted e = refl
+hex-floatless most path (array ds) sorted e = absurd (cc)
+hex-floatless most path (object ms) sorted e = absurd (cc)
+
+-- what else may be at fault behind a kind's own faults
+pub more-floatless : (kind : Kind) (more : List Step → Data → List Cause) → Floatless kind → Floatless (λ path d. kind path d ++ more path d)
+more-floatless kind more good path d sorted e = good path d sorted (none-left (kind path d) (more path d) e).0
 
 pub word-floatless : (words : List (List ℕ)) → Floatless (word words)
 word-floatless words path null sorted e = refl
@@ -61,6 +92,22 @@ list-floatless least most kind good path (number n) sorted e = absurd (cc)
 list-floatless least most kind good path (string s) sorted e = refl
 list-floatless least most kind good path (array ds) sorted e = each-floatless kind good path 0 ds sorted (none-left _ _ e).1
 list-floatless least most kind good path (object ms) sorted e = absurd (cc)
+
+behind-floatless : {A : Type 0} (kind : List A → Kind) (says : Data → A) → ((earlier : List A) → Floatless (kind earlier)) → (path : List Step) (place : ℕ) (earlier : List A) (ds : Items)
+    → ItemsSorted ds → each_behind kind says path place earlier ds ≡ [] → items_have_float ds ≡ false
+behind-floatless kind says good path place earlier no_items sorted e = refl
+behind-floatless kind says good path place earlier (item d ds) sorted e =
+    let next = earlier ++ says d ∷ [] in
+    let parts = none-left (kind earlier (then_item path place) d) (each_behind kind says path (place + 1) next ds) e in
+    rw (good earlier (then_item path place) d sorted.0 parts.0) (behind-floatless kind says good path (place + 1) next ds sorted.1 parts.1)
+
+pub list-behind-floatless : {A : Type 0} (kind : List A → Kind) (says : Data → A) → ((earlier : List A) → Floatless (kind earlier)) → Floatless (list_behind kind says)
+list-behind-floatless kind says good path null sorted e = refl
+list-behind-floatless kind says good path (boolean b) sorted e = refl
+list-behind-floatless kind says good path (number n) sorted e = absurd (cc)
+list-behind-floatless kind says good path (string s) sorted e = refl
+list-behind-floatless kind says good path (array ds) sorted e = behind-floatless kind says good path 0 [] ds sorted e
+list-behind-floatless kind says good path (object ms) sorted e = absurd (cc)
 
 -- ---- the members of an object
 

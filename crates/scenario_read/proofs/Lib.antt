@@ -1,5 +1,6 @@
 pub mod Refusing
 pub mod Walks
+pub mod Behind
 pub mod Lists
 pub mod Judged
 pub mod Objects

@@ -1,5 +1,5 @@
 -- No limit of a scenario's value is that of the whole: each has the name of what is beyond it.
-use Rattle.std.proofs.Common.{◌≡◌, ◌≢◌, ◌+◌, ℕ, Bool, true, false, nat_le, if◌then◌else◌, List, [], ◌∷◌, ◌++◌, Option, Some, None, codes, String, string_bytes, subst, refl, arith}
+use Rattle.std.proofs.Common.{◌≡◌, ◌≢◌, ◌+◌, ◌==◌, nat_lt, filter, ℕ, Bool, true, false, nat_le, if◌then◌else◌, List, [], ◌∷◌, ◌++◌, Option, Some, None, codes, String, string_bytes, subst, refl, arith}
 use Rattle.std.specs.declared.alloc.Global.{Global}
 use Rattle.serde_json.specs.Data.{Data, null, boolean, number, string, array, object, Items, no_items, item, Members, no_members, member}
 use Rattle.sig_types.specs.declared.notes.Broken.{Broken as BrokenRule}
@@ -7,11 +7,11 @@ use Rattle.scenario_data.specs.declared.refusal.Refusal.TheVariants.{Limit as Li
 use Rattle.scenario_data.specs.Causes.{Cause, Field as FieldCause, Limit as LimitCause, Broken as BrokenCause}
 use Rattle.scenario_data.specs.Content.{CabinetContent}
 use Rattle.scenario_read.specs.Paths.{Step, Named, Item, path_text, further_text, then_named, then_item}
-use Rattle.scenario_read.specs.Kinds.{Fit, Fits, Wrong, Beyond, Kind, fault_at, whole_fits, word_fits, flag_fits, list_fits, is_among, each, items_in, list_of, whole, word, flag}
+use Rattle.scenario_read.specs.Kinds.{Fit, Fits, Wrong, Beyond, Kind, fault_at, whole_fits, rare_fits, text_fits, word_fits, flag_fits, list_fits, array_fits, is_among, each, each_behind, items_in, list_of, list_behind, whole, rare, text, word, flag}
 use Rattle.scenario_read.specs.Fields.{Field, Shape, value_of, faults_of, field_faults, fields_faults, stands, only_one, chosen_faults, alternative_faults, unknown_faults, names, known_fields, members_faults, object_of}
-use Rattle.scenario_read.specs.CellLists.{cell, cell_fits}
-use Rattle.scenario_read.specs.Table.{cabinet_shape, veh, on, ped, input_shape, scenario_shape}
-use Rattle.scenario_read.specs.Content.{round_count, cabinet_count, cabinets_of}
+use Rattle.scenario_read.specs.CellLists.{octets_fits, hex_text, cell, cell_fits}
+use Rattle.scenario_read.specs.Table.{gain, lose, drifts_both_ways, drift_faults, cabinet_shape, cabinet, entry_shape, master_shape, input_fields, input_shape, count_of, full_faults, load_cabinet, load_shape, load, priority_fields, priority_shape, is_late, act_of, departure, departure_faults, priority_item, stream_words, frame_shape, way_words, fault_kind_words, fault_shape, event_fields, scenario_shape}
+use Rattle.scenario_read.specs.Content.{version_number, round_count, cabinet_count, cabinets_of}
 use Rattle.scenario_read.specs.Faults.{product_faults, broken_causes, table_faults, all_table_faults, faults, first_cause}
 use Rattle.scenario_read.specs.Answers.{IsFirstFault}
 
@@ -76,6 +76,27 @@ list-good least most kind good path d h =
 
 whole-good : (least most : ℕ) → Good (whole least most)
 whole-good least most path d h = at-elsewhere path (whole_fits least most d) h
+
+rare-good : (least most : ℕ) → Good (rare least most)
+rare-good least most path d h = at-elsewhere path (rare_fits least most d) h
+
+text-good : (least most : ℕ) → Good (text least most)
+text-good least most path d h = at-elsewhere path (text_fits least most d) h
+
+hex-good : (most : ℕ) → Good (hex_text most)
+hex-good most path d h = at-elsewhere path (octets_fits most d) h
+
+behind-elsewhere : {A : Type 0} (kind : List A → Kind) (says : Data → A) (path : List Step) (place : ℕ) (earlier : List A) (ds : Items) → ((before : List A) → Good (kind before)) → IsNamed path
+    → AllElsewhere (each_behind kind says path place earlier ds)
+behind-elsewhere kind says path place earlier no_items good h = tt
+behind-elsewhere kind says path place earlier (item d ds) good h =
+    joined (kind earlier (then_item path place) d) (each_behind kind says path (place + 1) (earlier ++ says d ∷ []) ds)
+    (good earlier (then_item path place) d (named-more path (Item place ∷ []) h)) (behind-elsewhere kind says path (place + 1) (earlier ++ says d ∷ []) ds good h)
+
+list-behind-good : {A : Type 0} (kind : List A → Kind) (says : Data → A) → ((before : List A) → Good (kind before)) → Good (list_behind kind says)
+list-behind-good kind says good path d h =
+    joined (fault_at path (array_fits d)) (each_behind kind says path 0 [] (items_in d))
+    (at-elsewhere path (array_fits d) h) (behind-elsewhere kind says path 0 [] (items_in d) good h)
 
 word-good : (words : List (List ℕ)) → Good (word words)
 word-good words path d h = at-elsewhere path (word_fits words d) h
@@ -158,36 +179,159 @@ any-path (Item place ∷ steps) h = absurd h
 object-good : (shape : Shape) → AllGood shape.fields → Chooses shape.alternatives → Good (object_of shape)
 object-good shape good chooses path d h = object-elsewhere shape path d (any-path path h) good chooses
 
-cabinet-good : Good (object_of cabinet_shape)
-cabinet-good = object-good cabinet_shape
-    (omega arith, word-good (codes "std8" ∷ codes "max8" ∷ []), (omega arith, list-good 0 4096 cell cell-good, (omega arith, whole-good 0 863999, tt)))
+drift-good : (two : Bool) → AllGood (if two then gain ∷ lose ∷ [] else [])
+drift-good true = (omega arith, rare-good 12000 864000, (omega arith, rare-good 12000 864000, tt))
+drift-good false = tt
+
+cabinet-good : (version : ℕ) → Good (cabinet version)
+cabinet-good version path d h =
+    joined (object_of (cabinet_shape version) path d) (drift_faults version path d)
+    (object-good (cabinet_shape version) (
+      omega arith,
+      word-good (codes "std8" ∷ codes "max8" ∷ []),
+      (
+        omega arith,
+        list-good 0 4096 cell cell-good,
+        (omega arith, whole-good 0 255, (omega arith, whole-good 0 863999, (omega arith, whole-good 1 8, drift-good (version == 2)))),
+      ),
+    )
+    none-chosen path d h)
+    (at-elsewhere path (if drifts_both_ways version d then Wrong else Fits) h)
+
+entry-good : Good (object_of entry_shape)
+entry-good = object-good entry_shape (omega arith, whole-good 0 86399, (omega arith, whole-good 1 8, (omega arith, whole-good 0 255, tt))) none-chosen
+
+master-good : Good (object_of master_shape)
+master-good = object-good master_shape (
+  omega arith,
+  whole-good 0 863999,
+  (
+    omega arith,
+    whole-good 0 86400,
+    (
+      omega arith,
+      whole-good 0 86400,
+      (omega arith, whole-good 0 86400, (omega arith, whole-good 1 10, (omega arith, list-good 0 1000 _ entry-good, tt))),
+    ),
+  ),
+)
     none-chosen
 
-input-chooses : Chooses ((veh ∷ on ∷ []) ∷ (ped ∷ []) ∷ [])
-input-chooses path d h = split (stands d (veh ∷ on ∷ [])) (stands d (ped ∷ []))
+-- an alternative of good fields is good, and the others are
+choice-good : (path : List Step) (d : Data) (o : Option (List Field)) → IsPath path → ((fields : List Field) → o ≡ Some fields → AllGood fields) → AllElsewhere (chosen_faults path d o)
+choice-good path d None h good = wrong-elsewhere path
+choice-good path d (Some fields) h good = fields-elsewhere path d fields h (good fields refl)
+
+abbrev EachGood : List (List Field) → Type 0
+EachGood [] = Unit {0}
+EachGood (fields ∷ more) = AllGood fields × EachGood more
+
+kept-good : (d : Data) (alternatives : List (List Field)) → EachGood alternatives → EachGood (filter (stands d) alternatives)
+kept-good d [] good = tt
+kept-good d (fields ∷ more) good = at (stands d fields) (kept-good d more good.1)
   where
-    first : AllElsewhere (fields_faults path d (veh ∷ on ∷ []))
-    first = fields-elsewhere path d (veh ∷ on ∷ []) h (omega arith, whole-good 1 16, (omega arith, flag-good, tt))
+    at : (b : Bool) → EachGood (filter (stands d) more) → EachGood (if b then fields ∷ filter (stands d) more else filter (stands d) more)
+    at true rest = (good.0, rest)
+    at false rest = rest
 
-    second : AllElsewhere (fields_faults path d (ped ∷ []))
-    second = fields-elsewhere path d (ped ∷ []) h (omega arith, whole-good 1 16, tt)
+only-good : (alternatives : List (List Field)) (fields : List Field) → EachGood alternatives → only_one alternatives ≡ Some fields → AllGood fields
+only-good [] fields good e = absurd (cc)
+only-good (a ∷ []) fields good e = let same : a ≡ fields = cc in subst AllGood same good.0
+only-good (a ∷ b ∷ more) fields good e = absurd (cc)
 
-    split : (x y : Bool) → AllElsewhere (chosen_faults path d (only_one
-        (if x then (veh ∷ on ∷ []) ∷ (if y then (ped ∷ []) ∷ [] else []) else (if y then (ped ∷ []) ∷ [] else []))))
-    split true true = wrong-elsewhere path
-    split true false = first
-    split false true = second
-    split false false = wrong-elsewhere path
+each-chooses : (alternatives : List (List Field)) → EachGood alternatives → Chooses alternatives
+each-chooses [] good path d h = tt
+each-chooses (a ∷ more) good path d h =
+    choice-good path d (only_one (filter (stands d) (a ∷ more))) h (λ fields is. only-good (filter (stands d) (a ∷ more)) fields (kept-good d (a ∷ more) good) is)
+
+input-chooses : Chooses input_fields
+input-chooses = each-chooses input_fields (
+  (omega arith, whole-good 1 16, (omega arith, flag-good, tt)),
+  ((omega arith, whole-good 1 16, tt), ((omega arith, whole-good 1 8, (omega arith, flag-good, tt)), tt)),
+)
 
 input-good : (round_count cabinet_count : ℕ) → Good (object_of (input_shape round_count cabinet_count))
 input-good r c = object-good (input_shape r c)
     (omega arith, whole-good 1 r, (omega arith, whole-good 1 c, tt))
     input-chooses
 
-scenario-elsewhere : (r c : ℕ) (d : Data) → AllElsewhere (object_of (scenario_shape r c) [] d)
-scenario-elsewhere r c d = object-elsewhere (scenario_shape r c) [] d tt (
+load-good : (r c : ℕ) (earlier : List ℕ) → Good (load r c earlier)
+load-good r c earlier path d h =
+    joined (object_of (load_shape r c) path d) (full_faults earlier path (load_cabinet c d))
+    (object-good (load_shape r c) (omega arith, whole-good 1 r, (omega arith, whole-good 1 c, (omega arith, list-good 1 768 cell cell-good, tt))) none-chosen path d h)
+    (at-elsewhere path (if nat_lt (count_of (load_cabinet c d) earlier) 100 then Fits else Beyond) h)
+
+priority-chooses : Chooses priority_fields
+priority-chooses = each-chooses priority_fields (
+  (omega arith, whole-good 1 10, tt),
+  (
+    (
+      omega arith,
+      whole-good 1 10,
+      (
+        omega arith,
+        whole-good 1 10,
+        (
+          omega arith,
+          whole-good 1 10,
+          (omega arith, whole-good 1 16, (omega arith, whole-good 0 65535, (omega arith, whole-good 0 65535, tt))),
+        ),
+      ),
+    ),
+    tt,
+  ),
+)
+
+priority-good : (r c : ℕ) → Good (priority_item r c)
+priority-good r c path d h =
+    joined (object_of (priority_shape r c) path d) (departure_faults path (act_of d))
+    (object-good (priority_shape r c) (omega arith, whole-good 1 r, (omega arith, whole-good 1 c, tt)) priority-chooses path d h)
+    (at-elsewhere (then_named path departure.name) (if is_late (act_of d) then Beyond else Fits) (named-more path (Named departure.name ∷ []) h))
+
+frame-good : (r c : ℕ) → Good (object_of (frame_shape r c))
+frame-good r c = object-good (frame_shape r c)
+    (omega arith, whole-good 1 r, (omega arith, whole-good 1 c, (omega arith, word-good stream_words, (omega arith, hex-good 1472, tt))))
+    none-chosen
+
+fault-good : (r c : ℕ) → Good (object_of (fault_shape r c))
+fault-good r c = object-good (fault_shape r c) (
   omega arith,
-  whole-good 1 1,
+  whole-good 1 r,
+  (
+    omega arith,
+    whole-good 1 c,
+    (
+      omega arith,
+      word-good stream_words,
+      (
+        omega arith,
+        word-good way_words,
+        (omega arith, whole-good 0 65535, (omega arith, word-good fault_kind_words, (omega arith, whole-good 0 86400, (omega arith, whole-good 1 255, tt)))),
+      ),
+    ),
+  ),
+)
+    none-chosen
+
+events-good : (r c : ℕ) → AllGood (event_fields r c)
+events-good r c = (
+  omega arith,
+  list-good 0 1000000 _ (input-good r c),
+  (
+    omega arith,
+    list-behind-good (load r c) (load_cabinet c) (load-good r c),
+    (
+      omega arith,
+      list-good 0 100000 _ (priority-good r c),
+      (omega arith, list-good 0 100000 _ (frame-good r c), (omega arith, list-good 0 100000 _ (fault-good r c), tt)),
+    ),
+  ),
+)
+
+scenario-elsewhere : (v r c : ℕ) (d : Data) → AllElsewhere (object_of (scenario_shape v r c) [] d)
+scenario-elsewhere v r c d = object-elsewhere (scenario_shape v r c) [] d tt (
+  omega arith,
+  whole-good 1 2,
   (
     omega arith,
     whole-good 1 86400,
@@ -196,8 +340,8 @@ scenario-elsewhere r c d = object-elsewhere (scenario_shape r c) [] d tt (
       whole-good 1 600,
       (
         omega arith,
-        list-good 1 64 _ cabinet-good,
-        (omega arith, list-good 0 1000000 _ (input-good r c), tt),
+        text-good 1 32,
+        (omega arith, list-good 1 64 _ (cabinet-good v), (omega arith, master-good, events-good r c)),
       ),
     ),
   ),
@@ -225,8 +369,8 @@ tables-elsewhere cabinet (c ∷ cs) = joined (table_faults cabinet c) (all_table
 
 all-elsewhere : (d : Data) → AllElsewhere (faults d)
 all-elsewhere d =
-    joined (object_of (scenario_shape (round_count d) (cabinet_count d)) [] d) _
-    (scenario-elsewhere (round_count d) (cabinet_count d) d)
+    joined (object_of (scenario_shape (version_number d) (round_count d) (cabinet_count d)) [] d) _
+    (scenario-elsewhere (version_number d) (round_count d) (cabinet_count d) d)
     (joined (product_faults _) (all_table_faults 1 (cabinets_of d)) (product-elsewhere _) (tables-elsewhere 1 (cabinets_of d)))
 
 first-elsewhere : (causes : List Cause) (path : List ℕ) → AllElsewhere causes → first_cause causes ≡ Some (LimitCause path) → IsWord path

@@ -64,24 +64,28 @@ put_value cell d = unwrap_or (at (value_place cell) d) null
 abbrev pub item_count : Data → ℕ
 item_count d = items_len (items_in d)
 
--- at most 16 octets fit, and text that cannot be read as octets is of the wrong kind
-abbrev pub decoded_fits : Result (List ℕ) FromHexError → Fit
-decoded_fits (Ok octets) = within 0 16 (length octets)
-decoded_fits (Err e) = Wrong
+-- a number of octets fits, and text that cannot be read as octets is of the wrong kind
+abbrev pub decoded_fits : ℕ → Result (List ℕ) FromHexError → Fit
+decoded_fits most (Ok octets) = within 0 most (length octets)
+decoded_fits most (Err e) = Wrong
 
--- at most 16 octets, each as two hexadecimal digits
-abbrev pub octets_fits : Data → Fit
-octets_fits null = Wrong
-octets_fits (boolean b) = Wrong
-octets_fits (number n) = Wrong
-octets_fits (string s) = decoded_fits (decode_of s)
-octets_fits (array ds) = Wrong
-octets_fits (object ms) = Wrong
+-- at most so many octets, each as two hexadecimal digits
+abbrev pub octets_fits : ℕ → Data → Fit
+octets_fits most null = Wrong
+octets_fits most (boolean b) = Wrong
+octets_fits most (number n) = Wrong
+octets_fits most (string s) = decoded_fits most (decode_of s)
+octets_fits most (array ds) = Wrong
+octets_fits most (object ms) = Wrong
+
+-- a text of two hexadecimal digits for each of at most so many octets
+abbrev pub hex_text : ℕ → Kind
+hex_text most path d = fault_at path (octets_fits most d)
 
 -- what may be put where this is allowed
 abbrev pub content_fits : Allowed → Data → Fit
 content_fits (Numbers least most) d = whole_fits least most d
-content_fits Lists d = octets_fits d
+content_fits Lists d = octets_fits 16 d
 
 -- the cell must be one that there is, the list end with what is put there, and that be allowed in the cell
 abbrev pub listed_fits : Option Cell → Data → Fit
@@ -107,6 +111,24 @@ abbrev pub number_in : Num → ℕ
 number_in (unsigned n) = n
 number_in (negative z) = 0
 number_in (float x) = 0
+
+-- the whole number that a value is
+abbrev pub whole_of : Data → ℕ
+whole_of null = 0
+whole_of (boolean b) = 0
+whole_of (number n) = number_in n
+whole_of (string s) = 0
+whole_of (array ds) = 0
+whole_of (object ms) = 0
+
+-- the octets that a text says
+abbrev pub octets_of : Data → List ℕ
+octets_of null = []
+octets_of (boolean b) = []
+octets_of (number n) = []
+octets_of (string s) = octets_in (decode_of s)
+octets_of (array ds) = []
+octets_of (object ms) = []
 
 -- what is put there, where it fits
 abbrev pub content_in : Data → Content

@@ -1,26 +1,28 @@
 -- The scenario of a value: at each name what stands there, or else the default.
-use Rattle.std.specs.Prelude.{ℕ, Bool, false, if◌then◌else◌, List, [], ◌∷◌, codes, length, bytes_eq}
+use Rattle.std.specs.Prelude.{ℕ, ◌==◌, Bool, false, if◌then◌else◌, List, [], ◌∷◌, length, bytes_eq, codes}
 use Rattle.serde_json.specs.Data.{Data, null, boolean, number, string, array, object, Items, no_items, item}
 use Rattle.serde_json.specs.Written.{compact_text}
 use Rattle.sig_types.specs.declared.frame.Field.{Field}
-use Rattle.sig_types.specs.declared.frame.Field.TheVariants.{Veh, Ped}
+use Rattle.sig_types.specs.declared.frame.Field.TheVariants.{Veh, Ped, Preempt}
+use Rattle.sig_types.specs.declared.notes.Way.{Way}
+use Rattle.sig_types.specs.declared.notes.Way.TheVariants.{Poll, Load, Prio}
 use Rattle.scenario_data.specs.declared.scenario.Base.{Base}
 use Rattle.scenario_data.specs.declared.scenario.Base.TheVariants.{Std8, Max8}
+use Rattle.scenario_data.specs.declared.scenario.Direction.{Direction}
+use Rattle.scenario_data.specs.declared.scenario.Direction.TheVariants.{Down, Up}
+use Rattle.scenario_data.specs.declared.scenario.FaultKind.{FaultKind}
+use Rattle.scenario_data.specs.declared.scenario.FaultKind.TheVariants.{Lose, Repeat, Late, Flip, Cut}
+use Rattle.scenario_data.specs.declared.scenario.Entry.{Entry}
+use Rattle.scenario_data.specs.declared.scenario.Fault.{Fault}
 use Rattle.scenario_data.specs.declared.scenario.Input.{Input}
-use Rattle.scenario_data.specs.Content.{CabinetContent, MasterContent, ScenarioContent}
+use Rattle.scenario_data.specs.declared.scenario.PriorityItem.{PriorityItem}
+use Rattle.scenario_data.specs.Content.{CabinetContent, FrameContent, LoadContent, MasterContent, ScenarioContent}
 use Rattle.scenario_read.specs.Kinds.{items_in}
-use Rattle.scenario_read.specs.Fields.{held, stands}
-use Rattle.scenario_read.specs.CellLists.{number_in, cell_of}
-use Rattle.scenario_read.specs.Table.{base, cells, clock, round, cabinet_number, veh, on, ped, version, rounds, ticks, cabinets, inputs}
-
--- the whole number that a value is
-abbrev pub whole_of : Data → ℕ
-whole_of null = 0
-whole_of (boolean b) = 0
-whole_of (number n) = number_in n
-whole_of (string s) = 0
-whole_of (array ds) = 0
-whole_of (object ms) = 0
+use Rattle.scenario_read.specs.Fields.{Field as Name, held, stands}
+pub use Rattle.scenario_read.specs.CellLists.{whole_of}
+use Rattle.scenario_read.specs.CellLists.{cell_of, octets_of}
+pub use Rattle.scenario_read.specs.Table.{number_at, request_of, act_of}
+use Rattle.scenario_read.specs.Table.{base, cells, pattern, clock, section, gain, lose, second, entry_section, entry_pattern, poll_every, clock_every, pattern_every, retries, schedule, round, cabinet_number, veh, on, ped, preempt, load_cells, stream, frame_hex, way, index, fault_kind, by, octet, version, rounds, ticks, community, cabinets, master, inputs, loads, priority, frames, link_faults}
 
 -- the flag that a value is
 abbrev pub flag_of : Data → Bool
@@ -49,63 +51,151 @@ each_of f (item d ds) = f d ∷ each_of f ds
 abbrev pub list_in : {A : Type 0} → (Data → A) → Data → List A
 list_in f d = each_of f (items_in d)
 
--- the cabinet of an object
-abbrev pub cabinet_of : Data → CabinetContent
-cabinet_of d = record {
+-- the text that a value is
+abbrev pub text_of : Data → List ℕ
+text_of null = []
+text_of (boolean b) = []
+text_of (number n) = []
+text_of (string s) = s
+text_of (array ds) = []
+text_of (object ms) = []
+
+-- the stream that a value names
+abbrev pub stream_of : Data → Way
+stream_of d = if bytes_eq (text_of d) (codes "poll") then Poll else if bytes_eq (text_of d) (codes "load") then Load else Prio
+
+-- the direction that a value names
+abbrev pub direction_of : Data → Direction
+direction_of d = if bytes_eq (text_of d) (codes "down") then Down else Up
+
+-- the kind of fault that a value names
+abbrev pub fault_kind_of : Data → FaultKind
+fault_kind_of d =
+    if bytes_eq (text_of d) (codes "lose") then Lose else
+    if bytes_eq (text_of d) (codes "repeat") then Repeat else
+    if bytes_eq (text_of d) (codes "late") then Late else
+    if bytes_eq (text_of d) (codes "flip") then Flip else Cut
+
+-- a clock drifts in version 2 alone
+abbrev pub drift_at : ℕ → Name → Data → ℕ
+drift_at version f d = if version == 2 then number_at f d else 0
+
+-- the cabinet of an object, in a scenario of this version
+abbrev pub cabinet_of : ℕ → Data → CabinetContent
+cabinet_of version d = record {
   base = base_of (held base d);
   cells = list_in cell_of (held cells d);
-  pattern = 0;
-  clock = whole_of (held clock d);
-  section = 1;
-  gain = 0;
-  lose = 0;
+  pattern = number_at pattern d;
+  clock = number_at clock d;
+  section = number_at section d;
+  gain = drift_at version gain d;
+  lose = drift_at version lose d;
 }
 
--- the vehicle detector or the push button of an input
+-- the entry of a schedule that an object is
+abbrev pub entry_of : Data → Entry
+entry_of d = record { second = number_at second d; section = number_at entry_section d; pattern = number_at entry_pattern d }
+
+-- the master of an object
+abbrev pub master_of : Data → MasterContent
+master_of d = record {
+  clock = number_at clock d;
+  poll_every = number_at poll_every d;
+  clock_every = number_at clock_every d;
+  pattern_every = number_at pattern_every d;
+  retries = number_at retries d;
+  schedule = list_in entry_of (held schedule d);
+}
+
+-- the detector, the push button or the preempt input of an object
 abbrev pub field_of : Data → Field
-field_of d = if stands d (veh ∷ on ∷ []) then Veh (whole_of (held veh d)) (flag_of (held on d)) else Ped (whole_of (held ped d))
+field_of d =
+    if stands d (veh ∷ on ∷ []) then Veh (number_at veh d) (flag_of (held on d)) else
+    if stands d (ped ∷ []) then Ped (number_at ped d) else Preempt (number_at preempt d) (flag_of (held on d))
 
 -- the input of an object; the numbers of rounds and cabinets bound what may stand there, not what it says
 abbrev pub input_of : ℕ → ℕ → Data → Input
 input_of round_count cabinet_count d = record {
-  round = whole_of (held (round round_count) d);
-  cabinet = whole_of (held (cabinet_number cabinet_count) d);
+  round = number_at (round round_count) d;
+  cabinet = number_at (cabinet_number cabinet_count) d;
   field = field_of d;
 }
 
--- the master where a scenario says none
-abbrev pub no_master : MasterContent
-no_master = record { clock = 0; poll_every = 0; clock_every = 0; pattern_every = 0; retries = 3; schedule = [] }
+-- the load of an object
+abbrev pub load_of : ℕ → ℕ → Data → LoadContent
+load_of round_count cabinet_count d = record {
+  round = number_at (round round_count) d;
+  cabinet = number_at (cabinet_number cabinet_count) d;
+  cells = list_in cell_of (held load_cells d);
+}
+
+-- what an object asks of a cabinet's priority, in a round
+abbrev pub priority_of : ℕ → ℕ → Data → PriorityItem
+priority_of round_count cabinet_count d = record {
+  round = number_at (round round_count) d;
+  cabinet = number_at (cabinet_number cabinet_count) d;
+  act = act_of d;
+}
+
+-- the frame of an object
+abbrev pub frame_of : ℕ → ℕ → Data → FrameContent
+frame_of round_count cabinet_count d = record {
+  round = number_at (round round_count) d;
+  cabinet = number_at (cabinet_number cabinet_count) d;
+  stream = stream_of (held stream d);
+  hex = octets_of (held frame_hex d);
+}
+
+-- the fault of the link that an object is
+abbrev pub fault_of : ℕ → ℕ → Data → Fault
+fault_of round_count cabinet_count d = record {
+  round = number_at (round round_count) d;
+  cabinet = number_at (cabinet_number cabinet_count) d;
+  stream = stream_of (held stream d);
+  way = direction_of (held way d);
+  index = number_at index d;
+  kind = fault_kind_of (held fault_kind d);
+  by = number_at by d;
+  octet = number_at octet d;
+}
+
+-- the version of the form
+abbrev pub version_number : Data → ℕ
+version_number d = number_at version d
 
 -- the number of rounds
 abbrev pub round_count : Data → ℕ
-round_count d = whole_of (held rounds d)
+round_count d = number_at rounds d
 
 -- the number of ticks in each round
 abbrev pub tick_count : Data → ℕ
-tick_count d = whole_of (held ticks d)
+tick_count d = number_at ticks d
 
 -- the cabinets in their order
 abbrev pub cabinets_of : Data → List CabinetContent
-cabinets_of d = list_in cabinet_of (held cabinets d)
+cabinets_of d = list_in (cabinet_of (version_number d)) (held (cabinets (version_number d)) d)
 
 -- the number of cabinets
 abbrev pub cabinet_count : Data → ℕ
 cabinet_count d = length (cabinets_of d)
 
--- the whole scenario; what is not read yet has its default
+-- the items at a name whose kind the numbers of rounds and cabinets bound
+abbrev pub events_at : {A : Type 0} → (ℕ → ℕ → Name) → (ℕ → ℕ → Data → A) → ℕ → ℕ → Data → List A
+events_at name says round_count cabinet_count d = list_in (says round_count cabinet_count) (held (name round_count cabinet_count) d)
+
+-- the whole scenario
 abbrev pub scenario_of : Data → ScenarioContent
 scenario_of d = record {
-  version = whole_of (held version d);
+  version = version_number d;
   rounds = round_count d;
   ticks = tick_count d;
-  community = codes "public";
+  community = text_of (held community d);
   cabinets = cabinets_of d;
-  master = no_master;
-  inputs = list_in (input_of (round_count d) (cabinet_count d)) (held (inputs (round_count d) (cabinet_count d)) d);
-  loads = [];
-  priority = [];
-  frames = [];
-  faults = [];
+  master = master_of (held master d);
+  inputs = events_at inputs input_of (round_count d) (cabinet_count d) d;
+  loads = events_at loads load_of (round_count d) (cabinet_count d) d;
+  priority = events_at priority priority_of (round_count d) (cabinet_count d) d;
+  frames = events_at frames frame_of (round_count d) (cabinet_count d) d;
+  faults = events_at link_faults fault_of (round_count d) (cabinet_count d) d;
   compact = compact_text d;
 }

@@ -8,7 +8,7 @@ use Rattle.scenario_data.specs.Content.{CabinetContent}
 use Rattle.scenario_data.specs.Opening.{opening_tables}
 use Rattle.scenario_read.specs.Fields.{object_of}
 use Rattle.scenario_read.specs.Table.{scenario_shape}
-use Rattle.scenario_read.specs.Content.{round_count, tick_count, cabinet_count, cabinets_of}
+use Rattle.scenario_read.specs.Content.{version_number, round_count, tick_count, cabinet_count, cabinets_of}
 
 -- the broken rules of a cabinet as faults
 abbrev pub broken_causes : ℕ → List Broken → List Cause
@@ -28,10 +28,14 @@ all_table_faults cabinet (c ∷ more) = table_faults cabinet c ++ all_table_faul
 abbrev pub product_faults : ℕ → List Cause
 product_faults ticks = if nat_le ticks 55296000 then [] else Limit (codes "rounds") ∷ []
 
+-- the faults of the names and what stands there
+abbrev pub named_faults : Data → List Cause
+named_faults d = object_of (scenario_shape (version_number d) (round_count d) (cabinet_count d)) [] d
+
 -- all faults, in the order of the checks
 abbrev pub faults : Data → List Cause
 faults d =
-    object_of (scenario_shape (round_count d) (cabinet_count d)) [] d
+    named_faults d
     ++ (product_faults (cabinet_count d * round_count d * tick_count d) ++ all_table_faults 1 (cabinets_of d))
 
 -- the first of a list of faults

@@ -1,5 +1,5 @@
 -- What a value may be, and the faults of one that is something else.
-use Rattle.std.specs.Prelude.{ℕ, ◌+◌, ◌&&◌, ◌||◌, nat_le, Bool, false, if◌then◌else◌, List, [], ◌∷◌, ◌++◌, bytes_eq}
+use Rattle.std.specs.Prelude.{ℕ, ◌+◌, ◌==◌, ◌&&◌, ◌||◌, nat_le, Bool, true, false, if◌then◌else◌, List, [], ◌∷◌, ◌++◌, length, bytes_eq}
 use Rattle.serde_json.specs.Data.{Num, unsigned, negative, float, Data, null, boolean, number, string, array, object, Items, no_items, item}
 use Rattle.serde_json.specs.Events.{items_len}
 use Rattle.scenario_data.specs.Causes.{Cause, Field, Limit}
@@ -40,6 +40,35 @@ whole_fits least most (string s) = Wrong
 whole_fits least most (array ds) = Wrong
 whole_fits least most (object ms) = Wrong
 
+-- 0 fits, and a number of least to most
+abbrev pub rare_number_fits : ℕ → ℕ → Num → Fit
+rare_number_fits least most (unsigned n) = if n == 0 then Fits else within least most n
+rare_number_fits least most (negative z) = Beyond
+rare_number_fits least most (float x) = Wrong
+
+-- 0 fits, and a whole number from least to most
+abbrev pub rare_fits : ℕ → ℕ → Data → Fit
+rare_fits least most null = Wrong
+rare_fits least most (boolean b) = Wrong
+rare_fits least most (number n) = rare_number_fits least most n
+rare_fits least most (string s) = Wrong
+rare_fits least most (array ds) = Wrong
+rare_fits least most (object ms) = Wrong
+
+-- all characters lie from the space to the tilde of ASCII
+abbrev pub all_printable : List ℕ → Bool
+all_printable [] = true
+all_printable (x ∷ xs) = (nat_le 32 x && nat_le x 126) && all_printable xs
+
+-- a text of least to most such characters fits, and another character makes it one of the wrong kind
+abbrev pub text_fits : ℕ → ℕ → Data → Fit
+text_fits least most null = Wrong
+text_fits least most (boolean b) = Wrong
+text_fits least most (number n) = Wrong
+text_fits least most (string s) = if all_printable s then within least most (length s) else Wrong
+text_fits least most (array ds) = Wrong
+text_fits least most (object ms) = Wrong
+
 -- the name is one of these
 abbrev pub is_among : List (List ℕ) → List ℕ → Bool
 is_among [] name = false
@@ -66,6 +95,14 @@ flag_fits (object ms) = Wrong
 -- a whole number of 64 bits, from least to most
 abbrev pub whole : ℕ → ℕ → Kind
 whole least most path d = fault_at path (whole_fits least most d)
+
+-- 0, or a whole number of 64 bits from least to most
+abbrev pub rare : ℕ → ℕ → Kind
+rare least most path d = fault_at path (rare_fits least most d)
+
+-- a text of least to most characters from the space to the tilde of ASCII
+abbrev pub text : ℕ → ℕ → Kind
+text least most path d = fault_at path (text_fits least most d)
 
 -- one of these words
 abbrev pub word : List (List ℕ) → Kind
@@ -101,3 +138,22 @@ items_in (object ms) = no_items
 -- a list of least to most items of a kind: its length comes before its items
 abbrev pub list_of : ℕ → ℕ → Kind → Kind
 list_of least most kind path d = fault_at path (list_fits least most d) ++ each kind path 0 (items_in d)
+
+-- a list of any length fits
+abbrev pub array_fits : Data → Fit
+array_fits null = Wrong
+array_fits (boolean b) = Wrong
+array_fits (number n) = Wrong
+array_fits (string s) = Wrong
+array_fits (array ds) = Fits
+array_fits (object ms) = Wrong
+
+-- the faults of items from a place on, where a fault of an item may hang on what the earlier ones say
+abbrev pub each_behind : {A : Type 0} → (List A → Kind) → (Data → A) → List Step → ℕ → List A → Items → List Cause
+each_behind kind says path place earlier no_items = []
+each_behind kind says path place earlier (item d ds) =
+    kind earlier (then_item path place) d ++ each_behind kind says path (place + 1) (earlier ++ says d ∷ []) ds
+
+-- a list of any length, where a fault of an item may hang on what the earlier ones say
+abbrev pub list_behind : {A : Type 0} → (List A → Kind) → (Data → A) → Kind
+list_behind kind says path d = fault_at path (array_fits d) ++ each_behind kind says path 0 [] (items_in d)

@@ -6,26 +6,41 @@ use Rattle.scenario_data.specs.declared.refusal.Refusal.{Refusal}
 use Rattle.scenario_data.specs.declared.refusal.Refusal.TheVariants.{Field as FieldRefusal, Limit as LimitRefusal}
 use Rattle.scenario_data.specs.declared.refusal.ReadFail.{ReadFail}
 use Rattle.scenario_data.specs.declared.refusal.ReadFail.TheVariants.{Refused, NoMemory}
+use Rattle.scenario_data.specs.declared.scenario.LoadItem.{LoadItem}
 use Rattle.scenario_data.specs.Causes.{Cause, Names}
-use Rattle.scenario_data.specs.Content.{ScenarioContent, cabinet_content}
+use Rattle.scenario_data.specs.Content.{ScenarioContent, cabinet_content, master_content, load_content, frame_content}
+use Rattle.scenario_read.specs.declared.place.List.{List as TopList}
+use Rattle.scenario_read.specs.declared.place.List.TheVariants.{Cabinets, Inputs, Loads, Priority, Frames, Faults}
 use Rattle.scenario_read.specs.declared.place.Place.{Place}
-use Rattle.scenario_read.specs.declared.place.Place.TheVariants.{Top, Cabinet, Cell, Input}
+use Rattle.scenario_read.specs.declared.place.Place.TheVariants.{Top, Master, Entry, Listed, Cell}
+use Rattle.scenario_read.specs.declared.events.Events.{Events}
 use Rattle.scenario_read.specs.declared.scenario.Parts.{Parts}
+use Rattle.scenario_read.specs.declared.setup.Setup.{Setup}
 use Rattle.scenario_read.specs.declared.values.Unfit.{Unfit}
 use Rattle.scenario_read.specs.declared.values.Unfit.TheVariants.{Wrong as WrongValue, Beyond as BeyondValue}
 use Rattle.scenario_read.specs.Paths.{Step, Named, Item}
 use Rattle.scenario_read.specs.Kinds.{Fit, Fits, Wrong, Beyond, fault_at}
 use Rattle.scenario_read.specs.Fields.{unknown_faults, held}
-use Rattle.scenario_read.specs.Table.{version, inputs}
-use Rattle.scenario_read.specs.Content.{whole_of, list_in, no_master, cabinets_of, input_of, round_count, tick_count, cabinet_count}
+use Rattle.scenario_read.specs.Table.{rounds, ticks, community, cabinets, master, inputs, loads, priority, frames, link_faults}
+use Rattle.scenario_read.specs.Content.{number_at, text_of, list_in, cabinet_of, master_of, input_of, load_of, priority_of, frame_of, fault_of, events_at, version_number, round_count, cabinet_count}
 use Rattle.scenario_read.specs.Faults.{first_cause}
+
+-- the name at which a list stands
+abbrev pub list_name : TopList → List ℕ
+list_name Cabinets = codes "cabinets"
+list_name Inputs = codes "inputs"
+list_name Loads = codes "loads"
+list_name Priority = codes "priority"
+list_name Frames = codes "frames"
+list_name Faults = codes "faults"
 
 -- the path of a place
 abbrev pub steps_of : Place → List Step
 steps_of Top = []
-steps_of (Cabinet cabinet) = Named (codes "cabinets") ∷ Item cabinet ∷ []
-steps_of (Cell cabinet cell) = Named (codes "cabinets") ∷ Item cabinet ∷ Named (codes "cells") ∷ Item cell ∷ []
-steps_of (Input input) = Named (codes "inputs") ∷ Item input ∷ []
+steps_of Master = Named (codes "master") ∷ []
+steps_of (Entry entry) = Named (codes "master") ∷ Named (codes "schedule") ∷ Item entry ∷ []
+steps_of (Listed list place) = Named (list_name list) ∷ Item place ∷ []
+steps_of (Cell list place cell) = Named (list_name list) ∷ Item place ∷ Named (codes "cells") ∷ Item cell ∷ []
 
 -- how a value fits that a reader refused
 abbrev pub fit_of : Unfit → Fit
@@ -61,27 +76,45 @@ names_faults known path (string s) = fault_at path Wrong
 names_faults known path (array ds) = fault_at path Wrong
 names_faults known path (object ms) = unknown_faults known path ms
 
+-- the cabinets of loads
+abbrev pub load_cabinets : List LoadItem → List ℕ
+load_cabinets loads = map (λ load. load.cabinet) loads
+
+-- what the names say that stand for the whole run, in a scenario of this version
+pub record SaysSetup (setup : Setup) (version : ℕ) (d : Data) : Type 0 where
+  pub rounds : setup.rounds ≡ number_at rounds d
+  pub ticks : setup.ticks ≡ number_at ticks d
+  pub community : setup.community.items ≡ text_of (held community d)
+  pub cabinets : map cabinet_content setup.cabinets.items ≡ list_in (cabinet_of version) (held (cabinets version) d)
+  pub master : master_content setup.master ≡ master_of (held master d)
+
+-- what the names say of what happens in so many rounds at so many cabinets
+pub record SaysEvents (events : Events) (rounds cabinets : ℕ) (d : Data) : Type 0 where
+  pub inputs : events.inputs.items ≡ events_at inputs input_of rounds cabinets d
+  pub loads : map load_content events.loads.items ≡ events_at loads load_of rounds cabinets d
+  pub priority : events.priority.items ≡ events_at priority priority_of rounds cabinets d
+  pub frames : map frame_content events.frames.items ≡ events_at frames frame_of rounds cabinets d
+  pub faults : events.faults.items ≡ events_at link_faults fault_of rounds cabinets d
+
 -- what the names of a scenario say
 pub record Says (parts : Parts) (d : Data) : Type 0 where
-  pub version : parts.version ≡ whole_of (held version d)
-  pub rounds : parts.rounds ≡ round_count d
-  pub ticks : parts.ticks ≡ tick_count d
-  pub cabinets : map cabinet_content parts.cabinets.items ≡ cabinets_of d
-  pub inputs : parts.inputs.items ≡ list_in (input_of (round_count d) (cabinet_count d)) (held (inputs (round_count d) (cabinet_count d)) d)
+  pub version : parts.version ≡ version_number d
+  pub setup : SaysSetup parts.setup (version_number d) d
+  pub events : SaysEvents parts.events (round_count d) (cabinet_count d) d
 
 -- the scenario of these parts and this compact text
 abbrev pub content_from : Parts → List ℕ → ScenarioContent
 content_from parts compact = record {
   version = parts.version;
-  rounds = parts.rounds;
-  ticks = parts.ticks;
-  community = codes "public";
-  cabinets = map cabinet_content parts.cabinets.items;
-  master = no_master;
-  inputs = parts.inputs.items;
-  loads = [];
-  priority = [];
-  frames = [];
-  faults = [];
+  rounds = parts.setup.rounds;
+  ticks = parts.setup.ticks;
+  community = parts.setup.community.items;
+  cabinets = map cabinet_content parts.setup.cabinets.items;
+  master = master_content parts.setup.master;
+  inputs = parts.events.inputs.items;
+  loads = map load_content parts.events.loads.items;
+  priority = parts.events.priority.items;
+  frames = map frame_content parts.events.frames.items;
+  faults = parts.events.faults.items;
   compact = compact;
 }

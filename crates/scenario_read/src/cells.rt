@@ -1,16 +1,18 @@
 //! A cell of the tables and what is put there, as a list of a scenario: a word, the numbers of its row and column, and a
 //! number or a text in hexadecimal digits (columns after NTCIP 1202).
 
-ghost use Rattle.std.specs.Prelude.{◌≡◌, ◌≤◌, length, IsTrue};
-ghost use Rattle.serde_json.specs.View.{view};
+ghost use Rattle.std.specs.Prelude.{◌≡◌, ◌≤◌, length, map, codes, IsTrue};
+ghost use Rattle.serde_json.specs.View.{view, items_view};
 ghost use Rattle.sig_tables.specs.Cells.{IsCell, is_cell, content_of};
 ghost use Rattle.sig_tables.specs.Ranges.{allowed_in};
 ghost use Rattle.scenario_data.specs.Content.{put_content};
-ghost use Rattle.scenario_read.specs.Kinds.{fault_at};
+ghost use Rattle.scenario_read.specs.Paths.{then_named};
+ghost use Rattle.scenario_read.specs.Kinds.{fault_at, each};
 ghost use Rattle.scenario_read.specs.CellLists.{octet_at, octet_of, named_cell, listed_cell, value_place, item_count, octets_fits, content_fits, content_in, cell, cell_of};
+ghost use Rattle.scenario_read.specs.Content.{each_of};
 ghost use Rattle.scenario_read.specs.Readers.{steps_of, Answers};
 
-use crate::place::{Place, refuse};
+use crate::place::{List, Place, refuse};
 use crate::values::{Unfit, whole_of};
 use arrayvec::ArrayVec;
 use hex::FromHexError;
@@ -132,7 +134,7 @@ pub(crate) fn octets_from<const N: usize>(octets: &[u8]) -> ArrayVec<u8, N>
 
 /// Octets in hexadecimal digits.
 fn octets_in(alloc: Global, value: &Value, place: Place) -> Result<CellValue, ReadFail>
-    ensures { Answers result (fault_at (steps_of place) (octets_fits (view value.now))) (λ v. content_of v ≡ content_in (view value.now)) }
+    ensures { Answers result (fault_at (steps_of place) (octets_fits 16 (view value.now))) (λ v. content_of v ≡ content_in (view value.now)) }
 {
     let Value::String(text) = value else {
         return Err(refuse(alloc, place, Unfit::Wrong));
@@ -182,4 +184,27 @@ pub(crate) fn cell_in(
         },
         None => Err(refuse(alloc, place, Unfit::Wrong)),
     }
+}
+
+/// The cells that an item of a list says, in order.
+pub(crate) fn cells_in(
+    alloc: Global,
+    items: &Vec<Value>,
+    list: List,
+    place: usize,
+) -> Result<Vec<(Cell, CellValue)>, ReadFail>
+    ensures { Answers result (each cell (then_named (steps_of (Place.Listed list place)) (codes "cells")) 0 (items_view items.now.items))
+        (λ puts. map put_content puts.items ≡ each_of cell_of (items_view items.now.items)) }
+{
+    let mut cells = Vec::new(alloc);
+    for cell in 0..items.len() {
+        match cell_in(alloc, &items[cell], Place::Cell { list, place, cell }) {
+            Ok(put) => match cells.push(put) {
+                Ok(()) => {}
+                Err(_) => return Err(ReadFail::NoMemory),
+            },
+            Err(fail) => return Err(fail),
+        }
+    }
+    Ok(cells)
 }

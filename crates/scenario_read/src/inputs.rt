@@ -1,24 +1,25 @@
-//! The inputs from the street: each goes to a cabinet in a round, and is a vehicle detector or a push button.
+//! The inputs from the street: each goes to a cabinet in a round, and is a vehicle detector, a push button or a preempt
+//! input.
 
 ghost use Rattle.std.specs.Prelude.{◌≡◌, codes, [], ◌∷◌};
 ghost use Rattle.serde_json.specs.View.{view, items_view};
 ghost use Rattle.scenario_read.specs.Paths.{then_named};
 ghost use Rattle.scenario_read.specs.Kinds.{each};
 ghost use Rattle.scenario_read.specs.Fields.{held, names, known_fields, field_faults, fields_faults, alternative_faults, object_of};
-ghost use Rattle.scenario_read.specs.Table.{veh, on, ped, input_shape, inputs};
-ghost use Rattle.scenario_read.specs.Content.{each_of, list_in, whole_of, flag_of, field_of, input_of};
+ghost use Rattle.scenario_read.specs.Table.{veh, on, ped, preempt, input_fields, input_shape, inputs};
+ghost use Rattle.scenario_read.specs.Content.{each_of, number_at, flag_of, field_of, input_of, events_at};
 ghost use Rattle.scenario_read.specs.Readers.{steps_of, Answers, names_faults};
 
 use crate::members::{flag_at, known_names, whole_at};
-use crate::place::{Place, refuse, refuse_member};
+use crate::place::{List, Place, refuse, refuse_member};
 use crate::values::{Unfit, list_of};
 use scenario_data::{Input, ReadFail};
 use serde_json::Value;
 use sig_types::Field;
 use std::alloc::Global;
 
-/// Refuses what is no object, and the least name that an input does not have: where a detector or a push button stands
-/// alone, the names of the other are not known.
+/// Refuses what is no object, and the least name that an input does not have: where a detector, a button or a preempt input
+/// stands alone, the names of the others are not known.
 fn known_in_input(
     alloc: Global,
     object: &Value,
@@ -28,14 +29,26 @@ fn known_in_input(
 ) -> Result<(), ReadFail>
     ensures { Answers result (names_faults (names (known_fields (input_shape rounds cabinets) (view object.now))) (steps_of place) (view object.now)) (λ _. Unit {0}) }
 {
-    match (object.get("veh").is_some(), object.get("ped").is_some()) {
-        (true, false) => known_names(alloc, object, place, &["round", "cabinet", "veh", "on"]),
-        (false, true) => known_names(alloc, object, place, &["round", "cabinet", "ped"]),
+    match (
+        object.get("veh").is_some(),
+        object.get("ped").is_some(),
+        object.get("preempt").is_some(),
+    ) {
+        (true, false, false) => {
+            known_names(alloc, object, place, &["round", "cabinet", "veh", "on"])
+        }
+        (false, true, false) => known_names(alloc, object, place, &["round", "cabinet", "ped"]),
+        (false, false, true) => known_names(
+            alloc,
+            object,
+            place,
+            &["round", "cabinet", "preempt", "on"],
+        ),
         _ => known_names(
             alloc,
             object,
             place,
-            &["round", "cabinet", "veh", "on", "ped"],
+            &["round", "cabinet", "veh", "on", "ped", "preempt", "on"],
         ),
     }
 }
@@ -43,7 +56,7 @@ fn known_in_input(
 /// A vehicle detector that goes on or off.
 fn detector_in(alloc: Global, object: &Value, place: Place) -> Result<Field, ReadFail>
     ensures { Answers result (fields_faults (steps_of place) (view object.now) (veh ∷ on ∷ []))
-        (λ field. field ≡ Field.Veh (whole_of (held veh (view object.now))) (flag_of (held on (view object.now)))) }
+        (λ field. field ≡ Field.Veh (number_at veh (view object.now)) (flag_of (held on (view object.now)))) }
 {
     let phase = whole_at(alloc, object, place, "veh", 1, 16)?;
     let on = flag_at(alloc, object, place, "on")?;
@@ -56,19 +69,37 @@ fn detector_in(alloc: Global, object: &Value, place: Place) -> Result<Field, Rea
 /// A push button that is pressed.
 fn button_in(alloc: Global, object: &Value, place: Place) -> Result<Field, ReadFail>
     ensures { Answers result (fields_faults (steps_of place) (view object.now) (ped ∷ []))
-        (λ field. field ≡ Field.Ped (whole_of (held ped (view object.now)))) }
+        (λ field. field ≡ Field.Ped (number_at ped (view object.now))) }
 {
     let phase = whole_at(alloc, object, place, "ped", 1, 16)?;
     Ok(Field::Ped { phase: phase as u8 })
 }
 
-/// The detector or the push button of an input.
-fn field_in(alloc: Global, object: &Value, place: Place) -> Result<Field, ReadFail>
-    ensures { Answers result (alternative_faults (steps_of place) (view object.now) ((veh ∷ on ∷ []) ∷ (ped ∷ []) ∷ [])) (λ field. field ≡ field_of (view object.now)) }
+/// A preempt input that goes on or off.
+fn preempt_in(alloc: Global, object: &Value, place: Place) -> Result<Field, ReadFail>
+    ensures { Answers result (fields_faults (steps_of place) (view object.now) (preempt ∷ on ∷ []))
+        (λ field. field ≡ Field.Preempt (number_at preempt (view object.now)) (flag_of (held on (view object.now)))) }
 {
-    match (object.get("veh").is_some(), object.get("ped").is_some()) {
-        (true, false) => detector_in(alloc, object, place),
-        (false, true) => button_in(alloc, object, place),
+    let number = whole_at(alloc, object, place, "preempt", 1, 8)?;
+    let on = flag_at(alloc, object, place, "on")?;
+    Ok(Field::Preempt {
+        number: number as u8,
+        on,
+    })
+}
+
+/// The detector, the push button or the preempt input of an input.
+fn field_in(alloc: Global, object: &Value, place: Place) -> Result<Field, ReadFail>
+    ensures { Answers result (alternative_faults (steps_of place) (view object.now) input_fields) (λ field. field ≡ field_of (view object.now)) }
+{
+    match (
+        object.get("veh").is_some(),
+        object.get("ped").is_some(),
+        object.get("preempt").is_some(),
+    ) {
+        (true, false, false) => detector_in(alloc, object, place),
+        (false, true, false) => button_in(alloc, object, place),
+        (false, false, true) => preempt_in(alloc, object, place),
         _ => Err(refuse(alloc, place, Unfit::Wrong)),
     }
 }
@@ -81,9 +112,12 @@ pub fn input_in(
     rounds: u32,
     cabinets: u32,
 ) -> Result<Input, ReadFail>
-    ensures { Answers result (object_of (input_shape rounds cabinets) (steps_of (Place.Input input)) (view object.now)) (λ i. i ≡ input_of rounds cabinets (view object.now)) }
+    ensures { Answers result (object_of (input_shape rounds cabinets) (steps_of (Place.Listed List.Inputs input)) (view object.now)) (λ i. i ≡ input_of rounds cabinets (view object.now)) }
 {
-    let place = Place::Input(input);
+    let place = Place::Listed {
+        list: List::Inputs,
+        place: input,
+    };
     known_in_input(alloc, object, place, rounds, cabinets)?;
     let round = whole_at(alloc, object, place, "round", 1, rounds)?;
     let cabinet = whole_at(alloc, object, place, "cabinet", 1, cabinets)?;
@@ -127,7 +161,7 @@ pub(crate) fn inputs_at(
     cabinets: u32,
 ) -> Result<Vec<Input>, ReadFail>
     ensures { Answers result (field_faults (steps_of Place.Top) (view object.now) (inputs rounds cabinets))
-        (λ found. found.items ≡ list_in (input_of rounds cabinets) (held (inputs rounds cabinets) (view object.now))) }
+        (λ found. found.items ≡ events_at inputs input_of rounds cabinets (view object.now)) }
 {
     match object.get("inputs") {
         None => Ok(Vec::new(alloc)),

@@ -4,17 +4,30 @@
 
 mod cabinets;
 mod cells;
+mod events;
+mod faults;
+mod frames;
 mod inputs;
+mod loads;
+mod master;
 mod members;
 mod place;
+mod priority;
 mod reading;
 mod scenario;
+mod setup;
 mod tables;
 mod values;
 
+pub use events::Events;
+pub use faults::fault_in;
+pub use frames::frame_in;
 pub use inputs::input_in;
+pub use loads::load_in;
+pub use priority::priority_in;
 pub use reading::{read, text};
 pub use scenario::{Parts, checked_parts, scenario_from};
+pub use setup::Setup;
 
 #[cfg(test)]
 mod tests;

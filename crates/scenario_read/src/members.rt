@@ -3,16 +3,19 @@
 ghost use Rattle.std.specs.Prelude.{◌≡◌, ◌≤◌, map, codes, IfOk};
 ghost use Rattle.serde_json.specs.Data.{number, unsigned};
 ghost use Rattle.serde_json.specs.View.{view, members_view};
-ghost use Rattle.scenario_read.specs.Kinds.{whole, flag, fault_at, Wrong};
+ghost use Rattle.scenario_read.specs.Kinds.{whole, rare, flag, fault_at, Wrong};
 ghost use Rattle.scenario_read.specs.Fields.{needed, optional, held, field_faults, unknown_faults};
-ghost use Rattle.scenario_read.specs.Table.{base, clock};
-ghost use Rattle.scenario_read.specs.Content.{whole_of, base_of, flag_of};
+ghost use Rattle.scenario_read.specs.Table.{needed_whole, optional_whole, base, stream, way, fault_kind};
+ghost use Rattle.scenario_read.specs.Content.{number_at, whole_of, base_of, flag_of, stream_of, direction_of, fault_kind_of};
 ghost use Rattle.scenario_read.specs.Readers.{steps_of, Answers, names_faults};
 
 use crate::place::{Place, refuse, refuse_member};
-use crate::values::{Unfit, base_of, flag_of, is_among, whole_of};
-use scenario_data::{Base, ReadFail};
+use crate::values::{
+    Unfit, base_of, direction_of, fault_kind_of, flag_of, is_among, rare_of, stream_of, whole_of,
+};
+use scenario_data::{Base, Direction, FaultKind, ReadFail};
 use serde_json::{Map, Value};
+use sig_types::Way;
 use std::alloc::Global;
 
 /// Refuses the least name, by bytes, that is not known.
@@ -56,8 +59,8 @@ pub(crate) fn whole_at(
     least: u32,
     most: u32,
 ) -> Result<u32, ReadFail>
-    ensures read { Answers result (field_faults (steps_of place) (view object.now) (needed name.now (whole least most)))
-        (λ n. n ≡ whole_of (held (needed name.now (whole least most)) (view object.now))) }
+    ensures read { Answers result (field_faults (steps_of place) (view object.now) (needed_whole name.now least most))
+        (λ n. n ≡ number_at (needed_whole name.now least most) (view object.now)) }
     ensures few { IfOk result (λ n. n ≤ most) }
 {
     match object.get(name) {
@@ -88,16 +91,86 @@ pub(crate) fn flag_at(
     }
 }
 
-/// The opening time of day of a cabinet, in ticks; 0 where none is said.
-pub(crate) fn clock_at(alloc: Global, object: &Value, place: Place) -> Result<u32, ReadFail>
-    ensures { Answers result (field_faults (steps_of place) (view object.now) clock) (λ n. n ≡ whole_of (held clock (view object.now))) }
+/// A whole number that may be absent.
+pub(crate) fn whole_or_at(
+    alloc: Global,
+    object: &Value,
+    place: Place,
+    name: &str,
+    least: u32,
+    most: u32,
+    default: u32,
+) -> Result<u32, ReadFail>
+    requires least { least ≤ default }
+    requires most { default ≤ most }
+    ensures read { Answers result (field_faults (steps_of place) (view object.now) (optional_whole name.now least most default))
+        (λ n. n ≡ number_at (optional_whole name.now least most default) (view object.now)) }
+    ensures few { IfOk result (λ n. n ≤ most) }
 {
-    match object.get("clock") {
-        Some(value) => match whole_of(value, 0, 863_999) {
+    match object.get(name) {
+        Some(value) => match whole_of(value, least, most) {
             Ok(number) => Ok(number),
-            Err(unfit) => Err(refuse_member(alloc, place, "clock", unfit)),
+            Err(unfit) => Err(refuse_member(alloc, place, name, unfit)),
+        },
+        None => Ok(default),
+    }
+}
+
+/// A number of ticks by which a clock drifts; 0 where none is said.
+pub(crate) fn rare_at(
+    alloc: Global,
+    object: &Value,
+    place: Place,
+    name: &str,
+) -> Result<u32, ReadFail>
+    ensures { Answers result (field_faults (steps_of place) (view object.now) (optional name.now (rare 12000 864000) (number (unsigned 0))))
+        (λ n. n ≡ number_at (optional name.now (rare 12000 864000) (number (unsigned 0))) (view object.now)) }
+{
+    match object.get(name) {
+        Some(value) => match rare_of(value, 12_000, 864_000) {
+            Ok(number) => Ok(number),
+            Err(unfit) => Err(refuse_member(alloc, place, name, unfit)),
         },
         None => Ok(0),
+    }
+}
+
+/// The stream of a frame or a fault.
+pub(crate) fn stream_at(alloc: Global, object: &Value, place: Place) -> Result<Way, ReadFail>
+    ensures { Answers result (field_faults (steps_of place) (view object.now) stream) (λ found. found ≡ stream_of (held stream (view object.now))) }
+{
+    match object.get("stream") {
+        Some(value) => match stream_of(value) {
+            Ok(stream) => Ok(stream),
+            Err(unfit) => Err(refuse_member(alloc, place, "stream", unfit)),
+        },
+        None => Err(refuse_member(alloc, place, "stream", Unfit::Wrong)),
+    }
+}
+
+/// The direction of a fault.
+pub(crate) fn way_at(alloc: Global, object: &Value, place: Place) -> Result<Direction, ReadFail>
+    ensures { Answers result (field_faults (steps_of place) (view object.now) way) (λ found. found ≡ direction_of (held way (view object.now))) }
+{
+    match object.get("way") {
+        Some(value) => match direction_of(value) {
+            Ok(way) => Ok(way),
+            Err(unfit) => Err(refuse_member(alloc, place, "way", unfit)),
+        },
+        None => Err(refuse_member(alloc, place, "way", Unfit::Wrong)),
+    }
+}
+
+/// What a fault does.
+pub(crate) fn kind_at(alloc: Global, object: &Value, place: Place) -> Result<FaultKind, ReadFail>
+    ensures { Answers result (field_faults (steps_of place) (view object.now) fault_kind) (λ found. found ≡ fault_kind_of (held fault_kind (view object.now))) }
+{
+    match object.get("kind") {
+        Some(value) => match fault_kind_of(value) {
+            Ok(kind) => Ok(kind),
+            Err(unfit) => Err(refuse_member(alloc, place, "kind", unfit)),
+        },
+        None => Err(refuse_member(alloc, place, "kind", Unfit::Wrong)),
     }
 }
 

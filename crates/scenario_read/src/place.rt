@@ -4,19 +4,52 @@
 ghost use Rattle.std.specs.Prelude.{◌≡◌, IfOk, string_bytes};
 ghost use Rattle.scenario_read.specs.Paths.{path_text, then_named};
 ghost use Rattle.scenario_read.specs.Kinds.{fault_at};
-ghost use Rattle.scenario_read.specs.Readers.{steps_of, fit_of, refusal_at, Refuses};
+ghost use Rattle.scenario_read.specs.Readers.{list_name, steps_of, fit_of, refusal_at, Refuses};
 
 use crate::values::Unfit;
 use scenario_data::{ReadFail, Refusal};
 use std::alloc::{AllocError, Global};
 
+/// A list at the top of a scenario.
+#[derive(Clone, Copy)]
+pub enum List {
+    Cabinets,
+    Inputs,
+    Loads,
+    Priority,
+    Frames,
+    Faults,
+}
+
 /// An object or an item of a list. Places in lists are counted from 0.
 #[derive(Clone, Copy)]
 pub enum Place {
     Top,
-    Cabinet(usize),
-    Cell { cabinet: usize, cell: usize },
-    Input(usize),
+    Master,
+    Entry(usize),
+    Listed {
+        list: List,
+        place: usize,
+    },
+    Cell {
+        list: List,
+        place: usize,
+        cell: usize,
+    },
+}
+
+/// The name at which a list stands.
+pub(crate) fn list_name(list: List) -> &'static str
+    ensures { result.now ≡ list_name list }
+{
+    match list {
+        List::Cabinets => "cabinets",
+        List::Inputs => "inputs",
+        List::Loads => "loads",
+        List::Priority => "priority",
+        List::Frames => "frames",
+        List::Faults => "faults",
+    }
 }
 
 /// The path of a place.
@@ -25,24 +58,36 @@ fn path_of(alloc: Global, place: Place) -> Result<String, AllocError>
 {
     match place {
         Place::Top => String::from_str(alloc, "."),
-        Place::Cabinet(cabinet) => format!(in alloc; "cabinets[{cabinet}]"),
-        Place::Cell { cabinet, cell } => format!(in alloc; "cabinets[{cabinet}].cells[{cell}]"),
-        Place::Input(input) => format!(in alloc; "inputs[{input}]"),
+        Place::Master => String::from_str(alloc, "master"),
+        Place::Entry(entry) => format!(in alloc; "master.schedule[{entry}]"),
+        Place::Listed { list, place } => {
+            let name = list_name(list);
+            format!(in alloc; "{name}[{place}]")
+        }
+        Place::Cell { list, place, cell } => {
+            let name = list_name(list);
+            format!(in alloc; "{name}[{place}].cells[{cell}]")
+        }
     }
 }
 
 /// The path of a member of an object.
 #[tactic(auto, using(crate::proofs::Refusing::ended))]
-fn path_of_member(alloc: Global, place: Place, name: &str) -> Result<String, AllocError>
-    ensures { IfOk result (λ path. string_bytes path ≡ path_text (then_named (steps_of place) name.now)) }
+fn path_of_member(alloc: Global, place: Place, member: &str) -> Result<String, AllocError>
+    ensures { IfOk result (λ path. string_bytes path ≡ path_text (then_named (steps_of place) member.now)) }
 {
     match place {
-        Place::Top => String::from_str(alloc, name),
-        Place::Cabinet(cabinet) => format!(in alloc; "cabinets[{cabinet}].{name}"),
-        Place::Cell { cabinet, cell } => format!(in alloc;
-            "cabinets[{cabinet}].cells[{cell}].{name}"
-        ),
-        Place::Input(input) => format!(in alloc; "inputs[{input}].{name}"),
+        Place::Top => String::from_str(alloc, member),
+        Place::Master => format!(in alloc; "master.{member}"),
+        Place::Entry(entry) => format!(in alloc; "master.schedule[{entry}].{member}"),
+        Place::Listed { list, place } => {
+            let name = list_name(list);
+            format!(in alloc; "{name}[{place}].{member}")
+        }
+        Place::Cell { list, place, cell } => {
+            let name = list_name(list);
+            format!(in alloc; "{name}[{place}].cells[{cell}].{member}")
+        }
     }
 }
 

@@ -2,9 +2,12 @@
 //! worked by hand; and what a scenario holds.
 
 use crate::{read, text};
-use scenario_data::{Base, ReadFail, Refusal, Scenario, opening_tables};
+use scenario_data::{
+    Base, Direction, Entry, Fault, FaultKind, PriorityAct, ReadFail, Refusal, Scenario,
+    opening_tables,
+};
 use sig_tables::{Cell, CellValue, Tables};
-use sig_types::Field;
+use sig_types::{Field, Request, Way};
 use std::alloc::{AllocError, Global};
 use std::test::Fail;
 
@@ -22,7 +25,7 @@ fn told(alloc: Global, text: &str) -> Result<String, AllocError> {
     }
 }
 
-const REFUSALS: [(&str, &str); 29] = [
+const REFUSALS: [(&str, &str); 39] = [
     ("", "not JSON"),
     ("1", "field ."),
     ("{}", "field version"),
@@ -124,8 +127,48 @@ const REFUSALS: [(&str, &str); 29] = [
         "field cabinets[0].cells[1]",
     ),
     (
-        "{\"community\":\"public\",\"cabinets\":[{}],\"rounds\":1,\"ticks\":1,\"version\":1}",
+        "{\"cabinets\":[{}],\"community\":\"stra\\u00dfe\",\"rounds\":1,\"ticks\":1,\"version\":1}",
         "field community",
+    ),
+    (
+        "{\"cabinets\":[{\"gain\":12000}],\"rounds\":1,\"ticks\":1,\"version\":1}",
+        "field cabinets[0].gain",
+    ),
+    (
+        "{\"cabinets\":[{\"gain\":11999}],\"rounds\":1,\"ticks\":1,\"version\":2}",
+        "limit cabinets[0].gain",
+    ),
+    (
+        "{\"cabinets\":[{\"lose\":12000,\"gain\":864000}],\"rounds\":1,\"ticks\":1,\"version\":2}",
+        "field cabinets[0]",
+    ),
+    (
+        "{\"cabinets\":[{}],\"master\":{\"retries\":0},\"rounds\":1,\"ticks\":1,\"version\":1}",
+        "limit master.retries",
+    ),
+    (
+        "{\"cabinets\":[{}],\"master\":{\"schedule\":[{\"section\":1,\"pattern\":1}]},\"rounds\":1,\"ticks\":1,\"version\":1}",
+        "field master.schedule[0].second",
+    ),
+    (
+        "{\"cabinets\":[{}],\"inputs\":[{\"round\":1,\"cabinet\":1,\"preempt\":9,\"on\":true}],\"rounds\":1,\"ticks\":1,\"version\":1}",
+        "limit inputs[0].preempt",
+    ),
+    (
+        "{\"cabinets\":[{}],\"loads\":[{\"round\":1,\"cabinet\":1,\"cells\":[]}],\"rounds\":1,\"ticks\":1,\"version\":1}",
+        "limit loads[0].cells",
+    ),
+    (
+        "{\"cabinets\":[{}],\"priority\":[{\"round\":1,\"cabinet\":1,\"number\":1,\"class\":1,\"level\":1,\"phase\":2,\"arrival\":6,\"departure\":5}],\"rounds\":1,\"ticks\":1,\"version\":1}",
+        "limit priority[0].departure",
+    ),
+    (
+        "{\"cabinets\":[{}],\"frames\":[{\"round\":1,\"cabinet\":1,\"stream\":\"poll\",\"hex\":\"0g\"}],\"rounds\":1,\"ticks\":1,\"version\":1}",
+        "field frames[0].hex",
+    ),
+    (
+        "{\"cabinets\":[{}],\"faults\":[{\"round\":1,\"cabinet\":1,\"stream\":\"poll\",\"way\":\"up\",\"kind\":\"lost\"}],\"rounds\":1,\"ticks\":1,\"version\":1}",
+        "field faults[0].kind",
     ),
 ];
 
@@ -201,5 +244,83 @@ fn cells_are_put_in_order_over_the_base(rt: HostRuntime) -> Result<(), Fail> {
         }) == CellValue::Number(42)
     );
     assert!(rt; opening_tables(second) == Tables::std8());
+    Ok(())
+}
+
+const EVENTS: &str =
+    "{\"version\":2,\"ticks\":1,\"rounds\":3,\"cabinets\":[{\"pattern\":1,\"section\":2,\"lose\":12000}],\"community\":\"street\",\"master\":{\"clock\":5,\"pattern_every\":2,\"schedule\":[{\"second\":10,\"section\":2,\"pattern\":1}]},\"inputs\":[{\"round\":1,\"cabinet\":1,\"preempt\":8,\"on\":true}],\"loads\":[{\"round\":2,\"cabinet\":1,\"cells\":[[\"unit\",2,90]]}],\"priority\":[{\"round\":1,\"cabinet\":1,\"number\":1,\"class\":2,\"level\":3,\"phase\":2,\"arrival\":5,\"departure\":600},{\"round\":2,\"cabinet\":1,\"cancel\":1}],\"frames\":[{\"round\":3,\"cabinet\":1,\"stream\":\"load\",\"hex\":\"30820C\"}],\"faults\":[{\"round\":1,\"cabinet\":1,\"stream\":\"priority\",\"way\":\"up\",\"kind\":\"cut\"}]}";
+
+#[test]
+fn a_scenario_holds_its_setup_and_its_events(rt: HostRuntime) -> Result<(), Fail> {
+    let alloc = rt.alloc();
+    let Ok(scenario) = read(alloc, EVENTS.as_bytes()) else {
+        return Err(Fail::from("no scenario"));
+    };
+    assert!(rt; scenario.version == 2 && scenario.community.as_slice() == "street".as_bytes());
+    let [cabinet] = scenario.cabinets.as_slice() else {
+        return Err(Fail::from("other cabinets"));
+    };
+    assert!(rt;
+        cabinet.pattern == 1 && cabinet.section == 2 && cabinet.gain == 0 && cabinet.lose == 12000
+    );
+    let master = &scenario.master;
+    assert!(rt; master.clock == 5 && master.pattern_every == 2 && master.poll_every == 0);
+    assert!(rt;
+        master.retries == 3
+            && master.schedule.as_slice()
+                == [Entry {
+                    second: 10,
+                    section: 2,
+                    pattern: 1
+                }]
+                .as_slice()
+    );
+    let ([input], [load], [request, cancel]) = (
+        scenario.inputs.as_slice(),
+        scenario.loads.as_slice(),
+        scenario.priority.as_slice(),
+    ) else {
+        return Err(Fail::from("other inputs, loads or requests"));
+    };
+    assert!(rt;
+        input.field
+            == Field::Preempt {
+                number: 8,
+                on: true
+            }
+    );
+    assert!(rt;
+        load.round == 2
+            && load.cells.as_slice() == [(Cell::Unit(2), CellValue::Number(90))].as_slice()
+    );
+    assert!(rt;
+        request.act
+            == PriorityAct::Request(Request {
+                number: 1,
+                class: 2,
+                level: 3,
+                phase: 2,
+                arrival: 5,
+                departure: 600
+            })
+    );
+    assert!(rt; cancel.round == 2 && cancel.act == PriorityAct::Cancel(1));
+    let ([frame], [fault]) = (scenario.frames.as_slice(), scenario.faults.as_slice()) else {
+        return Err(Fail::from("other frames or faults"));
+    };
+    assert!(rt; frame.stream == Way::Load && frame.hex.as_slice() == [0x30, 0x82, 0x0c].as_slice());
+    assert!(rt;
+        *fault
+            == Fault {
+                round: 1,
+                cabinet: 1,
+                stream: Way::Prio,
+                way: Direction::Up,
+                index: 0,
+                kind: FaultKind::Cut,
+                by: 1,
+                octet: 1
+            }
+    );
     Ok(())
 }

@@ -27,10 +27,10 @@ both c =
     let object-is : view (Object whole.frame) ≡ object ms = view-Object whole.frame in
     let none : faults (object ms) ≡ [] = subst (λ d. faults d ≡ []) object-is c.in-Ok.ensures.0 in
     let says : Says parts (object ms) = subst (λ d. Says parts d) object-is c.in-Ok.ensures.1 in
-    let counted : c.len.result ≡ length parts.cabinets.items = search rules in
+    let counted : c.len.result ≡ length parts.setup.cabinets.items = search rules in
     let holds : c.all_within.result ≡ true = grind arith in
-    let within : all_within parts.rounds (length parts.cabinets.items) found.inputs.items ≡ true =
-    subst (λ n. all_within parts.rounds n found.inputs.items ≡ true) counted (sym c.all_within.ensures ∙ holds) in
+    let within : all_within parts.setup.rounds (length parts.setup.cabinets.items) found.inputs.items ≡ true =
+    subst (λ n. all_within parts.setup.rounds n found.inputs.items ≡ true) counted (sym c.all_within.ensures ∙ holds) in
     let text-is : members_have_float ms ≡ false → text ≡ compact_text (object (with_inputs (array ds) ms)) =
     λ plain. c.in_ok-text.ensures ds (c.as_str.ensures.value ∙ seen.ok.2.lists.text_is) plain in
     let content-is : scenario_content c.scenario_from.result ≡ content_from (with_found parts found) text =

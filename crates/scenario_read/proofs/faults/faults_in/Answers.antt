@@ -1,0 +1,12 @@
+use Rattle.std.proofs.Common.{arith}
+use Rattle.scenario_read.specs.Table.{fault_shape}
+use Rattle.scenario_read.specs.Fields.{object_of}
+use Rattle.scenario_read.specs.Content.{fault_of}
+use Rattle.scenario_read.proofs.Walks.{Walked-refused}
+use Rattle.scenario_read.proofs.faults.faults_in.Goals as goal
+
+pub returns-in-Err : goal.returns-in-Err
+returns-in-Err c =
+    let l = c.loop-place in
+    Walked-refused (object_of (fault_shape c.args.rounds c.args.cabinets)) _
+    (fault_of c.args.rounds c.args.cabinets) c.args.items.now.items (l.found.items) l.place c.index.result.now c.in-Err.fail (omega arith) (rw (← c.index.ensures) c.in-Err.ensures) l.invariant

@@ -1,0 +1,13 @@
+use Rattle.std.proofs.Common.{codes}
+use Rattle.scenario_read.specs.declared.place.Place.TheVariants.{Top}
+use Rattle.scenario_read.specs.Paths.{then_named}
+use Rattle.scenario_read.specs.Fields.{object_of}
+use Rattle.scenario_read.specs.Table.{fault_shape}
+use Rattle.scenario_read.specs.Content.{fault_of}
+use Rattle.scenario_read.specs.Readers.{steps_of}
+use Rattle.scenario_read.proofs.Walks.{Walked}
+use Rattle.scenario_read.proofs.faults.faults_in.Given as goal
+
+abbrev pub invariant-loop-place : goal.invariant-loop-place
+invariant-loop-place l =
+    Walked (object_of (fault_shape l.rounds l.cabinets)) (then_named (steps_of Top) (codes "faults")) (fault_of l.rounds l.cabinets) l.items.items (l.found.items) l.place
