@@ -1,4 +1,5 @@
-pub mod StreetHeard
+pub mod KeptTables
+pub mod FrameFits
 pub mod StreetRuns
 pub mod StreetLines
 pub mod StreetTold

@@ -1,20 +1,24 @@
 -- The lines of a run are lines of a trace; each frame's line has version 0, and there is none of a download.
 use Rattle.std.proofs.Common.{◌≡◌, ◌<◌, ◌≤◌, ◌+◌, ◌*◌, ◌^◌, ◌==◌, ℕ, zero, suc, Bool, true, false, if◌then◌else◌, List, [], ◌∷◌, ◌++◌, length, refl}
 use Rattle.std.proofs.Common.{sym, subst, mul-le-mul, arith}
-use Rattle.sig_types.specs.declared.frame.Mode.TheVariants.{Start, Free}
 use Rattle.sig_types.specs.declared.frame.Frame.{Frame}
 use Rattle.sig_tables.specs.declared.tables.Tables.{Tables}
+use Rattle.sig_tables.specs.InRange.{InRange}
 use Rattle.sig_tables.specs.Past.{Event, Tick, History}
-use Rattle.sig_tables.specs.Seen.{sight_seen, moves_seen}
-use Rattle.sig_tables.specs.Ticking.{colours_of}
-use Rattle.sig_tables.specs.Plain.{OnlyStreet}
-use Rattle.sig_tables.specs.Decide.{decide, last_frame_of, frames, past_at, with_one}
-use Rattle.sig_tables.proofs.FreeFrame.{frame-plain as moment-plain}
+use Rattle.sig_tables.specs.Putting.{EachFits}
+use Rattle.sig_tables.specs.Decide.{decide, last_frame_of, frames, since_opening, with_one}
+use Rattle.sig_tables.proofs.Fitting.{cells-fit}
+use Rattle.sig_tables.proofs.Ranges.{in-range}
+use Rattle.sig_tables.proofs.StandardFits.{std8-fits, max8-fits}
 use Rattle.trace_text.specs.declared.lines.Line.{Line}
 use Rattle.trace_text.specs.declared.lines.Line.TheVariants.{S, F, R, M, J, L, A, Z}
-use Rattle.trace_text.specs.IsLine.{IsLine, FitsMode}
+use Rattle.trace_text.specs.IsLine.{IsLine}
+use Rattle.rule_book.specs.Rules.{Consistent}
+use Rattle.rule_facts.proofs.Admitted.{lawful}
+use Rattle.scenario_data.specs.declared.scenario.Base.{Base}
+use Rattle.scenario_data.specs.declared.scenario.Base.TheVariants.{Std8, Max8}
 use Rattle.scenario_data.specs.Content.{CabinetContent, ScenarioContent}
-use Rattle.scenario_data.specs.Opening.{opening_tables}
+use Rattle.scenario_data.specs.Opening.{base_tables, opening_tables}
 use Rattle.safe_trace.specs.Safe.{told}
 use Rattle.safe_trace.specs.TraceText.{AreLines}
 use Rattle.safe_trace.specs.Whole.{downloads}
@@ -24,7 +28,9 @@ use Rattle.run_text.specs.Journal.{acts_of, events_of}
 use Rattle.run_text.specs.Cabinets.{opening_history, history_after}
 use Rattle.run_text.specs.Runnable.{CanOpen, AllOpen, Runnable}
 use Rattle.run_text.specs.Lines.{shown_line, tick_lines, event_lines, events_lines, cabinet_lines, each_lines, rounds_lines, opening_lines, run_lines}
-use Rattle.run_text.proofs.StreetHeard.{StreetAlone, street-runs, street-version, history-street, history-length, round-street, round-count, tick_count}
+use Rattle.run_text.proofs.FrameFits.{FrameFits, next-fits}
+use Rattle.run_text.proofs.KeptTables.{Keeps, NoDownload, one-kept, since-kept, kept-tables, kept-version, kept-admitted, history-kept, history-length}
+use Rattle.run_text.proofs.KeptTables.{round-kept, round-count, tick_count}
 use Rattle.run_text.proofs.StreetRuns.{journal-is-line}
 
 -- a frame's line has version 0, and no line is of a download
@@ -73,59 +79,70 @@ plain-append : (lines more : List Line) → AllPlain lines → AllPlain more →
 plain-append [] more a b = b
 plain-append (line ∷ lines) more a b = (a.0, plain-append lines more a.1 b)
 
--- what the frame of a history of inputs and ticks has
-pub record FrameFits (f : Frame) : Type 0 where
-  pub veh : length f.veh ≡ 16
-  pub ped : length f.ped ≡ 16
-  pub mode : FitsMode f.mode
-  pub counter : f.counter ≡ 0
-  pub target : f.target ≡ 0
+-- tables that a cabinet opens with: they pass the rules, and their numbers are in range
+pub record AreSound (t : Tables) : Type 0 where
+  pub consistent : Consistent t
+  pub range : InRange t
+
+base-fits : (base : Base) → EachFits (base_tables base)
+base-fits Std8 = std8-fits
+base-fits Max8 = max8-fits
+
+pub opened-sound : (c : CabinetContent) → CanOpen c → AreSound (opening_tables c)
+opened-sound c can = record {
+  consistent = can.consistent;
+  range = in-range (opening_tables c) (cells-fit (base_tables c.base) c.cells (base-fits c.base));
+}
+
+-- a frame whose numbers fit, of the opening tables
+pub record IsFirstFrame (f : Frame) : Type 0 where
+  pub fits : FrameFits f
   pub version : f.version ≡ 0
 
-pub decide-fits : (t : Tables) (h : History) → StreetAlone t h → FrameFits (decide h)
-decide-fits t h o =
-    subst FrameFits (sym (moment-plain (past_at h) (sight_seen (past_at h)) (colours_of (past_at h) (moves_seen (past_at h))) (street-runs t h o)))
-    (record {
-      veh = refl;
-      ped = refl;
-      mode = either _;
-      counter = refl;
-      target = refl;
-      version = street-version h.tables h.command h.clock h.events o.events;
-    })
-  where
-    either : (b : Bool) → FitsMode (if b then Start else Free)
-    either true = tt
-    either false = tt
+pub decide-first : (t : Tables) (h : History) → AreSound t → Keeps t h → IsFirstFrame (decide h)
+decide-first t h sound k =
+    let only : NoDownload (since_opening h) = since-kept t h k in
+    let own : AreSound h.tables = subst AreSound (sym k.tables) sound in
+    record {
+      fits = next-fits h.tables (since_opening h)
+          (lawful h.tables (since_opening h) (kept-admitted h.tables (since_opening h) own.consistent only))
+          (subst InRange (sym (kept-tables h.tables (since_opening h) only)) own.range);
+      version = kept-version h.tables (since_opening h) only;
+    }
 
-opening-fits : (c : CabinetContent) → FrameFits (last_frame_of (opening_history c))
-opening-fits c = record { veh = refl; ped = refl; mode = tt; counter = refl; target = refl; version = refl }
+opening-first : (c : CabinetContent) → IsFirstFrame (last_frame_of (opening_history c))
+opening-first c = record {
+  fits = record { veh = refl; ped = refl; mode = tt; counter = omega arith; target = omega arith };
+  version = refl;
+}
 
-frame-plain : (cab tick : ℕ) (f : Frame) → cab < 2 ^ 32 → tick < 2 ^ 32 → FrameFits f → AllPlain (shown_line cab tick f ∷ [])
-frame-plain cab tick f low small fits =
-    (((tt, (low, small, fits.veh, fits.ped, fits.mode, below _ fits.counter, below _ fits.target, below _ fits.version)), fits.version), tt)
+frame-plain : (cab tick : ℕ) (f : Frame) → cab < 2 ^ 32 → tick < 2 ^ 32 → IsFirstFrame f → AllPlain (shown_line cab tick f ∷ [])
+frame-plain cab tick f low small first =
+    let fits : FrameFits f = first.fits in
+    (((tt, (low, small, fits.veh, fits.ped, fits.mode, fits.counter, fits.target, below f.version first.version)), first.version), tt)
   where
     below : (n : ℕ) → n ≡ 0 → n < 2 ^ 32
     below n e = omega (arith, e)
 
-tick-plain : (cab tick : ℕ) (last next : Frame) → cab < 2 ^ 32 → tick < 2 ^ 32 → FrameFits next → AllPlain (tick_lines cab tick last next)
-tick-plain cab tick last next low small fits = split (has_line last next)
+tick-plain : (cab tick : ℕ) (last next : Frame) → cab < 2 ^ 32 → tick < 2 ^ 32 → IsFirstFrame next → AllPlain (tick_lines cab tick last next)
+tick-plain cab tick last next low small first = split (has_line last next)
   where
     split : (b : Bool) → AllPlain (if b then shown_line cab tick next ∷ [] else [])
-    split true = frame-plain cab tick next low small fits
+    split true = frame-plain cab tick next low small first
     split false = tt
 
-pub events-plain : (t : Tables) (cab : ℕ) (h : History) (events : List Event) → StreetAlone t h → OnlyStreet events → cab < 2 ^ 32
+pub events-plain : (t : Tables) (cab : ℕ) (h : History) (events : List Event) → AreSound t → Keeps t h → NoDownload events → cab < 2 ^ 32
     → length (frames h) + tick_count events ≤ 2 ^ 32 → AllPlain (events_lines cab h events)
-events-plain t cab h [] o only low small = tt
-events-plain t cab h (Tick ∷ events) o only low small =
+events-plain t cab h [] sound k only low small = tt
+events-plain t cab h (Tick ∷ events) sound k only low small =
     let more : length (frames (with_one h Tick)) ≡ suc (length (frames h)) = refl in
+    let rest = one-kept t h Tick events k only in
     plain-append (event_lines cab h Tick) (events_lines cab (with_one h Tick) events)
-    (tick-plain cab (length (frames h)) (last_frame_of h) (decide h) low (omega (arith, small)) (decide-fits t h o))
-    (events-plain t cab (with_one h Tick) events (record { tables = o.tables; free = o.free; events = (only.0, o.events) }) only.1 low
-    (omega (arith, small, more)))
-events-plain t cab h (e ∷ events) o only low small =
-    events-plain t cab (with_one h e) events (record { tables = o.tables; free = o.free; events = (only.0, o.events) }) only.1 low small
+    (tick-plain cab (length (frames h)) (last_frame_of h) (decide h) low (omega (arith, small)) (decide-first t h sound k))
+    (events-plain t cab (with_one h Tick) events sound rest.0 rest.1 low (omega (arith, small, more)))
+events-plain t cab h (e ∷ events) sound k only low small =
+    let rest = one-kept t h e events k only in
+    events-plain t cab (with_one h e) events sound rest.0 rest.1 low small
 
 -- the lines of all cabinets are such, where those of each cabinet that can open are
 pub each-plain : (lines : ℕ → CabinetContent → List Line) (first : ℕ) (cabinets : List CabinetContent) → AllOpen cabinets
@@ -139,7 +156,7 @@ each-plain lines first (d ∷ cabinets) able few each =
 
 module _ (s : ScenarioContent) (run : Runnable s) where
   opening-plain : (n : ℕ) (d : CabinetContent) → CanOpen d → n < 2 ^ 32 → AllPlain (opening_lines n d)
-  opening-plain n d can low = frame-plain n 0 (last_frame_of (opening_history d)) low (omega arith) (opening-fits d)
+  opening-plain n d can low = frame-plain n 0 (last_frame_of (opening_history d)) low (omega arith) (opening-first d)
 
   cabinet-plain : (done : ℕ) → done + 1 ≤ s.rounds → (n : ℕ) (d : CabinetContent) → CanOpen d → n < 2 ^ 32
       → AllPlain (cabinet_lines s done n d)
@@ -151,7 +168,7 @@ module _ (s : ScenarioContent) (run : Runnable s) where
       let count : tick_count (events_of (acts_of s (done + 1) n)) ≡ s.ticks = round-count s (done + 1) n in (
         (journal-is-line s (done + 1) n low run.some_ticks run.few_ticks run.few_inputs, tt),
         events-plain (opening_tables d) n (history_after s n d done) (events_of (acts_of s (done + 1) n))
-            (history-street s n d done run.heard can.free) (round-street s (done + 1) n run.heard) low (omega (arith, product, long, count, few_ticks)),
+            (opened-sound d can) (history-kept s n d done) (round-kept s (done + 1) n) low (omega (arith, product, long, count, few_ticks)),
       )
 
   rounds-plain : (done n : ℕ) → done + n ≡ s.rounds → AllPlain (rounds_lines s done n)

@@ -1,7 +1,7 @@
 -- The cabinets of a scenario by their numbers, and the history of each.
 use Rattle.std.specs.Prelude.{ℕ, ◌+◌, ◌≡◌, ◌⊎◌, zero, suc, List, [], ◌∷◌}
 use Rattle.sig_tables.specs.Past.{Event, History}
-use Rattle.sig_tables.specs.Decide.{with_one, opening}
+use Rattle.sig_tables.specs.Decide.{with_one, opening_drifting}
 use Rattle.scenario_data.specs.Content.{CabinetContent, ScenarioContent}
 use Rattle.scenario_data.specs.Opening.{opening_tables}
 use Rattle.run_text.specs.Journal.{acts_of, events_of}
@@ -15,9 +15,9 @@ IsNumbered cab c first (d ∷ cabinets) = ((cab ≡ first) × (c ≡ d)) ⊎ IsN
 abbrev pub IsCabinet : ScenarioContent → ℕ → CabinetContent → Type 0
 IsCabinet s cab c = IsNumbered cab c 1 s.cabinets
 
--- the history of a cabinet to which nothing has happened
+-- the history of a cabinet to which nothing has happened, but that its clock may drift
 abbrev pub opening_history : CabinetContent → History
-opening_history c = opening (opening_tables c) c.pattern c.clock
+opening_history c = opening_drifting (opening_tables c) c.pattern c.clock c.gain c.lose
 
 -- the history after these events, in their order
 abbrev pub after : History → List Event → History

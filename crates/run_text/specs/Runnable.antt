@@ -1,17 +1,23 @@
--- What every scenario that was read without a fault has: its numbers in range, its tables consistent.
-use Rattle.std.specs.Prelude.{ℕ, ◌*◌, ◌≤◌, ◌<◌, ◌≡◌, List, [], ◌∷◌, length}
-use Rattle.sig_tables.specs.Plain.{IsStreet}
+-- What every scenario has that was read without a fault and uses nothing that no run carries out yet: its numbers in range, its
+-- tables consistent.
+use Rattle.std.specs.Prelude.{ℕ, ◌*◌, ◌≤◌, ◌<◌, ◌≡◌, true, List, [], ◌∷◌, length, None}
+use Rattle.sig_types.specs.declared.frame.Field.{Field}
+use Rattle.sig_types.specs.declared.frame.Field.TheVariants.{Veh, Ped as Button, Preempt as PreemptInput}
+use Rattle.sig_types.specs.Phases.{is_phase}
+use Rattle.undisturbed.specs.Disturbances.{IsSlow}
 use Rattle.rule_book.specs.Rules.{Consistent}
 use Rattle.trace_text.specs.Words.{Lacks}
 use Rattle.scenario_data.specs.declared.scenario.Input.{Input}
 use Rattle.scenario_data.specs.Content.{CabinetContent, ScenarioContent}
 use Rattle.scenario_data.specs.Opening.{opening_tables}
+use Rattle.run_text.specs.NotRun.{first_not_run}
 
--- a cabinet opens with consistent tables, runs free, and its clock is a tick of the day
+-- a cabinet opens with consistent tables, its clock is a tick of the day, and drifts slowly or not at all; any pattern may be in
+-- command
 pub record CanOpen (c : CabinetContent) : Type 0 where
   pub consistent : Consistent (opening_tables c)
-  pub free : c.pattern ≡ 0
   pub of_day : c.clock < 864000
+  pub slow : IsSlow (record { gain = c.gain; lose = c.lose })
 
 -- each of them can open
 abbrev pub AllOpen : List CabinetContent → Type 0
@@ -25,10 +31,16 @@ pub record InReach (rounds cabinets : ℕ) (i : Input) : Type 0 where
   pub some_cabinet : 1 ≤ i.cabinet
   pub in_cabinets : i.cabinet ≤ cabinets
 
--- each input is a detector or a button of a phase 1 to 16
+-- an input has its place: a detector or a button that of a phase, 1 to 16, a preempt's that of a preempt, 1 to 8
+abbrev pub HasPlace : Field → Type 0
+HasPlace (Veh p on) = is_phase p ≡ true
+HasPlace (Button p) = is_phase p ≡ true
+HasPlace (PreemptInput i on) = (1 ≤ i) × (i ≤ 8)
+
+-- each input has its place
 abbrev pub AllHeard : List Input → Type 0
 AllHeard [] = Unit {0}
-AllHeard (i ∷ inputs) = IsStreet i.field × AllHeard inputs
+AllHeard (i ∷ inputs) = HasPlace i.field × AllHeard inputs
 
 -- each input reaches a round that is run and a cabinet that there is
 abbrev pub AllInReach : ℕ → ℕ → List Input → Type 0
@@ -49,3 +61,4 @@ pub record Runnable (s : ScenarioContent) : Type 0 where
   pub heard : AllHeard s.inputs
   pub in_reach : AllInReach s.rounds (length s.cabinets) s.inputs
   pub one_line : Lacks 10 s.compact
+  pub all_run : first_not_run s ≡ None

@@ -1,5 +1,5 @@
--- A scenario that was read without a fault can be run.
-use Rattle.std.proofs.Common.{◌≡◌, ◌≤◌, ◌*◌, ℕ, Bool, true, false, nat_le, if◌then◌else◌, List, [], ◌∷◌, ◌++◌, codes, refl, sym, subst}
+-- A scenario that was read without a fault and uses nothing that no run carries out yet can be run.
+use Rattle.std.proofs.Common.{◌≡◌, ◌≤◌, ◌*◌, ℕ, Bool, true, false, nat_le, if◌then◌else◌, List, [], ◌∷◌, ◌++◌, None, codes, refl, sym, subst}
 use Rattle.std.proofs.lemmas.Bool.{leb-true}
 use Rattle.serde_json.specs.Data.{Data}
 use Rattle.serde_json.specs.Written.{compact_text}
@@ -12,6 +12,7 @@ use Rattle.scenario_read.specs.Table.{cabinet_shape, input_shape, version, round
 use Rattle.scenario_read.specs.Content.{round_count, tick_count, cabinet_count, cabinets_of, cabinet_of, input_of, scenario_of}
 use Rattle.scenario_read.specs.Faults.{product_faults, all_table_faults, faults}
 use Rattle.scenario_read.specs.Answers.{IsScenario}
+use Rattle.run_text.specs.NotRun.{first_not_run}
 use Rattle.run_text.specs.Runnable.{Runnable}
 use Rattle.runnable_scenarios.proofs.RangesParts.{none-left, whole-in, list-in, each-length, held-in, object-in}
 use Rattle.runnable_scenarios.proofs.RangesLine.{line-lacks, compact-line}
@@ -42,8 +43,8 @@ clean d e =
     let g = none-left (field_faults [] d list) [] f.1 in
     record { rounds_clean = b.0; ticks_clean = c.0; cabinets_clean = f.0; inputs_clean = g.0 }
 
-value-runs : (d : Data) → faults d ≡ [] → Runnable (scenario_of d)
-value-runs d e =
+value-runs : (d : Data) → faults d ≡ [] → first_not_run (scenario_of d) ≡ None → Runnable (scenario_of d)
+value-runs d e all =
     let r = round_count d in
     let n = cabinet_count d in
     let front = none-left (object_of (scenario_shape r n) [] d) (product_faults (n * r * tick_count d) ++ all_table_faults 1 (cabinets_of d)) e in
@@ -69,7 +70,9 @@ value-runs d e =
       heard = all-heard r n (then_named [] (inputs r n).name) 0 (items_in (held (inputs r n) d)) in_inputs.2;
       in_reach = all-reach r n (then_named [] (inputs r n).name) 0 (items_in (held (inputs r n) d)) in_inputs.2;
       one_line = line-lacks (compact_text d) (compact-line d);
+      all_run = all;
     }
 
-pub runs : (bytes : List ℕ) (s : ScenarioContent) → IsScenario bytes s → Runnable s
-runs bytes s (d, reads, none, is) = subst Runnable (sym is) (value-runs d none)
+pub runs : (bytes : List ℕ) (s : ScenarioContent) → IsScenario bytes s → first_not_run s ≡ None → Runnable s
+runs bytes s (d, reads, none, is) all =
+    subst Runnable (sym is) (value-runs d none (subst (λ (x : ScenarioContent). first_not_run x ≡ None) is all))

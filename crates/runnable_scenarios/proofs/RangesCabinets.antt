@@ -1,11 +1,10 @@
--- Each cabinet of a value without faults can open, and each input is a detector or a button of a phase.
-use Rattle.std.proofs.Common.{◌≡◌, ◌≤◌, ◌+◌, ℕ, Bool, true, false, if◌then◌else◌, nat_lt, nat_le, List, [], ◌∷◌, refl, arith}
+-- Each cabinet of a value without faults can open, and each input has its place.
+use Rattle.std.proofs.Common.{◌≡◌, ◌≤◌, ◌+◌, inl, ℕ, Bool, true, false, if◌then◌else◌, nat_lt, nat_le, List, [], ◌∷◌, refl, arith}
 use Rattle.std.proofs.lemmas.Bool.{lt-ltb, le-leb}
 use Rattle.sig_types.specs.declared.notes.Broken.{Broken}
 use Rattle.sig_types.specs.declared.frame.Field.{Field as Street}
 use Rattle.sig_types.specs.declared.frame.Field.TheVariants.{Veh, Ped}
 use Rattle.sig_types.specs.Phases.{is_phase}
-use Rattle.sig_tables.specs.Plain.{IsStreet}
 use Rattle.rule_book.specs.Rules.{broken, Consistent}
 use Rattle.serde_json.specs.Data.{Data, Items, no_items, item}
 use Rattle.scenario_data.specs.Content.{CabinetContent}
@@ -16,7 +15,7 @@ use Rattle.scenario_read.specs.Fields.{held, field_faults, fields_faults, stands
 use Rattle.scenario_read.specs.Table.{base, cells, clock, cabinet_shape, veh, on, ped, input_shape, round, cabinet_number}
 use Rattle.scenario_read.specs.Content.{whole_of, flag_of, each_of, cabinet_of, input_of}
 use Rattle.scenario_read.specs.Faults.{broken_causes, table_faults, all_table_faults}
-use Rattle.run_text.specs.Runnable.{AllOpen, AllHeard, InReach, AllInReach}
+use Rattle.run_text.specs.Runnable.{HasPlace, AllOpen, AllHeard, InReach, AllInReach}
 use Rattle.runnable_scenarios.proofs.RangesParts.{none-left, whole-in, held-in, object-in}
 
 no-causes : (cabinet : ℕ) (found : List Broken) → broken_causes cabinet found ≡ [] → found ≡ []
@@ -43,7 +42,7 @@ all-open path place cabinet (item d ds) e t =
     let parts = none-left (object_of cabinet_shape (then_item path place) d) (each (object_of cabinet_shape) path (place + 1) ds) e in
     let tables = none-left (table_faults cabinet (cabinet_of d)) (all_table_faults (cabinet + 1) (each_of cabinet_of ds)) t in
     let early = clock-in (then_item path place) d parts.0 in (
-      record { consistent = consistent cabinet (cabinet_of d) tables.0; free = refl; of_day = omega (arith, early) },
+      record { consistent = consistent cabinet (cabinet_of d) tables.0; of_day = omega (arith, early); slow = record { gain = inl refl; lose = inl refl; one = inl refl } },
       all-open path (place + 1) (cabinet + 1) ds parts.1 tables.1,
     )
 
@@ -57,19 +56,19 @@ is-phase p low high =
     let b : nat_le p 16 ≡ true = le-leb p 16 high in
     rw (a, b) refl
 
-from-street : (path : List Step) (d : Data) (a b : Bool)
+has-place : (path : List Step) (d : Data) (a b : Bool)
     → chosen_faults path d (only_one (if a then (veh ∷ on ∷ []) ∷ (if b then (ped ∷ []) ∷ [] else []) else (if b then (ped ∷ []) ∷ [] else []))) ≡ []
-    → IsStreet (field_if a d)
-from-street path d true true e = absurd (cc)
-from-street path d true false e =
+    → HasPlace (field_if a d)
+has-place path d true true e = absurd (cc)
+has-place path d true false e =
     let own = (none-left (field_faults path d veh) (fields_faults path d (on ∷ [])) e).0 in
     let range = whole-in 1 16 (then_named path veh.name) (held veh d) (held-in path d veh own) in
     is-phase _ range.0 range.1
-from-street path d false true e =
+has-place path d false true e =
     let own = (none-left (field_faults path d ped) [] e).0 in
     let range = whole-in 1 16 (then_named path ped.name) (held ped d) (held-in path d ped own) in
     is-phase _ range.0 range.1
-from-street path d false false e = absurd (cc)
+has-place path d false false e = absurd (cc)
 
 pub all-heard : (rounds cabinets : ℕ) (path : List Step) (place : ℕ) (ds : Items) → each (object_of (input_shape rounds cabinets)) path place ds ≡ []
     → AllHeard (each_of (input_of rounds cabinets) ds)
@@ -78,7 +77,7 @@ all-heard rounds cabinets path place (item d ds) e =
     let parts = none-left (object_of (input_shape rounds cabinets) (then_item path place) d)
     (each (object_of (input_shape rounds cabinets)) path (place + 1) ds) e in
     let other = (object-in (input_shape rounds cabinets) (then_item path place) d parts.0).1 in (
-      from-street (then_item path place) d (stands d (veh ∷ on ∷ [])) (stands d (ped ∷ [])) other,
+      has-place (then_item path place) d (stands d (veh ∷ on ∷ [])) (stands d (ped ∷ [])) other,
       all-heard rounds cabinets path (place + 1) ds parts.1,
     )
 

@@ -7,11 +7,11 @@ use Rattle.scenario_data.specs.declared.scenario.Input.{Input}
 use Rattle.controller.specs.declared.Controller.{Controller}
 use Rattle.sig_types.specs.declared.frame.Field.{Field}
 use Rattle.sig_types.specs.declared.frame.Field.TheVariants.{Veh, Ped as Button, Preempt as PreemptInput}
-use Rattle.sig_tables.specs.Plain.{IsStreet}
 use Rattle.controller.specs.StandsFor.{StandsFor, NamesPlace, tick_count}
 use Rattle.run_text.specs.Cabinets.{after}
+use Rattle.run_text.specs.Runnable.{HasPlace}
 use Rattle.round_inputs.specs.Order.{field_in}
-use Rattle.station.specs.Rounds.{AllStreet, Runs, heard}
+use Rattle.station.specs.Rounds.{AllPlaced, Runs, heard}
 use Rattle.station.proofs.Histories.{runs_heard}
 
 -- the controller has come to a history, which the inputs from a place on make the final one
@@ -21,20 +21,20 @@ HearsOn k inputs i done final = (reached : History) × Runs k reached done × (a
 next_input : (inputs : List Input) (i : ℕ) (d : Input) → i < length inputs → drop i inputs ≡ get_or inputs i d ∷ drop (i + 1) inputs
 next_input inputs i d more = rw add-one (drop-cons inputs i d more)
 
-pub street_on : (inputs : List Input) (i : ℕ) (d : Input) → i < length inputs → AllStreet (map field_in (drop i inputs))
-    → AllStreet (map field_in (drop (i + 1) inputs))
-street_on inputs i d more street = (subst (λ (xs : List Input). AllStreet (map field_in xs)) (next_input inputs i d more) street).1
+pub placed_on : (inputs : List Input) (i : ℕ) (d : Input) → i < length inputs → AllPlaced (map field_in (drop i inputs))
+    → AllPlaced (map field_in (drop (i + 1) inputs))
+placed_on inputs i d more placed = (subst (λ (xs : List Input). AllPlaced (map field_in xs)) (next_input inputs i d more) placed).1
 
--- a detector or a button has its place
-street_place : (f : Field) → IsStreet f → NamesPlace f
-street_place (Veh p on) s = s
-street_place (Button p) s = s
-street_place (PreemptInput i on) s = absurd s
+-- an input that has its place names it to a controller
+names_place : (f : Field) → HasPlace f → NamesPlace f
+names_place (Veh p on) s = s
+names_place (Button p) s = s
+names_place (PreemptInput i on) s = s
 
-pub place_at : (inputs : List Input) (i : ℕ) (d : Input) → i < length inputs → AllStreet (map field_in (drop i inputs))
+pub place_at : (inputs : List Input) (i : ℕ) (d : Input) → i < length inputs → AllPlaced (map field_in (drop i inputs))
     → NamesPlace (get_or inputs i d).field
-place_at inputs i d more street =
-    street_place (get_or inputs i d).field (subst (λ (xs : List Input). AllStreet (map field_in xs)) (next_input inputs i d more) street).0
+place_at inputs i d more placed =
+    names_place (get_or inputs i d).field (subst (λ (xs : List Input). AllPlaced (map field_in xs)) (next_input inputs i d more) placed).0
 
 pub hears_on : (was now : Controller) (inputs : List Input) (i : ℕ) (d : Input) (done : ℕ) (final : History) → i < length inputs
     → ((h : History) → StandsFor was h → StandsFor now (with_one h (Heard (get_or inputs i d).field))) → tick_count now ≡ tick_count was

@@ -20,12 +20,12 @@ use Rattle.round_inputs.specs.declared.RoundInputs.{RoundInputs}
 use Rattle.round_inputs.specs.Order.{field_in}
 use Rattle.round_inputs.specs.Left.{Holds}
 use Rattle.station.specs.Bytes.{AppendsSome, Puts, PutsFront}
-use Rattle.station.specs.Rounds.{AllStreet, Runs, EachRuns, Between, round_acts, acts_lines}
+use Rattle.station.specs.Rounds.{AllPlaced, Runs, EachRuns, Between, round_acts, acts_lines}
 use Rattle.station.proofs.Writing.{none_yet, next_done}
 use Rattle.station.proofs.Numbered.{RunsAt, Picked, picked, each_length, each_same, each_set}
 use Rattle.station.proofs.EachLine.{text_from, each_done, each_stops, each_whole}
 use Rattle.round_inputs.proofs.Later.{holds-next}
-use Rattle.station.proofs.Inputs.{all_street, few_of}
+use Rattle.station.proofs.Inputs.{all_placed, few_of}
 
 -- the number of rounds that a cabinet has done, where the cabinets up to one number have done one more than the others
 abbrev pub rounds_done : ℕ → ℕ → ℕ → ℕ
@@ -82,9 +82,9 @@ turn s done n i k ks start queue first old new held holds inputs few is between 
 
 -- what the call for this cabinet asks
 pub turn_street : (s : ScenarioContent) (done n i : ℕ) (start : List Controller) (first : RoundInputs) (inputs : List Input) → Between s done n start first
-    → map field_in inputs ≡ inputs_of (done + 1) (i + 1) s.inputs → AllStreet (map field_in inputs)
+    → map field_in inputs ≡ inputs_of (done + 1) (i + 1) s.inputs → AllPlaced (map field_in inputs)
 turn_street s done n i start first inputs between these =
-    subst (λ (fields : List Field). AllStreet fields) (sym these) (all_street (done + 1) (i + 1) s.inputs between.runnable.heard)
+    subst (λ (fields : List Field). AllPlaced fields) (sym these) (all_placed (done + 1) (i + 1) s.inputs between.runnable.heard)
 
 pub turn_few : (s : ScenarioContent) (done n i : ℕ) (start : List Controller) (first : RoundInputs) (inputs : List Input) → Between s done n start first
     → map field_in inputs ≡ inputs_of (done + 1) (i + 1) s.inputs → length inputs ≤ 1000000

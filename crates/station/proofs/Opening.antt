@@ -3,7 +3,7 @@ use Rattle.std.proofs.Common.{◌≡◌, ◌<◌, ◌≤◌, ◌+◌, ◌∙◌,
 use Rattle.std.proofs.Common.{refl, sym, ap, subst, arith, add-one, append_assoc, append-nil}
 use Rattle.std.proofs.lemmas.List.{drop_all}
 use Rattle.sig_tables.specs.declared.tables.Tables.{Tables}
-use Rattle.sig_tables.specs.Decide.{opening}
+use Rattle.sig_tables.specs.Decide.{opening_drifting}
 use Rattle.scenario_data.specs.declared.scenario.Cabinet.{Cabinet}
 use Rattle.scenario_data.specs.Content.{CabinetContent, ScenarioContent, cabinet_content}
 use Rattle.scenario_data.specs.Opening.{opening_tables}
@@ -23,10 +23,10 @@ can_run t c same ok =
     let holds : CorrectionHolds (opening_tables c) = (times-hold (opening_tables c) ok).correction in
     subst (λ (u : Tables). CanRun u) (sym same) (record { adds = holds.add; subtracts = holds.subtract })
 
-pub opens : (k : Controller) (c : Cabinet) (t : Tables) → t ≡ opening_tables (cabinet_content c) → StandsFor k (opening t c.pattern c.clock)
+pub opens : (k : Controller) (c : Cabinet) (t : Tables) → t ≡ opening_tables (cabinet_content c) → StandsFor k (opening_drifting t c.pattern c.clock c.gain c.lose)
     → tick_count k ≡ 0 → Runs k (opening_history (cabinet_content c)) 0
 opens k c t same stands counted = record {
-  stands = subst (λ (u : Tables). StandsFor k (opening u c.pattern c.clock)) same stands;
+  stands = subst (λ (u : Tables). StandsFor k (opening_drifting u c.pattern c.clock c.gain c.lose)) same stands;
   counted = counted;
   numbered = refl;
 }

@@ -1,12 +1,14 @@
 -- What each answer of the top call says of the words, the input, the output and the faults.
-use Rattle.std.specs.Prelude.{◌≡◌, ◌≤◌, ◌<◌, ◌⊎◌, ℕ, List, [], ◌∷◌, Option, Some, IfSome, codes, drop, length, string_bytes}
+use Rattle.std.specs.Prelude.{◌≡◌, ◌≤◌, ◌<◌, ◌⊎◌, ℕ, List, [], ◌∷◌, Option, Some, None, IfSome, codes, drop, length, string_bytes}
 use Rattle.io_edge.specs.Edge.{Appends}
 use Rattle.scenario_data.specs.declared.refusal.Refusal.{Refusal}
 use Rattle.scenario_data.specs.declared.refusal.Refusal.TheVariants.{Syntax, Field, Limit, Broken}
 use Rattle.scenario_data.specs.Content.{ScenarioContent}
 use Rattle.scenario_read.specs.Answers.{IsScenario, IsFirstFault}
+use Rattle.run_text.specs.NotRun.{first_not_run}
 use Rattle.run_text.specs.Lines.{trace_of}
 use Rattle.run_text.specs.Streets.{TellsSafeStreets}
+use Rattle.run_text.specs.Coordination.{EachMeets}
 use Rattle.station.specs.declared.status.Status.{Status}
 use Rattle.station.specs.declared.status.Status.TheVariants.{Done, Scenario, NotATrace, ReadFault, WriteFault, NoMemory}
 use Rattle.station.specs.Bytes.{AppendsFront, nothing_left}
@@ -41,17 +43,37 @@ IsShort input = length input ≤ 16777216
 abbrev pub AreInput : Option (List ℕ) → List ℕ → Type 0
 AreInput left bytes = IfSome left (λ input. bytes ≡ input)
 
--- the input is a scenario with this content, and within the limit
-abbrev pub IsInput : Option (List ℕ) → ScenarioContent → Type 0
-IsInput left s = (bytes : List ℕ) × AreInput left bytes × IsShort bytes × IsScenario bytes s
+-- the input is a scenario with this content, within the limit
+abbrev pub IsRead : Option (List ℕ) → ScenarioContent → Type 0
+IsRead left s = (bytes : List ℕ) × AreInput left bytes × IsShort bytes × IsScenario bytes s
 
--- the input is a scenario within the limit
+-- and a run carries all of it out
+abbrev pub IsInput : Option (List ℕ) → ScenarioContent → Type 0
+IsInput left s = IsRead left s × (first_not_run s ≡ None)
+
+-- the input is such a scenario
 abbrev pub HoldsScenario : Option (List ℕ) → Type 0
 HoldsScenario left = (s : ScenarioContent) × IsInput left s
 
--- the input is within the limit, and this names its first fault
-abbrev pub HasFault : Option (List ℕ) → Refusal → Type 0
-HasFault left refusal = (bytes : List ℕ) × AreInput left bytes × IsShort bytes × IsFirstFault bytes refusal
+-- the refusal is of the field with this name
+abbrev pub IsField : Refusal → List ℕ → Type 0
+IsField Syntax name = ⊥
+IsField (Field path) name = string_bytes path ≡ name
+IsField (Limit path) name = ⊥
+IsField (Broken cabinet rule row) name = ⊥
+
+-- the bytes are a scenario, and the refusal names the first of what no run carries out yet
+abbrev pub IsFirstNotRun : List ℕ → Refusal → Type 0
+IsFirstNotRun bytes refusal =
+    (s : ScenarioContent) × (name : List ℕ) × IsScenario bytes s × (first_not_run s ≡ Some name) × IsField refusal name
+
+-- why bytes are refused: for their first fault, or, where they are a scenario, for what no run carries out yet
+abbrev pub IsCause : List ℕ → Refusal → Type 0
+IsCause bytes refusal = IsFirstFault bytes refusal ⊎ IsFirstNotRun bytes refusal
+
+-- the input is within the limit, and this is why it is refused
+abbrev pub HasCause : Option (List ℕ) → Refusal → Type 0
+HasCause left refusal = (bytes : List ℕ) × AreInput left bytes × IsShort bytes × IsCause bytes refusal
 
 -- the input is a scenario, and all of its trace was appended
 abbrev pub WritesTrace : Option (List ℕ) → Option (List ℕ) → Option (List ℕ) → Type 0
@@ -64,6 +86,10 @@ WritesFront left old new = (s : ScenarioContent) × IsInput left s × AppendsFro
 -- the input is a scenario, and all of its trace was appended: by its lines every street is safe, and the versions are whole
 abbrev pub WritesSafe : Option (List ℕ) → Option (List ℕ) → Option (List ℕ) → Type 0
 WritesSafe left old new = (s : ScenarioContent) × IsInput left s × Appends old new (trace_of s) × TellsSafeStreets s (trace_of s)
+
+-- the input is a scenario, and all of its trace was appended: the histories that it tells meet what coordination promises
+abbrev pub WritesMet : Option (List ℕ) → Option (List ℕ) → Option (List ℕ) → Type 0
+WritesMet left old new = (s : ScenarioContent) × IsInput left s × Appends old new (trace_of s) × EachMeets s
 
 -- the refusal is that of the whole input, for its length
 abbrev pub IsLengthLimit : Refusal → Type 0
@@ -86,14 +112,18 @@ IsAnswer _ = Unit {0}
 abbrev pub NamesFault : Status → List ℕ → Type 0
 NamesFault status input = (refusal : Refusal) × (status ≡ Scenario refusal) × IsFirstFault input refusal
 
+-- the answer is the refusal of the field with this name
+abbrev pub NamesField : Status → List ℕ → Type 0
+NamesField status name = (refusal : Refusal) × (status ≡ Scenario refusal) × IsField refusal name
+
 -- the input is no scenario
 abbrev pub IsNoScenario : List ℕ → Type 0
 IsNoScenario input = (s : ScenarioContent) → IsScenario input s → ⊥
 
--- why a refusal comes: the input is too long, or else this names its first fault
+-- why a refusal comes: the input is too long, or else this is its cause
 abbrev pub IsRefusedFor : Refusal → Option (List ℕ) → Type 0
 IsRefusedFor refusal left =
-    (IsLengthLimit refusal × IfSome left (λ input. 16777216 < length input)) ⊎ ((IsLengthLimit refusal → ⊥) × HasFault left refusal)
+    (IsLengthLimit refusal × IfSome left (λ input. 16777216 < length input)) ⊎ ((IsLengthLimit refusal → ⊥) × HasCause left refusal)
 
 -- what the source has left after a refusal: nothing, or for too long an input what is behind the first byte past the limit
 abbrev pub LeavesRefused : Refusal → Option (List ℕ) → Option (List ℕ) → Type 0

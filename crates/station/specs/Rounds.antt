@@ -3,7 +3,6 @@ use Rattle.std.specs.Prelude.{ℕ, ◌+◌, ◌*◌, ◌==◌, ◌≡◌, if◌t
 use Rattle.sig_types.specs.declared.frame.Field.{Field}
 use Rattle.sig_tables.specs.Past.{Event, Input as Heard, History}
 use Rattle.sig_tables.specs.Decide.{frames}
-use Rattle.sig_tables.specs.Plain.{IsStreet}
 use Rattle.controller.specs.declared.Controller.{Controller}
 use Rattle.controller.specs.StandsFor.{StandsFor, tick_count}
 use Rattle.trace_text.specs.declared.lines.Line.{Line}
@@ -12,14 +11,14 @@ use Rattle.scenario_data.specs.Content.{CabinetContent, ScenarioContent}
 use Rattle.run_text.specs.Journal.{Act, hears, one_tick, events_of, runs_of}
 use Rattle.run_text.specs.Cabinets.{history_after}
 use Rattle.run_text.specs.Lines.{events_lines, each_lines, opening_lines, rounds_lines}
-use Rattle.run_text.specs.Runnable.{Runnable}
+use Rattle.run_text.specs.Runnable.{HasPlace, Runnable}
 use Rattle.round_inputs.specs.declared.RoundInputs.{RoundInputs}
 use Rattle.round_inputs.specs.Left.{Holds}
 
--- each of these is a detector or a button of a phase, 1 to 16
-abbrev pub AllStreet : List Field → Type 0
-AllStreet [] = Unit {0}
-AllStreet (field ∷ fields) = IsStreet field × AllStreet fields
+-- each of these inputs has its place
+abbrev pub AllPlaced : List Field → Type 0
+AllPlaced [] = Unit {0}
+AllPlaced (field ∷ fields) = HasPlace field × AllPlaced fields
 
 -- inputs as they are heard
 abbrev pub heard : List Field → List Event

@@ -13,7 +13,7 @@ ghost use Rattle.run_text.specs.Lines.{events_lines};
 ghost use Rattle.round_inputs.specs.Order.{field_in};
 ghost use Rattle.station.specs.Bytes.{Puts, PutsFront};
 ghost use Rattle.station.specs.Outbox.{held_by};
-ghost use Rattle.station.specs.Rounds.{AllStreet, Runs, EachRuns, heard, round_acts, acts_lines};
+ghost use Rattle.station.specs.Rounds.{AllPlaced, Runs, EachRuns, heard, round_acts, acts_lines};
 
 use crate::lines::{Stop, put_journal, put_tick};
 use crate::outbox::Outbox;
@@ -60,12 +60,14 @@ impl Cabinets {
     }
 }
 
-/// The controller of a cabinet to which nothing has happened.
+/// The controller of a cabinet to which nothing has happened, but that its clock may drift.
 fn controller_of(cabinet: &Cabinet) -> Controller
     requires { CanOpen (cabinet_content cabinet.now) }
     ensures { Runs result (opening_history (cabinet_content cabinet.now)) 0 }
 {
-    Controller::open(opening_tables(cabinet), cabinet.pattern, cabinet.clock)
+    let mut controller = Controller::open(opening_tables(cabinet), cabinet.pattern, cabinet.clock);
+    controller.drift(cabinet.gain, cabinet.lose);
+    controller
 }
 
 /// The controllers of all cabinets, to which nothing has happened.
@@ -84,7 +86,7 @@ fn open_all(alloc: Global, cabinets: &[Cabinet]) -> Result<Vec<Controller>, NoMe
 
 /// A cabinet hears its inputs of a round.
 fn hear(controller: &mut Controller, inputs: &[Input])
-    requires { AllStreet (map field_in inputs.now) }
+    requires { AllPlaced (map field_in inputs.now) }
     ensures runs { (h : History) → (done : ℕ) → Runs controller.old h done → Runs controller.new (after h (heard (map field_in inputs.now))) done }
     ensures counted { tick_count controller.new ≡ tick_count controller.old }
 {
@@ -136,7 +138,7 @@ pub fn run_cabinet<K: Sink>(
     ticks: u32,
 ) -> Result<(), Stop>
     requires counted { tick_count controller.old ≡ done }
-    requires street { AllStreet (map field_in inputs.now) }
+    requires placed { AllPlaced (map field_in inputs.now) }
     requires few_inputs { length inputs.now ≤ 1000000 }
     requires few { done + ticks < 4294967295 }
     requires some_ticks { 1 ≤ ticks }

@@ -7,6 +7,7 @@ mod cabinets;
 mod frames;
 mod help;
 mod lines;
+mod not_run;
 mod outbox;
 #[cfg(test)]
 mod run_tests;

@@ -1,18 +1,20 @@
 //! All that the program does.
 
-ghost use Rattle.std.specs.Prelude.{◌≡◌, ◌≤◌, ◌<◌, ◌⊎◌, ◌↔◌, ◌∷◌, [], Err, Some, IfOk, IfSome, OnOk, IsTrue, codes, drop, length, map, string_bytes};
+ghost use Rattle.std.specs.Prelude.{ℕ, List, ◌≡◌, ◌≤◌, ◌<◌, ◌⊎◌, ◌↔◌, ◌∷◌, [], Err, Some, None, IfOk, IfSome, OnOk, IsTrue, codes, drop, length, map, string_bytes};
 ghost use Rattle.io_edge.specs.Edge.{Rises};
 ghost use Rattle.scenario_data.specs.Content.{ScenarioContent, scenario_content};
 ghost use Rattle.scenario_data.specs.declared.refusal.Refusal.{Refusal};
 ghost use Rattle.scenario_read.specs.Answers.{IsScenario, IsFirstFault};
+ghost use Rattle.run_text.specs.NotRun.{first_not_run};
 ghost use Rattle.run_text.specs.Runnable.{Runnable};
 ghost use Rattle.station.specs.Bytes.{nothing_left};
-ghost use Rattle.station.specs.Answers.{IsRun, IsHelp, IsVersion, IsCommand, WritesText, IsShort, WritesTrace, WritesFront, WritesSafe, IsLengthRefusal, IsLengthLimit, IsAnswer, IsInput};
-ghost use Rattle.station.specs.Answers.{HasFault, NamesFault, IsNoScenario, IsRefusedFor, LeavesRefused, Tells, LeavesInput, AppendsOutput};
+ghost use Rattle.station.specs.Answers.{IsRun, IsHelp, IsVersion, IsCommand, WritesText, IsShort, WritesTrace, WritesFront, WritesSafe, WritesMet, IsLengthRefusal, IsLengthLimit, IsAnswer, IsRead, IsInput};
+ghost use Rattle.station.specs.Answers.{HasCause, IsField, NamesFault, NamesField, IsNoScenario, IsRefusedFor, LeavesRefused, Tells, LeavesInput, AppendsOutput};
 
 use crate::bytes::{ReadEnd, put_all, read_all};
 use crate::help::{HELP, VERSION};
 use crate::lines::Stop;
+use crate::not_run::first_not_run;
 use crate::status::Status;
 use crate::trace::write_trace;
 use io_edge::{Failed, Gate, Sink, Source};
@@ -61,9 +63,8 @@ fn too_long(alloc: Global) -> Unread
 }
 
 /// The scenario that the whole input is. The memory of the input's bytes is given back.
-fn scenario_in<S: Source>(alloc: Global, source: &mut S) -> Result<Scenario, Unread>
-    ensures scenario { IfOk result (λ s. IsInput (S.left source.old) (scenario_content s)) }
-    ensures runnable { IfOk result (λ s. Runnable (scenario_content s)) }
+fn read_scenario<S: Source>(alloc: Global, source: &mut S) -> Result<Scenario, Unread>
+    ensures scenario { IfOk result (λ s. IsRead (S.left source.old) (scenario_content s)) }
     ensures ended { OnOk result (S.left source.new ≡ nothing_left (S.left source.old)) }
     ensures fault { result ≡ Err Unread.Fault → Rises (S.faults source.old) (S.faults source.new) }
     ensures refused { (r : Refusal) → result ≡ Err (Unread.Refused r) → IsRefusedFor r (S.left source.old) }
@@ -80,6 +81,37 @@ fn scenario_in<S: Source>(alloc: Global, source: &mut S) -> Result<Scenario, Unr
         Ok(scenario) => Ok(scenario),
         Err(ReadFail::Refused(refusal)) => Err(Unread::Refused(refusal)),
         Err(ReadFail::NoMemory) => Err(Unread::NoMemory),
+    }
+}
+
+/// The refusal of a name that no run carries out yet.
+fn not_yet(alloc: Global, name: &str) -> Unread
+    ensures refused { (r : Refusal) → result ≡ Unread.Refused r → IsField r name.now }
+    ensures no_fault { result ≡ Unread.Fault → ⊥ }
+{
+    match String::from_str(alloc, name) {
+        Ok(path) => Unread::Refused(Refusal::Field(path)),
+        Err(_) => Unread::NoMemory,
+    }
+}
+
+/// The scenario that the whole input is, where a run carries all of it out.
+fn scenario_in<S: Source>(alloc: Global, source: &mut S) -> Result<Scenario, Unread>
+    ensures scenario { IfOk result (λ s. IsInput (S.left source.old) (scenario_content s)) }
+    ensures runnable { IfOk result (λ s. Runnable (scenario_content s)) }
+    ensures ended { OnOk result (S.left source.new ≡ nothing_left (S.left source.old)) }
+    ensures fault { result ≡ Err Unread.Fault → Rises (S.faults source.old) (S.faults source.new) }
+    ensures refused { (r : Refusal) → result ≡ Err (Unread.Refused r) → IsRefusedFor r (S.left source.old) }
+    ensures leaves { (r : Refusal) → result ≡ Err (Unread.Refused r) → LeavesRefused r (S.left source.old) (S.left source.new) }
+    ensures kept { S.faults source.old ≤ S.faults source.new }
+{
+    let scenario = match read_scenario(alloc, source) {
+        Ok(scenario) => scenario,
+        Err(unread) => return Err(unread),
+    };
+    match first_not_run(&scenario) {
+        None => Ok(scenario),
+        Some(name) => Err(not_yet(alloc, name)),
     }
 }
 
@@ -138,11 +170,16 @@ pub fn station<R: Threads + Sync, S: Source, K: Sink, G: Gate + Sync>(
     // opened with; the versions are whole.
     ensures safe { IsRun (map string_bytes words.now.items) → result ≡ Status.Done → WritesSafe (S.left source.old) (K.written sink.old) (K.written sink.new) }
 
-    // Why a failed read and each refusal come, and that nothing was written then. The path `.` with `Limit` is the input's
-    // length alone: no other fault has it.
+    // And at every tick of each cabinet what coordination promises is met: both coordinated phases are green at each local zero, and
+    // where nothing disturbs the cabinet, a local zero comes in time, and the offset is met and held.
+    ensures meets { IsRun (map string_bytes words.now.items) → result ≡ Status.Done → WritesMet (S.left source.old) (K.written sink.old) (K.written sink.new) }
+
+    // Why a failed read and each refusal come, and that nothing was written then. A refusal names the first fault of the input; or,
+    // where it is a scenario, the first name that no run carries out yet. The path `.` with `Limit` is the input's length alone: no
+    // other fault has it.
     ensures read_fault { result ≡ Status.ReadFault → Rises (S.faults source.old) (S.faults source.new) × (K.written sink.new ≡ K.written sink.old) }
     ensures refused { (r : Refusal) → result ≡ Status.Scenario r → (IsLengthLimit r → ⊥) → (K.written sink.new ≡ K.written sink.old)
-        × (S.left source.new ≡ nothing_left (S.left source.old)) × HasFault (S.left source.old) r }
+        × (S.left source.new ≡ nothing_left (S.left source.old)) × HasCause (S.left source.old) r }
     ensures limit { IsLengthRefusal result → (K.written sink.new ≡ K.written sink.old)
         × IfSome (S.left source.old) (λ input. (16777216 < length input) × (S.left source.new ≡ Some (drop 16777217 input))) }
 
@@ -155,13 +192,17 @@ pub fn station<R: Threads + Sync, S: Source, K: Sink, G: Gate + Sync>(
     // No count of faults falls.
     ensures kept { (S.faults source.old ≤ S.faults source.new) × (K.faults sink.old ≤ K.faults sink.new) }
 
-    // Which answer comes where no read fails, and for a scenario no write: for too long an input, one that is no scenario, and a scenario.
+    // Which answer comes where no read fails, and for a scenario no write: for too long an input, one that is no scenario, a scenario
+    // that uses what no run carries out yet, and any other scenario.
     ensures too_long { IsRun (map string_bytes words.now.items) → IfSome (S.left source.old) (λ input. 16777216 < length input
         → ¬ Rises (S.faults source.old) (S.faults source.new) → IsLengthRefusal result ⊎ (result ≡ Status.NoMemory)) }
     ensures first_fault { IsRun (map string_bytes words.now.items) → IfSome (S.left source.old) (λ input. IsShort input → IsNoScenario input
         → ¬ Rises (S.faults source.old) (S.faults source.new) → NamesFault result input ⊎ (result ≡ Status.NoMemory)) }
+    ensures not_run { IsRun (map string_bytes words.now.items) → IfSome (S.left source.old) (λ input. IsShort input
+        → (s : ScenarioContent) → IsScenario input s → (name : List ℕ) → first_not_run s ≡ Some name
+        → ¬ Rises (S.faults source.old) (S.faults source.new) → NamesField result name ⊎ (result ≡ Status.NoMemory)) }
     ensures complete { IsRun (map string_bytes words.now.items) → IfSome (S.left source.old) (λ input. IsShort input
-        → (s : ScenarioContent) → IsScenario input s
+        → (s : ScenarioContent) → IsScenario input s → first_not_run s ≡ None
         → ¬ Rises (S.faults source.old) (S.faults source.new) → ¬ Rises (K.faults sink.old) (K.faults sink.new)
         → (result ≡ Status.Done) ⊎ (result ≡ Status.NoMemory)) }
 {

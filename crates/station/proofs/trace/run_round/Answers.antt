@@ -24,8 +24,8 @@ run_cabinet-requires-clause-counted g c =
     (turn s _ _ c.loop-i.i _ c.loop-i.controllers.items _ _ _ _ _ _ _ c.due-inputs.result.now (omega arith) c.index_mut.ensures.value between so
     (c.due-inputs.ensures s.inputs so.due)).runs.counted
 
-pub run_cabinet-requires-clause-street : goal.run_cabinet-requires-clause-street
-run_cabinet-requires-clause-street g c =
+pub run_cabinet-requires-clause-placed : goal.run_cabinet-requires-clause-placed
+run_cabinet-requires-clause-placed g c =
     let (s, between) = c.requires.ready in
     turn_street s c.args.done _ c.loop-i.i _ _ c.due-inputs.result.now between (c.due-inputs.ensures s.inputs (c.loop-i.invariant.goes s between).due)
 
