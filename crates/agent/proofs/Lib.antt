@@ -2,5 +2,6 @@ pub mod Gathered
 pub mod Rooms
 pub mod Instances
 pub mod Octets
+pub mod Faults
 pub mod Asked
-pub mod Orders
+pub mod Readings

@@ -1,5 +1,7 @@
 -- The response to a request, as a message (RFC 1157, 4.1.2 to 4.1.5).
-use Rattle.std.specs.Prelude.{ℕ, pos, nat_le, if◌then◌else◌, List, length, Option, Some, None, Result, Ok, Err}
+use Rattle.std.specs.Prelude.{◌≡◌, ℕ, pos, nat_le, is_some, Bool, true, false, if◌then◌else◌, List, length, Option, Some, None, Result, Ok, Err}
+use Rattle.sig_types.specs.declared.notes.StageAnswer.{StageAnswer}
+use Rattle.sig_types.specs.declared.notes.StageAnswer.TheVariants.{WrongToken, WrongPart, NotVerified, Refused}
 use Rattle.snmp_msg.specs.declared.message.Pdu.TheVariants.{Response}
 use Rattle.snmp_msg.specs.declared.message.Value.{Value}
 use Rattle.snmp_msg.specs.declared.message.Bind.{Bind}
@@ -7,7 +9,7 @@ use Rattle.snmp_msg.specs.declared.message.Message.{Message}
 use Rattle.snmp_msg.specs.Shortest.{shortest}
 use Rattle.oid_map.specs.Objects.{next_of}
 use Rattle.agent.specs.declared.ask.Wish.{Wish}
-use Rattle.agent.specs.declared.ask.Wish.TheVariants.{Get, Next, Direct, Bad}
+use Rattle.agent.specs.declared.ask.Wish.TheVariants.{Get, Next, Begin, Part, Verify, Finish, Bad}
 use Rattle.agent.specs.declared.bindings.Fault.{Fault}
 use Rattle.agent.specs.declared.reply.Reach.{Reach}
 use Rattle.agent.specs.declared.reply.Reach.TheVariants.{Named, Following}
@@ -61,9 +63,42 @@ abbrev pub with_values : Message → Result (List Bind) Fault → Message
 with_values m (Ok binds) = within_frame m (response m 0 0 binds)
 with_values m (Err fault) = repeated m fault.status fault.index
 
--- the reply to a request
-abbrev pub reply : Seen → Message → Wish → Message
-reply s m Get = with_values m (each_gives (given Named s) 1 m.binds.items)
-reply s m Next = with_values m (each_gives (given Following s) 1 m.binds.items)
-reply s m (Direct orders) = repeated m 0 0
-reply s m (Bad status index) = repeated m status index
+-- the status that tells what the download stage answered: 3 where the id or the part isn't the one due, 5 where it can't be done
+abbrev pub stage_status : StageAnswer → ℕ
+stage_status WrongToken = 3
+stage_status (WrongPart due) = 3
+stage_status NotVerified = 5
+stage_status (Refused broken) = 5
+stage_status _ = 0
+
+-- and the place of the binding at fault: the id, or what follows it
+abbrev pub stage_index : StageAnswer → ℕ
+stage_index WrongToken = 1
+stage_index (WrongPart due) = 2
+stage_index NotVerified = 2
+stage_index (Refused broken) = 2
+stage_index _ = 0
+
+-- the Response to a Set, which tells what the stage answered where it was called
+abbrev pub told : Message → Option StageAnswer → Message
+told m (Some answer) = repeated m (stage_status answer) (stage_index answer)
+told m None = repeated m 0 0
+
+-- the download stage is called for it
+abbrev pub is_for_stage : Wish → Bool
+is_for_stage (Begin id) = true
+is_for_stage (Part id number puts) = true
+is_for_stage (Verify id total) = true
+is_for_stage (Finish id) = true
+is_for_stage _ = false
+
+-- an outcome of the stage is given exactly where it is called
+abbrev pub HasOutcome : Wish → Option StageAnswer → Type 0
+HasOutcome wish outcome = is_some outcome ≡ is_for_stage wish
+
+-- the reply to a request, after what the stage answered where it was called
+abbrev pub reply : Seen → Message → Wish → Option StageAnswer → Message
+reply s m Get outcome = with_values m (each_gives (given Named s) 1 m.binds.items)
+reply s m Next outcome = with_values m (each_gives (given Following s) 1 m.binds.items)
+reply s m (Bad status index) outcome = repeated m status index
+reply s m wish outcome = told m outcome

@@ -1,24 +1,25 @@
-//! What a frame asks: a Get, a GetNext, or a Set that gives orders. A Set with a fault is answered with the first one.
+//! What a frame asks: a Get, a GetNext, or a Set that gives orders or goes on with a download. A Set with a fault is answered
+//! with the first one.
 
 ghost use Rattle.std.specs.Prelude.{◌≡◌, ◌↔◌, IsTrue, IfSome, IfNone, Some};
-ghost use Rattle.agent.specs.Asks.{wish_of, Asks, IsAsked, CanBeCarriedOut};
+ghost use Rattle.agent.specs.Asks.{wish_of, ask_of, Asks, IsAsked, CanBeCarriedOut};
 
 use crate::sets::set_wish;
 use arrayvec::ArrayVec;
-use sig_tables::Tables;
+use sig_tables::{Cell, CellValue, Tables};
 use sig_types::Request;
 use snmp_msg::{Message, Pdu, read};
 
 /// What a Set orders of the cabinet.
 #[derive(Clone, Copy, Debug, PartialEq, Eq)]
 pub enum Order {
-    /// Run the pattern of this number; for now 0 or 254, which is free operation.
+    /// Run the pattern of this number, which the tables define; 0 and 254 are free operation, 255 is flash.
     Pattern(u8),
     /// Set the clock to this tick of the day, 0 to 863,999.
     Clock(u32),
     /// A priority request.
     Request(Request),
-    /// End the priority request of this number.
+    /// End the priority request of this number, 1 to 10.
     Cancel(u8),
 }
 
@@ -39,6 +40,14 @@ pub enum Wish {
     Next,
     /// Orders, to be carried out in order.
     Direct(ArrayVec<Order, 32>),
+    /// That a download begins under this id, 1 to 2,147,483,647.
+    Begin(u32),
+    /// That this part, 1 to 60,000, of the download of this id is taken: the cells with what is put into them.
+    Part(u32, u16, ArrayVec<(Cell, CellValue), 30>),
+    /// That the download of this id is verified, which has so many parts, 0 to 60,000.
+    Verify(u32, u16),
+    /// That the download of this id is put in force.
+    Finish(u32),
     /// Nothing that can be carried out: the status and the index of the first fault (RFC 1157, 4.1.1).
     Bad { status: u8, index: u8 },
 }
@@ -51,13 +60,14 @@ pub struct Ask {
 }
 
 /// What the message wishes. None exactly for a Response.
-fn wish_in(m: &Message) -> Option<Wish>
-    ensures { result ≡ wish_of m.now.pdu m.now.binds.items }
+fn wish_in(tables: &Tables, m: &Message) -> Option<Wish>
+    ensures wish { result ≡ wish_of tables.now m.now.pdu m.now.binds.items }
+    ensures fit { IfSome result CanBeCarriedOut }
 {
     match m.pdu {
         Pdu::Get => Some(Wish::Get),
         Pdu::Next => Some(Wish::Next),
-        Pdu::Set => Some(set_wish(m.binds.as_slice())),
+        Pdu::Set => Some(set_wish(tables, m.binds.as_slice())),
         Pdu::Response => None,
     }
 }
@@ -69,20 +79,21 @@ fn is_of(message: &Message, community: &[u8]) -> bool
     message.community.as_slice() == community
 }
 
-/// What a frame asks of a cabinet of this community. None exactly where the frame is no message, of another community, or
-/// a Response. The tables do not yet count: no pattern of theirs can be commanded.
-pub fn decode(frame: &[u8], community: &[u8], _tables: &Tables) -> Option<Ask>
-    ensures found { IfSome result (λ ask. Asks frame.now community.now ask) }
-    ensures none { IfNone result ((ask : Ask) → Asks frame.now community.now ask → ⊥) }
-    ensures each { (ask : Ask) → Asks frame.now community.now ask → result ≡ Some ask }
+/// What a frame asks of a cabinet of this community with these tables in force. None exactly where the frame is no message,
+/// of another community, or a Response.
+pub fn decode(frame: &[u8], community: &[u8], tables: &Tables) -> Option<Ask>
+    ensures found { IfSome result (λ ask. Asks frame.now community.now tables.now ask) }
+    ensures none { IfNone result ((ask : Ask) → Asks frame.now community.now tables.now ask → ⊥) }
+    ensures each { (ask : Ask) → Asks frame.now community.now tables.now ask → result ≡ Some ask }
+    ensures reads { result ≡ ask_of frame.now community.now tables.now }
     ensures asked { IfSome result IsAsked }
-    // What it orders, the cabinet can carry out.
+    // What it wishes, the cabinet can carry out.
     ensures fit { IfSome result (λ ask. CanBeCarriedOut ask.wish) }
 {
     let message = read(frame)?;
     if !is_of(&message, community) {
         return None;
     }
-    let wish = wish_in(&message)?;
+    let wish = wish_in(tables, &message)?;
     Some(Ask { message, wish })
 }

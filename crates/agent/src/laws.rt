@@ -1,6 +1,7 @@
-//! What holds of the definitions of a reply. The functions have nothing to do.
+//! What holds of the definitions of an ask and of a reply. The functions have nothing to do.
 
-ghost use Rattle.std.specs.Prelude.{◌≡◌, ◌≢◌, ◌≤◌, ◌<◌, ℕ, List, length, None, IfSome};
+ghost use Rattle.std.specs.Prelude.{◌≡◌, ◌≢◌, ◌≤◌, ◌<◌, ℕ, List, length, Some, None, IfSome};
+ghost use Rattle.sig_tables.specs.declared.tables.Tables.{Tables};
 ghost use Rattle.oid_map.specs.Objects.{readable, next_of};
 ghost use Rattle.oid_map.specs.Order.{IsAmong};
 ghost use Rattle.oid_map.specs.Names.{IsName, IsReadable};
@@ -10,6 +11,20 @@ ghost use Rattle.snmp_msg.specs.Shortest.{shortest};
 ghost use Rattle.agent.specs.Seen.{Seen};
 ghost use Rattle.agent.specs.Values.{value_of, value_named};
 ghost use Rattle.agent.specs.Replies.{repeated};
+ghost use Rattle.agent.specs.declared.ask.Ask.{Ask};
+ghost use Rattle.agent.specs.Asks.{ask_of, Asks, AsksNothing};
+
+/// A frame asks one thing at most, the one that reading it gives.
+pub fn frames_ask_one_thing()
+    ensures read { (frame community : List ℕ) (t : Tables) (ask : Ask) → Asks frame community t ask → ask_of frame community t ≡ Some ask }
+    ensures found { (frame community : List ℕ) (t : Tables) → IfSome (ask_of frame community t) (Asks frame community t) }
+{}
+
+/// A frame asks nothing exactly where it is no message, a message of another community, or a Response.
+pub fn other_frames_ask_nothing()
+    ensures nothing { (frame community : List ℕ) (t : Tables) → AsksNothing frame community → ask_of frame community t ≡ None }
+    ensures others { (frame community : List ℕ) (t : Tables) → ask_of frame community t ≡ None → AsksNothing frame community }
+{}
 
 /// Each instance of the list of all that can be read has a value, so a GetNext has a fault only where nothing comes next; and
 /// no instance that can only be written has a value.

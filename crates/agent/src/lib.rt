@@ -6,6 +6,7 @@
 mod ask;
 mod bindings;
 mod cabinet;
+mod downloads;
 mod groups;
 mod laws;
 mod reply;
@@ -13,7 +14,9 @@ mod sets;
 mod values;
 
 pub use ask::{Ask, Order, Wish, decode};
-pub use laws::{instances_have_values, repeated_bindings_fit};
+pub use laws::{
+    frames_ask_one_thing, instances_have_values, other_frames_ask_nothing, repeated_bindings_fit,
+};
 pub use reply::answer;
 
 #[cfg(test)]

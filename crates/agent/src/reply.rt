@@ -1,14 +1,16 @@
 //! The answer to what was asked: the values, or the status and index of the first fault with the request's bindings.
 
-ghost use Rattle.std.specs.Prelude.{◌≡◌, ◌≤◌, ◌<◌, length, map, All, IfOk, IfErr, None};
+ghost use Rattle.std.specs.Prelude.{◌≡◌, ◌≤◌, ◌<◌, length, map, All, IfOk, IfErr};
 ghost use Rattle.snmp_msg.specs.Shortest.{shortest, IsWritableBind, IsWritableMessage};
 ghost use Rattle.agent.specs.Asks.{IsAsked};
 ghost use Rattle.agent.specs.Bindings.{each_gives, listed, IsSmall};
 ghost use Rattle.agent.specs.Seen.{IsWithin, seen};
-ghost use Rattle.agent.specs.Replies.{instance_of, next_instance, given, response, repeated, with_values, reply};
+ghost use Rattle.agent.specs.Replies.{instance_of, next_instance, given, response, repeated, with_values, stage_status, stage_index, told, HasOutcome, reply};
 
 use crate::ask::{Ask, Wish};
-use crate::bindings::{Fault, NO_SUCH_NAME, TOO_BIG, copies_of, copy_of_name};
+use crate::bindings::{
+    BAD_VALUE, Fault, GENERAL_ERROR, NO_SUCH_NAME, TOO_BIG, copies_of, copy_of_name,
+};
 use crate::cabinet::Cabinet;
 use crate::values::value_named;
 use arrayvec::ArrayVec;
@@ -149,8 +151,44 @@ fn reached(cabinet: &Cabinet, reach: Reach, m: &Message) -> Octets
     with_values(m, values(cabinet, reach, m.binds.as_slice()))
 }
 
+/// The status that tells what the download stage answered (RFC 1157, 4.1.1).
+fn stage_status(answer: StageAnswer) -> u8
+    ensures status { result ≡ stage_status answer }
+    ensures small { result < 128 }
+{
+    match answer {
+        StageAnswer::WrongToken | StageAnswer::WrongPart(_) => BAD_VALUE,
+        StageAnswer::NotVerified | StageAnswer::Refused(_) => GENERAL_ERROR,
+        _ => 0,
+    }
+}
+
+/// The place of the binding at fault in what the download stage answered: the id, or what follows it.
+fn stage_index(answer: StageAnswer) -> u8
+    ensures place { result ≡ stage_index answer }
+    ensures small { result < 128 }
+{
+    match answer {
+        StageAnswer::WrongToken => 1,
+        StageAnswer::WrongPart(_) | StageAnswer::NotVerified | StageAnswer::Refused(_) => 2,
+        _ => 0,
+    }
+}
+
+/// The Response to a Set, which tells what the download stage answered where it was called.
+fn told(m: &Message, outcome: Option<StageAnswer>) -> Octets
+    requires writable { IsWritableMessage m.now }
+    requires fits { length (shortest m.now) ≤ 1472 }
+    ensures { result.items ≡ shortest (told m.now outcome) }
+{
+    match outcome {
+        Some(answer) => repeated(m, stage_status(answer), stage_index(answer)),
+        None => repeated(m, 0, 0),
+    }
+}
+
 /// The answer to what was asked, as octets in their shortest form. `state` and `last` are those of the cabinet's download
-/// stage; there is no download yet, and so no outcome of one.
+/// stage; `outcome` is what the stage answered, where what was asked is for it.
 #[tactic(auto, using(crate::proofs::Asked::asked_fits, crate::proofs::Asked::asked_writable))]
 pub fn answer(
     ask: &Ask,
@@ -162,8 +200,8 @@ pub fn answer(
 ) -> Octets
     requires asked { IsAsked ask.now }
     requires within { IsWithin shown.now }
-    requires no_download { outcome ≡ None }
-    ensures { result.items ≡ shortest (reply (record { tables = tables.now; shown = shown.now; state = state; last = last }) ask.now.message ask.now.wish) }
+    requires outcome { HasOutcome ask.now.wish outcome }
+    ensures { result.items ≡ shortest (reply (record { tables = tables.now; shown = shown.now; state = state; last = last }) ask.now.message ask.now.wish outcome) }
 {
     let cabinet = Cabinet {
         tables,
@@ -175,7 +213,7 @@ pub fn answer(
     match &ask.wish {
         Wish::Get => reached(&cabinet, Reach::Named, m),
         Wish::Next => reached(&cabinet, Reach::Following, m),
-        Wish::Direct(_) => repeated(m, 0, 0),
         Wish::Bad { status, index } => repeated(m, *status, *index),
+        _ => told(m, outcome),
     }
 }
