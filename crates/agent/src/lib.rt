@@ -20,4 +20,6 @@ pub use laws::{
 pub use reply::answer;
 
 #[cfg(test)]
+mod set_tests;
+#[cfg(test)]
 mod tests;

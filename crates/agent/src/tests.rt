@@ -48,15 +48,25 @@ fn shown_in(mode: Mode) -> Shown
     }
 }
 
-/// What a cabinet of the community `public` answers in free operation. None where it stays silent.
+/// What a cabinet of the community `public` answers in free operation, whose download stage answers `Staged` where it is
+/// called. None where it stays silent.
 fn answer_to(frame: &[u8]) -> Option<Octets> {
+    told_by(frame, StageAnswer::Staged)
+}
+
+/// The same with another answer of the stage.
+fn told_by(frame: &[u8], stage: StageAnswer) -> Option<Octets> {
     let tables = Tables::std8();
     let ask = decode(frame, b"public", &tables)?;
-    Some(answer(&ask, &tables, &shown_in(Mode::Free), 1, None, None))
+    let outcome = match &ask.wish {
+        Wish::Begin(_) | Wish::Part(..) | Wish::Verify(..) | Wish::Finish(_) => Some(stage),
+        _ => None,
+    };
+    Some(answer(&ask, &tables, &shown_in(Mode::Free), 1, None, outcome))
 }
 
 /// What is asked, the request, and its answer.
-const ANSWERED: [(&str, &str, &str); 13] = [
+const ANSWERED: [(&str, &str, &str); 15] = [
     (
         "pattern status",
         "302b02010004067075626c6963a01e02010102010002010030133011060d2b060104018936040201040a000500",
@@ -122,6 +132,16 @@ const ANSWERED: [(&str, &str, &str); 13] = [
         "302d02010004067075626c6963a32002010102010002010030153013060c2b0601040181fd590102010002030d2f00",
         "302d02010004067075626c6963a22002010102010302010130153013060c2b0601040181fd590102010002030d2f00",
     ),
+    (
+        "the fault of the second binding of three",
+        "305402010004067075626c6963a347020101020100020100303c3012060d2b060104018936040201040e000201013013060c2b0601040181fd590102010002030d2f003011060c2b0601040181fd5901040200020101",
+        "305402010004067075626c6963a247020101020103020102303c3012060d2b060104018936040201040e000201013013060c2b0601040181fd590102010002030d2f003011060c2b0601040181fd5901040200020101",
+    ),
+    (
+        "a download begins",
+        "302b02010004067075626c6963a31e02010102010002010030133011060c2b0601040181fd5901010200020101",
+        "302b02010004067075626c6963a21e02010102010002010030133011060c2b0601040181fd5901010200020101",
+    ),
 ];
 
 /// Frames without an answer.
@@ -153,131 +173,6 @@ const SILENT: [(&str, &str); 7] = [
     ("nothing", ""),
 ];
 
-/// Sets with a fault: its status and index.
-const FAULTS: [(&str, &str, u8, u8); 19] = [
-    (
-        "clock below 0",
-        "302b02010004067075626c6963a31e02010102010002010030133011060c2b0601040181fd59010201000201ff",
-        3,
-        1,
-    ),
-    (
-        "clock of 864000",
-        "302d02010004067075626c6963a32002010102010002010030153013060c2b0601040181fd590102010002030d2f00",
-        3,
-        1,
-    ),
-    (
-        "clock without a value",
-        "302a02010004067075626c6963a31d02010102010002010030123010060c2b0601040181fd59010201000500",
-        3,
-        1,
-    ),
-    (
-        "clock as octets",
-        "302b02010004067075626c6963a31e02010102010002010030133011060c2b0601040181fd5901020100040100",
-        3,
-        1,
-    ),
-    (
-        "pattern 1",
-        "302c02010004067075626c6963a31f02010102010002010030143012060d2b060104018936040201040e00020101",
-        3,
-        1,
-    ),
-    (
-        "pattern 255",
-        "302d02010004067075626c6963a32002010102010002010030153013060d2b060104018936040201040e00020200ff",
-        3,
-        1,
-    ),
-    (
-        "pattern 253",
-        "302d02010004067075626c6963a32002010102010002010030153013060d2b060104018936040201040e00020200fd",
-        3,
-        1,
-    ),
-    (
-        "pattern -2",
-        "302c02010004067075626c6963a31f02010102010002010030143012060d2b060104018936040201040e000201fe",
-        3,
-        1,
-    ),
-    (
-        "the counter is only read",
-        "302b02010004067075626c6963a31e02010102010002010030133011060c2b0601040181fd5901020200020100",
-        2,
-        1,
-    ),
-    (
-        "a cell is only read",
-        "302e02010004067075626c6963a32102010102010002010030163014060f2b0601040189360402010102010802020128",
-        2,
-        1,
-    ),
-    (
-        "no begin yet",
-        "302b02010004067075626c6963a31e02010102010002010030133011060c2b0601040181fd5901010200020101",
-        2,
-        1,
-    ),
-    (
-        "no download yet",
-        "303e02010004067075626c6963a33102010102010002010030263011060c2b0601040181fd59010103000201013011060c2b0601040181fd5901010600020101",
-        2,
-        1,
-    ),
-    (
-        "no priority request yet",
-        "303202010004067075626c6963a325020101020100020100301a3018060c2b0601040181fd590104010004080101010200000009",
-        2,
-        1,
-    ),
-    (
-        "no cancel yet",
-        "302b02010004067075626c6963a31e02010102010002010030133011060c2b0601040181fd5901040200020101",
-        2,
-        1,
-    ),
-    (
-        "no object",
-        "302002010004067075626c6963a3130201010201000201003008300606012b020100",
-        2,
-        1,
-    ),
-    (
-        "the value of the first before the name of the second",
-        "304002010004067075626c6963a33302010102010002010030283013060c2b0601040181fd590102010002030d2f003011060c2b0601040181fd5901020200020100",
-        3,
-        1,
-    ),
-    (
-        "the name of the second before the value of the third",
-        "305302010004067075626c6963a346020101020100020100303b3011060c2b0601040181fd59010201000201003011060c2b0601040181fd59010202000201003013060c2b0601040181fd590102010002030d2f00",
-        2,
-        2,
-    ),
-    (
-        "the value of the third",
-        "305302010004067075626c6963a346020101020100020100303b3012060d2b060104018936040201040e000201003011060c2b0601040181fd59010201000201013012060d2b060104018936040201040e00020102",
-        3,
-        3,
-    ),
-    (
-        "a name counts before its value",
-        "302a02010004067075626c6963a31d02010102010002010030123010060c2b0601040181fd59010401000500",
-        2,
-        1,
-    ),
-];
-
-/// A Set of pattern control to 254, of the clock to 863,999, and of both to 0.
-const SET_FOUR: &str =
-    "306902010004067075626c6963a35c02010102010002010030513013060d2b060104018936040201040e00020200fe3013060c2b0601040181fd590102010002030d2eff3012060d2b060104018936040201040e000201003011060c2b0601040181fd5901020100020100";
-
-/// A Set without bindings.
-const SET_NONE: &str = "301802010004067075626c6963a30b0201010201000201003000";
-
 /// A GetNext of 1.3.
 const NEXT_OF_ALL: &str = "301f02010004067075626c6963a1120201010201000201003007300506012b0500";
 
@@ -296,7 +191,10 @@ fn the_longest_answer_fits(rt: HostRuntime) -> Result<(), Fail> {
     }
     let request = octets_of(rt.alloc(), GET_OF_SEQUENCES)?;
     let ask = decode(&request, &[b'x'; 32], &tables).ok_or("silent")?;
-    let frame = answer(&ask, &tables, &shown_in(Mode::Free), 1, None, None);
+    let frame = match &ask.wish {
+        Wish::Get => answer(&ask, &tables, &shown_in(Mode::Free), 1, None, None),
+        _ => Octets::new(),
+    };
     // a head of 61 octets, and 32 bindings: two octets, a name of 18, a value of 18
     assert!(rt; frame.len() == 61 + 32 * (2 + 18 + 18));
     let reply = read(&frame).ok_or("no message")?;
@@ -314,41 +212,36 @@ fn requests_are_answered(rt: HostRuntime) -> Result<(), Fail> {
     Ok(())
 }
 
+/// A finish of the download 7.
+const FINISH: &str =
+    "303e02010004067075626c6963a33102010102010002010030263011060c2b0601040181fd59010103000201073011060c2b0601040181fd5901010600020101";
+
+/// What the stage answers to a finish, and the status and index that tell so.
+const TOLD: [(StageAnswer, i32, i32); 5] = [
+    (StageAnswer::Accepted, 0, 0),
+    (StageAnswer::WrongToken, 3, 1),
+    (StageAnswer::WrongPart(3), 3, 2),
+    (StageAnswer::NotVerified, 5, 2),
+    (StageAnswer::Refused(Broken { rule: 10, row: 3 }), 5, 2),
+];
+
+#[test]
+fn what_the_stage_answers_is_told(rt: HostRuntime) -> Result<(), Fail> {
+    let request = octets_of(rt.alloc(), FINISH)?;
+    let sent = read(&request).ok_or("no message")?;
+    for (stage, status, index) in TOLD {
+        let frame = told_by(&request, stage).ok_or("silent")?;
+        let reply = read(&frame).ok_or("no message")?;
+        assert!(rt; reply.status == status && reply.index == index && reply.binds == sent.binds);
+    }
+    Ok(())
+}
+
 #[test]
 fn other_frames_are_met_with_silence(rt: HostRuntime) -> Result<(), Fail> {
     for (_, frame) in SILENT {
         assert!(rt; answer_to(&octets_of(rt.alloc(), frame)?).is_none());
     }
-    Ok(())
-}
-
-#[test]
-fn the_first_fault_of_a_set_counts(rt: HostRuntime) -> Result<(), Fail> {
-    let tables = Tables::std8();
-    for (_, request, want_status, want_index) in FAULTS {
-        let ask = decode(&octets_of(rt.alloc(), request)?, b"public", &tables).ok_or("silent")?;
-        assert!(rt;
-            matches!(&ask.wish, Wish::Bad { status, index } if *status == want_status && *index == want_index)
-        );
-    }
-    Ok(())
-}
-
-#[test]
-fn good_sets_give_their_orders_in_order(rt: HostRuntime) -> Result<(), Fail> {
-    let tables = Tables::std8();
-    let ask = decode(&octets_of(rt.alloc(), SET_FOUR)?, b"public", &tables).ok_or("silent")?;
-    let wanted = [
-        Order::Pattern(254),
-        Order::Clock(863999),
-        Order::Pattern(0),
-        Order::Clock(0),
-    ];
-    assert!(rt;
-        matches!(&ask.wish, Wish::Direct(orders) if orders.as_slice() == wanted.as_slice())
-    );
-    let ask = decode(&octets_of(rt.alloc(), SET_NONE)?, b"public", &tables).ok_or("silent")?;
-    assert!(rt; matches!(&ask.wish, Wish::Direct(orders) if orders.is_empty()));
     Ok(())
 }
 
