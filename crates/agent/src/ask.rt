@@ -90,10 +90,13 @@ pub fn decode(frame: &[u8], community: &[u8], tables: &Tables) -> Option<Ask>
     // What it wishes, the cabinet can carry out.
     ensures fit { IfSome result (λ ask. CanBeCarriedOut ask.wish) }
 {
-    let message = read(frame)?;
-    if !is_of(&message, community) {
+    let mut ask = Ask {
+        message: read(frame)?,
+        wish: Wish::Get,
+    };
+    if !is_of(&ask.message, community) {
         return None;
     }
-    let wish = wish_in(tables, &message)?;
-    Some(Ask { message, wish })
+    ask.wish = wish_in(tables, &ask.message)?;
+    Some(ask)
 }

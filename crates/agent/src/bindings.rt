@@ -1,6 +1,6 @@
 //! The bindings of a request: copies of them, and why they aren't answered.
 
-ghost use Rattle.std.specs.Prelude.{◌≡◌, ◌≤◌, length, take};
+ghost use Rattle.std.specs.Prelude.{◌≡◌, ◌≤◌, [], length, take};
 
 use arrayvec::ArrayVec;
 use ber_code::Oid;
@@ -60,14 +60,13 @@ fn copy_of(bind: &Bind) -> Bind
     }
 }
 
-/// The same bindings.
-pub fn copies_of(binds: &[Bind]) -> ArrayVec<Bind, 32>
-    requires { length binds.now ≤ 32 }
-    ensures { result.items ≡ binds.now }
+/// Adds the same bindings.
+pub fn copies_into(binds: &[Bind], copies: &mut ArrayVec<Bind, 32>)
+    requires few { length binds.now ≤ 32 }
+    requires empty { copies.old.items ≡ [] }
+    ensures { copies.new.items ≡ binds.now }
 {
-    let mut copies = ArrayVec::new();
     for bind in binds {
         copies.push(copy_of(bind));
     }
-    copies
 }

@@ -1,15 +1,15 @@
 //! The answer to what was asked: the values, or the status and index of the first fault with the request's bindings.
 
-ghost use Rattle.std.specs.Prelude.{◌≡◌, ◌≤◌, ◌<◌, length, map, All, IfOk, IfErr};
+ghost use Rattle.std.specs.Prelude.{◌≡◌, ◌≤◌, ◌<◌, [], length, All, IfOk};
 ghost use Rattle.snmp_msg.specs.Shortest.{shortest, IsWritableBind, IsWritableMessage};
 ghost use Rattle.agent.specs.Asks.{IsAsked};
-ghost use Rattle.agent.specs.Bindings.{each_gives, listed, IsSmall};
+ghost use Rattle.agent.specs.Bindings.{each_gives, gathered};
 ghost use Rattle.agent.specs.Seen.{IsWithin, seen};
 ghost use Rattle.agent.specs.Replies.{instance_of, next_instance, given, response, repeated, with_values, stage_status, stage_index, told, HasOutcome, reply};
 
 use crate::ask::{Ask, Wish};
 use crate::bindings::{
-    BAD_VALUE, Fault, GENERAL_ERROR, NO_SUCH_NAME, TOO_BIG, copies_of, copy_of_name,
+    BAD_VALUE, Fault, GENERAL_ERROR, NO_SUCH_NAME, TOO_BIG, copies_into, copy_of_name,
 };
 use crate::cabinet::Cabinet;
 use crate::values::value_named;
@@ -72,15 +72,20 @@ fn given(cabinet: &Cabinet, reach: Reach, bind: &Bind) -> Result<Bind, u8>
     }
 }
 
-/// The instances that the bindings ask for, with their values, or the first fault.
-fn values(cabinet: &Cabinet, reach: Reach, binds: &[Bind]) -> Result<ArrayVec<Bind, 32>, Fault>
+/// Adds the instances that the bindings ask for, with their values, up to the first fault.
+fn values_into(
+    cabinet: &Cabinet,
+    reach: Reach,
+    binds: &[Bind],
+    values: &mut ArrayVec<Bind, 32>,
+) -> Result<(), Fault>
     requires few { length binds.now ≤ 32 }
+    requires empty { values.old.items ≡ [] }
     requires writable { All IsWritableBind binds.now }
     requires within { IsWithin cabinet.now.shown.now }
-    ensures gives { listed result ≡ each_gives (given reach (seen cabinet.now)) 1 binds.now }
-    ensures writable { IfOk result (λ given. All IsWritableBind given.items) }
+    ensures gives { gathered result values.new.items ≡ each_gives (given reach (seen cabinet.now)) 1 binds.now }
+    ensures writable { All IsWritableBind values.new.items }
 {
-    let mut values = ArrayVec::new();
     for bind in binds {
         match given(cabinet, reach, bind) {
             Ok(value) => values.push(value),
@@ -90,12 +95,12 @@ fn values(cabinet: &Cabinet, reach: Reach, binds: &[Bind]) -> Result<ArrayVec<Bi
             }
         }
     }
-    Ok(values)
+    Ok(())
 }
 
-/// The Response with the request's community and id.
-fn response(m: &Message, status: u8, index: u8, binds: ArrayVec<Bind, 32>) -> Message
-    ensures { result ≡ response m.now status index binds.items }
+/// The Response with the request's community and id, without bindings so far.
+fn response(m: &Message, status: u8, index: u8) -> Message
+    ensures { result ≡ response m.now status index [] }
 {
     let mut community = ArrayVec::new();
     let _ = community.try_extend_from_slice(m.community.as_slice());
@@ -105,7 +110,7 @@ fn response(m: &Message, status: u8, index: u8, binds: ArrayVec<Bind, 32>) -> Me
         id: m.id,
         status: i32::from(status),
         index: i32::from(index),
-        binds,
+        binds: ArrayVec::new(),
     }
 }
 
@@ -117,38 +122,30 @@ fn repeated(m: &Message, status: u8, index: u8) -> Octets
     requires few_places { index < 128 }
     ensures { result.items ≡ shortest (repeated m.now status index) }
 {
-    let binds = copies_of(m.binds.as_slice());
-    match write(&response(m, status, index, binds)) {
+    let mut reply = response(m, status, index);
+    copies_into(m.binds.as_slice(), &mut reply.binds);
+    match write(&reply) {
         Ok(octets) => octets,
         Err(TooLong) => unreachable!(),
     }
 }
 
-/// The Response with the values, or with the request's bindings where one has a fault or the values find no room.
-fn with_values(m: &Message, values: Result<ArrayVec<Bind, 32>, Fault>) -> Octets
-    requires writable { IsWritableMessage m.now }
-    requires fits { length (shortest m.now) ≤ 1472 }
-    requires values { IfOk values (λ given. All IsWritableBind given.items) }
-    requires fault { IfErr values IsSmall }
-    ensures { result.items ≡ shortest (with_values m.now (listed values)) }
-{
-    match values {
-        Ok(binds) => match write(&response(m, 0, 0, binds)) {
-            Ok(octets) => octets,
-            Err(TooLong) => repeated(m, TOO_BIG, 0),
-        },
-        Err(Fault { status, index }) => repeated(m, status, index),
-    }
-}
-
-/// The answer to a Get or a GetNext.
+/// The answer to a Get or a GetNext: the Response with the values, or with the request's bindings where one has a fault or the
+/// values find no room.
 fn reached(cabinet: &Cabinet, reach: Reach, m: &Message) -> Octets
     requires writable { IsWritableMessage m.now }
     requires fits { length (shortest m.now) ≤ 1472 }
     requires within { IsWithin cabinet.now.shown.now }
     ensures { result.items ≡ shortest (with_values m.now (each_gives (given reach (seen cabinet.now)) 1 m.now.binds.items)) }
 {
-    with_values(m, values(cabinet, reach, m.binds.as_slice()))
+    let mut reply = response(m, 0, 0);
+    match values_into(cabinet, reach, m.binds.as_slice(), &mut reply.binds) {
+        Ok(()) => match write(&reply) {
+            Ok(octets) => octets,
+            Err(TooLong) => repeated(m, TOO_BIG, 0),
+        },
+        Err(Fault { status, index }) => repeated(m, status, index),
+    }
 }
 
 /// The status that tells what the download stage answered (RFC 1157, 4.1.1).

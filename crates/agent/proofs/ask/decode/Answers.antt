@@ -7,23 +7,23 @@ use Rattle.agent.proofs.Asked.{same_message, ask_is, asks_nothing}
 use Rattle.agent.proofs.Readings.{asked_read, none_read}
 use Rattle.agent.proofs.ask.decode.Goals as goal
 
-pub returns-in_err-message-clause-none : goal.returns-in_err-message-clause-none
-returns-in_err-message-clause-none c =
+pub returns-in_err-read-clause-none : goal.returns-in_err-read-clause-none
+returns-in_err-read-clause-none c =
     let nothing : c.from_residual.result ≡ None = grind (arith, common_steps) in
-    rw nothing (λ ask is. c.in_err-message.ensures.none ask.message is.message)
+    rw nothing (λ ask is. c.in_err-read.ensures.none ask.message is.message)
 
-pub returns-in_err-message-clause-each : goal.returns-in_err-message-clause-each
-returns-in_err-message-clause-each c = λ ask is. absurd (c.in_err-message.ensures.none ask.message is.message)
+pub returns-in_err-read-clause-each : goal.returns-in_err-read-clause-each
+returns-in_err-read-clause-each c = λ ask is. absurd (c.in_err-read.ensures.none ask.message is.message)
 
-pub returns-in_err-message-clause-reads : goal.returns-in_err-message-clause-reads
-returns-in_err-message-clause-reads c =
+pub returns-in_err-read-clause-reads : goal.returns-in_err-read-clause-reads
+returns-in_err-read-clause-reads c =
     let nothing : c.from_residual.result ≡ None = grind (arith, common_steps) in
-    nothing ∙ sym (none_read c.args.frame.now c.args.community.now c.args.tables.now (λ ask is. c.in_err-message.ensures.none ask.message is.message))
+    nothing ∙ sym (none_read c.args.frame.now c.args.community.now c.args.tables.now (λ ask is. c.in_err-read.ensures.none ask.message is.message))
 
 pub returns-then-not-is_of-clause-none : goal.returns-then-not-is_of-clause-none
 returns-then-not-is_of-clause-none c ask is =
-    let same = same_message c.args.frame.now c.args.community.now c.args.tables.now c.in_ok-message.message ask c.in_ok-message.ensures.each is in
-    let ours : c.in_ok-message.message.community.items ≡ c.args.community.now = ap (λ (m : Message). m.community.items) same ∙ is.of_community in
+    let same = same_message c.args.frame.now c.args.community.now c.args.tables.now c.in_ok-read.field-0 ask c.in_ok-read.ensures.each is in
+    let ours : c.in_ok-read.field-0.community.items ≡ c.args.community.now = ap (λ (m : Message). m.community.items) same ∙ is.of_community in
     false≢true (sym c.if-not-is_of.true ∙ c.is_of.ensures.1 ours)
 
 pub returns-then-not-is_of-clause-each : goal.returns-then-not-is_of-clause-each
@@ -32,33 +32,33 @@ returns-then-not-is_of-clause-each c ask is = absurd (returns-then-not-is_of-cla
 pub returns-then-not-is_of-clause-reads : goal.returns-then-not-is_of-clause-reads
 returns-then-not-is_of-clause-reads c = sym (none_read c.args.frame.now c.args.community.now c.args.tables.now (returns-then-not-is_of-clause-none c))
 
-pub returns-in_err-wish-clause-none : goal.returns-in_err-wish-clause-none
-returns-in_err-wish-clause-none c =
-    let m = c.in_ok-message.message in
-    let nothing : c.from_residual-in_err-wish.result ≡ None = grind (arith, common_steps) in
-    rw nothing (λ ask is. asks_nothing c.args.frame.now c.args.community.now c.args.tables.now m ask (same_message c.args.frame.now c.args.community.now c.args.tables.now m ask c.in_ok-message.ensures.each is) c.in_err-wish.ensures.wish is)
+pub returns-in_err-ask-clause-none : goal.returns-in_err-ask-clause-none
+returns-in_err-ask-clause-none c =
+    let m = c.in_ok-read.field-0 in
+    let nothing : c.from_residual-in_err-ask.result ≡ None = grind (arith, common_steps) in
+    rw nothing (λ ask is. asks_nothing c.args.frame.now c.args.community.now c.args.tables.now m ask (same_message c.args.frame.now c.args.community.now c.args.tables.now m ask c.in_ok-read.ensures.each is) c.in_err-ask.ensures.wish is)
 
-pub returns-in_err-wish-clause-each : goal.returns-in_err-wish-clause-each
-returns-in_err-wish-clause-each c ask is =
-    let m = c.in_ok-message.message in
-    absurd (asks_nothing c.args.frame.now c.args.community.now c.args.tables.now m ask (same_message c.args.frame.now c.args.community.now c.args.tables.now m ask c.in_ok-message.ensures.each is) c.in_err-wish.ensures.wish is)
+pub returns-in_err-ask-clause-each : goal.returns-in_err-ask-clause-each
+returns-in_err-ask-clause-each c ask is =
+    let m = c.in_ok-read.field-0 in
+    absurd (asks_nothing c.args.frame.now c.args.community.now c.args.tables.now m ask (same_message c.args.frame.now c.args.community.now c.args.tables.now m ask c.in_ok-read.ensures.each is) c.in_err-ask.ensures.wish is)
 
-pub returns-in_err-wish-clause-reads : goal.returns-in_err-wish-clause-reads
-returns-in_err-wish-clause-reads c =
-    let m = c.in_ok-message.message in
-    let nothing : c.from_residual-in_err-wish.result ≡ None = grind (arith, common_steps) in
+pub returns-in_err-ask-clause-reads : goal.returns-in_err-ask-clause-reads
+returns-in_err-ask-clause-reads c =
+    let m = c.in_ok-read.field-0 in
+    let nothing : c.from_residual-in_err-ask.result ≡ None = grind (arith, common_steps) in
     nothing ∙ sym (none_read c.args.frame.now c.args.community.now c.args.tables.now
-    (λ ask is. asks_nothing c.args.frame.now c.args.community.now c.args.tables.now m ask (same_message c.args.frame.now c.args.community.now c.args.tables.now m ask c.in_ok-message.ensures.each is) c.in_err-wish.ensures.wish is))
+    (λ ask is. asks_nothing c.args.frame.now c.args.community.now c.args.tables.now m ask (same_message c.args.frame.now c.args.community.now c.args.tables.now m ask c.in_ok-read.ensures.each is) c.in_err-ask.ensures.wish is))
 
 pub returns-clause-each : goal.returns-clause-each
 returns-clause-each c ask is =
-    let m = c.in_ok-message.message in
-    ask_is c.args.frame.now c.args.community.now c.args.tables.now m c.in_ok-wish.wish ask (same_message c.args.frame.now c.args.community.now c.args.tables.now m ask c.in_ok-message.ensures.each is) c.in_ok-wish.ensures.wish is
+    let m = c.in_ok-read.field-0 in
+    ask_is c.args.frame.now c.args.community.now c.args.tables.now m c.in_ok-ask.field-0 ask (same_message c.args.frame.now c.args.community.now c.args.tables.now m ask c.in_ok-read.ensures.each is) c.in_ok-ask.ensures.wish is
 
 pub returns-clause-reads : goal.returns-clause-reads
 returns-clause-reads c =
     sym (asked_read c.args.frame.now c.args.community.now c.args.tables.now _
-    (record { message = c.in_ok-message.ensures.found; of_community = c.is_of.ensures.0 c.if-not-is_of.false; wish = sym c.in_ok-wish.ensures.wish }))
+    (record { message = c.in_ok-read.ensures.found; of_community = c.is_of.ensures.0 c.if-not-is_of.false; wish = sym c.in_ok-ask.ensures.wish }))
 
 pub returns-clause-asked : goal.returns-clause-asked
 returns-clause-asked c = (
@@ -66,5 +66,5 @@ returns-clause-asked c = (
   c.args.community.now,
   c.args.tables.now,
   are_octets c.args.frame.now (λ i. omega (arith, c.type_inv.frame i)),
-  record { message = c.in_ok-message.ensures.found; of_community = c.is_of.ensures.0 c.if-not-is_of.false; wish = sym c.in_ok-wish.ensures.wish },
+  record { message = c.in_ok-read.ensures.found; of_community = c.is_of.ensures.0 c.if-not-is_of.false; wish = sym c.in_ok-ask.ensures.wish },
 )

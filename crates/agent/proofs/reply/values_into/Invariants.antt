@@ -3,7 +3,7 @@ use Rattle.snmp_msg.specs.Shortest.{IsWritableBind}
 use Rattle.agent.specs.Bindings.{each_gives, after}
 use Rattle.agent.specs.Seen.{seen}
 use Rattle.agent.specs.Replies.{given}
-use Rattle.agent.proofs.reply.values.Given as goal
+use Rattle.agent.proofs.reply.values_into.Given as goal
 
 abbrev pub invariant-loop-bind : goal.invariant-loop-bind
 invariant-loop-bind l = record {
