@@ -37,24 +37,27 @@ abbrev pub put_into : Cell → Option CellValue → Result (Cell × CellValue) �
 put_into cell (Some value) = if is_ok (fits_of cell (content_of value)) then Ok (cell, value) else Err 3
 put_into cell None = Err 3
 
+-- what setting an instance puts into a cell; only cells are changed by a download
 abbrev pub put_named : Option Name → Value → Result (Cell × CellValue) ℕ
 put_named (Some (CellName cell)) value = put_into cell (cell_value value)
 put_named _ value = Err 2
 
+-- what a binding of a part puts into a cell
 abbrev pub put_of : Bind → Result (Cell × CellValue) ℕ
 put_of bind = put_named (name_at bind.name.items) bind.value
 
--- a Set that begins a download: its id, and no second binding
+-- the begin of a download: its id, and no second binding
 abbrev pub begin_wish : Result ℕ ℕ → List Bind → Wish
 begin_wish (Ok id) [] = Begin id
 begin_wish (Ok id) (second ∷ others) = Bad 2 2
 begin_wish (Err status) others = Bad status 1
 
--- a part with its cells, of which the first is the third binding
+-- a part with its cells, or the first fault among them
 abbrev pub with_puts : ℕ → ℕ → Result (List (Cell × CellValue)) Fault → Wish
 with_puts id number (Ok puts) = Part id number (record { items = puts })
 with_puts id number (Err fault) = Bad fault.status fault.index
 
+-- a part: its number, then its cells from the third binding on
 abbrev pub part_wish : ℕ → Result ℕ ℕ → List Bind → Wish
 part_wish id (Ok number) cells = with_puts id number (each_gives put_of 3 cells)
 part_wish id (Err status) cells = Bad status 2

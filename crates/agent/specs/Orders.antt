@@ -18,11 +18,12 @@ use Rattle.agent.specs.declared.ask.Order.TheVariants.{Pattern as PatternOrder, 
 abbrev pub can_command : Tables → ℕ → Bool
 can_command t n = n == 0 || n == 254 || n == 255 || is_defined t n
 
+-- setting the pattern
 abbrev pub pattern_order : Tables → Value → Result Order ℕ
 pattern_order t (Int (pos n)) = if can_command t n then Ok (PatternOrder n) else Err 3
 pattern_order t _ = Err 3
 
--- a tick of the day
+-- setting the clock, to a tick of the day
 abbrev pub clock_order : Value → Result Order ℕ
 clock_order (Int (pos n)) = if nat_lt n 864000 then Ok (ClockOrder n) else Err 3
 clock_order _ = Err 3
@@ -44,15 +45,17 @@ abbrev pub is_in_range : Request → Bool
 is_in_range r =
     lies r.number 1 10 && lies r.class 1 10 && lies r.level 1 10 && lies r.phase 1 16 && nat_le r.arrival r.departure
 
+-- a request whose fields are in their ranges
 abbrev pub if_in_range : Option Request → Result Order ℕ
 if_in_range (Some r) = if is_in_range r then Ok (RequestOrder r) else Err 3
 if_in_range None = Err 3
 
+-- giving a priority request
 abbrev pub request_order : Value → Result Order ℕ
 request_order (Octets octets) = if_in_range (request_in octets.items)
 request_order _ = Err 3
 
--- the number of a priority request
+-- ending a priority request, by its number
 abbrev pub cancel_order : Value → Result Order ℕ
 cancel_order (Int (pos n)) = if lies n 1 10 then Ok (CancelOrder n) else Err 3
 cancel_order _ = Err 3
@@ -65,9 +68,11 @@ order_named t (Some RequestName) value = request_order value
 order_named t (Some Cancel) value = cancel_order value
 order_named t _ value = Err 2
 
+-- what a binding orders, under these tables
 abbrev pub order_of : Tables → Bind → Result Order ℕ
 order_of t bind = order_named t (name_at bind.name.items) bind.value
 
+-- the numbers, classes and levels of requests
 abbrev pub IsOneToTen : ℕ → Type 0
 IsOneToTen n = (1 ≤ n) × (n ≤ 10)
 

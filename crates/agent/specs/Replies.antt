@@ -31,6 +31,7 @@ abbrev pub instance_at : Seen → Option (List ℕ) → Result Bind ℕ
 instance_at s (Some arcs) = with_value arcs (value_named s arcs)
 instance_at s None = Err 2
 
+-- the instance that comes next after a binding's name
 abbrev pub next_instance : Seen → Bind → Result Bind ℕ
 next_instance s bind = instance_at s (next_of bind.name.items)
 
