@@ -1,0 +1,5 @@
+pub mod Story
+pub mod Journals
+pub mod Coming
+pub mod Frames
+pub mod Told

@@ -1,0 +1,112 @@
+-- The id of a download that a frame asks to be verified is 1 or more.
+use Rattle.std.proofs.Common.{◌≡◌, ℕ, ◌≤◌, ◌==◌, ◌∷◌, [], Bool, true, false, List, Option, Some, None, Result, Ok, Err, refl, subst, arith}
+use Rattle.std.specs.Prelude.{pos, negsuc, nat_le, ◌&&◌, IfOk, IfSome, if◌then◌else◌}
+use Rattle.std.proofs.lemmas.Option.{same_Some}
+use Rattle.std.proofs.lemmas.Bool.Decides.{nat_tests}
+use Rattle.sig_tables.specs.declared.tables.Tables.{Tables}
+use Rattle.sig_tables.specs.declared.cells.Cell.{Cell}
+use Rattle.sig_tables.specs.declared.cells.CellValue.{CellValue}
+use Rattle.snmp_msg.specs.declared.message.Pdu.{Pdu}
+use Rattle.snmp_msg.specs.declared.message.Pdu.TheVariants.{Get, Next, Response, Set}
+use Rattle.snmp_msg.specs.declared.message.Value.{Value}
+use Rattle.snmp_msg.specs.declared.message.Value.TheVariants.{Int, Octets, Null, Name as NameValue}
+use Rattle.snmp_msg.specs.declared.message.Bind.{Bind}
+use Rattle.oid_map.specs.Reading.{name_at}
+use Rattle.agent.specs.declared.ask.Order.{Order}
+use Rattle.agent.specs.declared.ask.Wish.{Wish}
+use Rattle.agent.specs.declared.ask.Wish.TheVariants.{Verify}
+use Rattle.agent.specs.declared.ask.Ask.{Ask}
+use Rattle.agent.specs.declared.bindings.Fault.{Fault}
+use Rattle.agent.specs.Orders.{order_of}
+use Rattle.agent.specs.Bindings.{each_gives}
+use Rattle.agent.specs.Downloads.{number_in, id_in, put_of, begin_wish, with_puts, part_wish, verify_wish, finish_wish, download_object, step_named, step_wish}
+use Rattle.agent.specs.Asks.{direct_wish, set_wish, wish_of, ask_of, Asks}
+use Rattle.agent.proofs.Readings.{read_asked}
+
+-- a verify under an id from 1 on, or another wish
+abbrev pub HasId : Wish → Type 0
+HasId (Verify id total) = 1 ≤ id
+HasId _ = Unit {0}
+
+-- an id where it may be one
+abbrev id_if : Bool → ℕ → Result ℕ ℕ
+id_if test n = if test then Ok n else Err 3
+
+lies-above : (n : ℕ) (test : Bool) → nat_le 1 n ≡ test → (most : Bool) → IfOk (id_if (test && most) n) (λ id. 1 ≤ id)
+lies-above n true e true = grind (arith, nat_tests)
+lies-above n true e false = tt
+lies-above n false e most = tt
+
+id-above : (value : Value) → IfOk (id_in value) (λ id. 1 ≤ id)
+id-above (Int (pos n)) = lies-above n (nat_le 1 n) refl (nat_le n 2147483647)
+id-above (Int (negsuc n)) = tt
+id-above (Octets octets) = tt
+id-above Null = tt
+id-above (NameValue name) = tt
+
+begin-id : (r : Result ℕ ℕ) (others : List Bind) → HasId (begin_wish r others)
+begin-id (Ok id) [] = tt
+begin-id (Ok id) (second ∷ others) = tt
+begin-id (Err status) others = tt
+
+puts-id : (id number : ℕ) (r : Result (List (Cell × CellValue)) Fault) → HasId (with_puts id number r)
+puts-id id number (Ok puts) = tt
+puts-id id number (Err fault) = tt
+
+part-id : (id : ℕ) (r : Result ℕ ℕ) (cells : List Bind) → HasId (part_wish id r cells)
+part-id id (Ok number) cells = puts-id id number (each_gives put_of 3 cells)
+part-id id (Err status) cells = tt
+
+verify-id : (id : ℕ) (r : Result ℕ ℕ) (others : List Bind) → 1 ≤ id → HasId (verify_wish id r others)
+verify-id id (Ok total) [] above = above
+verify-id id (Ok total) (third ∷ others) above = tt
+verify-id id (Err status) others above = tt
+
+finish-id : (id : ℕ) (r : Result ℕ ℕ) (others : List Bind) → HasId (finish_wish id r others)
+finish-id id (Ok one) [] = tt
+finish-id id (Ok one) (third ∷ others) = tt
+finish-id id (Err status) others = tt
+
+one-of : (test : Bool) (a b : Wish) → HasId a → HasId b → HasId (if test then a else b)
+one-of true a b ha hb = ha
+one-of false a b ha hb = hb
+
+named-id : (object id : ℕ) (value : Value) (others : List Bind) → 1 ≤ id → HasId (step_named object id value others)
+named-id object id value others above =
+    one-of (object == 4) _ _ (part-id id (number_in 1 60000 value) others)
+    (one-of (object == 5) _ _ (verify-id id (number_in 0 60000 value) others above)
+    (one-of (object == 6) _ _ (finish-id id (number_in 1 1 value) others) tt))
+
+step-id : (r : Result ℕ ℕ) (others : List Bind) → IfOk r (λ id. 1 ≤ id) → HasId (step_wish r others)
+step-id (Ok id) [] above = tt
+step-id (Ok id) (second ∷ others) above = named-id (download_object (name_at second.name.items)) id second.value others above
+step-id (Err status) others above = tt
+
+direct-id : (r : Result (List Order) Fault) → HasId (direct_wish r)
+direct-id (Ok orders) = tt
+direct-id (Err fault) = tt
+
+set-id : (t : Tables) (binds : List Bind) → HasId (set_wish t binds)
+set-id t [] = tt
+set-id t (first ∷ others) =
+    one-of (download_object (name_at first.name.items) == 2) _ _ (begin-id (id_in first.value) others)
+    (one-of (download_object (name_at first.name.items) == 3) _ _ (step-id (id_in first.value) others (id-above first.value))
+    (direct-id (each_gives (order_of t) 1 (first ∷ others))))
+
+wish-id : (t : Tables) (pdu : Pdu) (binds : List Bind) → IfSome (wish_of t pdu binds) HasId
+wish-id t Get binds = tt
+wish-id t Next binds = tt
+wish-id t Response binds = tt
+wish-id t Set binds = set-id t binds
+
+pub ask-id : (frame community : List ℕ) (t : Tables) → IfSome (ask_of frame community t) (λ ask. HasId ask.wish)
+ask-id frame community t = among (ask_of frame community t) (read_asked frame community t)
+  where
+    wished : (wish : Option Wish) (w : Wish) → wish ≡ Some w → IfSome wish HasId → HasId w
+    wished (Some v) w e h = subst HasId (same_Some v w e) h
+    wished None w e h = absurd (let none : None ≡ Some w = e in cc)
+
+    among : (r : Option Ask) → IfSome r (Asks frame community t) → IfSome r (λ ask. HasId ask.wish)
+    among (Some ask) is =
+        wished (wish_of t ask.message.pdu ask.message.binds.items) ask.wish is.wish (wish-id t ask.message.pdu ask.message.binds.items)
+    among None is = tt

@@ -1,0 +1,87 @@
+-- What comes to a cabinet, step by step: events that leave its tables and its drift, and calls of its download stage.
+use Rattle.std.proofs.Common.{◌≡◌, ℕ, ◌≤◌, List, [], ◌∷◌, map, Option, Some, None, refl}
+use Rattle.std.specs.Prelude.{IfSome}
+use Rattle.sig_tables.specs.Past.{Event, Tick, Input, Install, SetDrift, History}
+use Rattle.sig_tables.specs.Decide.{with_one}
+use Rattle.sig_tables.specs.Putting.{put_content}
+use Rattle.stage_txn.specs.Calls.{Call, Begin as BeginCall, Part as PartCall, Verify as VerifyCall, Finish as FinishCall}
+use Rattle.stage_txn.specs.Answers.{answered, staged}
+use Rattle.agent.specs.declared.ask.Order.{Order}
+use Rattle.agent.specs.declared.ask.Order.TheVariants.{Pattern as PatternOrder, Clock as ClockOrder, Request as RequestOrder, Cancel as CancelOrder}
+use Rattle.agent.specs.declared.ask.Wish.{Wish}
+use Rattle.agent.specs.declared.ask.Wish.TheVariants.{Get, Next, Direct, Begin, Part, Verify, Finish, Bad}
+use Rattle.agent.specs.declared.ask.Ask.{Ask}
+use Rattle.agent.specs.Asks.{ask_of}
+use Rattle.round_streams.specs.Items.{Item, Told, Came, Ticked}
+use Rattle.cabinet_story.specs.Coming.{Coming, in_force, past_of, is_flashing, answer_in, order_event, installs, with_events, carried_out, heeded, with_item, coming_from}
+use Rattle.story_laws.proofs.Ids.{HasId, ask-id}
+
+-- an event that puts no tables in force and sets no drift
+abbrev pub IsPlain : Event → Type 0
+IsPlain (Install t) = ⊥
+IsPlain (SetDrift gain lose) = ⊥
+IsPlain _ = Unit {0}
+
+-- a call that was made with the tables in force and whether the cabinet flashed; a verify has an id from 1 on
+abbrev pub IsMadeAt : Coming → Call → Type 0
+IsMadeAt c (BeginCall id t) = t ≡ in_force c
+IsMadeAt c (PartCall id number cells) = Unit {0}
+IsMadeAt c (VerifyCall id total t flashing) = 1 ≤ id
+IsMadeAt c (FinishCall id t flashing) = (t ≡ in_force c) × (flashing ≡ is_flashing (past_of c))
+
+-- what a call does to the controller
+abbrev pub call_events : Coming → Call → List Event
+call_events c (FinishCall id t flashing) = installs (staged (answered c.calls)) (answer_in c (FinishCall id t flashing))
+call_events c _ = []
+
+-- what the cabinet has come to with one event or one call more
+abbrev pub happened : Coming → Event → Coming
+happened c e = record { history = with_one c.history e; calls = c.calls }
+
+abbrev pub called : Coming → Call → Coming
+called c call = record { history = with_events c.history (call_events c call); calls = call ∷ c.calls }
+
+-- what each plain event and each call keeps
+pub record Keeps (P : Coming → Type 0) : Type 0 where
+  pub event : (c : Coming) (e : Event) → IsPlain e → P c → P (happened c e)
+  pub call : (c : Coming) (call : Call) → IsMadeAt c call → P c → P (called c call)
+
+plain-order : (o : Order) → IsPlain (order_event o)
+plain-order (PatternOrder n) = tt
+plain-order (ClockOrder tick) = tt
+plain-order (RequestOrder r) = tt
+plain-order (CancelOrder number) = tt
+
+-- what the cabinet has come to after these events
+abbrev after_events : Coming → List Event → Coming
+after_events c events = record { history = with_events c.history events; calls = c.calls }
+
+orders-keep : (P : Coming → Type 0) → Keeps P → (orders : List Order) (c : Coming) → P c → P (after_events c (map order_event orders))
+orders-keep P k [] c h = h
+orders-keep P k (o ∷ orders) c h = orders-keep P k orders (happened c (order_event o)) (k.event c (order_event o) (plain-order o) h)
+
+wish-keeps : (P : Coming → Type 0) → Keeps P → (c : Coming) (wish : Wish) → HasId wish → P c → P (carried_out c wish)
+wish-keeps P k c (Direct orders) id h = orders-keep P k orders.items c h
+wish-keeps P k c (Begin id) is h = k.call c (BeginCall id (in_force c)) refl h
+wish-keeps P k c (Part id number puts) is h = k.call c (PartCall id number (map put_content puts.items)) tt h
+wish-keeps P k c (Verify id total) is h = k.call c (VerifyCall id total (in_force c) (is_flashing (past_of c))) is h
+wish-keeps P k c (Finish id) is h = k.call c (FinishCall id (in_force c) (is_flashing (past_of c))) (refl, refl) h
+wish-keeps P k c Get is h = h
+wish-keeps P k c Next is h = h
+wish-keeps P k c (Bad status index) is h = h
+
+ask-keeps : (P : Coming → Type 0) → Keeps P → (c : Coming) (ask : Option Ask) → IfSome ask (λ a. HasId a.wish) → P c → P (heeded c ask)
+ask-keeps P k c (Some ask) is h = wish-keeps P k c ask.wish is h
+ask-keeps P k c None is h = h
+
+item-keeps : (P : Coming → Type 0) → Keeps P → (community : List ℕ) (item : Item) (c : Coming) → P c → P (with_item community item c)
+item-keeps P k community (Told field) c h = k.event c (Input field) tt h
+item-keeps P k community (Came octets) c h = ask-keeps P k c (ask_of octets community (in_force c)) (ask-id octets community (in_force c)) h
+item-keeps P k community Ticked c h = k.event c Tick tt h
+
+-- what holds of the opening, and is kept, holds of all that comes after
+pub story-keeps : (P : Coming → Type 0) → Keeps P → (community : List ℕ) (opening : History) → P (record { history = opening; calls = [] })
+    → (items : List Item) → P (coming_from community opening items)
+story-keeps P k community opening h [] = h
+story-keeps P k community opening h (item ∷ items) =
+    item-keeps P k community item (coming_from community opening items) (story-keeps P k community opening h items)

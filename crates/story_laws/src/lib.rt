@@ -1,0 +1,105 @@
+//! What every story of a cabinet is worth: whatever frames, inputs and ticks come to it, in any order, its history is one of which the
+//! laws of the street and of coordination speak, its tables are those of whole downloads, and its lines tell what happened. The
+//! functions do nothing but cite: each stands for the laws of its contract.
+#![tactic(auto)]
+
+ghost use Rattle.std.specs.Prelude.{◌≡◌, ℕ, List, length, None};
+ghost use Rattle.sig_tables.specs.declared.tables.Tables.{Tables};
+ghost use Rattle.sig_tables.specs.Decide.{past_at, since_opening};
+ghost use Rattle.sig_tables.specs.Putting.{EachFits, with_cells};
+ghost use Rattle.rule_book.specs.Rules.{Consistent};
+ghost use Rattle.rule_facts.specs.Admitted.{Admitted};
+ghost use Rattle.trace_text.specs.declared.lines.Line.{Line};
+ghost use Rattle.safe_trace.specs.Safe.{Safe, intersection_of};
+ghost use Rattle.safe_trace.specs.Whole.{Whole};
+ghost use Rattle.safe_trace.specs.Written.{tables_of};
+ghost use Rattle.safe_streets.specs.Told.{told_in, history_told};
+ghost use Rattle.undisturbed.specs.Disturbances.{Drift, IsSlow, drift_of, no_drift};
+ghost use Rattle.undisturbed.specs.Meets.{Meets};
+ghost use Rattle.coordination_met.specs.Ranged.{EachInRange};
+ghost use Rattle.agent.specs.Asks.{AsksNothing};
+ghost use Rattle.stage_txn.specs.Answers.{answered, staged, standing};
+ghost use Rattle.round_streams.specs.Items.{Came};
+ghost use Rattle.cabinet_story.specs.Story.{Story, with_item};
+ghost use Rattle.cabinet_story.specs.Coming.{coming, history_of, in_force};
+ghost use Rattle.cabinet_story.specs.Frames.{has_line};
+ghost use Rattle.cabinet_story.specs.Told.{reply_to, load_end};
+ghost use Rattle.story_laws.specs.Openings.{IsOpening};
+ghost use Rattle.story_laws.specs.Downloads.{IsUnderway, accepted, content, with_contents};
+ghost use Rattle.story_laws.specs.Telling.{story_told};
+
+use agent::other_frames_ask_nothing;
+use coordination_met::coordination_is_met;
+use safe_streets::admitted_streets_are_safe;
+use stage_txn::installs_what_keeps_the_rules;
+
+/// Whatever comes to a cabinet that opened with consistent tables, each download that is put in force broke no rule beside the tables
+/// that it replaces. The clock keeps the drift that it opened with: no frame changes it.
+pub fn stories_are_admitted()
+    ensures admitted { (story : Story) (t : Tables) (d : Drift) → IsOpening t d story.opening → Consistent t
+        → Admitted (history_of story).tables (since_opening (history_of story)) }
+    ensures tables { (story : Story) (t : Tables) (d : Drift) → IsOpening t d story.opening → Consistent t
+        → (history_of story).tables ≡ t }
+    ensures drift { (story : Story) (t : Tables) (d : Drift) → IsOpening t d story.opening → Consistent t
+        → drift_of (past_at (history_of story)) ≡ d }
+{
+    installs_what_keeps_the_rules();
+}
+
+/// Where each cell of the opening tables holds what may stand in it, so does each cell of the tables in force after any story, and the
+/// rows of all tables that were ever put in force are in range.
+pub fn tables_stay_in_range()
+    ensures now { (story : Story) (t : Tables) (d : Drift) → IsOpening t d story.opening → EachFits t → EachFits (in_force (coming story)) }
+    ensures each { (story : Story) (t : Tables) (d : Drift) → IsOpening t d story.opening → EachFits t
+        → EachInRange (history_of story).tables (since_opening (history_of story)) }
+{}
+
+/// Coordination is met in every story: of a cabinet whose clock keeps time, and of one whose clock drifts as slowly as clocks may.
+pub fn stories_meet_coordination()
+    ensures even { (story : Story) (t : Tables) → IsOpening t no_drift story.opening → Consistent t → Meets (history_of story) }
+    ensures drifting { (story : Story) (t : Tables) (d : Drift) → IsOpening t d story.opening → Consistent t → EachFits t → IsSlow d
+        → Meets (history_of story) }
+{
+    installs_what_keeps_the_rules();
+    coordination_is_met();
+}
+
+/// Downloads are whole: the tables in force are the opening ones with the whole content of each download whose finish was accepted, put
+/// in order, and nothing else has a part in them; the version is the number of these downloads. For while a download is under way
+/// nothing else is put in force, so that the staged tables are those in force with the cells of its parts so far.
+pub fn downloads_are_whole()
+    ensures in_force { (story : Story) (t : Tables) (d : Drift) → IsOpening t d story.opening
+        → in_force (coming story) ≡ with_contents t (accepted (answered (coming story).calls)) }
+    ensures version { (story : Story) (t : Tables) (d : Drift) → IsOpening t d story.opening
+        → (past_at (history_of story)).version ≡ length (accepted (answered (coming story).calls)) }
+    ensures staged { (story : Story) (t : Tables) (d : Drift) → IsOpening t d story.opening
+        → IsUnderway (standing (answered (coming story).calls))
+        → staged (answered (coming story).calls) ≡ with_cells (in_force (coming story)) (content (answered (coming story).calls)) }
+{}
+
+/// What the items of a story tell one after another is what is to be told of its history. So whoever writes the lines of each item as it
+/// comes has a street that is safe at every tick, and versions that are whole.
+pub fn stories_are_safe()
+    ensures told { (story : Story) (t : Tables) (d : Drift) → IsOpening t d story.opening
+        → story_told story ≡ history_told has_line (history_of story) }
+    ensures safe { (story : Story) (t : Tables) (d : Drift) (cab : ℕ) (lines : List Line)
+        → IsOpening t d story.opening → Consistent t → told_in cab lines ≡ story_told story
+        → Safe (intersection_of cab (tables_of (history_of story)) lines) }
+    ensures whole { (story : Story) (t : Tables) (d : Drift) (cab : ℕ) (lines : List Line)
+        → IsOpening t d story.opening → told_in cab lines ≡ story_told story
+        → Whole cab lines }
+{
+    installs_what_keeps_the_rules();
+    admitted_streets_are_safe();
+}
+
+/// A frame that asks nothing, because it is no message, of another community, or a Response, changes nothing at the cabinet, is
+/// answered by silence and ends no download (RFC 1157, 4.1).
+pub fn other_frames_change_nothing()
+    ensures nothing { (story : Story) (octets : List ℕ) → AsksNothing octets story.community
+        → coming (with_item story (Came octets)) ≡ coming story }
+    ensures silence { (story : Story) (octets : List ℕ) → AsksNothing octets story.community → reply_to story octets ≡ None }
+    ensures no_end { (story : Story) (octets : List ℕ) → AsksNothing octets story.community → load_end story octets ≡ None }
+{
+    other_frames_ask_nothing();
+}
