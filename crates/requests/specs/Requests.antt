@@ -2,6 +2,7 @@
 use Rattle.std.specs.Prelude.{ℕ, ℤ, pos, ◌&&◌, Bool, true, false, List, Option, Some, None}
 use Rattle.std.specs.Ordering.{int_eq}
 use Rattle.std.specs.List.{filter_map}
+use Rattle.arrayvec.specs.ArrayVec.{ArrayVec}
 use Rattle.sig_tables.specs.Cells.{Content, Number, Octets}
 use Rattle.snmp_msg.specs.declared.message.Pdu.{Pdu}
 use Rattle.snmp_msg.specs.declared.message.Pdu.TheVariants.{Get, Next, Response, Set}
@@ -70,3 +71,8 @@ messages arrived = filter_map message_of arrived
 abbrev pub status_of : Option Message → Option ℤ
 status_of None = None
 status_of (Some m) = Some m.status
+
+-- the octets of a frame, if there is one
+abbrev pub octets_in : Option (ArrayVec ℕ) → Option (List ℕ)
+octets_in None = None
+octets_in (Some frame) = Some frame.items

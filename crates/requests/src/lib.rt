@@ -2,15 +2,19 @@
 //! Nothing here takes memory.
 #![tactic(auto)]
 
+mod bindings;
+mod writing;
+
 ghost use Rattle.std.specs.Prelude.{◌≡◌};
 ghost use Rattle.std.specs.List.{find};
 ghost use Rattle.snmp_msg.specs.Reading.{message_of};
 ghost use Rattle.round_streams.specs.Items.{texts_of};
 ghost use Rattle.requests.specs.Requests.{answers, messages, status_of};
 
-use arrayvec::ArrayVec;
+pub use bindings::{asked_for, cell_at, number_at};
 use sig_types::Octets;
-use snmp_msg::{Bind, Message, Pdu, TooLong};
+use snmp_msg::{Message, Pdu};
+pub use writing::{write_get, write_set};
 
 /// Whether a message is the Response to what was sent under an id.
 pub fn answers(id: i32, m: &Message) -> bool
@@ -38,31 +42,4 @@ pub fn first_status(arrived: &[Octets], id: i32) -> Option<i32>
         }
     }
     None
-}
-
-ghost use Rattle.std.specs.Prelude.{◌≤◌, length};
-ghost use Rattle.snmp_msg.specs.Shortest.{IsWritableMessage, shortest};
-ghost use Rattle.snmp_msg.specs.declared.message.Pdu.TheVariants.{Set};
-ghost use Rattle.requests.specs.Requests.{request, set_text};
-
-/// The octets of a Set of these bindings.
-pub fn write_set(community: &ArrayVec<u8, 32>, id: i32, binds: ArrayVec<Bind, 32>) -> Octets
-    requires writable { IsWritableMessage (request Set community.now.items id binds.items) }
-    requires fits { length (set_text community.now.items id binds.items) ≤ 1472 }
-    ensures { result.items ≡ set_text community.now.items id binds.items }
-{
-    let mut copy = ArrayVec::new();
-    let _ = copy.try_extend_from_slice(community.as_slice());
-    let m = Message {
-        community: copy,
-        pdu: Pdu::Set,
-        id,
-        status: 0,
-        index: 0,
-        binds,
-    };
-    match snmp_msg::write(&m) {
-        Ok(octets) => octets,
-        Err(TooLong) => Octets::new(),
-    }
 }

@@ -1,0 +1,5 @@
+pub mod Open
+pub mod Told
+pub mod Posting
+pub mod Fits
+pub mod Rounds

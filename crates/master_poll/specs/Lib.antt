@@ -1,0 +1,9 @@
+pub mod Commands
+pub mod Turns
+pub mod Notes
+pub mod Sends
+pub mod Stands
+pub mod Laws
+pub mod Hearing
+pub mod Posts
+pub mod Masters

@@ -1,0 +1,91 @@
+-- The master's rounds: what it sends to all cabinets and notes of them, and that it stands for what has arrived from each. What has
+-- arrived is given by the cabinets' numbers, counted from 1; lists of rounds have the newest first.
+use Rattle.std.specs.Prelude.{ℕ, ◌≡◌, ◌+◌, ◌-◌, ◌≤◌, List, [], ◌∷◌, ◌++◌, map, drop, length, Option, Some, None}
+use Rattle.std.specs.List.{slice_get}
+use Rattle.sig_types.specs.declared.notes.MasterNote.{MasterNote}
+use Rattle.round_streams.specs.declared.Sending.{Sending}
+use Rattle.round_streams.specs.declared.Answers.{Answers}
+use Rattle.round_streams.specs.Items.{texts_of}
+use Rattle.scenario_data.specs.Content.{ScenarioContent, CabinetContent}
+use Rattle.requests.specs.Requests.{octets_in}
+use Rattle.master_load.specs.Downloads.{AreLoads}
+use Rattle.master_poll.specs.declared.post.Post.{Post}
+use Rattle.master_poll.specs.declared.master.Master.{Master}
+use Rattle.master_poll.specs.declared.master.Round.{Round}
+use Rattle.master_poll.specs.Sends.{Arrived, Frames, sending_of, notes_of, turns}
+use Rattle.master_poll.specs.Posts.{PostStands}
+
+-- the octets of what is sent to a cabinet
+abbrev pub frames_of : Sending → Frames
+frames_of sending = record { poll = octets_in sending.poll; load = octets_in sending.load }
+
+-- the octets of what has arrived from a cabinet
+abbrev pub arrived_in : Option Answers → Arrived
+arrived_in None = record { polls = []; loads = [] }
+arrived_in (Some answers) = record { polls = texts_of answers.polls.items; loads = texts_of answers.loads.items }
+
+-- what has arrived from each cabinet with a round more
+abbrev pub with_round : List Answers → (ℕ → List Arrived) → ℕ → List Arrived
+with_round now before cab = arrived_in (slice_get now (cab - 1)) ∷ before cab
+
+-- what is sent to the cabinets in their order, of which the first has this number
+abbrev pub sendings_from : ScenarioContent → (ℕ → List Arrived) → ℕ → List CabinetContent → List Frames
+sendings_from s arrived cab [] = []
+sendings_from s arrived cab (c ∷ cabinets) = sending_of s cab c (arrived cab) ∷ sendings_from s arrived (cab + 1) cabinets
+
+abbrev pub sendings_of : ScenarioContent → (ℕ → List Arrived) → List Frames
+sendings_of s arrived = sendings_from s arrived 1 s.cabinets
+
+-- what is noted of them
+abbrev pub notes_from : ScenarioContent → (ℕ → List Arrived) → ℕ → List CabinetContent → List MasterNote
+notes_from s arrived cab [] = []
+notes_from s arrived cab (c ∷ cabinets) = notes_of s cab c (arrived cab) ++ notes_from s arrived (cab + 1) cabinets
+
+abbrev pub all_notes_of : ScenarioContent → (ℕ → List Arrived) → List MasterNote
+all_notes_of s arrived = notes_from s arrived 1 s.cabinets
+
+-- the post of the cabinet at a place stands for its turns, and so many rounds have been
+pub record PostIsAt (p : Post) (s : ScenarioContent) (place rounds : ℕ) (c : CabinetContent) (arrived : List Arrived) : Type 0 where
+  pub stands : PostStands p s.master.retries (place + 1) s.loads (turns s (place + 1) c arrived)
+  pub count : length arrived ≡ rounds
+
+-- each post stands for what has arrived from its cabinet
+abbrev pub EachStands : List Post → ScenarioContent → ℕ → (ℕ → List Arrived) → Type 0
+EachStands posts s rounds arrived =
+    (place : ℕ) (p : Post) (c : CabinetContent) → slice_get posts place ≡ Some p → slice_get s.cabinets place ≡ Some c
+    → PostIsAt p s place rounds c (arrived (place + 1))
+
+-- the number of cabinets that it was opened for, and of rounds so far
+abbrev pub cabinet_count : Master → ℕ
+cabinet_count m = length m.posts.items
+
+abbrev pub round_count : Master → ℕ
+round_count m = m.rounds
+
+-- the master stands for what has arrived from each cabinet
+abbrev pub MasterStands : Master → ScenarioContent → (ℕ → List Arrived) → Type 0
+MasterStands m s arrived = EachStands m.posts.items s m.rounds arrived
+
+-- the posts stand for these rounds, of which the last sends and notes what the definitions say
+pub record IsMade (posts : List Post) (r : Round) (s : ScenarioContent) (rounds : ℕ) (arrived : ℕ → List Arrived) : Type 0 where
+  pub stands : EachStands posts s rounds arrived
+  pub sendings : map frames_of r.sendings.items ≡ sendings_of s arrived
+  pub notes : r.notes.items ≡ all_notes_of s arrived
+
+-- what a round gives is that of the definitions, and the master stands for one round more
+pub record IsRound (m : Master) (r : Round) (s : ScenarioContent) (arrived : ℕ → List Arrived) : Type 0 where
+  pub stands : MasterStands m s arrived
+  pub sendings : map frames_of r.sendings.items ≡ sendings_of s arrived
+  pub notes : r.notes.items ≡ all_notes_of s arrived
+
+-- the same as far as the cabinet at a place, which is to come
+pub record GoesOn (posts : List Post) (sendings : List Sending) (notes : List MasterNote) (s : ScenarioContent) (rounds place : ℕ) (arrived : ℕ → List Arrived) : Type 0 where
+  pub stands : EachStands posts s rounds arrived
+  pub sent : map frames_of sendings ++ sendings_from s arrived (place + 1) (drop place s.cabinets) ≡ sendings_of s arrived
+  pub noted : notes ++ notes_from s arrived (place + 1) (drop place s.cabinets) ≡ all_notes_of s arrived
+
+-- what the master asks of a scenario: at most 64 cabinets, and at most a million loads of cells that are cells
+pub record IsRun (s : ScenarioContent) : Type 0 where
+  pub cabinets : length s.cabinets ≤ 64
+  pub few : length s.loads ≤ 1000000
+  pub loads : AreLoads s.loads

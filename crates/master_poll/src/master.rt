@@ -1,0 +1,150 @@
+//! The master of all cabinets: a post for each. A round is taken whole or not at all.
+
+ghost use Rattle.std.specs.Prelude.{◌≡◌, ◌≤◌, ◌<◌, ◌+◌, ◌*◌, ℕ, List, [], map, length, All, IfOk, OnErr, OnOk};
+ghost use Rattle.std.specs.Prelude.{Some};
+ghost use Rattle.std.specs.List.{slice_get};
+ghost use Rattle.scenario_data.specs.Content.{scenario_content};
+ghost use Rattle.master_plan.specs.Schedule.{scheduled};
+ghost use Rattle.master_poll.specs.Posts.{IsNew, count_of_post};
+
+use crate::command::Now;
+use crate::post::Post;
+use master_plan::{master_clock, scheduled};
+use round_streams::{Answers, Sending};
+use scenario_data::{Cabinet, Scenario};
+use sig_types::{MasterNote, NoMemory};
+use std::alloc::{AllocError, Global};
+
+/// What the master sends and notes in a round, in the cabinets' order: one sending a cabinet.
+#[derive(Debug, PartialEq, Drop)]
+pub struct Round {
+    pub sendings: Vec<Sending>,
+    pub notes: Vec<MasterNote>,
+}
+
+/// A round that is made but not yet taken: the posts after it, and what it sends and notes.
+#[derive(Debug, Drop)]
+struct Made {
+    posts: Vec<Post>,
+    round: Round,
+}
+
+/// The master: its posts in the cabinets' order, and the number of rounds so far.
+#[derive(Debug, Drop)]
+pub struct Master {
+    posts: Vec<Post>,
+    rounds: u32,
+    ghost counted: { All (λ p. count_of_post p ≤ 2 * rounds) posts.items },
+}
+
+/// What holds for a cabinet in a round, at this time of day.
+fn now_at(s: &Scenario, cabinet: &Cabinet, round: u32, clock: u32) -> Now
+    ensures { result ≡ record { round = round; clock = clock; pattern = scheduled s.now.master.schedule.items cabinet.now.section clock } }
+{
+    Now {
+        round,
+        clock,
+        pattern: scheduled(s, cabinet.section, clock),
+    }
+}
+
+/// So many posts to which nothing was sent yet.
+fn new_posts(alloc: Global, count: usize) -> Result<Vec<Post>, AllocError>
+    ensures count { IfOk result (λ posts. length posts.items ≡ count) }
+    ensures new { IfOk result (λ posts. All IsNew posts.items) }
+{
+    let mut posts = Vec::with_capacity(alloc, count)?;
+    for _place in 0..count {
+        posts.push(Post::new())?;
+    }
+    Ok(posts)
+}
+
+impl Master {
+    ghost use Rattle.master_poll.specs.Sends.{Arrived};
+    ghost use Rattle.master_poll.specs.Masters.{IsMade, IsRound, IsRun, MasterStands, cabinet_count, round_count, with_round};
+
+    /// The master of a scenario's cabinets before the first round.
+    pub fn open(alloc: Global, s: &Scenario) -> Result<Master, NoMemory>
+        ensures stands { IfOk result (λ m. MasterStands m (scenario_content s.now) (λ cab. [])) }
+        ensures cabinets { IfOk result (λ m. cabinet_count m ≡ length s.now.cabinets.items) }
+        ensures rounds { IfOk result (λ m. round_count m ≡ 0) }
+    {
+        let Ok(posts) = new_posts(alloc, s.cabinets.len()) else {
+            return Err(NoMemory);
+        };
+        Ok(Master { posts, rounds: 0 })
+    }
+
+    /// What is kept of the cabinet at a place.
+    fn post_at(&self, place: usize) -> Post
+        requires { place < cabinet_count self.now }
+        ensures post { slice_get self.now.posts.items place ≡ Some result }
+        ensures counted { count_of_post result ≤ 2 * self.now.rounds }
+    {
+        self.posts[place]
+    }
+
+    /// The next round, where this has arrived from each cabinet.
+    fn made(
+        &self,
+        alloc: Global,
+        round: u32,
+        s: &Scenario,
+        arrived: &[Answers],
+    ) -> Result<Made, AllocError>
+        requires order { round ≡ round_count self.now + 1 }
+        requires few { round ≤ 86400 }
+        requires cabinets { cabinet_count self.now ≡ length s.now.cabinets.items }
+        requires arrived { length arrived.now ≡ length s.now.cabinets.items }
+        requires run { IsRun (scenario_content s.now) }
+        ensures made { IfOk result (λ m. (before : ℕ → List Arrived) → MasterStands self.now (scenario_content s.now) before
+            → IsMade m.posts.items m.round (scenario_content s.now) round (with_round arrived.now before)) }
+        ensures cabinets { IfOk result (λ m. length m.posts.items ≡ cabinet_count self.now) }
+        ensures counted { IfOk result (λ m. All (λ p. count_of_post p ≤ 2 * round) m.posts.items) }
+    {
+        let clock = master_clock(s, round);
+        let mut posts = Vec::with_capacity(alloc, self.posts.len())?;
+        let mut sendings = Vec::with_capacity(alloc, self.posts.len())?;
+        let mut notes = Vec::new(alloc);
+        for place in 0..self.posts.len() {
+            let mut post = self.post_at(place);
+            let now = now_at(s, &s.cabinets[place], round, clock);
+            let sending = post.turn(s, place as u32 + 1, now, &arrived[place], &mut notes)?;
+            posts.push(post)?;
+            sendings.push(sending)?;
+        }
+        let round = Round { sendings, notes };
+        Ok(Made { posts, round })
+    }
+
+    /// The master's round, where this has arrived from each cabinet, in the cabinets' order; rounds come one after another
+    /// from 1. Where memory is wanting the master is as before, and the same round may come again.
+    pub fn step(
+        &mut self,
+        alloc: Global,
+        round: u32,
+        s: &Scenario,
+        arrived: &[Answers],
+    ) -> Result<Round, NoMemory>
+        requires order { round ≡ round_count self.old + 1 }
+        requires few { round ≤ 86400 }
+        requires cabinets { cabinet_count self.old ≡ length s.now.cabinets.items }
+        requires arrived { length arrived.now ≡ length s.now.cabinets.items }
+        requires run { IsRun (scenario_content s.now) }
+        ensures round { IfOk result (λ r. (before : ℕ → List Arrived) → MasterStands self.old (scenario_content s.now) before
+            → IsRound self.new r (scenario_content s.now) (with_round arrived.now before)) }
+        ensures rounds { OnOk result (round_count self.new ≡ round) }
+        ensures cabinets { OnOk result (cabinet_count self.new ≡ cabinet_count self.old) }
+        ensures no_memory { OnErr result (self.new ≡ self.old) }
+    {
+        match self.made(alloc, round, s, arrived) {
+            Ok(made) => {
+                self.posts = made.posts;
+                self.rounds = round;
+                Ok(made.round)
+            }
+            Err(_) => Err(NoMemory),
+        }
+    }
+}
