@@ -1,0 +1,10 @@
+mod Sorting
+mod Order
+mod Dues
+mod Dates
+mod Fits
+mod Lookups
+mod Picked
+mod Carried
+mod Reached
+mod Goes

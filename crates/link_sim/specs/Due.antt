@@ -1,0 +1,9 @@
+-- The copies that a line keeps until they are due.
+use Rattle.std.specs.Prelude.{ℕ, ◌==◌, ◌&&◌, nat_lt, if◌then◌else◌, List, [], ◌∷◌}
+use Rattle.link_sim.specs.declared.wire.Late.{Late}
+
+-- the octets of the copies of what was sent before this round, of those that are due in that one
+abbrev pub due_texts : ℕ → ℕ → List Late → List (List ℕ)
+due_texts before due [] = []
+due_texts before due (copy ∷ late) =
+    if nat_lt copy.sent before && (copy.due == due) then copy.octets.items ∷ due_texts before due late else due_texts before due late

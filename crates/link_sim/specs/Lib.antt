@@ -1,0 +1,15 @@
+pub mod Faults
+pub mod Order
+pub mod Kept
+pub mod Carried
+pub mod Due
+pub mod Agenda
+pub mod Priority
+pub mod Made
+pub mod Reaching
+pub mod Lists
+pub mod Trio
+pub mod Link
+pub mod Stands
+pub mod Sorted
+pub mod Holds

@@ -1,0 +1,55 @@
+-- That the link stands for what was sent and replied so far. Rounds have the newest first.
+use Rattle.std.specs.Prelude.{ℕ, ◌≡◌, ◌+◌, List, [], ◌∷◌, length, Option, Some, None}
+use Rattle.arrayvec.specs.ArrayVec.{ArrayVec}
+use Rattle.sig_types.specs.declared.notes.Way.TheVariants.{Poll, Load, Prio}
+use Rattle.scenario_data.specs.declared.scenario.Direction.{Direction}
+use Rattle.scenario_data.specs.declared.scenario.Direction.TheVariants.{Down, Up}
+use Rattle.scenario_data.specs.declared.scenario.Fault.{Fault}
+use Rattle.scenario_data.specs.Content.{ScenarioContent}
+use Rattle.round_streams.specs.declared.Sending.{Sending}
+use Rattle.round_streams.specs.declared.Streams.{Streams}
+use Rattle.round_streams.specs.declared.Answers.{Answers}
+use Rattle.round_streams.specs.Items.{items_of, texts_of}
+use Rattle.link_sim.specs.declared.lines.Lines.{Lines}
+use Rattle.link_sim.specs.declared.lists.Lists.{Lists}
+use Rattle.link_sim.specs.Kept.{faults_in}
+use Rattle.link_sim.specs.Lists.{AreOf}
+use Rattle.link_sim.specs.Reaching.{requested, deliveries, returning}
+use Rattle.link_sim.specs.Trio.{Passed, AreLines, with_round}
+
+-- the octets that are sent on a stream: of one frame or none
+abbrev pub sent_text : Option (ArrayVec ℕ) → List (List ℕ)
+sent_text None = []
+sent_text (Some octets) = octets.items ∷ []
+
+-- what was sent towards a cabinet on its three streams, by the master's frames on two of them
+abbrev pub sent_past : ScenarioContent → ℕ → List (List (List ℕ)) → List (List (List ℕ)) → Passed
+sent_past s cab polls loads = record { polls = polls; loads = loads; prios = requested s cab (length polls) }
+
+-- the lines still hold what they held before the next round
+abbrev pub Stays : Lines → Lines → List Fault → ℕ → Direction → ℕ → Type 0
+Stays old new faults cab direction round =
+    (past : Passed) → AreLines old faults cab direction past → round ≡ length past.polls + 1 → AreLines new faults cab direction past
+
+-- a round towards a cabinet, in which the master sends this: these are the streams that reach it, and the lines hold what is late
+pub record Delivers (old new : Lines) (lists : Lists) (s : ScenarioContent) (round cab : ℕ) (sending : Sending) (streams : Streams) : Type 0 where
+  pub reaches : (polls loads : List (List (List ℕ))) → AreOf lists s → AreLines old (faults_in lists.faults) cab Down (sent_past s cab polls loads)
+      → round ≡ length polls + 1 → items_of streams ≡ deliveries s cab (sent_text sending.poll ∷ polls) (sent_text sending.load ∷ loads)
+  pub holds : (polls loads : List (List (List ℕ))) → AreOf lists s → AreLines old (faults_in lists.faults) cab Down (sent_past s cab polls loads)
+      → round ≡ length polls + 1
+      → AreLines new (faults_in lists.faults) cab Down (sent_past s cab (sent_text sending.poll ∷ polls) (sent_text sending.load ∷ loads))
+
+-- what was replied, and with the replies of one round more
+abbrev pub answered : Answers → Passed → Passed
+answered answers past = with_round (texts_of answers.polls.items) (texts_of answers.loads.items) (texts_of answers.prios.items) past
+
+-- a round back from a cabinet: this arrives of its replies, and the lines hold what is late
+pub record Returns (old new : Lines) (lists : Lists) (s : ScenarioContent) (round cab : ℕ) (answers arrived : Answers) : Type 0 where
+  pub polls : (past : Passed) → AreOf lists s → AreLines old (faults_in lists.faults) cab Up past → round ≡ length past.polls + 1
+      → texts_of arrived.polls.items ≡ returning s cab Poll (texts_of answers.polls.items ∷ past.polls)
+  pub loads : (past : Passed) → AreOf lists s → AreLines old (faults_in lists.faults) cab Up past → round ≡ length past.polls + 1
+      → texts_of arrived.loads.items ≡ returning s cab Load (texts_of answers.loads.items ∷ past.loads)
+  pub prios : (past : Passed) → AreOf lists s → AreLines old (faults_in lists.faults) cab Up past → round ≡ length past.polls + 1
+      → texts_of arrived.prios.items ≡ returning s cab Prio (texts_of answers.prios.items ∷ past.prios)
+  pub holds : (past : Passed) → AreOf lists s → AreLines old (faults_in lists.faults) cab Up past → round ≡ length past.polls + 1
+      → AreLines new (faults_in lists.faults) cab Up (answered answers past)

@@ -1,0 +1,22 @@
+-- What the link makes of the items of a scenario's lists.
+use Rattle.std.specs.Prelude.{ℕ, pos, ◌+◌, if◌then◌else◌, List, [], ◌∷◌}
+use Rattle.sig_types.specs.declared.frame.Field.{Field}
+use Rattle.sig_types.specs.declared.notes.Way.{Way}
+use Rattle.scenario_data.specs.declared.scenario.Input.{Input}
+use Rattle.scenario_data.specs.declared.scenario.PriorityItem.{PriorityItem}
+use Rattle.scenario_data.specs.Content.{FrameContent}
+use Rattle.requests.specs.Requests.{set_text}
+use Rattle.link_sim.specs.Faults.{same_way}
+use Rattle.link_sim.specs.Priority.{act_bind}
+
+-- of an input what happens at the street
+abbrev pub field_made : ℕ → Input → List Field
+field_made place i = i.field ∷ []
+
+-- of a frame on this stream its octets
+abbrev pub frame_made : Way → ℕ → FrameContent → List (List ℕ)
+frame_made way place f = if same_way f.stream way then f.hex ∷ [] else []
+
+-- of a priority request the frame that carries it, under the id of its place
+abbrev pub request_made : List ℕ → ℕ → PriorityItem → List (List ℕ)
+request_made community place p = set_text community (pos (2000000000 + place)) (act_bind p.act ∷ []) ∷ []

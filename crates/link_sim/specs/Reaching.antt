@@ -1,0 +1,58 @@
+-- What reaches a cabinet in a round, and what of its replies reaches the master: functions of the scenario and of what was sent on
+-- a stream in each round so far. Lists of rounds have the newest first.
+use Rattle.std.specs.Prelude.{ℕ, suc, zero, ◌+◌, ◌==◌, ◌&&◌, Bool, List, [], ◌∷◌, ◌++◌, map, length, replicate}
+use Rattle.std.specs.List.{filter}
+use Rattle.sig_types.specs.declared.notes.Way.{Way}
+use Rattle.sig_types.specs.declared.notes.Way.TheVariants.{Poll, Load, Prio}
+use Rattle.scenario_data.specs.declared.scenario.Direction.TheVariants.{Down, Up}
+use Rattle.scenario_data.specs.Content.{ScenarioContent, FrameContent}
+use Rattle.scenario_data.specs.Inputs.{inputs_of}
+use Rattle.round_streams.specs.Items.{Item, Told, Came, Ticked}
+use Rattle.link_sim.specs.declared.Line.{Line}
+use Rattle.link_sim.specs.Faults.{same_way}
+use Rattle.link_sim.specs.Priority.{priority_texts}
+use Rattle.link_sim.specs.Carried.{carried}
+
+-- the frame is one of a round, a cabinet and a stream
+abbrev pub is_frame_of : ℕ → ℕ → Way → FrameContent → Bool
+is_frame_of round cab way f = (f.round == round) && (f.cabinet == cab) && same_way f.stream way
+
+-- the scenario's own frames on a stream
+abbrev pub frames_of : List FrameContent → ℕ → ℕ → Way → List (List ℕ)
+frames_of frames round cab way = map (λ f. f.hex) (filter (is_frame_of round cab way) frames)
+
+-- the scenario's priority requests to a cabinet in each of so many rounds
+abbrev pub requested : ScenarioContent → ℕ → ℕ → List (List (List ℕ))
+requested s cab zero = []
+requested s cab (suc rounds) = priority_texts s.community s.priority (rounds + 1) cab ∷ requested s cab rounds
+
+-- what is sent on a stream in each round so far: by the master, or in its place, on the priority stream, by the scenario
+abbrev pub sent_on : ScenarioContent → ℕ → Way → List (List (List ℕ)) → List (List (List ℕ))
+sent_on s cab Poll sent = sent
+sent_on s cab Load sent = sent
+sent_on s cab Prio sent = requested s cab (length sent)
+
+-- the line of a stream towards a cabinet, and the one back
+abbrev pub line_down : ℕ → Way → Line
+line_down cab way = record { cab = cab; way = way; direction = Down }
+
+abbrev pub line_up : ℕ → Way → Line
+line_up cab way = record { cab = cab; way = way; direction = Up }
+
+-- what reaches the cabinet on a stream in the newest round: what the link carries, then the scenario's own frames
+abbrev pub reaching : ScenarioContent → ℕ → Way → List (List (List ℕ)) → List (List ℕ)
+reaching s cab way sent = carried s.faults (line_down cab way) (sent_on s cab way sent) ++ frames_of s.frames (length sent) cab way
+
+-- all that reaches it, by streams, where the master sent these on its two: inputs, frames and ticks
+abbrev pub deliveries : ScenarioContent → ℕ → List (List (List ℕ)) → List (List (List ℕ)) → List (List Item)
+deliveries s cab polls loads =
+    map Told (inputs_of (length polls) cab s.inputs)
+    ∷ map Came (reaching s cab Poll polls)
+    ∷ map Came (reaching s cab Load loads)
+    ∷ map Came (reaching s cab Prio polls)
+    ∷ replicate s.ticks Ticked
+    ∷ []
+
+-- what of the replies on a stream reaches the master of the newest round
+abbrev pub returning : ScenarioContent → ℕ → Way → List (List (List ℕ)) → List (List ℕ)
+returning s cab way replies = carried s.faults (line_up cab way) replies

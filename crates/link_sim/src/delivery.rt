@@ -1,0 +1,93 @@
+//! What reaches one cabinet in a round, and what of its replies reaches the master.
+
+ghost use Rattle.std.specs.Prelude.{ℕ, ◌≡◌, ◌≤◌, ◌∷◌, [], length, IfOk};
+ghost use Rattle.scenario_data.specs.Content.{ScenarioContent, scenario_content};
+ghost use Rattle.scenario_data.specs.declared.scenario.Direction.TheVariants.{Down, Up};
+ghost use Rattle.round_streams.specs.Items.{texts_of};
+ghost use Rattle.link_sim.specs.Kept.{faults_in};
+ghost use Rattle.link_sim.specs.Link.{sent_text, Stays, Delivers, Returns};
+
+use crate::{Lines, Lists};
+use round_streams::{Answers, Sending, Streams};
+use scenario_data::Scenario;
+use sig_types::{NoMemory, Octets};
+use std::alloc::Global;
+use std::slice;
+
+/// What is sent on a stream, as a list.
+fn sent(frame: &Option<Octets>) -> &[Octets]
+    ensures { texts_of result.now ≡ sent_text frame.now }
+{
+    match frame {
+        Some(octets) => slice::from_ref(octets),
+        None => &[],
+    }
+}
+
+/// What reaches a cabinet in a round in which the master sends this. Where memory is refused, the lines stay for the same round.
+pub(crate) fn deliver(
+    lines: &mut Lines,
+    lists: &Lists,
+    alloc: Global,
+    round: u32,
+    cab: u32,
+    s: &Scenario,
+    sending: &Sending,
+) -> Result<Streams, NoMemory>
+    requires few { length s.now.priority.items ≤ 100000 }
+    ensures delivers { IfOk result (λ streams. Delivers lines.old lines.new lists.now (scenario_content s.now) round cab sending.now streams) }
+    ensures stays { Stays lines.old lines.new (faults_in lists.now.faults) cab Down round }
+{
+    let prios = match lists.requests(alloc, round, cab, s) {
+        Ok(prios) => prios,
+        Err(error) => return Err(error),
+    };
+    let fields = match lists.fields(alloc, round, cab, s) {
+        Ok(fields) => fields,
+        Err(error) => return Err(error),
+    };
+    let polls = sent(&sending.poll);
+    let loads = sent(&sending.load);
+    let arrived = match lines.carry(alloc, &lists.faults, round, polls, loads, &prios) {
+        Ok(arrived) => arrived,
+        Err(error) => return Err(error),
+    };
+    match lists.with_own(arrived, round, cab, s) {
+        Ok(all) => Ok(Streams {
+            fields,
+            polls: all.polls,
+            loads: all.loads,
+            prios: all.prios,
+            ticks: s.ticks,
+        }),
+        Err(error) => Err(error),
+    }
+}
+
+/// What arrives of a cabinet's replies in a round. Where memory is refused, the lines stay for the same round.
+pub(crate) fn bring_back(
+    lines: &mut Lines,
+    lists: &Lists,
+    alloc: Global,
+    round: u32,
+    answers: &Answers,
+) -> Result<Answers, NoMemory>
+    ensures returns { IfOk result (λ arrived. (s : ScenarioContent) (cab : ℕ) → Returns lines.old lines.new lists.now s round cab answers.now arrived) }
+    ensures stays { (cab : ℕ) → Stays lines.old lines.new (faults_in lists.now.faults) cab Up round }
+{
+    match lines.carry(
+        alloc,
+        &lists.faults,
+        round,
+        &answers.polls,
+        &answers.loads,
+        &answers.prios,
+    ) {
+        Ok(arrived) => Ok(Answers {
+            polls: arrived.polls,
+            loads: arrived.loads,
+            prios: arrived.prios,
+        }),
+        Err(error) => Err(error),
+    }
+}
