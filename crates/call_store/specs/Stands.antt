@@ -2,6 +2,9 @@
 use Rattle.std.specs.Prelude.{ℕ, ◌≤◌, ◌<◌, ◌||◌, Bool, Option, Some, None}
 use Rattle.sig_types.specs.declared.frame.Field.{Field}
 use Rattle.sig_types.specs.declared.frame.Field.TheVariants.{Veh, Ped as Button, Preempt}
+use Rattle.sig_types.specs.declared.frame.Frame.{Frame}
+use Rattle.sig_types.specs.declared.frame.Ped.TheVariants.{Walk}
+use Rattle.sig_types.specs.Colour.{same_signal, signal_of}
 use Rattle.sig_types.specs.Phases.{is_in}
 use Rattle.sig_tables.specs.Past.{Past}
 use Rattle.sig_tables.specs.Splits.{split_maximum}
@@ -16,6 +19,10 @@ pub record CallsStand (c : Calls) (past : Past) : Type 0 where
   pub pedestrian : Has c.pedestrian (is_in (pedestrian_seen past))
   pub detectors : Has c.detectors (is_in (detectors_seen past))
   pub turned_on : Has c.turned_on (some_heard (λ _ field q. turns_on field q) past.heard)
+
+-- phase p shows Walk
+abbrev pub is_walking : Frame → ℕ → Bool
+is_walking f p = same_signal (signal_of f p) Walk
 
 -- a detector or a button is that of a phase 1 to 16
 abbrev pub NamesPhase : Field → Type 0

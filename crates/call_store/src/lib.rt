@@ -12,7 +12,6 @@ use split_options::SplitOptions;
 mod served;
 
 pub use served::signalling;
-use served::{without_green, without_walk};
 
 /// The locked calls of vehicles and of pedestrians, the detectors that are on, and those that were turned on since the
 /// last tick. Phases are 1 to 16, the disabled ones among them.
@@ -36,7 +35,7 @@ impl Calls {
     ghost use Rattle.sig_tables.specs.Layout.{LaidOut, Has};
     ghost use Rattle.sig_tables.specs.Seen.{frame_seen, vehicle_seen, pedestrian_seen, detectors_seen, demand_with, quiet_with};
     ghost use Rattle.split_options.specs.Options.{AreBinding};
-    ghost use Rattle.call_store.specs.Stands.{CallsStand, NamesPhase, is_active_with};
+    ghost use Rattle.call_store.specs.Stands.{CallsStand, NamesPhase, is_active_with, is_walking};
 
     /// No call, and no detector on.
     pub fn new() -> Calls
@@ -156,13 +155,13 @@ impl Calls {
 
     /// The frame of a tick: it ends the vehicle calls of the phases that it shows green and the pedestrian calls of those
     /// on which it shows walk.
-    pub fn step(&mut self, given: &Frame)
-        ensures stands { (past : Past) (m : Moment) → CallsStand self.old past → m.frame ≡ given.now
-            → m.vehicle ≡ vehicle_seen past → m.pedestrian ≡ pedestrian_seen past → m.detectors ≡ detectors_seen past
+    pub fn step(&mut self, green: PhaseSet, walking: PhaseSet)
+        ensures stands { (past : Past) (m : Moment) → CallsStand self.old past → Has green (is_green m.frame)
+            → Has walking (is_walking m.frame) → m.vehicle ≡ vehicle_seen past → m.pedestrian ≡ pedestrian_seen past → m.detectors ≡ detectors_seen past
             → CallsStand self.new (with_moment past m) }
     {
-        self.vehicle = without_green(self.vehicle, &given.veh);
-        self.pedestrian = without_walk(self.pedestrian, &given.ped);
+        self.vehicle = self.vehicle.minus(green);
+        self.pedestrian = self.pedestrian.minus(walking);
         self.turned_on = PhaseSet::empty();
     }
 }

@@ -13,7 +13,7 @@ use Rattle.sig_tables.specs.Moves.{Moves}
 use Rattle.sig_tables.specs.Decide.{past_at}
 use Rattle.sig_tables.specs.Layout.{LaidOut, Ordered, Has}
 use Rattle.sig_tables.specs.Seen.{frame_seen}
-use Rattle.call_store.specs.Stands.{CallsStand}
+use Rattle.call_store.specs.Stands.{CallsStand, is_walking}
 use Rattle.ped_clock.specs.Stands.{SignalsStand, step_count as signal_steps}
 use Rattle.phase_clock.specs.Stands.{ClocksStand, step_count}
 use Rattle.coord_count.specs.declared.Count.{Count}
@@ -70,6 +70,7 @@ pub record Keeps (c : Controller) (past : Past) : Type 0 where
   pub preempts : PreemptsStand c.preempts past
   pub requests : QueueStands c.requests past
   pub shown : ShowsColours c.shown (frame_seen past).veh
+  pub walking : Has c.walking (is_walking (frame_seen past))
   pub signalling : Has c.signalling (is_signalling (frame_seen past))
   pub names : NamesPhases (frame_seen past)
   pub last : (r : ℕ) → 1 ≤ r → r ≤ 2 → get_or c.last (r - 1) 0 ≡ last_on r past.moments

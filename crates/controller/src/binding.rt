@@ -64,7 +64,7 @@ fn services(tables: &Tables) -> [u32; 16]
 }
 
 /// The set of a phase alone; what is no phase gives none.
-fn lone(phase: u8) -> PhaseSet
+pub(crate) fn lone(phase: u8) -> PhaseSet
     ensures { Has result (λ p. p == phase) }
 {
     if phase == 0 {

@@ -1,8 +1,9 @@
 //! The colours and the frame of a tick, from what the rings do.
 
-ghost use Rattle.std.specs.Prelude.{◌≡◌, ◌<◌, ◌≤◌, ℕ, List, map, IsTrue};
+ghost use Rattle.std.specs.Prelude.{◌≡◌, ◌<◌, ◌≤◌, ℕ, List, map, IsTrue, true};
 
 use crate::Controller;
+use crate::binding::lone;
 use crate::by_colour::ByColour;
 use crate::course::Course;
 use crate::seeing::Sight;
@@ -27,8 +28,18 @@ pub(crate) fn first_frame() -> Frame
 
 ghost use Rattle.sig_tables.specs.Past.{first_frame};
 
+/// The frame of a tick, the phases by its colours, and whether every phase keeps the colour and the signal that it had.
+#[derive(Clone, Copy)]
+pub(crate) struct Next {
+    pub frame: Frame,
+    pub shown: ByColour,
+    pub keeps_colours: bool,
+    pub keeps_signals: bool,
+}
+
 impl Controller {
-    ghost use Rattle.sig_types.specs.Phases.{all_phases};
+    ghost use Rattle.sig_types.specs.Phases.{all_phases, is_phase};
+    ghost use Rattle.sig_tables.specs.Looking.{runs_on};
     ghost use Rattle.sig_types.specs.Colour.{same_colour, colour_in, colour_of};
     ghost use Rattle.sig_types.specs.declared.frame.Colour.TheVariants.{Red};
     ghost use Rattle.sig_types.specs.declared.frame.Ped.TheVariants.{Walk};
@@ -40,10 +51,11 @@ impl Controller {
     ghost use Rattle.sig_tables.specs.Ticking.{signal_after, frame_of};
     ghost use Rattle.sig_tables.specs.Layout.{Has};
     ghost use Rattle.sig_tables.specs.Seen.{frame_seen, mode_seen, sight_seen};
-    ghost use Rattle.controller.specs.Shows.{ShowsColours};
+    ghost use Rattle.controller.specs.Shows.{ShowsColours, is_clearing};
     ghost use Rattle.controller.specs.Walks.{crossing_seen};
     ghost use Rattle.controller.specs.Course.{Runs};
     ghost use Rattle.controller.specs.Sees.{Sees};
+    ghost use Rattle.controller.specs.Comes.{Comes};
     ghost use Rattle.controller.specs.StandsFor.{Keeps, AreMoves, tick_count};
 
     /// The colour of a phase, 1 to 16, after these moves.
@@ -74,25 +86,63 @@ impl Controller {
         }
     }
 
-    /// Whether every phase keeps the colour that it has in these of the last frame: none ends or begins, and none is in
-    /// Yellow or red clearance.
+    /// Whether every phase keeps the colour that it has in these of the last frame: none ends or begins, and those in Yellow
+    /// or red clearance stay in it.
     fn is_still(&self, veh: &[Colour; 16], moves: Changes) -> bool
+        requires few { tick_count self.now < 4294967295 }
         ensures still { (past : Past) (w : Moves) → Keeps self.now past → AreMoves moves w → veh.now ≡ (frame_seen past).veh
             → IsTrue result → veh.now ≡ colours_of past w }
     {
         if moves.ends.is_empty() && moves.begins.is_empty() {
-            self.shown.clearing.is_empty()
+            self.clears_on()
         } else {
             false
         }
     }
 
-    /// The colours after these moves.
-    pub(crate) fn colours(&self, moves: Changes) -> [Colour; 16]
+    /// Whether every phase in Yellow or red clearance stays in it. Only those that are on in a ring are looked at: where
+    /// another clears, this says no.
+    fn clears_on(&self) -> bool
         requires few { tick_count self.now < 4294967295 }
-        ensures colours { (past : Past) (w : Moves) → Keeps self.now past → AreMoves moves w → result ≡ colours_of past w }
+        ensures stays { (past : Past) (p : ℕ) → Keeps self.now past → IsTrue result → is_phase p ≡ true
+            → is_clearing (frame_seen past).veh p ≡ true
+            → runs_on p past.tables past.moments (colour_of (frame_seen past) p) ≡ colour_of (frame_seen past) p }
     {
-        if self.is_still(&self.frame.veh, moves) {
+        let clearing = self.shown.clearing;
+        if clearing.is_empty() {
+            return true;
+        }
+        let [first, second] = self.frame.on;
+        if clearing.minus(lone(first)).minus(lone(second)).is_empty() {
+            self.keeps_colour(first) && self.keeps_colour(second)
+        } else {
+            false
+        }
+    }
+
+    /// Whether a phase that neither ends nor begins keeps its colour. What is no phase does.
+    fn keeps_colour(&self, phase: u8) -> bool
+        requires few { tick_count self.now < 4294967295 }
+        ensures stays { (past : Past) → Keeps self.now past → IsTrue result → is_phase phase ≡ true
+            → runs_on phase past.tables past.moments (colour_of (frame_seen past) phase) ≡ colour_of (frame_seen past) phase }
+    {
+        if phase == 0 {
+            true
+        } else if phase > 16 {
+            true
+        } else {
+            self.by_itself(phase) == self.frame.veh[phase as usize - 1]
+        }
+    }
+
+    /// The colours after these moves: those of the last frame, where every phase keeps its own.
+    fn colours(&self, moves: Changes, kept: bool) -> [Colour; 16]
+        requires few { tick_count self.now < 4294967295 }
+        ensures colours { (past : Past) (w : Moves) → Keeps self.now past → AreMoves moves w
+            → (IsTrue kept → self.now.frame.veh ≡ colours_of past w) → result ≡ colours_of past w }
+        ensures kept { IsTrue kept → result ≡ self.now.frame.veh }
+    {
+        if kept {
             return self.frame.veh;
         }
         let mut veh = [Colour::Red; 16];
@@ -103,14 +153,10 @@ impl Controller {
     }
 
     /// The phases by these colours; the sets that are kept, where the colours are those of the last frame.
-    pub(crate) fn shown_in(&self, veh: &[Colour; 16]) -> ByColour
-        ensures shown { (past : Past) → Keeps self.now past → ShowsColours result veh.now }
+    fn shown_in(&self, veh: &[Colour; 16], kept: bool) -> ByColour
+        ensures shown { (past : Past) → Keeps self.now past → (IsTrue kept → veh.now ≡ self.now.frame.veh) → ShowsColours result veh.now }
     {
-        if *veh == self.frame.veh {
-            self.shown
-        } else {
-            ByColour::of(veh)
-        }
+        if kept { self.shown } else { ByColour::of(veh) }
     }
 
     /// The phase of a ring, 1 to 2, that is on in these colours, or 0.
@@ -130,13 +176,21 @@ impl Controller {
         reached(course.mode, self.binding.plan.coordinated, veh)
     }
 
-    /// The frame of this tick, from its mode, its colours and its signals.
-    fn frame_after(&self, course: &Course, mode: Mode, veh: [Colour; 16], ped: [Ped; 16]) -> Frame
-        ensures frame { (past : Past) → Runs self.now course.now past
+    /// The frame of this tick, from its mode, its colours, the phases in Red among them, and its signals.
+    fn frame_after(
+        &self,
+        course: &Course,
+        mode: Mode,
+        veh: [Colour; 16],
+        red: PhaseSet,
+        ped: [Ped; 16],
+    ) -> Frame
+        ensures frame { (past : Past) → Runs self.now course.now past → Has red (λ p. same_colour (colour_in veh p) Red)
             → ped ≡ map (signal_after (course_of past) past (crossing_seen past mode) veh mode) all_phases
             → result ≡ frame_of (course_of past) past (sight_seen past) veh mode }
+        ensures veh { result.veh ≡ veh }
+        ensures ped { result.ped ≡ ped }
     {
-        let red = self.shown_in(&veh).red;
         Frame {
             veh,
             ped,
@@ -148,15 +202,24 @@ impl Controller {
         }
     }
 
-    /// The frame of this tick.
-    pub(crate) fn next_frame(&self, course: &Course, sight: &Sight) -> Frame
+    /// The frame of this tick, and what it keeps of the last one.
+    pub(crate) fn next_frame(&self, course: &Course, sight: &Sight) -> Next
         requires few { tick_count self.now < 4294967295 }
-        ensures given { (past : Past) → Runs self.now course.now past → Sees sight.now past → result ≡ (next_moment past).frame }
+        ensures given { (past : Past) → Runs self.now course.now past → Sees sight.now past → Comes result past }
     {
         let moves = self.moves(course, sight);
-        let veh = self.colours(moves);
+        let keeps_colours = self.is_still(&self.frame.veh, moves);
+        let veh = self.colours(moves, keeps_colours);
         let mode = self.mode_reached(course, &veh);
         let walks = self.walks(course, sight, moves, mode);
-        self.frame_after(course, mode, veh, self.signals_after(course, walks))
+        let keeps_signals = self.is_steady(course, &self.frame.ped, walks);
+        let ped = self.signals_after(course, walks, keeps_signals);
+        let shown = self.shown_in(&veh, keeps_colours);
+        Next {
+            frame: self.frame_after(course, mode, veh, shown.red, ped),
+            shown,
+            keeps_colours,
+            keeps_signals,
+        }
     }
 }

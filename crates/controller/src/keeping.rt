@@ -4,6 +4,7 @@ ghost use Rattle.std.specs.Prelude.{◌≡◌, ◌<◌, ◌≤◌, ◌+◌, ◌=
 ghost use Rattle.sig_types.specs.Colour.{is_start};
 
 use crate::Controller;
+use crate::colouring::Next;
 use crate::course::{Course, is_coord};
 use crate::seeing::Sight;
 use call_store::signalling;
@@ -63,21 +64,35 @@ impl Controller {
     ghost use Rattle.sig_tables.specs.Decide.{with_moment, next_moment};
     ghost use Rattle.sig_types.specs.declared.frame.Frame.{Frame};
     ghost use Rattle.sig_tables.specs.Layout.{Has};
+    ghost use Rattle.call_store.specs.Stands.{is_walking};
     ghost use Rattle.controller.specs.Shows.{is_signalling};
+    ghost use Rattle.controller.specs.Comes.{Comes};
     ghost use Rattle.controller.specs.Course.{Runs};
     ghost use Rattle.controller.specs.Sees.{Sees};
     ghost use Rattle.sig_tables.specs.Choosing.{is_in_step};
     ghost use Rattle.coord_count.specs.Stands.{CountStands};
     ghost use Rattle.controller.specs.StandsFor.{Keeps, CountsOn, tick_count, install_count};
 
-    /// The phases on which these signals are Walk or Flash; the set that is kept, where they are those of the last frame.
-    fn signalling_in(&self, ped: &[Ped; 16]) -> PhaseSet
-        ensures signalling { (past : Past) (f : Frame) → Keeps self.now past → f.ped ≡ ped.now → Has result (is_signalling f) }
+    /// The phases that show Walk; the set that is kept, where every phase keeps its signal.
+    fn walking_in(&self, next: &Next) -> PhaseSet
+        ensures walking { (past : Past) → Keeps self.now past → Comes next.now past → Has result (is_walking next.now.frame) }
     {
-        if *ped == self.frame.ped {
+        if next.keeps_signals {
+            self.walking
+        } else {
+            signalling(&next.frame.ped, Ped::Walk)
+        }
+    }
+
+    /// The phases that show Walk, which are these, or Flash; the set that is kept, where every phase keeps its signal.
+    fn signalling_in(&self, next: &Next, walking: PhaseSet) -> PhaseSet
+        ensures signalling { (past : Past) → Keeps self.now past → Comes next.now past → Has walking (is_walking next.now.frame)
+            → Has result (is_signalling next.now.frame) }
+    {
+        if next.keeps_signals {
             self.signalling
         } else {
-            signalling(ped, Ped::Walk).union(signalling(ped, Ped::Flash))
+            walking.union(signalling(&next.frame.ped, Ped::Flash))
         }
     }
 
@@ -104,27 +119,34 @@ impl Controller {
     }
 
     /// Keeps the frame of this tick.
-    pub(crate) fn keep(&mut self, frame: &Frame, course: &Course, sight: &Sight)
+    pub(crate) fn keep(&mut self, next: &Next, course: &Course, sight: &Sight)
         requires few { tick_count self.old < 4294967295 }
         requires of_day { course.now.clock < 864000 }
-        ensures keeps { (past : Past) → Runs self.old course.now past → Sees sight.now past → frame.now ≡ (next_moment past).frame
+        ensures keeps { (past : Past) → Runs self.old course.now past → Sees sight.now past → Comes next.now past
             → Keeps self.new (with_moment past (next_moment past)) }
         ensures ticks { tick_count self.new ≡ tick_count self.old + 1 }
         ensures installs { install_count self.new ≡ install_count self.old }
     {
+        let frame = &next.frame;
         let in_start = shows_start(frame);
-        let shown = self.shown_in(&frame.veh);
-        let signalling = self.signalling_in(&frame.ped);
+        let walking = self.walking_in(next);
+        let signalling = self.signalling_in(next, walking);
         let count = self.count_after(frame, course);
-        self.calls.step(frame);
-        self.clocks
-            .step(frame, sight.active, sight.opposed, &self.tables);
-        self.signals.step(frame, &self.tables);
+        self.calls.step(next.shown.green, walking);
+        self.clocks.step(
+            frame,
+            next.keeps_colours,
+            sight.active,
+            sight.opposed,
+            &self.tables,
+        );
+        self.signals.step(frame, next.keeps_signals, &self.tables);
         self.preempts.step(frame);
         self.requests.step(course.active);
         self.orders.step(course.command, course.clock);
         self.count = count;
-        self.shown = shown;
+        self.shown = next.shown;
+        self.walking = walking;
         self.signalling = signalling;
         self.last = [
             last_after(self.last[0], frame.on[0], in_start),

@@ -46,7 +46,8 @@ pub struct Controller {
     requests: Queue,
     /// The phases by the colour that the last frame shows.
     shown: ByColour,
-    /// The phases on which the last frame shows Walk or Flash.
+    /// The phases on which the last frame shows Walk, and those on which it shows Walk or Flash.
+    walking: PhaseSet,
     signalling: PhaseSet,
     /// The phase that was last on in each ring since Start, or 0.
     last: [u8; 2],
@@ -95,6 +96,7 @@ impl Controller {
             preempts: Preempts::new(),
             requests: Queue::new(),
             shown: ByColour::of(&first_frame().veh),
+            walking: PhaseSet::empty(),
             signalling: PhaseSet::empty(),
             last: [0; 2],
             latest: 0,
@@ -117,9 +119,9 @@ impl Controller {
         self.follow(mode);
         let course = self.course(mode, command);
         let sight = self.sight(&course);
-        let frame = self.next_frame(&course, &sight);
-        self.keep(&frame, &course, &sight);
-        frame
+        let next = self.next_frame(&course, &sight);
+        self.keep(&next, &course, &sight);
+        next.frame
     }
 
     /// An input from the street: a detector or a push button of a phase, 1 to 16, or the input of a preempt, 1 to 8. The

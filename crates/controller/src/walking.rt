@@ -1,9 +1,10 @@
 //! The pedestrian signals of a tick: what they do by themselves, and where Walk begins (NEMA TS 2: walk, pedestrian
 //! clearance, steady don't walk).
 
-ghost use Rattle.std.specs.Prelude.{◌≡◌, ◌<◌, ◌≤◌, ℕ, Bool, if◌then◌else◌, List, map, IsTrue};
+ghost use Rattle.std.specs.Prelude.{◌≡◌, ◌<◌, ◌≤◌, ℕ, Bool, if◌then◌else◌, List, map, IsTrue, true};
 
 use crate::Controller;
+use crate::binding::lone;
 use crate::course::{Course, is_coord};
 use crate::seeing::Sight;
 use flash_mode::Turn;
@@ -47,7 +48,9 @@ impl Controller {
     ghost use Rattle.ped_clock.specs.Walks.{SaysInCoord};
     ghost use Rattle.controller.specs.Binds.{IsBound};
     ghost use Rattle.sig_types.specs.declared.frame.Ped.TheVariants.{Walk};
-    ghost use Rattle.sig_types.specs.Phases.{all_phases};
+    ghost use Rattle.sig_types.specs.Phases.{all_phases, is_phase};
+    ghost use Rattle.sig_types.specs.Colour.{signal_of};
+    ghost use Rattle.controller.specs.Shows.{is_signalling};
     ghost use Rattle.sig_types.specs.PhaseSet.{has};
     ghost use Rattle.sig_tables.specs.Past.{Past};
     ghost use Rattle.sig_tables.specs.Goals.{lesser_in};
@@ -144,26 +147,68 @@ impl Controller {
         walks(&self.layout, self.options_reached(mode), &crosswalks)
     }
 
-    /// Whether every phase keeps the signal that it has in these of the last frame: no walk begins, and none shows Walk or
-    /// Flash.
-    fn is_steady(&self, ped: &[Ped; 16], walks: PhaseSet) -> bool
-        ensures steady { (past : Past) (begins : ℕ → Bool) → Keeps self.now past → Has walks begins → ped.now ≡ (frame_seen past).ped
+    /// Whether every phase keeps the signal that it has in these of the last frame: no walk begins, and those that show Walk or
+    /// Flash go on with it.
+    pub(crate) fn is_steady(&self, course: &Course, ped: &[Ped; 16], walks: PhaseSet) -> bool
+        requires few { tick_count self.now < 4294967295 }
+        ensures steady { (past : Past) (begins : ℕ → Bool) → Runs self.now course.now past → Has walks begins → ped.now ≡ (frame_seen past).ped
             → IsTrue result → ped.now ≡ map (λ p. if begins p then Walk else signal_seen past p) all_phases }
     {
         if walks.is_empty() {
-            self.signalling.is_empty()
+            self.signals_on(course)
         } else {
             false
         }
     }
 
-    /// The signals of this tick, where Walk begins on these phases.
-    pub(crate) fn signals_after(&self, course: &Course, walks: PhaseSet) -> [Ped; 16]
+    /// Whether every phase that shows Walk or Flash goes on with it. Only those that are on in a ring are looked at: where
+    /// another signals, this says no.
+    fn signals_on(&self, course: &Course) -> bool
         requires few { tick_count self.now < 4294967295 }
+        ensures stays { (past : Past) (p : ℕ) → Runs self.now course.now past → IsTrue result → is_phase p ≡ true
+            → is_signalling (frame_seen past) p ≡ true → signal_seen past p ≡ signal_of (frame_seen past) p }
+    {
+        if self.signalling.is_empty() {
+            return true;
+        }
+        let [first, second] = self.frame.on;
+        if self
+            .signalling
+            .minus(lone(first))
+            .minus(lone(second))
+            .is_empty()
+        {
+            self.keeps_signal(course, first) && self.keeps_signal(course, second)
+        } else {
+            false
+        }
+    }
+
+    /// Whether a phase on which no walk begins keeps its signal. What is no phase does.
+    fn keeps_signal(&self, course: &Course, phase: u8) -> bool
+        requires few { tick_count self.now < 4294967295 }
+        ensures stays { (past : Past) → Runs self.now course.now past → IsTrue result → is_phase phase ≡ true
+            → signal_seen past phase ≡ signal_of (frame_seen past) phase }
+    {
+        if phase == 0 {
+            true
+        } else if phase > 16 {
+            true
+        } else {
+            let lesser = self.lesser_for(course, phase);
+            self.signal_within(phase, lesser) == self.frame.ped[phase as usize - 1]
+        }
+    }
+
+    /// The signals of this tick, where Walk begins on these phases: those of the last frame, where every phase keeps its own.
+    pub(crate) fn signals_after(&self, course: &Course, walks: PhaseSet, kept: bool) -> [Ped; 16]
+        requires few { tick_count self.now < 4294967295 }
+        ensures kept { IsTrue kept → result ≡ self.now.frame.ped }
         ensures signals { (past : Past) (begins : ℕ → Bool) → Runs self.now course.now past → Has walks begins
+            → (IsTrue kept → self.now.frame.ped ≡ map (λ p. if begins p then Walk else signal_seen past p) all_phases)
             → result ≡ map (λ p. if begins p then Walk else signal_seen past p) all_phases }
     {
-        if self.is_steady(&self.frame.ped, walks) {
+        if kept {
             return self.frame.ped;
         }
         let mut ped = [Ped::Dont; 16];

@@ -19,6 +19,7 @@ returns-clause-stands c = λ h k.
       preempts = k.preempts;
       requests = c.cancel.ensures.stands past k.requests (c.ticks-ticks.ensures.ticks ∙ k.orders.ticks);
       shown = k.shown;
+      walking = k.walking;
       signalling = k.signalling;
       names = k.names;
       last = k.last;

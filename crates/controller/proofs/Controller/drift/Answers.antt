@@ -18,6 +18,7 @@ returns-clause-stands c = λ h k.
       preempts = k.preempts;
       requests = λ i a b. let q = k.requests i a b in record { place = q.place; cancelled = q.cancelled; given = q.given; stays = q.stays; active = q.active };
       shown = k.shown;
+      walking = k.walking;
       signalling = k.signalling;
       names = k.names;
       last = k.last;

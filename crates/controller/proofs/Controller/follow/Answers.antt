@@ -20,6 +20,7 @@ returns-clause-keeps c = λ past k.
       preempts = k.preempts;
       requests = k.requests;
       shown = k.shown;
+      walking = k.walking;
       signalling = k.signalling;
       names = k.names;
       last = k.last;

@@ -24,6 +24,7 @@ returns-in-Veh-clause-stands c = λ h k.
           (Veh c.in-Veh.phase c.in-Veh.on)) past tt k.preempts);
       requests = λ i a b. let q = k.requests i a b in record { place = q.place; cancelled = q.cancelled; given = q.given; stays = q.stays; active = q.active };
       shown = k.shown;
+      walking = k.walking;
       signalling = k.signalling;
       names = k.names;
       last = k.last;
@@ -59,6 +60,7 @@ returns-in-Ped-clause-stands c = λ h k.
           (Button c.in-Ped.phase)) past tt k.preempts);
       requests = λ i a b. let q = k.requests i a b in record { place = q.place; cancelled = q.cancelled; given = q.given; stays = q.stays; active = q.active };
       shown = k.shown;
+      walking = k.walking;
       signalling = k.signalling;
       names = k.names;
       last = k.last;
@@ -94,6 +96,7 @@ returns-in-Preempt-clause-stands c = λ h k.
           (c.input-in-Preempt.ensures.stands past k.preempts);
       requests = λ i a b. let q = k.requests i a b in record { place = q.place; cancelled = q.cancelled; given = q.given; stays = q.stays; active = q.active };
       shown = k.shown;
+      walking = k.walking;
       signalling = k.signalling;
       names = k.names;
       last = k.last;

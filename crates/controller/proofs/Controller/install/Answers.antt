@@ -24,6 +24,7 @@ returns-clause-stands c = λ h k.
       preempts = k.preempts;
       requests = queue-kept c.args.self.now.requests past c.args.tables e k.requests;
       shown = k.shown;
+      walking = k.walking;
       signalling = k.signalling;
       names = k.names;
       last = k.last;

@@ -11,7 +11,9 @@ use Rattle.sig_tables.specs.Decide.{next_moment, colours_of}
 use Rattle.sig_tables.specs.Seen.{frame_seen, moment_seen, moves_seen}
 use Rattle.preempt_run.proofs.Called.{seen-is}
 use Rattle.preempt_run.proofs.OnPhases.{names-phases}
-use Rattle.controller.specs.Shows.{ShowsColours}
+use Rattle.sig_tables.specs.Layout.{Has}
+use Rattle.call_store.specs.Stands.{is_walking}
+use Rattle.controller.specs.Shows.{ShowsColours, is_signalling}
 use Rattle.controller.proofs.Rings.{each-ring, last-next, latest-next}
 use Rattle.controller.proofs.Seen.{opposed-green}
 use Rattle.controller.proofs.Sought.{start-again}
@@ -19,10 +21,16 @@ use Rattle.controller.proofs.Pickups.{start-next, few-next, one-more, same-most}
 use Rattle.controller.proofs.Controller.keep.Goals as goal
 
 pub returns-clause-keeps : goal.returns-clause-keeps
-returns-clause-keeps c = λ past r s f.
+returns-clause-keeps c = λ past r s n.
     let m : Moment = next_moment past in
     let k = r.keeps in
-    let g : m.frame ≡ c.args.frame.now = sym f in
+    let f : c.args.next.now.frame ≡ m.frame = n.frame in
+    let g : m.frame ≡ c.args.next.now.frame = sym f in
+    let veh : m.frame.veh ≡ c.args.next.now.frame.veh = ap (λ (x : Frame). x.veh) g in
+    let ped : m.frame.ped ≡ c.args.next.now.frame.ped = ap (λ (x : Frame). x.ped) g in
+    let walking = c.walking_in-walking.ensures.walking past k n in
+    let walking-in : Has c.walking_in-walking.result (is_walking m.frame) = subst (λ (x : Frame). Has c.walking_in-walking.result (is_walking x)) f walking in
+    let shown : ShowsColours c.args.next.now.shown m.frame.veh = subst (λ (x : Frame). ShowsColours c.args.next.now.shown x.veh) f n.shown in
     let few : start_run past.moments ≤ 60 = k.few_start in
     let run : c.args.self.now.start_run ≡ start_run past.moments = k.start in
     record {
@@ -31,25 +39,26 @@ returns-clause-keeps c = λ past r s f.
       ordered = k.ordered;
       version = k.version;
       frame = f;
-      calls = c.step.ensures.stands past m k.calls g refl refl refl;
-      clocks = c.step-2.ensures.stands past.moments m k.clocks g (sym k.tables) s.quiet
+      calls = c.step.ensures.stands past m k.calls shown.green walking-in refl refl refl;
+      clocks = c.step-2.ensures.stands past.moments m k.clocks g (sym k.tables) (λ t. veh ∙ n.colours t) s.quiet
           (λ p i. opposed-green past p i ∙ ap (λ (b : Bool). is_green (frame_seen past) p && b) (sym (s.opposed p i)));
-      signals = c.step-3.ensures.stands past.moments m k.signals g (sym k.tables);
+      signals = c.step-3.ensures.stands past.moments m k.signals g (sym k.tables) (λ t. ped ∙ n.signals t);
       preempts = c.step-4.ensures.stands past m k.preempts g (sym (seen-is past))
-          (names-phases c.args.frame.now past.tables (colours_of past (moves_seen past)) (ap (λ (x : Frame). x.on) f));
+          (names-phases c.args.next.now.frame past.tables (colours_of past (moves_seen past)) (ap (λ (x : Frame). x.on) f));
       requests = c.step-5.ensures.stands past m k.requests (one-more (moment_seen past).number) r.course.active;
       orders = c.step-6.ensures.stands past m k.orders (record { number = refl; command = refl; is_commanded = refl; clock = refl })
           r.course.command r.course.clock;
-      shown = subst (λ (x : Frame). ShowsColours c.shown_in-shown.result x.veh) f (c.shown_in-shown.ensures.shown past k);
-      signalling = c.signalling_in-signalling.ensures.signalling past m.frame k (ap (λ (x : Frame). x.ped) g);
+      shown = shown;
+      walking = walking-in;
+      signalling = subst (λ (x : Frame). Has c.signalling_in-signalling.result (is_signalling x)) f (c.signalling_in-signalling.ensures.signalling past k n walking);
       names = names-phases m.frame past.tables (colours_of past (moves_seen past)) refl;
       last = each-ring (c.last_after.result ∷ c.last_after-2.result ∷ []) 0 (λ q. last_on q (m ∷ past.moments))
-          (c.last_after.ensures ∙ last-next m past.moments c.args.frame.now 1 _ c.shows_start-in_start.result g c.shows_start-in_start.ensures
+          (c.last_after.ensures ∙ last-next m past.moments c.args.next.now.frame 1 _ c.shows_start-in_start.result g c.shows_start-in_start.ensures
           (k.last 1 (omega arith) (omega arith)))
-          (c.last_after-2.ensures ∙ last-next m past.moments c.args.frame.now 2 _ c.shows_start-in_start.result g c.shows_start-in_start.ensures
+          (c.last_after-2.ensures ∙ last-next m past.moments c.args.next.now.frame 2 _ c.shows_start-in_start.result g c.shows_start-in_start.ensures
           (k.last 2 (omega arith) (omega arith)));
       latest = c.latest_after-self.ensures
-          ∙ latest-next m past.moments c.args.frame.now _ c.shows_start-in_start.result g c.shows_start-in_start.ensures k.latest;
+          ∙ latest-next m past.moments c.args.next.now.frame _ c.shows_start-in_start.result g c.shows_start-in_start.ensures k.latest;
       start = c.start_run_after-self.ensures (omega arith)
           ∙ start-next m past.moments c.args.self.now.start_run c.shows_start-in_start.result
           (c.shows_start-in_start.ensures ∙ ap (λ (x : Frame). is_start x.mode) f) k.start;

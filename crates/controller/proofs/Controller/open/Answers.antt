@@ -7,7 +7,7 @@ use Rattle.prio_queue.specs.Stands.{QueueStands}
 use Rattle.sig_tables.specs.Looking.{last_on}
 use Rattle.sig_tables.specs.Past.{first_moment, first_frame}
 use Rattle.controller.specs.Shows.{ShowsColours}
-use Rattle.controller.proofs.Opens.{first-steady}
+use Rattle.controller.proofs.Opens.{first-steady, first-no-walk}
 use Rattle.controller.proofs.Rings.{each-ring}
 use Rattle.controller.proofs.Controller.open.Goals as goal
 
@@ -28,7 +28,8 @@ returns-clause-stands c =
       requests = λ i a b. let q = c.new-5.ensures.stands c.args.tables i a b in
           record { place = q.place; cancelled = q.cancelled; given = q.given; stays = q.stays; active = q.active };
       shown = shown;
-      signalling = λ p h. c.empty.ensures.has p ∙ sym (first-steady p h);
+      walking = λ p h. c.empty.ensures.has p ∙ sym (first-no-walk p h);
+      signalling = λ p h. c.empty-2.ensures.has p ∙ sym (first-steady p h);
       names = record { first = omega arith; second = omega arith };
       last = each-ring (0 ∷ 0 ∷ []) 0 (λ r. last_on r (first_moment c.args.tables ∷ [])) refl refl;
       latest = refl;

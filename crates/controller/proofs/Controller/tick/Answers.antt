@@ -18,7 +18,7 @@ returns-clause-decided c = λ h k.
       course = c.course-course.ensures.course past kept bound mode command;
       bound = subst (λ (m : Mode). IsBound c.follow.new.self.binding past.tables m) mode bound;
     } in
-    c.next_frame-frame.ensures.given past runs (c.sight-sight.ensures.sees past runs)
+    (c.next_frame-next.ensures.given past runs (c.sight-sight.ensures.sees past runs)).frame
 
 pub returns-clause-stands : goal.returns-clause-stands
 returns-clause-stands c = λ h k.
@@ -33,4 +33,4 @@ returns-clause-stands c = λ h k.
       bound = subst (λ (m : Mode). IsBound c.follow.new.self.binding past.tables m) mode bound;
     } in
     let sees = c.sight-sight.ensures.sees past runs in
-    c.keep.ensures.keeps past runs sees (c.next_frame-frame.ensures.given past runs sees)
+    c.keep.ensures.keeps past runs sees (c.next_frame-next.ensures.given past runs sees)
