@@ -1,20 +1,16 @@
 -- The count of a cycle, with one frame more.
-use Rattle.std.proofs.Common.{◌≡◌, ◌<◌, ◌≤◌, ◌+◌, ℕ, Bool, true, false, not, ◌==◌, ◌&&◌, if◌then◌else◌}
-use Rattle.std.proofs.Common.{List, [], ◌∷◌, nat_le, refl, sym, ◌∙◌, ap, arith, subst, inl, inr}
-use Rattle.std.proofs.lemmas.Bool.{false≢true, cases_Bool, leb-true}
-use Rattle.sig_types.specs.declared.frame.Colour.{Colour}
+use Rattle.std.proofs.Common.{◌≡◌, ◌<◌, ◌≤◌, ◌+◌, ℕ, Bool, true, false, not, if◌then◌else◌}
+use Rattle.std.proofs.Common.{List, [], ◌∷◌, refl, sym, ◌∙◌, ap, arith, subst, inl, inr}
+use Rattle.std.proofs.lemmas.Bool.{cases_Bool}
 use Rattle.sig_types.specs.declared.frame.Frame.{Frame}
 use Rattle.sig_types.specs.declared.frame.Mode.{Mode}
 use Rattle.sig_types.specs.declared.frame.Mode.TheVariants.{Coord}
 use Rattle.sig_types.specs.Colour.{is_start, same_mode}
 use Rattle.sig_tables.specs.Walking.{is_local_zero}
-use Rattle.sig_types.specs.Phases.{all_phases, every, first, only}
-use Rattle.sig_tables.specs.declared.tables.Tables.{Tables}
 use Rattle.sig_tables.specs.Choosing.{is_in_step}
 use Rattle.sig_tables.specs.Past.{Past, Moment}
 use Rattle.sig_tables.specs.Looking.{last_frame, start_run}
 use Rattle.sig_tables.specs.Counters.{counters_since}
-use Rattle.sig_tables.specs.Ticking.{on_of}
 use Rattle.coord_count.specs.declared.Count.{Count}
 use Rattle.coord_count.specs.Stands.{CountStands}
 use Rattle.controller.proofs.Counted.{counters-more}

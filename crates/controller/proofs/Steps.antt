@@ -1,5 +1,5 @@
 -- What a tick in step with a pattern, or on the way to one, knows of the last frame.
-use Rattle.std.proofs.Common.{◌≡◌, ℕ, true, false, sym, ap, subst}
+use Rattle.std.proofs.Common.{◌≡◌, ℕ, true, false, subst}
 use Rattle.sig_types.specs.declared.frame.Mode.{Mode}
 use Rattle.sig_types.specs.declared.frame.Mode.TheVariants.{Seek, Coord}
 use Rattle.sig_tables.specs.Slots.{is_defined}

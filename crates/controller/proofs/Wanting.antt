@@ -1,6 +1,6 @@
 -- What the rings want, from sets with room.
-use Rattle.std.proofs.Common.{◌≡◌, ◌≤◌, ◌<◌, ℕ, zero, suc, Bool, true, false, not, ◌&&◌, ◌||◌, if◌then◌else◌, List, [], ◌∷◌, refl, sym, ◌∙◌, ap, arith}
-use Rattle.sig_types.specs.Phases.{all_phases, is_phase, is_in}
+use Rattle.std.proofs.Common.{◌≡◌, ◌≤◌, ℕ, zero, suc, Bool, true, false, not, ◌&&◌, if◌then◌else◌, List, [], ◌∷◌, refl, sym, ◌∙◌, ap, arith}
+use Rattle.sig_types.specs.Phases.{all_phases, is_in}
 use Rattle.sig_types.specs.declared.phase_set.PhaseSet.{PhaseSet}
 use Rattle.sig_types.specs.PhaseSet.{has, phases_of}
 use Rattle.sig_types.proofs.Lists.{in-those}

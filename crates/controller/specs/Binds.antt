@@ -1,5 +1,5 @@
 -- What a controller keeps of the pattern that it seeks or is in step with.
-use Rattle.std.specs.Prelude.{ℕ, ◌≡◌, ◌≢◌, ◌<◌, true}
+use Rattle.std.specs.Prelude.{ℕ, ◌≡◌, ◌≢◌, true}
 use Rattle.sig_types.specs.declared.frame.Mode.{Mode}
 use Rattle.sig_types.specs.declared.frame.Mode.TheVariants.{Seek, Coord}
 use Rattle.sig_tables.specs.declared.tables.Tables.{Tables}

@@ -1,7 +1,7 @@
 -- Modes of a pattern.
 use Rattle.std.specs.Prelude.{Bool, true, false}
 use Rattle.sig_types.specs.declared.frame.Mode.{Mode}
-use Rattle.sig_types.specs.declared.frame.Mode.TheVariants.{Seek, Coord, Flash}
+use Rattle.sig_types.specs.declared.frame.Mode.TheVariants.{Free, Seek, Coord, Flash}
 
 -- a cabinet in this mode is in step with a pattern
 abbrev pub is_coord : Mode → Bool
@@ -13,6 +13,11 @@ abbrev pub has_pattern : Mode → Bool
 has_pattern (Seek n) = true
 has_pattern (Coord n) = true
 has_pattern mode = false
+
+-- the cabinet runs free
+abbrev pub is_free : Mode → Bool
+is_free Free = true
+is_free mode = false
 
 -- the cabinet flashes
 abbrev pub is_flash : Mode → Bool

@@ -77,7 +77,7 @@ pub(crate) fn lone(phase: u8) -> PhaseSet
 }
 
 /// Whether the tables define a pattern: it is 1 to 48 and has a cycle.
-fn is_defined(tables: &Tables, pattern: u8) -> bool
+pub(crate) fn is_defined(tables: &Tables, pattern: u8) -> bool
     ensures { result ≡ is_defined tables.now pattern }
 {
     1 <= pattern && pattern <= 48 && 1 <= tables.pattern(pattern).cycle

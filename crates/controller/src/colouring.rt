@@ -160,7 +160,7 @@ impl Controller {
     }
 
     /// The phase of a ring, 1 to 2, that is on in these colours, or 0.
-    fn on_in_ring(&self, red: PhaseSet, ring: u8) -> u8
+    pub(crate) fn on_in_ring(&self, red: PhaseSet, ring: u8) -> u8
         requires above { 0 < ring }
         requires within { ring ≤ 2 }
         ensures on { (past : Past) (veh : List Colour) → Keeps self.now past → Has red (λ p. same_colour (colour_in veh p) Red)

@@ -15,6 +15,7 @@ use prio_queue::Queue;
 use sig_tables::{Layout, Shown, Tables};
 use sig_types::{Field, Frame, PhaseSet, Request};
 
+mod at_rest;
 mod binding;
 mod by_colour;
 mod colouring;
@@ -115,6 +116,9 @@ impl Controller {
         ensures installs { install_count self.new ≡ install_count self.old }
     {
         let command = self.commanded();
+        if self.is_at_rest(command) {
+            return self.rest(command);
+        }
         let mode = self.mode(command);
         self.follow(mode);
         let course = self.course(mode, command);

@@ -1,8 +1,7 @@
-use Rattle.std.proofs.Common.{◌≡◌, ℕ, Bool, true, false, not, ◌==◌, sym, ◌∙◌, ap}
+use Rattle.std.proofs.Common.{◌≡◌, ℕ, sym, ◌∙◌, ap}
 use Rattle.sig_types.specs.declared.frame.Colour.{Colour}
 use Rattle.sig_types.specs.declared.frame.Colour.TheVariants.{Green}
 use Rattle.sig_types.specs.Colour.{colour_of}
-use Rattle.sig_tables.specs.Slots.{is_coordinated}
 use Rattle.sig_tables.specs.Coordinating.{is_released}
 use Rattle.sig_tables.specs.Looking.{run}
 use Rattle.sig_tables.specs.Course.{course_of}

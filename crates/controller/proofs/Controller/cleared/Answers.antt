@@ -1,4 +1,4 @@
-use Rattle.std.proofs.Common.{◌≡◌, ◌&&◌, Bool, true, refl, sym, ◌∙◌, ap, arith}
+use Rattle.std.proofs.Common.{◌≡◌, ◌&&◌, Bool, true, sym, ◌∙◌, ap, arith}
 use Rattle.sig_tables.specs.Calls.{is_green}
 use Rattle.sig_tables.specs.Goals.{is_cleared}
 use Rattle.sig_tables.specs.Seen.{frame_seen, mode_seen, view_seen}

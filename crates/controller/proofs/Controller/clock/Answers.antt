@@ -1,6 +1,5 @@
 use Rattle.sig_tables.specs.Past.{Past}
 use Rattle.sig_tables.specs.Decide.{past_at}
-use Rattle.controller.specs.StandsFor.{Keeps}
 use Rattle.controller.proofs.Controller.clock.Goals as goal
 
 pub returns-clause-stands : goal.returns-clause-stands

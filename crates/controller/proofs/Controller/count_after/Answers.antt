@@ -1,8 +1,8 @@
-use Rattle.std.proofs.Common.{◌≡◌, ◌<◌, ◌∷◌, [], ◌==◌, ℕ, List, true, false, inl, inr, refl, sym, ◌∙◌, ap, subst}
+use Rattle.std.proofs.Common.{◌≡◌, ◌<◌, ◌==◌, ℕ, List, true, false, inl, inr, sym, ◌∙◌, ap, subst}
 use Rattle.std.proofs.lemmas.Bool.{false≢true, and_parts}
 use Rattle.sig_types.specs.declared.frame.Frame.{Frame}
 use Rattle.sig_types.specs.declared.frame.Mode.{Mode}
-use Rattle.sig_types.specs.declared.frame.Mode.TheVariants.{Seek, Coord}
+use Rattle.sig_types.specs.declared.frame.Mode.TheVariants.{Coord}
 use Rattle.sig_types.specs.Colour.{same_mode}
 use Rattle.sig_tables.specs.Slots.{cycle_time}
 use Rattle.sig_tables.specs.Choosing.{is_in_step}
@@ -11,7 +11,7 @@ use Rattle.sig_tables.specs.Counters.{counter_in}
 use Rattle.sig_tables.specs.Course.{course_of}
 use Rattle.sig_tables.specs.Decide.{next_moment, colours_of}
 use Rattle.sig_tables.specs.Seen.{mode_seen, moves_seen}
-use Rattle.coord_count.specs.Stands.{CountStands, counter_of}
+use Rattle.coord_count.specs.Stands.{CountStands}
 use Rattle.controller.specs.Modes.{is_coord}
 use Rattle.controller.proofs.Binds.{coord-of}
 use Rattle.controller.proofs.Sought.{reached-from}

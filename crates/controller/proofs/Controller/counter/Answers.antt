@@ -1,7 +1,6 @@
-use Rattle.std.proofs.Common.{◌≡◌, ℕ, sym, ◌∙◌, ap, subst}
+use Rattle.std.proofs.Common.{sym, ◌∙◌, ap, subst}
 use Rattle.std.proofs.lemmas.Bool.{false≢true}
 use Rattle.sig_types.specs.declared.frame.Mode.{Mode}
-use Rattle.sig_types.specs.declared.frame.Mode.TheVariants.{Coord}
 use Rattle.sig_tables.specs.Counters.{counter_in}
 use Rattle.controller.specs.Modes.{is_coord}
 use Rattle.controller.specs.Binds.{IsBound}

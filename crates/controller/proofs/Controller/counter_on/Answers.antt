@@ -1,4 +1,4 @@
-use Rattle.std.proofs.Common.{◌≡◌, ◌<◌, ◌≤◌, ℕ, sym, ◌∙◌, ap, subst, arith}
+use Rattle.std.proofs.Common.{◌≡◌, ◌<◌, ℕ, sym, ◌∙◌, ap, arith}
 use Rattle.sig_types.proofs.Lists.{eq-true}
 use Rattle.sig_tables.specs.declared.plan.Plan.{Plan}
 use Rattle.sig_tables.specs.declared.tables.Tables.{Tables}

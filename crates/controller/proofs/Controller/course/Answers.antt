@@ -10,7 +10,6 @@ use Rattle.sig_tables.specs.Goals.{goal_in, lesser_times}
 use Rattle.sig_tables.specs.Course.{turn_of}
 use Rattle.sig_tables.specs.Layout.{Has}
 use Rattle.sig_tables.specs.Seen.{mode_seen, moment_seen}
-use Rattle.ped_clock.specs.Signals.{lesser_of}
 use Rattle.prio_queue.specs.Places.{some_number}
 use Rattle.controller.proofs.Binds.{of-ticks}
 use Rattle.controller.proofs.Controller.course.Goals as goal

@@ -1,7 +1,6 @@
-use Rattle.std.proofs.Common.{sym, ◌∙◌, ap, subst}
+use Rattle.std.proofs.Common.{sym, subst}
 use Rattle.sig_types.specs.declared.frame.Mode.{Mode}
 use Rattle.sig_tables.specs.declared.tables.Tables.{Tables}
-use Rattle.sig_tables.specs.Seen.{mode_seen}
 use Rattle.controller.specs.Binds.{BindingStands, IsBound, Names}
 use Rattle.controller.proofs.Steps.{mode-named}
 use Rattle.controller.proofs.Controller.follow.Goals as goal

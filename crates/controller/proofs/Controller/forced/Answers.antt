@@ -1,4 +1,4 @@
-use Rattle.std.proofs.Common.{◌≡◌, ◌&&◌, ℕ, Bool, Option, None, Some, sym, ◌∙◌, ap}
+use Rattle.std.proofs.Common.{◌&&◌, ℕ, Bool, Option, Some, sym, ◌∙◌, ap}
 use Rattle.sig_types.specs.declared.frame.Colour.TheVariants.{Green}
 use Rattle.sig_types.specs.Colour.{same_colour, colour_of}
 use Rattle.sig_types.specs.PhaseSet.{has}

@@ -1,11 +1,10 @@
 use Rattle.std.proofs.Common.{sym, subst}
 use Rattle.sig_types.specs.declared.frame.Field.{Field}
-use Rattle.sig_types.specs.declared.frame.Field.TheVariants.{Veh, Ped as Button, Preempt as PreemptInput}
+use Rattle.sig_types.specs.declared.frame.Field.TheVariants.{Veh, Ped as Button}
 use Rattle.sig_tables.specs.Past.{Past, Input}
 use Rattle.sig_tables.specs.Decide.{past_at, with_event}
 use Rattle.preempt_run.specs.Stands.{PreemptsStand}
 use Rattle.preempt_run.proofs.Others.{stands-other}
-use Rattle.controller.specs.StandsFor.{Keeps}
 use Rattle.controller.proofs.Controller.input.Goals as goal
 
 pub returns-in-Veh-clause-stands : goal.returns-in-Veh-clause-stands

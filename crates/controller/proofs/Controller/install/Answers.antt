@@ -5,7 +5,6 @@ use Rattle.sig_tables.specs.Seen.{frame_seen, moment_seen}
 use Rattle.controller.proofs.Events.{moment-kept, calls-kept, orders-kept, queue-kept, not-yet}
 use Rattle.sig_tables.specs.Past.{Past}
 use Rattle.sig_tables.specs.Decide.{past_at}
-use Rattle.controller.specs.StandsFor.{Keeps}
 use Rattle.controller.proofs.Controller.install.Goals as goal
 
 pub returns-clause-stands : goal.returns-clause-stands

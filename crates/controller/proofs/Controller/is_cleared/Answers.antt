@@ -1,15 +1,13 @@
-use Rattle.std.proofs.Common.{◌≡◌, ℕ, ◌∙◌, ap}
+use Rattle.std.proofs.Common.{◌≡◌, ◌∙◌, ap}
 use Rattle.sig_types.specs.declared.frame.Colour.{Colour}
 use Rattle.sig_types.specs.declared.frame.Colour.TheVariants.{Green}
 use Rattle.sig_types.specs.declared.frame.Mode.{Mode}
-use Rattle.sig_types.specs.declared.frame.Ped.{Ped}
 use Rattle.sig_types.specs.Colour.{colour_of, signal_of}
 use Rattle.sig_tables.specs.declared.tables.Tables.{Tables}
-use Rattle.sig_tables.specs.Tables.{least_green}
 use Rattle.sig_tables.specs.Modes.{stage_of}
 use Rattle.sig_tables.specs.Lesser.{Lesser, signal_runs_within}
 use Rattle.sig_tables.specs.Goals.{lesser_green}
-use Rattle.sig_tables.specs.Looking.{run, latched}
+use Rattle.sig_tables.specs.Looking.{run}
 use Rattle.sig_tables.specs.Seen.{frame_seen, mode_seen}
 use Rattle.call_store.proofs.Same.{same_signal-is}
 use Rattle.controller.proofs.Seen.{green-is, cleared-early, cleared-signal}

@@ -1,4 +1,4 @@
-use Rattle.std.proofs.Common.{◌≡◌, ◌&&◌, not, ℕ, Bool, sym, ◌∙◌, ap}
+use Rattle.std.proofs.Common.{◌&&◌, not, Bool, ◌∙◌, ap}
 use Rattle.sig_types.specs.PhaseSet.{has}
 use Rattle.sig_tables.specs.Tables.{has_dual_entry}
 use Rattle.sig_tables.specs.Modes.{bound}

@@ -1,4 +1,4 @@
-use Rattle.std.proofs.Common.{◌≡◌, ◌∷◌, [], ◌&&◌, ◌<◌, ◌≤◌, ◌+◌, ℕ, Bool, true, refl, sym, ◌∙◌, ap, arith, subst}
+use Rattle.std.proofs.Common.{◌≡◌, ◌∷◌, [], ◌&&◌, ◌≤◌, Bool, true, refl, sym, ◌∙◌, ap, arith, subst}
 use Rattle.sig_types.specs.declared.frame.Frame.{Frame}
 use Rattle.sig_types.specs.Colour.{is_start}
 use Rattle.sig_tables.specs.Looking.{last_on, start_run}

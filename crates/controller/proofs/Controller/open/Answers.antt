@@ -1,9 +1,8 @@
-use Rattle.std.proofs.Common.{◌∷◌, [], ◌<◌, ◌≤◌, subst, refl, sym, ◌∙◌, arith}
+use Rattle.std.proofs.Common.{◌∷◌, [], subst, refl, sym, ◌∙◌, arith}
 use Rattle.std.proofs.lemmas.Bool.{false≢true}
 use Rattle.sig_types.specs.declared.frame.Frame.{Frame}
 use Rattle.sig_tables.specs.Decide.{opened}
 use Rattle.call_store.specs.Stands.{CallsStand}
-use Rattle.prio_queue.specs.Stands.{QueueStands}
 use Rattle.sig_tables.specs.Looking.{last_on}
 use Rattle.sig_tables.specs.Past.{first_moment, first_frame}
 use Rattle.controller.specs.Shows.{ShowsColours}

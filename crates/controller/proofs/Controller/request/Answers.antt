@@ -1,7 +1,6 @@
 use Rattle.std.proofs.Common.{◌∙◌}
 use Rattle.sig_tables.specs.Past.{Past}
 use Rattle.sig_tables.specs.Decide.{past_at}
-use Rattle.controller.specs.StandsFor.{Keeps}
 use Rattle.controller.proofs.Controller.request.Goals as goal
 
 pub returns-clause-stands : goal.returns-clause-stands

@@ -1,4 +1,4 @@
-use Rattle.std.proofs.Common.{◌≡◌, ℕ, [], sym, ◌∙◌, ap, subst}
+use Rattle.std.proofs.Common.{◌≡◌, ℕ, [], sym, subst}
 use Rattle.sig_types.specs.declared.frame.Mode.{Mode}
 use Rattle.sig_tables.specs.Moves.{Moves, ring_moves}
 use Rattle.sig_tables.specs.Layout.{Ordered}

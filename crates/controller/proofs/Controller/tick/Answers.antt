@@ -1,10 +1,22 @@
-use Rattle.std.proofs.Common.{subst}
+use Rattle.std.proofs.Common.{sym, ◌∙◌, subst}
 use Rattle.sig_types.specs.declared.frame.Mode.{Mode}
 use Rattle.sig_tables.specs.Past.{Past}
 use Rattle.sig_tables.specs.Decide.{past_at}
 use Rattle.controller.specs.Binds.{IsBound}
 use Rattle.controller.specs.Course.{Runs}
 use Rattle.controller.proofs.Controller.tick.Goals as goal
+
+pub returns-then-is_at_rest-clause-decided : goal.returns-then-is_at_rest-clause-decided
+returns-then-is_at_rest-clause-decided c = λ h k.
+    let past : Past = past_at h in
+    let rests = c.is_at_rest.ensures.rests past k (c.commanded-command.ensures.command past k) c.if-is_at_rest.true in
+    c.rest.ensures.again ∙ k.frame ∙ sym rests.again
+
+pub returns-then-is_at_rest-clause-stands : goal.returns-then-is_at_rest-clause-stands
+returns-then-is_at_rest-clause-stands c = λ h k.
+    let past : Past = past_at h in
+    let command = c.commanded-command.ensures.command past k in
+    c.rest.ensures.keeps past k command (c.is_at_rest.ensures.rests past k command c.if-is_at_rest.true)
 
 pub returns-clause-decided : goal.returns-clause-decided
 returns-clause-decided c = λ h k.

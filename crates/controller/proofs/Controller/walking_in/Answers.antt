@@ -1,4 +1,4 @@
-use Rattle.std.proofs.Common.{◌≡◌, ◌-◌, get_or, List, sym, ◌∙◌, ap}
+use Rattle.std.proofs.Common.{◌-◌, get_or, List, sym, ◌∙◌, ap}
 use Rattle.sig_types.specs.declared.frame.Ped.{Ped}
 use Rattle.sig_types.specs.declared.frame.Ped.TheVariants.{Walk}
 use Rattle.sig_types.specs.Colour.{same_signal}

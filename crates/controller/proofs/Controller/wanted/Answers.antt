@@ -1,15 +1,9 @@
-use Rattle.std.proofs.Common.{◌≡◌, ◌≤◌, ◌∷◌, [], ◌&&◌, ℕ, max, sym, ◌∙◌, ap, subst, arith}
+use Rattle.std.proofs.Common.{◌≡◌, ◌≤◌, ℕ, max, sym, ◌∙◌, ap, subst}
 use Rattle.sig_types.specs.declared.frame.Frame.{Frame}
-use Rattle.sig_types.specs.declared.phase_set.PhaseSet.{PhaseSet}
-use Rattle.sig_types.specs.PhaseSet.{has}
 use Rattle.sig_types.specs.Colour.{on_in}
-use Rattle.sig_tables.specs.Modes.{bound}
-use Rattle.sig_tables.specs.Coordinating.{has_room}
-use Rattle.sig_tables.specs.Layout.{Has, no_set}
-use Rattle.sig_tables.specs.Course.{course_of}
+use Rattle.sig_tables.specs.Layout.{Has}
 use Rattle.sig_tables.specs.View.{is_wanted, on_phase, clearance_of, greatest_clearance}
-use Rattle.sig_tables.specs.Seen.{mode_seen, frame_seen, view_seen}
-use Rattle.controller.specs.Course.{Runs}
+use Rattle.sig_tables.specs.Seen.{frame_seen, view_seen}
 use Rattle.controller.proofs.Wanting.{wanted-room, each-set}
 use Rattle.controller.proofs.Controller.wanted.Goals as goal
 

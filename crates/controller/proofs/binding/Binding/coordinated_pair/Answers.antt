@@ -1,5 +1,4 @@
-use Rattle.std.proofs.Common.{◌≡◌, ◌||◌, ◌==◌, ℕ, Bool, true, false, List, [], ◌∷◌, get_or, if◌then◌else◌, refl, sym, ◌∙◌, ap}
-use Rattle.sig_types.specs.Phases.{is_in}
+use Rattle.std.proofs.Common.{◌≡◌, ◌||◌, ◌==◌, ℕ, Bool, true, false, List, get_or, if◌then◌else◌, refl, ◌∙◌, ap}
 use Rattle.sig_types.specs.PhaseSet.{has}
 use Rattle.sig_tables.specs.declared.plan.Plan.{Plan}
 use Rattle.sig_tables.specs.Splits.{coordinated_phases}

@@ -1,4 +1,4 @@
-use Rattle.std.proofs.Common.{◌≡◌, ◌<◌, ℕ, refl, sym, ◌∙◌, ap, arith, subst}
+use Rattle.std.proofs.Common.{ℕ, refl, ap, subst}
 use Rattle.sig_tables.specs.declared.plan.Plan.{Plan}
 use Rattle.sig_tables.specs.Layout.{Ordered}
 use Rattle.controller.proofs.binding.Binding.of.Goals as goal

@@ -1,0 +1,183 @@
+-- At rest a tick gives the last frame again.
+use Rattle.std.proofs.Common.{◌≡◌, ◌≢◌, ◌==◌, ◌&&◌, not, ℕ, Bool, true, false, if◌then◌else◌, List, [], ◌∷◌, map, length, Option, None, refl, sym, ◌∙◌, ap}
+use Rattle.std.proofs.lemmas.Bool.{false≢true, ne_eqb}
+use Rattle.sig_types.specs.declared.frame.Colour.{Colour}
+use Rattle.sig_types.specs.declared.frame.Colour.TheVariants.{Green, Yellow, Clear, Red}
+use Rattle.sig_types.specs.declared.frame.Ped.{Ped}
+use Rattle.sig_types.specs.declared.frame.Ped.TheVariants.{Walk, Flash, Dont}
+use Rattle.sig_types.specs.declared.frame.Frame.{Frame}
+use Rattle.sig_types.specs.declared.frame.Mode.{Mode}
+use Rattle.sig_types.specs.declared.frame.Mode.TheVariants.{Start, Free, Seek, Coord, Ending, Flash as InFlash, Entry, Track, Dwell, Exit}
+use Rattle.sig_types.specs.declared.phase_set.PhaseSet.{PhaseSet}
+use Rattle.sig_types.specs.PhaseSet.{has, phases_of}
+use Rattle.sig_types.specs.Phases.{is_phase, is_in, some, those, all_phases}
+use Rattle.sig_types.specs.Colour.{same_colour, colour_in, colour_of, signal_of, is_start}
+use Rattle.sig_types.proofs.Sets.{in-phases}
+use Rattle.sig_tables.specs.declared.tables.Tables.{Tables}
+use Rattle.sig_tables.specs.Sides.{are_incompatible}
+use Rattle.sig_tables.specs.Slots.{is_defined}
+use Rattle.sig_tables.specs.Past.{Past, Moment}
+use Rattle.sig_tables.specs.Looking.{last_frame}
+use Rattle.sig_tables.specs.Calls.{is_green, opposed_of}
+use Rattle.sig_tables.specs.Modes.{bound}
+use Rattle.sig_tables.specs.Preempts.{all_preempts, stage_after, stage_now}
+use Rattle.sig_tables.specs.Choosing.{mode_sought, mode_after, mode_staged, mode_running, mode_reached, is_in_step}
+use Rattle.sig_tables.specs.Course.{Turn, Rings, turn_of, course_of}
+use Rattle.sig_tables.specs.Walking.{Crossing, has_walk, walk_begins}
+use Rattle.sig_tables.specs.Moves.{Moves}
+use Rattle.sig_tables.specs.View.{is_open}
+use Rattle.sig_tables.specs.Ticking.{moves_of, colours_of, frame_of, frame_with, next_moment}
+use Rattle.sig_tables.specs.Seen.{frame_seen, mode_seen, view_seen, moves_seen, sight_seen, demand_with, pedestrian_seen}
+use Rattle.call_store.proofs.Listed.{none-has}
+use Rattle.controller.specs.Modes.{is_free}
+use Rattle.controller.specs.Shows.{is_clearing, is_signalling}
+use Rattle.controller.specs.Walks.{crossing_seen, walk_after, signal_seen}
+use Rattle.controller.specs.Rests.{IsCurrent}
+use Rattle.controller.proofs.Colours.{still-colours}
+use Rattle.controller.proofs.Signals.{still-signals}
+use Rattle.controller.proofs.Frames.{frame-parts}
+use Rattle.controller.proofs.Resting.{resting}
+use Rattle.sig_tables.proofs.FreeCourse.{forced-unbound}
+
+pub free-is : (m : Mode) → is_free m ≡ true → m ≡ Free
+free-is Free e = refl
+free-is Start e = absurd (false≢true e)
+free-is (Seek n) e = absurd (false≢true e)
+free-is (Coord n) e = absurd (false≢true e)
+free-is Ending e = absurd (false≢true e)
+free-is InFlash e = absurd (false≢true e)
+free-is (Entry i) e = absurd (false≢true e)
+free-is (Track i) e = absurd (false≢true e)
+free-is (Dwell i) e = absurd (false≢true e)
+free-is (Exit i) e = absurd (false≢true e)
+
+-- an empty set has no preempt
+pub no-preempts : (s : PhaseSet) → phases_of s ≡ [] → those (has s) all_preempts ≡ []
+no-preempts s e =
+    rw (
+      none-has s 1 refl e,
+      none-has s 2 refl e,
+      none-has s 3 refl e,
+      none-has s 4 refl e,
+      none-has s 5 refl e,
+      none-has s 6 refl e,
+      none-has s 7 refl e,
+      none-has s 8 refl e,
+    ) refl
+
+-- free operation goes on where no preempt input is on and the command asks for no pattern and no flash
+pub free-on : (t : Tables) (version n : ℕ) (on : List ℕ) (past : List Moment) → (last_frame past).mode ≡ Free → on ≡ []
+    → n ≢ 255 → is_defined t n ≡ false → mode_sought t version n on past ≡ Free
+free-on t version n on past was none other undefined =
+    let stage : stage_now t on past ≡ None =
+    ap (λ (xs : List ℕ). stage_now t xs past) none ∙ ap (λ (m : Mode). stage_after t m [] past) was in
+    let runs : mode_running t version n (last_frame past) ≡ Free = rw (ne_eqb n 255 other, undefined) refl in
+    ap (λ (m : Mode). mode_after m t version n on past) was
+    ∙ ap (λ (s : Option Mode). mode_staged s t version n (last_frame past)) stage ∙ runs
+
+rings-turn : (t : Tables) (past : List Moment) (mode : Mode) → (last_frame past).mode ≡ Free → mode ≡ Free → turn_of t past mode ≡ Rings
+rings-turn t past mode was e = rw (was, e) refl
+
+-- no walk begins on a phase that keeps its colour, but on one in Green that is called to
+no-walk : (c : Crossing) (mode : Mode) (p : ℕ) (before after : Colour) (signal : Ped) → mode ≡ Free → after ≡ before
+    → ((has_walk c.tables p && is_in c.pedestrian p) && same_colour before Green) ≡ false → walk_begins c mode p before after signal ≡ false
+no-walk c mode p before after signal e f none = rw (e, f) (of-colour before signal none)
+  where
+    uncalled : (a b o : Bool) → ((a && b) && true) ≡ false → (a && b && not o) ≡ false
+    uncalled false b o e = refl
+    uncalled true false o e = refl
+    uncalled true true o e = absurd (false≢true (sym e))
+
+    of-colour : (colour : Colour) (s : Ped) → ((has_walk c.tables p && is_in c.pedestrian p) && same_colour colour Green) ≡ false
+        → walk_begins c Free p colour colour s ≡ false
+    of-colour Green Dont e = uncalled (has_walk c.tables p) (is_in c.pedestrian p) (is_in c.opposed p) e
+    of-colour Green Walk e = refl
+    of-colour Green Flash e = refl
+    of-colour Yellow s e = refl
+    of-colour Clear s e = refl
+    of-colour Red s e = refl
+
+-- where nothing has demand, nothing is opposed
+pub unopposed : (t : Tables) (f : Frame) (demand : List ℕ) (p : ℕ) → is_phase p ≡ true → demand ≡ [] → is_in (opposed_of t f demand) p ≡ false
+unopposed t f demand p h e =
+    in-phases (λ q. is_green f q && some (are_incompatible t q) demand) p h ∙ (rw e (never (is_green f p)))
+  where
+    never : (b : Bool) → (b && false) ≡ false
+    never true = refl
+    never false = refl
+
+abbrev no-moves : Moves
+no-moves = record { ends = []; begins = [] }
+
+pub moves-none : (past : Past) → (frame_seen past).mode ≡ Free → mode_seen past ≡ Free → demand_with None past ≡ []
+    → is_open (view_seen past) 1 ≡ false → is_open (view_seen past) 2 ≡ false → moves_seen past ≡ record { ends = []; begins = [] }
+moves-none past was mode none first second =
+    ap (λ (t : Turn). moves_of t (view_seen past)) (rings-turn past.tables past.moments (mode_seen past) was mode)
+    ∙ resting (view_seen past) (λ p. forced-unbound (view_seen past) p (ap bound mode))
+    (ap (λ (m : Mode). demand_with (bound m) past) mode ∙ none) first second
+
+-- the last frame comes again
+pub frame-again : (past : Past) → IsCurrent past → (frame_seen past).mode ≡ Free → mode_seen past ≡ Free → demand_with None past ≡ []
+    → length (frame_seen past).veh ≡ 16 → length (frame_seen past).ped ≡ 16
+    → is_open (view_seen past) 1 ≡ false → is_open (view_seen past) 2 ≡ false
+    → ((p : ℕ) → is_phase p ≡ true → is_clearing (frame_seen past).veh p ≡ false)
+    → ((p : ℕ) → is_phase p ≡ true → is_signalling (frame_seen past) p ≡ false)
+    → ((p : ℕ) → is_phase p ≡ true
+    → ((has_walk past.tables p && is_in (pedestrian_seen past) p) && same_colour (colour_of (frame_seen past) p) Green) ≡ false)
+    → (next_moment past).frame ≡ frame_seen past
+frame-again past now was mode none wide long first second clear dark calls =
+    let f : Frame = frame_seen past in
+    let moves : moves_seen past ≡ no-moves = moves-none past was mode none first second in
+    let still : f.veh ≡ colours_of past no-moves =
+    still-colours past no-moves f.veh wide refl (λ p h. refl) (λ p h. refl)
+    (λ p h c. absurd (false≢true (sym (clear p h) ∙ c))) in
+    let veh : f.veh ≡ colours_of past (moves_seen past) = still ∙ ap (λ (w : Moves). colours_of past w) (sym moves) in
+    let ped : f.ped ≡ map (λ (p : ℕ). if walk_after past f.mode f.veh p then Walk else signal_seen past p) all_phases =
+    still-signals past (walk_after past f.mode f.veh) f.ped long refl
+    (λ p h. no-walk (crossing_seen past f.mode) f.mode p (colour_of f p) (colour_in f.veh p) (signal_of f p) was refl (calls p h))
+    (λ p h s. absurd (false≢true (sym (dark p h) ∙ s))) in
+    let mode' : f.mode ≡ mode_reached (mode_seen past) past.tables f.veh = was ∙ sym (ap (λ (m : Mode). mode_reached m past.tables f.veh) mode) in
+    sym (parts f _ _ now.on
+    ∙ frame-parts past f.mode f.veh f.ped _ _ f.counter f.target f.version ped refl refl
+    (now.counter ∙ sym (counts mode)) (now.target ∙ sym (targets mode)) now.version
+    ∙ ap (λ (m : Mode). frame_of (course_of past) past (sight_seen past) f.veh m) mode'
+    ∙ ap (λ (x : List Colour). frame_with (course_of past) past (sight_seen past) x) veh)
+  where
+    parts : (f : Frame) (one two : ℕ) → f.on ≡ one ∷ two ∷ [] → f ≡ record {
+      veh = f.veh;
+      ped = f.ped;
+      on = one ∷ two ∷ [];
+      mode = f.mode;
+      counter = f.counter;
+      target = f.target;
+      version = f.version;
+    }
+    parts f one two e = ap (λ (on : List ℕ). record {
+      veh = f.veh;
+      ped = f.ped;
+      on = on;
+      mode = f.mode;
+      counter = f.counter;
+      target = f.target;
+      version = f.version;
+    }) e
+
+    counts : mode_seen past ≡ Free → (course_of past).counter ≡ 0
+    counts e = rw e refl
+
+    targets : mode_seen past ≡ Free → (course_of past).target ≡ 0
+    targets e = rw e refl
+
+-- a frame of Free is not in step with a pattern
+pub free-apart : (f : Frame) (version n : ℕ) → f.mode ≡ Free → is_in_step f version n ≡ false
+free-apart f version n e = rw e refl
+
+pub free-started : (m : Mode) → m ≡ Free → false ≡ is_start m
+free-started m e = rw e refl
+
+pub kept-on-ring : (before on : ℕ) → on ≢ 0 → on ≡ (if false then 0 else if on == 0 then before else on)
+kept-on-ring before on some = rw (ne_eqb on 0 some) refl
+
+pub kept-on-first : (before first second : ℕ) → first ≢ 0
+    → first ≡ (if false then 0 else if first == 0 then (if second == 0 then before else second) else first)
+kept-on-first before first second some = rw (ne_eqb first 0 some) refl

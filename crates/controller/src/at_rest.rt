@@ -1,0 +1,162 @@
+//! Ticks at rest: in free operation, where nothing is asked for and nothing runs out, a tick gives the last frame again, and
+//! most of what other ticks look at is not looked at.
+
+ghost use Rattle.std.specs.Prelude.{◌≡◌, ◌≢◌, ◌<◌, ◌≤◌, ◌+◌, ◌&&◌, ◌∷◌, [], ℕ, true, false, None, IsTrue, length};
+ghost use Rattle.controller.specs.Modes.{is_free};
+
+use crate::Controller;
+use crate::binding::is_defined;
+use sig_types::{Frame, Mode, PhaseSet};
+
+/// The command that asks for flash.
+const FLASH_COMMAND: u8 = 255;
+
+/// Whether a cabinet in this mode runs free.
+fn is_free(mode: Mode) -> bool
+    ensures { result ≡ is_free mode }
+{
+    match mode {
+        Mode::Free => true,
+        _ => false,
+    }
+}
+
+/// Whether these are on in the rings.
+fn are_on(on: [u8; 2], first: u8, second: u8) -> bool
+    ensures { IsTrue result → on ≡ first ∷ second ∷ [] }
+{
+    on[0] == first && on[1] == second
+}
+
+/// Any frame shows sixteen phases.
+fn shows_sixteen(frame: Frame)
+    ensures veh { length frame.veh ≡ 16 }
+    ensures ped { length frame.ped ≡ 16 }
+{}
+
+impl Controller {
+    ghost use Rattle.sig_types.specs.declared.frame.Colour.TheVariants.{Green};
+    ghost use Rattle.sig_types.specs.declared.frame.Mode.TheVariants.{Free};
+    ghost use Rattle.sig_types.specs.Phases.{is_phase, is_in};
+    ghost use Rattle.sig_types.specs.Colour.{same_colour, colour_of};
+    ghost use Rattle.sig_tables.specs.Past.{Past};
+    ghost use Rattle.sig_tables.specs.Command.{command_now};
+    ghost use Rattle.sig_tables.specs.Walking.{has_walk};
+    ghost use Rattle.sig_tables.specs.Decide.{with_moment, next_moment};
+    ghost use Rattle.sig_tables.specs.Seen.{frame_seen, mode_seen, pedestrian_seen, demand_with};
+    ghost use Rattle.controller.specs.Shows.{is_clearing, is_signalling};
+    ghost use Rattle.controller.specs.Rests.{IsCurrent, RestsAt};
+    ghost use Rattle.controller.specs.StandsFor.{Keeps, tick_count, install_count};
+
+    /// Whether a cabinet that runs free goes on to: no preempt input is on, and this pattern in command is none that is defined
+    /// and is no flash.
+    fn stays_free(&self, command: u8) -> bool
+        ensures was { (past : Past) → Keeps self.now past → IsTrue result → (frame_seen past).mode ≡ Free }
+        ensures free { (past : Past) → Keeps self.now past → command ≡ command_now past → IsTrue result → mode_seen past ≡ Free }
+    {
+        if !is_free(self.frame.mode) {
+            false
+        } else if !self.preempts.on().is_empty() {
+            false
+        } else if command == FLASH_COMMAND {
+            false
+        } else {
+            !is_defined(&self.tables, command)
+        }
+    }
+
+    /// Whether no phase has demand where no pattern binds, and no Green one is called to walk.
+    fn is_unasked(&self) -> bool
+        ensures demand { (past : Past) → Keeps self.now past → IsTrue result → demand_with None past ≡ [] }
+        ensures walks { (past : Past) (p : ℕ) → Keeps self.now past → IsTrue result → is_phase p ≡ true
+            → ((has_walk past.tables p && is_in (pedestrian_seen past) p) && same_colour (colour_of (frame_seen past) p) Green) ≡ false }
+    {
+        let walking = self.layout.walks.meet(self.calls.pedestrian());
+        if walking.meet(self.shown.green).is_empty() {
+            let demand = self.calls.demand(&self.layout, self.shown.red, None);
+            demand.is_empty()
+        } else {
+            false
+        }
+    }
+
+    /// Whether nothing runs out: no phase is in Yellow or red clearance, and none shows Walk or Flash.
+    fn is_settled(&self) -> bool
+        ensures colours { (past : Past) (p : ℕ) → Keeps self.now past → IsTrue result → is_phase p ≡ true
+            → is_clearing (frame_seen past).veh p ≡ false }
+        ensures signals { (past : Past) (p : ℕ) → Keeps self.now past → IsTrue result → is_phase p ≡ true
+            → is_signalling (frame_seen past) p ≡ false }
+    {
+        if self.shown.clearing.is_empty() {
+            self.signalling.is_empty()
+        } else {
+            false
+        }
+    }
+
+    /// Whether the last frame has what a frame of Free has by the tables in force: their version, what is on by their rings,
+    /// and no counter and no target.
+    fn is_current(&self) -> bool
+        ensures { (past : Past) → Keeps self.now past → IsTrue result → IsCurrent past }
+    {
+        let red = self.shown.red;
+        if self.frame.version != self.version {
+            false
+        } else if self.frame.counter != 0 {
+            false
+        } else if self.frame.target != 0 {
+            false
+        } else {
+            are_on(
+                self.frame.on,
+                self.on_in_ring(red, 1),
+                self.on_in_ring(red, 2),
+            )
+        }
+    }
+
+    /// Whether this tick, with this pattern in command, is one at rest.
+    pub(crate) fn is_at_rest(&self, command: u8) -> bool
+        requires few { tick_count self.now < 4294967295 }
+        ensures rests { (past : Past) → Keeps self.now past → command ≡ command_now past → IsTrue result → RestsAt past }
+    {
+        shows_sixteen(self.frame);
+        if !self.is_unasked() {
+            false
+        } else if !self.stays_free(command) {
+            false
+        } else if !self.is_settled() {
+            false
+        } else if !self.is_current() {
+            false
+        } else {
+            let opening = self.opening();
+            !opening[0] && !opening[1]
+        }
+    }
+
+    /// A tick at rest, with this pattern in command.
+    pub(crate) fn rest(&mut self, command: u8) -> Frame
+        requires few { tick_count self.old < 4294967295 }
+        ensures again { result ≡ self.old.frame }
+        ensures keeps { (past : Past) → Keeps self.old past → command ≡ command_now past → RestsAt past
+            → Keeps self.new (with_moment past (next_moment past)) }
+        ensures ticks { tick_count self.new ≡ tick_count self.old + 1 }
+        ensures installs { install_count self.new ≡ install_count self.old }
+    {
+        let clock = self.orders.clock_now();
+        let active = self.calls.active(&self.layout, None);
+        let frame = self.frame;
+        self.calls.step(self.shown.green, self.walking);
+        self.clocks
+            .step(&frame, true, active, PhaseSet::empty(), &self.tables);
+        self.signals.step(&frame, true, &self.tables);
+        self.preempts.step(&frame);
+        self.requests.step(None);
+        self.orders.step(command, clock);
+        self.last = frame.on;
+        self.latest = frame.on[0];
+        self.start_run = 0;
+        frame
+    }
+}
