@@ -1,6 +1,6 @@
 -- At rest a tick gives the last frame again.
-use Rattle.std.proofs.Common.{◌≡◌, ◌≢◌, ◌==◌, ◌&&◌, not, ℕ, Bool, true, false, if◌then◌else◌, List, [], ◌∷◌, map, length, Option, None, refl, sym, ◌∙◌, ap}
-use Rattle.std.proofs.lemmas.Bool.{false≢true, ne_eqb}
+use Rattle.std.proofs.Common.{◌||◌, inl, inr, ◌≡◌, ◌≢◌, ◌==◌, ◌&&◌, not, ℕ, Bool, true, false, if◌then◌else◌, List, [], ◌∷◌, map, length, Option, None, refl, sym, ◌∙◌, ap}
+use Rattle.std.proofs.lemmas.Bool.{false≢true, ne_eqb, cases_Bool}
 use Rattle.sig_types.specs.declared.frame.Colour.{Colour}
 use Rattle.sig_types.specs.declared.frame.Colour.TheVariants.{Green, Yellow, Clear, Red}
 use Rattle.sig_types.specs.declared.frame.Ped.{Ped}
@@ -12,12 +12,12 @@ use Rattle.sig_types.specs.declared.phase_set.PhaseSet.{PhaseSet}
 use Rattle.sig_types.specs.PhaseSet.{has, phases_of}
 use Rattle.sig_types.specs.Phases.{is_phase, is_in, some, those, all_phases}
 use Rattle.sig_types.specs.Colour.{same_colour, colour_in, colour_of, signal_of, is_start}
-use Rattle.sig_types.proofs.Sets.{in-phases}
+use Rattle.sig_types.proofs.Sets.{in-phases, listed-phase}
 use Rattle.sig_tables.specs.declared.tables.Tables.{Tables}
 use Rattle.sig_tables.specs.Sides.{are_incompatible}
 use Rattle.sig_tables.specs.Slots.{is_defined}
 use Rattle.sig_tables.specs.Past.{Past, Moment}
-use Rattle.sig_tables.specs.Looking.{last_frame}
+use Rattle.sig_tables.specs.Looking.{last_frame, runs_on}
 use Rattle.sig_tables.specs.Calls.{is_green, opposed_of}
 use Rattle.sig_tables.specs.Modes.{bound}
 use Rattle.sig_tables.specs.Preempts.{all_preempts, stage_after, stage_now}
@@ -25,7 +25,7 @@ use Rattle.sig_tables.specs.Choosing.{mode_sought, mode_after, mode_staged, mode
 use Rattle.sig_tables.specs.Course.{Turn, Rings, turn_of, course_of}
 use Rattle.sig_tables.specs.Walking.{Crossing, has_walk, walk_begins}
 use Rattle.sig_tables.specs.Moves.{Moves}
-use Rattle.sig_tables.specs.View.{is_open}
+use Rattle.sig_tables.specs.View.{is_open, ended_of}
 use Rattle.sig_tables.specs.Ticking.{moves_of, colours_of, frame_of, frame_with, next_moment}
 use Rattle.sig_tables.specs.Seen.{frame_seen, mode_seen, view_seen, moves_seen, sight_seen, demand_with, pedestrian_seen}
 use Rattle.call_store.proofs.Listed.{none-has}
@@ -37,6 +37,7 @@ use Rattle.controller.proofs.Colours.{still-colours}
 use Rattle.controller.proofs.Signals.{still-signals}
 use Rattle.controller.proofs.Frames.{frame-parts}
 use Rattle.controller.proofs.Resting.{resting}
+use Rattle.controller.proofs.Seen.{clearance-none}
 use Rattle.sig_tables.proofs.FreeCourse.{forced-unbound}
 
 pub free-is : (m : Mode) → is_free m ≡ true → m ≡ Free
@@ -75,7 +76,7 @@ free-on t version n on past was none other undefined =
     ap (λ (m : Mode). mode_after m t version n on past) was
     ∙ ap (λ (s : Option Mode). mode_staged s t version n (last_frame past)) stage ∙ runs
 
-rings-turn : (t : Tables) (past : List Moment) (mode : Mode) → (last_frame past).mode ≡ Free → mode ≡ Free → turn_of t past mode ≡ Rings
+pub rings-turn : (t : Tables) (past : List Moment) (mode : Mode) → (last_frame past).mode ≡ Free → mode ≡ Free → turn_of t past mode ≡ Rings
 rings-turn t past mode was e = rw (was, e) refl
 
 -- no walk begins on a phase that keeps its colour, but on one in Green that is called to
@@ -116,31 +117,29 @@ moves-none past was mode none first second =
     ∙ resting (view_seen past) (λ p. forced-unbound (view_seen past) p (ap bound mode))
     (ap (λ (m : Mode). demand_with (bound m) past) mode ∙ none) first second
 
--- the last frame comes again
-pub frame-again : (past : Past) → IsCurrent past → (frame_seen past).mode ≡ Free → mode_seen past ≡ Free → demand_with None past ≡ []
-    → length (frame_seen past).veh ≡ 16 → length (frame_seen past).ped ≡ 16
-    → is_open (view_seen past) 1 ≡ false → is_open (view_seen past) 2 ≡ false
-    → ((p : ℕ) → is_phase p ≡ true → is_clearing (frame_seen past).veh p ≡ false)
-    → ((p : ℕ) → is_phase p ≡ true → is_signalling (frame_seen past) p ≡ false)
-    → ((p : ℕ) → is_phase p ≡ true
-    → ((has_walk past.tables p && is_in (pedestrian_seen past) p) && same_colour (colour_of (frame_seen past) p) Green) ≡ false)
+-- no counter and no target in Free
+pub no-counter : (past : Past) → mode_seen past ≡ Free → (course_of past).counter ≡ 0
+no-counter past e = rw e refl
+
+pub no-target : (past : Past) → mode_seen past ≡ Free → (course_of past).target ≡ 0
+no-target past e = rw e refl
+
+-- the last frame comes again where its colours and its signals do
+pub frame-same : (past : Past) → IsCurrent past → (frame_seen past).mode ≡ Free → mode_seen past ≡ Free
+    → (frame_seen past).veh ≡ colours_of past (moves_seen past)
+    → (frame_seen past).ped ≡ map (λ p. if walk_after past Free (colours_of past (moves_seen past)) p then Walk else signal_seen past p) all_phases
     → (next_moment past).frame ≡ frame_seen past
-frame-again past now was mode none wide long first second clear dark calls =
+frame-same past now was mode veh ped =
     let f : Frame = frame_seen past in
-    let moves : moves_seen past ≡ no-moves = moves-none past was mode none first second in
-    let still : f.veh ≡ colours_of past no-moves =
-    still-colours past no-moves f.veh wide refl (λ p h. refl) (λ p h. refl)
-    (λ p h c. absurd (false≢true (sym (clear p h) ∙ c))) in
-    let veh : f.veh ≡ colours_of past (moves_seen past) = still ∙ ap (λ (w : Moves). colours_of past w) (sym moves) in
-    let ped : f.ped ≡ map (λ (p : ℕ). if walk_after past f.mode f.veh p then Walk else signal_seen past p) all_phases =
-    still-signals past (walk_after past f.mode f.veh) f.ped long refl
-    (λ p h. no-walk (crossing_seen past f.mode) f.mode p (colour_of f p) (colour_in f.veh p) (signal_of f p) was refl (calls p h))
-    (λ p h s. absurd (false≢true (sym (dark p h) ∙ s))) in
-    let mode' : f.mode ≡ mode_reached (mode_seen past) past.tables f.veh = was ∙ sym (ap (λ (m : Mode). mode_reached m past.tables f.veh) mode) in
+    let at : f.ped ≡ map (λ (p : ℕ). if walk_after past f.mode f.veh p then Walk else signal_seen past p) all_phases =
+    ped
+    ∙ ap (λ (x : List Colour). map (λ (p : ℕ). if walk_after past Free x p then Walk else signal_seen past p) all_phases) (sym veh)
+    ∙ ap (λ (x : Mode). map (λ (p : ℕ). if walk_after past x f.veh p then Walk else signal_seen past p) all_phases) (sym was) in
+    let free : f.mode ≡ mode_reached (mode_seen past) past.tables f.veh = was ∙ sym (ap (λ (m : Mode). mode_reached m past.tables f.veh) mode) in
     sym (parts f _ _ now.on
-    ∙ frame-parts past f.mode f.veh f.ped _ _ f.counter f.target f.version ped refl refl
-    (now.counter ∙ sym (counts mode)) (now.target ∙ sym (targets mode)) now.version
-    ∙ ap (λ (m : Mode). frame_of (course_of past) past (sight_seen past) f.veh m) mode'
+    ∙ frame-parts past f.mode f.veh f.ped _ _ f.counter f.target f.version at refl refl
+    (now.counter ∙ sym (no-counter past mode)) (now.target ∙ sym (no-target past mode)) now.version
+    ∙ ap (λ (m : Mode). frame_of (course_of past) past (sight_seen past) f.veh m) free
     ∙ ap (λ (x : List Colour). frame_with (course_of past) past (sight_seen past) x) veh)
   where
     parts : (f : Frame) (one two : ℕ) → f.on ≡ one ∷ two ∷ [] → f ≡ record {
@@ -162,11 +161,28 @@ frame-again past now was mode none wide long first second clear dark calls =
       version = f.version;
     }) e
 
-    counts : mode_seen past ≡ Free → (course_of past).counter ≡ 0
-    counts e = rw e refl
-
-    targets : mode_seen past ≡ Free → (course_of past).target ≡ 0
-    targets e = rw e refl
+-- and so they do at rest
+pub frame-again : (past : Past) → IsCurrent past → (frame_seen past).mode ≡ Free → mode_seen past ≡ Free → demand_with None past ≡ []
+    → length (frame_seen past).veh ≡ 16 → length (frame_seen past).ped ≡ 16
+    → is_open (view_seen past) 1 ≡ false → is_open (view_seen past) 2 ≡ false
+    → ((p : ℕ) → is_phase p ≡ true → is_clearing (frame_seen past).veh p ≡ false)
+    → ((p : ℕ) → is_phase p ≡ true → is_signalling (frame_seen past) p ≡ false)
+    → ((p : ℕ) → is_phase p ≡ true
+    → ((has_walk past.tables p && is_in (pedestrian_seen past) p) && same_colour (colour_of (frame_seen past) p) Green) ≡ false)
+    → (next_moment past).frame ≡ frame_seen past
+frame-again past now was mode none wide long first second clear dark calls =
+    let f : Frame = frame_seen past in
+    let moves : moves_seen past ≡ no-moves = moves-none past was mode none first second in
+    let still : f.veh ≡ colours_of past no-moves =
+    still-colours past no-moves f.veh wide refl (λ p h. refl) (λ p h. refl)
+    (λ p h c. absurd (false≢true (sym (clear p h) ∙ c))) in
+    let veh : f.veh ≡ colours_of past (moves_seen past) = still ∙ ap (λ (w : Moves). colours_of past w) (sym moves) in
+    let ped : f.ped ≡ map (λ (p : ℕ). if walk_after past Free f.veh p then Walk else signal_seen past p) all_phases =
+    still-signals past (walk_after past Free f.veh) f.ped long refl
+    (λ p h. no-walk (crossing_seen past Free) Free p (colour_of f p) (colour_in f.veh p) (signal_of f p) refl refl (calls p h))
+    (λ p h s. absurd (false≢true (sym (dark p h) ∙ s))) in
+    frame-same past now was mode veh
+    (ped ∙ ap (λ (x : List Colour). map (λ (p : ℕ). if walk_after past Free x p then Walk else signal_seen past p) all_phases) veh)
 
 -- a frame of Free is not in step with a pattern
 pub free-apart : (f : Frame) (version n : ℕ) → f.mode ≡ Free → is_in_step f version n ≡ false
@@ -181,3 +197,25 @@ kept-on-ring before on some = rw (ne_eqb on 0 some) refl
 pub kept-on-first : (before first second : ℕ) → first ≢ 0
     → first ≡ (if false then 0 else if first == 0 then (if second == 0 then before else second) else first)
 kept-on-first before first second some = rw (ne_eqb first 0 some) refl
+
+-- where nothing clears, no ring opens in which something is on
+settled : (past : Past) (p : ℕ) → is_phase p ≡ true → is_clearing (frame_seen past).veh p ≡ false
+    → is_in (ended_of past.tables past.moments) p ≡ false
+settled past p h e =
+    in-phases (λ q. not (same_colour (colour_of (frame_seen past) q) Red)
+    && same_colour (runs_on q past.tables past.moments (colour_of (frame_seen past) q)) Red) p h
+    ∙ stays (colour_of (frame_seen past) p) e
+  where
+    stays : (c : Colour) → (same_colour c Yellow || same_colour c Clear) ≡ false
+        → (not (same_colour c Red) && same_colour (runs_on p past.tables past.moments c) Red) ≡ false
+    stays Green k = refl
+    stays Red k = refl
+    stays Yellow k = absurd (false≢true (sym k))
+    stays Clear k = absurd (false≢true (sym k))
+
+pub shut : (past : Past) (n : ℕ) → n ≢ 0 → ((p : ℕ) → is_phase p ≡ true → is_clearing (frame_seen past).veh p ≡ false)
+    → (n == 0 || is_in (ended_of past.tables past.moments) n) ≡ false
+shut past n some clear = rw (ne_eqb n 0 some) (elim (cases_Bool (is_in all_phases n)) [
+  | inl i ↦ let h = listed-phase n i in settled past n h (clear n h)
+  | inr o ↦ clearance-none past n o
+])

@@ -1,11 +1,11 @@
--- What a tick at rest is: free operation goes on, nothing is asked for, and the last frame comes again.
-use Rattle.std.specs.Prelude.{◌≡◌, ◌≢◌, ◌∷◌, [], None}
+-- Ticks of free operation that give the last frame again.
+use Rattle.std.specs.Prelude.{◌≡◌, ◌≢◌, ◌∷◌, []}
 use Rattle.sig_types.specs.declared.frame.Mode.TheVariants.{Free}
 use Rattle.sig_types.specs.Colour.{on_in}
 use Rattle.sig_tables.specs.Past.{Past}
 use Rattle.sig_tables.specs.Ticking.{on_of}
 use Rattle.sig_tables.specs.Decide.{next_moment}
-use Rattle.sig_tables.specs.Seen.{frame_seen, mode_seen, demand_with}
+use Rattle.sig_tables.specs.Seen.{frame_seen, mode_seen}
 
 -- the last frame has what a frame of Free has by the tables in force, beside its colours and signals
 pub record IsCurrent (past : Past) : Type 0 where
@@ -14,11 +14,10 @@ pub record IsCurrent (past : Past) : Type 0 where
   pub target : (frame_seen past).target ≡ 0
   pub on : (frame_seen past).on ≡ on_of past.tables (frame_seen past).veh 1 ∷ on_of past.tables (frame_seen past).veh 2 ∷ []
 
--- the cabinet runs free and goes on to, no phase has demand, a phase of each ring is on, and the last frame comes again
-pub record RestsAt (past : Past) : Type 0 where
+-- the cabinet runs free and goes on to, something is on in each ring, and the last frame comes again
+pub record Repeats (past : Past) : Type 0 where
   pub was : (frame_seen past).mode ≡ Free
   pub mode : mode_seen past ≡ Free
-  pub demand : demand_with None past ≡ []
   pub first : on_in (frame_seen past) 1 ≢ 0
   pub second : on_in (frame_seen past) 2 ≢ 0
   pub again : (next_moment past).frame ≡ frame_seen past

@@ -1,11 +1,14 @@
-//! Ticks at rest: in free operation, where nothing is asked for and nothing runs out, a tick gives the last frame again, and
-//! most of what other ticks look at is not looked at.
+//! Ticks of free operation that give the last frame again: those at rest, where nothing is asked for and nothing runs out, and
+//! most of what other ticks look at is not looked at; and those at which no phase ends, begins or walks. Only the registers
+//! that count are stepped.
 
-ghost use Rattle.std.specs.Prelude.{◌≡◌, ◌≢◌, ◌<◌, ◌≤◌, ◌+◌, ◌&&◌, ◌∷◌, [], ℕ, true, false, None, IsTrue, length};
+ghost use Rattle.std.specs.Prelude.{◌≡◌, ◌≢◌, ◌<◌, ◌≤◌, ◌+◌, ◌&&◌, ◌∷◌, [], ℕ, true, false, None, IsTrue, length, get_or, not};
 ghost use Rattle.controller.specs.Modes.{is_free};
 
 use crate::Controller;
 use crate::binding::is_defined;
+use crate::course::Course;
+use crate::seeing::Sight;
 use sig_types::{Frame, Mode, PhaseSet};
 
 /// The command that asks for flash.
@@ -28,6 +31,14 @@ fn are_on(on: [u8; 2], first: u8, second: u8) -> bool
     on[0] == first && on[1] == second
 }
 
+/// Whether something is on in both rings.
+fn are_both_on(on: [u8; 2]) -> bool
+    ensures first { IsTrue result → get_or on 0 0 ≢ 0 }
+    ensures second { IsTrue result → get_or on 1 0 ≢ 0 }
+{
+    if on[0] == 0 { false } else { on[1] != 0 }
+}
+
 /// Any frame shows sixteen phases.
 fn shows_sixteen(frame: Frame)
     ensures veh { length frame.veh ≡ 16 }
@@ -41,16 +52,22 @@ impl Controller {
     ghost use Rattle.sig_types.specs.Colour.{same_colour, colour_of};
     ghost use Rattle.sig_tables.specs.Past.{Past};
     ghost use Rattle.sig_tables.specs.Command.{command_now};
+    ghost use Rattle.sig_tables.specs.Clock.{clock_now};
+    ghost use Rattle.sig_tables.specs.Calls.{is_green};
+    ghost use Rattle.sig_tables.specs.Layout.{Has};
+    ghost use Rattle.sig_types.specs.PhaseSet.{has};
     ghost use Rattle.sig_tables.specs.Walking.{has_walk};
     ghost use Rattle.sig_tables.specs.Decide.{with_moment, next_moment};
-    ghost use Rattle.sig_tables.specs.Seen.{frame_seen, mode_seen, pedestrian_seen, demand_with};
+    ghost use Rattle.sig_tables.specs.Seen.{frame_seen, mode_seen, pedestrian_seen, demand_with, quiet_seen, opposed_seen};
     ghost use Rattle.controller.specs.Shows.{is_clearing, is_signalling};
-    ghost use Rattle.controller.specs.Rests.{IsCurrent, RestsAt};
+    ghost use Rattle.controller.specs.Rests.{IsCurrent, Repeats};
+    ghost use Rattle.controller.specs.Course.{Runs};
+    ghost use Rattle.controller.specs.Sees.{Sees};
     ghost use Rattle.controller.specs.StandsFor.{Keeps, tick_count, install_count};
 
     /// Whether a cabinet that runs free goes on to: no preempt input is on, and this pattern in command is none that is defined
     /// and is no flash.
-    fn stays_free(&self, command: u8) -> bool
+    pub(crate) fn stays_free(&self, command: u8) -> bool
         ensures was { (past : Past) → Keeps self.now past → IsTrue result → (frame_seen past).mode ≡ Free }
         ensures free { (past : Past) → Keeps self.now past → command ≡ command_now past → IsTrue result → mode_seen past ≡ Free }
     {
@@ -115,23 +132,21 @@ impl Controller {
         }
     }
 
-    /// Whether this tick, with this pattern in command, is one at rest.
-    pub(crate) fn is_at_rest(&self, command: u8) -> bool
-        requires few { tick_count self.now < 4294967295 }
-        ensures rests { (past : Past) → Keeps self.now past → command ≡ command_now past → IsTrue result → RestsAt past }
+    /// Whether this tick, of a cabinet that runs free and goes on to, is one at rest.
+    pub(crate) fn is_at_rest(&self) -> bool
+        ensures repeats { (past : Past) → Keeps self.now past → (frame_seen past).mode ≡ Free → mode_seen past ≡ Free
+            → IsTrue result → Repeats past }
+        ensures demand { (past : Past) → Keeps self.now past → IsTrue result → demand_with None past ≡ [] }
     {
         shows_sixteen(self.frame);
         if !self.is_unasked() {
-            false
-        } else if !self.stays_free(command) {
             false
         } else if !self.is_settled() {
             false
         } else if !self.is_current() {
             false
         } else {
-            let opening = self.opening();
-            !opening[0] && !opening[1]
+            are_both_on(self.frame.on)
         }
     }
 
@@ -139,17 +154,58 @@ impl Controller {
     pub(crate) fn rest(&mut self, command: u8) -> Frame
         requires few { tick_count self.old < 4294967295 }
         ensures again { result ≡ self.old.frame }
-        ensures keeps { (past : Past) → Keeps self.old past → command ≡ command_now past → RestsAt past
+        ensures keeps { (past : Past) → Keeps self.old past → command ≡ command_now past → demand_with None past ≡ [] → Repeats past
             → Keeps self.new (with_moment past (next_moment past)) }
         ensures ticks { tick_count self.new ≡ tick_count self.old + 1 }
         ensures installs { install_count self.new ≡ install_count self.old }
     {
         let clock = self.orders.clock_now();
         let active = self.calls.active(&self.layout, None);
+        self.repeat(command, clock, active, PhaseSet::empty())
+    }
+
+    /// Whether this tick gives the last frame again, of a cabinet that runs free and goes on to.
+    pub(crate) fn repeats(&self, course: &Course, sight: &Sight) -> bool
+        requires few { tick_count self.now < 4294967295 }
+        ensures repeats { (past : Past) → Runs self.now course.now past → Sees sight.now past → (frame_seen past).mode ≡ Free
+            → mode_seen past ≡ Free → IsTrue result → Repeats past }
+    {
+        let moves = self.moves(course, sight);
+        if !self.is_still(&self.frame.veh, moves) {
+            return false;
+        }
+        let walks = self.walks(course, sight, moves, Mode::Free);
+        if !self.is_steady(course, &self.frame.ped, walks) {
+            false
+        } else if !self.is_current() {
+            false
+        } else {
+            are_both_on(self.frame.on)
+        }
+    }
+
+    /// A tick that gives the last frame again, with this pattern in command, at this time, with these phases active and these
+    /// opposed.
+    pub(crate) fn repeat(
+        &mut self,
+        command: u8,
+        clock: u32,
+        active: PhaseSet,
+        opposed: PhaseSet,
+    ) -> Frame
+        requires few { tick_count self.old < 4294967295 }
+        requires of_day { clock < 864000 }
+        ensures again { result ≡ self.old.frame }
+        ensures keeps { (past : Past) → Keeps self.old past → command ≡ command_now past → clock ≡ clock_now past
+            → ((p : ℕ) → is_phase p ≡ true → is_in (quiet_seen past) p ≡ (is_green (frame_seen past) p && not (has active p)))
+            → Has opposed (is_in (opposed_seen past)) → Repeats past → Keeps self.new (with_moment past (next_moment past)) }
+        ensures ticks { tick_count self.new ≡ tick_count self.old + 1 }
+        ensures installs { install_count self.new ≡ install_count self.old }
+    {
         let frame = self.frame;
         self.calls.step(self.shown.green, self.walking);
         self.clocks
-            .step(&frame, true, active, PhaseSet::empty(), &self.tables);
+            .step(&frame, true, active, opposed, &self.tables);
         self.signals.step(&frame, true, &self.tables);
         self.preempts.step(&frame);
         self.requests.step(None);

@@ -88,7 +88,7 @@ impl Controller {
 
     /// Whether every phase keeps the colour that it has in these of the last frame: none ends or begins, and those in Yellow
     /// or red clearance stay in it.
-    fn is_still(&self, veh: &[Colour; 16], moves: Changes) -> bool
+    pub(crate) fn is_still(&self, veh: &[Colour; 16], moves: Changes) -> bool
         requires few { tick_count self.now < 4294967295 }
         ensures still { (past : Past) (w : Moves) → Keeps self.now past → AreMoves moves w → veh.now ≡ (frame_seen past).veh
             → IsTrue result → veh.now ≡ colours_of past w }

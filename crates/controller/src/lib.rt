@@ -25,6 +25,7 @@ mod moving;
 mod orders;
 mod reasons;
 mod seeing;
+mod ticking;
 mod walking;
 
 use binding::Binding;
@@ -116,16 +117,11 @@ impl Controller {
         ensures installs { install_count self.new ≡ install_count self.old }
     {
         let command = self.commanded();
-        if self.is_at_rest(command) {
-            return self.rest(command);
+        if self.stays_free(command) {
+            self.tick_free(command)
+        } else {
+            self.tick_in_any(command)
         }
-        let mode = self.mode(command);
-        self.follow(mode);
-        let course = self.course(mode, command);
-        let sight = self.sight(&course);
-        let next = self.next_frame(&course, &sight);
-        self.keep(&next, &course, &sight);
-        next.frame
     }
 
     /// An input from the street: a detector or a push button of a phase, 1 to 16, or the input of a preempt, 1 to 8. The

@@ -67,7 +67,7 @@ impl Controller {
     ghost use Rattle.controller.specs.StandsFor.{Keeps, tick_count};
 
     /// Whether each ring is open at this tick.
-    pub(crate) fn opening(&self) -> [bool; 2]
+    fn opening(&self) -> [bool; 2]
         requires few { tick_count self.now < 4294967295 }
         ensures opening { (past : Past) → Keeps self.now past → Opens result (view_seen past) }
     {

@@ -3,7 +3,7 @@
 //! stage that begins are stamped with the number of the step, so that a tick without a preempt does little.
 #![tactic(auto)]
 
-ghost use Rattle.std.specs.Prelude.{◌≡◌, ◌<◌, ◌≤◌, ◌+◌, ◌*◌, ◌&&◌, ◌||◌, ◌==◌, ◌∷◌, [], ℕ, true};
+ghost use Rattle.std.specs.Prelude.{◌≡◌, ◌<◌, ◌≤◌, ◌+◌, ◌*◌, ◌&&◌, ◌||◌, ◌==◌, ◌∷◌, [], ℕ, true, false, IsTrue};
 
 use sig_tables::{PhaseList, Tables};
 use sig_types::{Frame, Mode, PhaseSet};
@@ -15,7 +15,7 @@ mod tally;
 
 pub use goals::{goal, lesser, lesser_green, stage_of};
 use goals::{phases_in, row_of, ticks};
-use reached::{due_green, dwelling_green, dwelling_off, shows_sixteen};
+use reached::{due_green, dwelling_green, dwelling_off, is_dwell, shows_sixteen};
 use stages::{
     after_entry, after_exit, began, breaks_in, calls, exit_from, holds_dwell, same_mode, same_stage,
 };
@@ -44,7 +44,7 @@ impl Preempts {
     ghost use Rattle.sig_types.specs.declared.frame.Field.TheVariants.{Preempt as PreemptInput};
     ghost use Rattle.sig_types.specs.declared.frame.Mode.TheVariants.{Track, Dwell};
     ghost use Rattle.sig_types.specs.Phases.{is_in, those};
-    ghost use Rattle.sig_types.specs.PhaseSet.{has};
+    ghost use Rattle.sig_types.specs.PhaseSet.{has, phases_of};
     ghost use Rattle.sig_tables.specs.declared.tables.Tables.{Tables};
     ghost use Rattle.sig_tables.specs.Tables.{listed};
     ghost use Rattle.sig_tables.specs.Past.{Past, Moment, Input};
@@ -117,6 +117,13 @@ impl Preempts {
         ensures steps { step_count self.new ≡ step_count self.old + 1 }
     {
         shows_sixteen(given.veh);
+        if self.is_beside(given.mode) {
+            self.inputs.clear();
+            self.green.clear();
+            self.off.clear();
+            self.steps += 1;
+            return;
+        }
         self.inputs.step(self.on, self.steps);
         self.green.step(dwelling_green(given), self.steps);
         self.off.step(dwelling_off(given), self.steps);
@@ -126,6 +133,22 @@ impl Preempts {
         let goes_on = same_mode(self.mode, given.mode);
         self.mode_since = began(self.mode_since, goes_on, self.steps);
         self.mode = given.mode;
+    }
+
+    /// Whether a frame of this mode goes on with the last one beside all preempts: no input is on, no preempt dwells, and the
+    /// mode is that of the last frame.
+    fn is_beside(&self, mode: Mode) -> bool
+        ensures none { IsTrue result → phases_of self.now.on ≡ [] }
+        ensures dwell { IsTrue result → is_dwell mode ≡ false }
+        ensures same { IsTrue result → same_mode self.now.mode mode ≡ true }
+    {
+        if !self.on.is_empty() {
+            false
+        } else if is_dwell(mode) {
+            false
+        } else {
+            same_mode(self.mode, mode)
+        }
     }
 
     /// The least preempt that is called, or 0.

@@ -47,6 +47,16 @@ fn is_of(goal: &PhaseList, on: u8) -> bool
     on == 0 || goal.names(on)
 }
 
+/// Whether a mode is the dwell of some preempt.
+pub fn is_dwell(mode: Mode) -> bool
+    ensures { result ≡ is_dwell mode }
+{
+    match mode {
+        Mode::Dwell(_) => true,
+        _ => false,
+    }
+}
+
 /// The phases that are green in a frame of dwell; none in other frames.
 pub fn dwelling_green(shown: &Frame) -> PhaseSet
     ensures { (p : ℕ) → 0 < p → p ≤ 16 → has result p ≡ (is_dwell shown.now.mode && is_green shown.now p) }

@@ -1,7 +1,7 @@
 //! For how many steps in a row each of sixteen numbers has been in a set that is given at each step. What comes in is
 //! stamped with the step, so that a step at which nothing comes in does little.
 
-ghost use Rattle.std.specs.Prelude.{◌≡◌, ◌<◌, ◌≤◌, ◌+◌, ◌-◌, not, nat_le, ℕ, Bool, List, get_or, if◌then◌else◌, length, [], true};
+ghost use Rattle.std.specs.Prelude.{◌≡◌, ◌<◌, ◌≤◌, ◌+◌, ◌-◌, not, nat_le, ℕ, Bool, List, get_or, if◌then◌else◌, length, [], true, false, ◌∷◌};
 
 use sig_types::PhaseSet;
 
@@ -14,7 +14,8 @@ pub struct Tally {
 
 impl Tally {
     ghost use Rattle.sig_types.specs.PhaseSet.{has};
-    ghost use Rattle.preempt_run.specs.Tally.{count_of, TallySteps, HasNone};
+    ghost use Rattle.sig_tables.specs.Past.{Moment};
+    ghost use Rattle.preempt_run.specs.Tally.{count_of, TallySteps, TallyStands, HasNone};
 
     /// No number was in the set.
     pub fn new() -> Tally
@@ -35,6 +36,14 @@ impl Tally {
             stamp(&mut self.since, entered, last);
         }
         self.members = members;
+    }
+
+    /// One more step, with an empty set.
+    pub fn clear(&mut self)
+        ensures { (test : Moment → Bool) (past : List Moment) (m : Moment) (p last : ℕ) → test m ≡ false
+            → TallyStands self.new last p test (m ∷ past) }
+    {
+        self.members = PhaseSet::empty();
     }
 
     /// How many steps in a row, up to step `last`, a number, 1 to 16, has been in the set.

@@ -1,82 +1,45 @@
-use Rattle.std.proofs.Common.{◌≡◌, ◌≢◌, ◌+◌, ◌&&◌, ◌∷◌, [], Bool, true, false, None, refl, sym, ◌∙◌, ap, arith, subst}
-use Rattle.std.proofs.lemmas.Bool.{false≢true}
-use Rattle.sig_types.specs.declared.frame.Frame.{Frame}
+use Rattle.std.proofs.Common.{◌≡◌, [], None, sym, ◌∙◌, ap}
 use Rattle.sig_types.specs.declared.frame.Mode.{Mode}
-use Rattle.sig_types.specs.declared.frame.Mode.TheVariants.{Free}
 use Rattle.sig_types.specs.Phases.{is_in}
-use Rattle.sig_types.specs.Colour.{is_start, on_in}
-use Rattle.sig_tables.specs.Looking.{last_on}
-use Rattle.sig_tables.specs.Past.{Moment}
-use Rattle.sig_tables.specs.Calls.{is_green}
 use Rattle.sig_tables.specs.Modes.{bound}
-use Rattle.sig_tables.specs.Layout.{Has}
-use Rattle.sig_tables.specs.Command.{command_now}
-use Rattle.sig_tables.specs.Preempts.{preempts_on}
-use Rattle.sig_tables.specs.Decide.{next_moment, colours_of}
-use Rattle.sig_tables.specs.Priority.{active_in}
-use Rattle.sig_tables.specs.Seen.{frame_seen, mode_seen, moment_seen, moves_seen, quiet_with, demand_with}
-use Rattle.call_store.specs.Stands.{is_walking}
-use Rattle.preempt_run.specs.Dwelling.{NamesPhases}
-use Rattle.preempt_run.proofs.Called.{seen-is}
-use Rattle.prio_queue.specs.Places.{some_number}
-use Rattle.controller.specs.Shows.{ShowsColours, is_signalling}
-use Rattle.controller.proofs.Rings.{each-ring, last-next, latest-next}
-use Rattle.controller.proofs.Sought.{start-again}
-use Rattle.controller.proofs.Pickups.{start-next, few-next, one-more, same-most}
-use Rattle.controller.proofs.Again.{unopposed, free-apart, free-started, kept-on-ring, kept-on-first}
+use Rattle.sig_tables.specs.Seen.{frame_seen, mode_seen, quiet_with, demand_with}
+use Rattle.controller.proofs.Again.{unopposed}
 use Rattle.controller.proofs.Controller.rest.Goals as goal
 
-nothing : (a b : Bool) → b ≡ false → false ≡ (a && b)
-nothing true b e = sym e
-nothing false b e = refl
-
 pub returns-clause-keeps : goal.returns-clause-keeps
-returns-clause-keeps c = λ past k e r.
-    let m : Moment = next_moment past in
-    let old : Frame = c.args.self.now.frame in
-    let a : m.frame ≡ frame_seen past = r.again in
-    let f : frame_seen past ≡ m.frame = sym a in
-    let g : m.frame ≡ old = a ∙ sym k.frame in
-    let free : m.frame.mode ≡ Free = ap (λ (x : Frame). x.mode) a ∙ r.was in
-    let shown : ShowsColours c.args.self.now.shown m.frame.veh = subst (λ (x : Frame). ShowsColours c.args.self.now.shown x.veh) f k.shown in
-    let walking : Has c.args.self.now.walking (is_walking m.frame) = subst (λ (x : Frame). Has c.args.self.now.walking (is_walking x)) f k.walking in
-    let signalling : Has c.args.self.now.signalling (is_signalling m.frame) =
-    subst (λ (x : Frame). Has c.args.self.now.signalling (is_signalling x)) f k.signalling in
-    let names : NamesPhases m.frame = subst (λ (x : Frame). NamesPhases x) f k.names in
-    let start : false ≡ is_start old.mode = free-started old.mode (ap (λ (x : Frame). x.mode) k.frame ∙ r.was) in
-    let first : on_in old 1 ≢ 0 = λ x. r.first (ap (λ (y : Frame). on_in y 1) (sym k.frame) ∙ x) in
-    let second : on_in old 2 ≢ 0 = λ x. r.second (ap (λ (y : Frame). on_in y 2) (sym k.frame) ∙ x) in
-    let none : demand_with (bound (mode_seen past)) past ≡ [] = ap (λ (x : Mode). demand_with (bound x) past) r.mode ∙ r.demand in
-    record {
+returns-clause-keeps c = λ past k e none r.
+    let free : demand_with (bound (mode_seen past)) past ≡ [] = ap (λ (x : Mode). demand_with (bound x) past) r.mode ∙ none in
+    c.repeat.ensures.keeps past (record {
       tables = k.tables;
       layout = k.layout;
       ordered = k.ordered;
       version = k.version;
-      frame = sym g;
-      calls = c.step.ensures.stands past m k.calls shown.green walking refl refl refl;
-      clocks = c.step-2.ensures.stands past.moments m k.clocks g (sym k.tables) (λ t. ap (λ (x : Frame). x.veh) a)
-          (λ p h. ap (λ (x : Mode). is_in (quiet_with (bound x) past) p) r.mode
-          ∙ c.active-active.ensures.quiet None past k.calls k.layout tt p h)
-          (λ p h. unopposed past.tables (frame_seen past) _ p h none ∙ nothing (is_green (frame_seen past) p) _ (c.empty.ensures.has p));
-      signals = c.step-3.ensures.stands past.moments m k.signals g (sym k.tables) (λ t. ap (λ (x : Frame). x.ped) a);
-      preempts = c.step-4.ensures.stands past m k.preempts g (sym (seen-is past)) (subst (λ (x : Frame). NamesPhases x) (sym k.frame) k.names);
-      requests = c.step-5.ensures.stands past m k.requests (one-more (moment_seen past).number)
-          (sym (ap (λ (x : Mode). some_number (active_in past.tables x ((moment_seen past).number + 1) past.asked)) r.mode));
-      orders = c.step-6.ensures.stands past m k.orders (record { number = refl; command = refl; is_commanded = refl; clock = refl })
-          e (c.clock_now-clock.ensures.clock past k.orders);
-      shown = shown;
-      walking = walking;
-      signalling = signalling;
-      names = names;
-      last = each-ring old.on 0 (λ q. last_on q (m ∷ past.moments))
-          (kept-on-ring _ _ first ∙ last-next m past.moments old 1 _ false g start (k.last 1 (omega arith) (omega arith)))
-          (kept-on-ring _ _ second ∙ last-next m past.moments old 2 _ false g start (k.last 2 (omega arith) (omega arith)));
-      latest = kept-on-first _ _ (on_in old 2) first ∙ latest-next m past.moments old _ false g start k.latest;
-      start = start-next m past.moments c.args.self.now.start_run false (free-started m.frame.mode free) k.start;
-      few_start = few-next m past.moments
-          (λ now last. start-again past.tables past.version (command_now past) (preempts_on past.heard (moment_seen past)) past.moments
-          (colours_of past (moves_seen past)) last now);
+      frame = k.frame;
+      calls = record { vehicle = k.calls.vehicle; pedestrian = k.calls.pedestrian; detectors = k.calls.detectors; turned_on = k.calls.turned_on };
+      clocks = k.clocks;
+      signals = k.signals;
+      preempts = k.preempts;
+      requests = k.requests;
+      shown = k.shown;
+      walking = k.walking;
+      signalling = k.signalling;
+      names = k.names;
+      last = k.last;
+      latest = k.latest;
+      start = k.start;
+      few_start = k.few_start;
+      orders = record {
+        command = k.orders.command;
+        since = k.orders.since;
+        clock = k.orders.clock;
+        ticks = k.orders.ticks;
+        gain = k.orders.gain;
+        lose = k.orders.lose;
+      };
       binding = k.binding;
-      counts = λ n st. absurd (false≢true (sym (free-apart m.frame past.version n free) ∙ st));
-      old_frame = same-most past.version;
-    }
+      counts = k.counts;
+      old_frame = k.old_frame;
+    }) e (c.clock_now-clock.ensures.clock past k.orders)
+    (λ p h. ap (λ (x : Mode). is_in (quiet_with (bound x) past) p) r.mode ∙ c.active-active.ensures.quiet None past k.calls k.layout tt p h)
+    (λ p h. c.empty.ensures.has p ∙ sym (unopposed past.tables (frame_seen past) _ p h free))
+    r

@@ -1,0 +1,75 @@
+use Rattle.std.proofs.Common.{◌≡◌, ◌≢◌, ◌+◌, ◌&&◌, ◌∷◌, Bool, false, refl, sym, ◌∙◌, ap, arith, subst}
+use Rattle.std.proofs.lemmas.Bool.{false≢true}
+use Rattle.sig_types.specs.declared.frame.Frame.{Frame}
+use Rattle.sig_types.specs.declared.frame.Mode.{Mode}
+use Rattle.sig_types.specs.declared.frame.Mode.TheVariants.{Free}
+use Rattle.sig_types.specs.Colour.{is_start, on_in}
+use Rattle.sig_tables.specs.Looking.{last_on}
+use Rattle.sig_tables.specs.Past.{Moment}
+use Rattle.sig_tables.specs.Calls.{is_green}
+use Rattle.sig_tables.specs.Layout.{Has}
+use Rattle.sig_tables.specs.Command.{command_now}
+use Rattle.sig_tables.specs.Preempts.{preempts_on}
+use Rattle.sig_tables.specs.Decide.{next_moment, colours_of}
+use Rattle.sig_tables.specs.Priority.{active_in}
+use Rattle.sig_tables.specs.Seen.{frame_seen, moment_seen, moves_seen}
+use Rattle.call_store.specs.Stands.{is_walking}
+use Rattle.preempt_run.specs.Dwelling.{NamesPhases}
+use Rattle.preempt_run.proofs.Called.{seen-is}
+use Rattle.prio_queue.specs.Places.{some_number}
+use Rattle.controller.specs.Shows.{ShowsColours, is_signalling}
+use Rattle.controller.proofs.Rings.{each-ring, last-next, latest-next}
+use Rattle.controller.proofs.Seen.{opposed-green}
+use Rattle.controller.proofs.Sought.{start-again}
+use Rattle.controller.proofs.Pickups.{start-next, few-next, one-more, same-most}
+use Rattle.controller.proofs.Again.{free-apart, free-started, kept-on-ring, kept-on-first}
+use Rattle.controller.proofs.Controller.repeat.Goals as goal
+
+pub returns-clause-keeps : goal.returns-clause-keeps
+returns-clause-keeps c = λ past k e at quiet opposed r.
+    let m : Moment = next_moment past in
+    let old : Frame = c.args.self.now.frame in
+    let a : m.frame ≡ frame_seen past = r.again in
+    let f : frame_seen past ≡ m.frame = sym a in
+    let g : m.frame ≡ old = a ∙ sym k.frame in
+    let free : m.frame.mode ≡ Free = ap (λ (x : Frame). x.mode) a ∙ r.was in
+    let shown : ShowsColours c.args.self.now.shown m.frame.veh = subst (λ (x : Frame). ShowsColours c.args.self.now.shown x.veh) f k.shown in
+    let walking : Has c.args.self.now.walking (is_walking m.frame) = subst (λ (x : Frame). Has c.args.self.now.walking (is_walking x)) f k.walking in
+    let signalling : Has c.args.self.now.signalling (is_signalling m.frame) =
+    subst (λ (x : Frame). Has c.args.self.now.signalling (is_signalling x)) f k.signalling in
+    let names : NamesPhases m.frame = subst (λ (x : Frame). NamesPhases x) f k.names in
+    let start : false ≡ is_start old.mode = free-started old.mode (ap (λ (x : Frame). x.mode) k.frame ∙ r.was) in
+    let first : on_in old 1 ≢ 0 = λ x. r.first (ap (λ (y : Frame). on_in y 1) (sym k.frame) ∙ x) in
+    let second : on_in old 2 ≢ 0 = λ x. r.second (ap (λ (y : Frame). on_in y 2) (sym k.frame) ∙ x) in
+    record {
+      tables = k.tables;
+      layout = k.layout;
+      ordered = k.ordered;
+      version = k.version;
+      frame = sym g;
+      calls = c.step.ensures.stands past m k.calls shown.green walking refl refl refl;
+      clocks = c.step-2.ensures.stands past.moments m k.clocks g (sym k.tables) (λ t. ap (λ (x : Frame). x.veh) a)
+          quiet
+          (λ p h. opposed-green past p h ∙ ap (λ (b : Bool). is_green (frame_seen past) p && b) (sym (opposed p h)));
+      signals = c.step-3.ensures.stands past.moments m k.signals g (sym k.tables) (λ t. ap (λ (x : Frame). x.ped) a);
+      preempts = c.step-4.ensures.stands past m k.preempts g (sym (seen-is past)) (subst (λ (x : Frame). NamesPhases x) (sym k.frame) k.names);
+      requests = c.step-5.ensures.stands past m k.requests (one-more (moment_seen past).number)
+          (sym (ap (λ (x : Mode). some_number (active_in past.tables x ((moment_seen past).number + 1) past.asked)) r.mode));
+      orders = c.step-6.ensures.stands past m k.orders (record { number = refl; command = refl; is_commanded = refl; clock = refl })
+          e at;
+      shown = shown;
+      walking = walking;
+      signalling = signalling;
+      names = names;
+      last = each-ring old.on 0 (λ q. last_on q (m ∷ past.moments))
+          (kept-on-ring _ _ first ∙ last-next m past.moments old 1 _ false g start (k.last 1 (omega arith) (omega arith)))
+          (kept-on-ring _ _ second ∙ last-next m past.moments old 2 _ false g start (k.last 2 (omega arith) (omega arith)));
+      latest = kept-on-first _ _ (on_in old 2) first ∙ latest-next m past.moments old _ false g start k.latest;
+      start = start-next m past.moments c.args.self.now.start_run false (free-started m.frame.mode free) k.start;
+      few_start = few-next m past.moments
+          (λ now last. start-again past.tables past.version (command_now past) (preempts_on past.heard (moment_seen past)) past.moments
+          (colours_of past (moves_seen past)) last now);
+      binding = k.binding;
+      counts = λ n st. absurd (false≢true (sym (free-apart m.frame past.version n free) ∙ st));
+      old_frame = same-most past.version;
+    }

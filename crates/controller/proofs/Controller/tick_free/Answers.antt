@@ -1,0 +1,55 @@
+use Rattle.std.proofs.Common.{sym, ◌∙◌, subst}
+use Rattle.sig_types.specs.declared.frame.Mode.{Mode}
+use Rattle.controller.specs.Binds.{IsBound}
+use Rattle.controller.specs.Course.{Runs}
+use Rattle.controller.proofs.Controller.tick_free.Goals as goal
+
+pub returns-then-is_at_rest-clause-given : goal.returns-then-is_at_rest-clause-given
+returns-then-is_at_rest-clause-given c = λ past k was mode e.
+    c.rest.ensures.again ∙ k.frame ∙ sym (c.is_at_rest.ensures.repeats past k was mode c.if-is_at_rest.true).again
+
+pub returns-then-is_at_rest-clause-keeps : goal.returns-then-is_at_rest-clause-keeps
+returns-then-is_at_rest-clause-keeps c = λ past k was mode e.
+    c.rest.ensures.keeps past k e (c.is_at_rest.ensures.demand past k c.if-is_at_rest.true)
+    (c.is_at_rest.ensures.repeats past k was mode c.if-is_at_rest.true)
+
+pub returns-then-repeats-clause-given : goal.returns-then-repeats-clause-given
+returns-then-repeats-clause-given c = λ past k was mode e.
+    let runs : Runs c.args.self.now c.free_course-course.result past = record {
+      keeps = k;
+      course = c.free_course-course.ensures.course past k was mode e;
+      bound = subst (λ (m : Mode). IsBound c.args.self.now.binding past.tables m) (sym mode) tt;
+    } in
+    let sees = c.sight-sight.ensures.sees past runs in
+    c.repeat.ensures.again ∙ k.frame ∙ sym (c.repeats.ensures.repeats past runs sees was mode c.if-repeats.true).again
+
+pub returns-then-repeats-clause-keeps : goal.returns-then-repeats-clause-keeps
+returns-then-repeats-clause-keeps c = λ past k was mode e.
+    let runs : Runs c.args.self.now c.free_course-course.result past = record {
+      keeps = k;
+      course = c.free_course-course.ensures.course past k was mode e;
+      bound = subst (λ (m : Mode). IsBound c.args.self.now.binding past.tables m) (sym mode) tt;
+    } in
+    let sees = c.sight-sight.ensures.sees past runs in
+    c.repeat.ensures.keeps past k e runs.course.clock sees.quiet sees.opposed
+    (c.repeats.ensures.repeats past runs sees was mode c.if-repeats.true)
+
+pub returns-clause-given : goal.returns-clause-given
+returns-clause-given c = λ past k was mode e.
+    let runs : Runs c.args.self.now c.free_course-course.result past = record {
+      keeps = k;
+      course = c.free_course-course.ensures.course past k was mode e;
+      bound = subst (λ (m : Mode). IsBound c.args.self.now.binding past.tables m) (sym mode) tt;
+    } in
+    let sees = c.sight-sight.ensures.sees past runs in
+    c.go_on.ensures.given past runs sees
+
+pub returns-clause-keeps : goal.returns-clause-keeps
+returns-clause-keeps c = λ past k was mode e.
+    let runs : Runs c.args.self.now c.free_course-course.result past = record {
+      keeps = k;
+      course = c.free_course-course.ensures.course past k was mode e;
+      bound = subst (λ (m : Mode). IsBound c.args.self.now.binding past.tables m) (sym mode) tt;
+    } in
+    let sees = c.sight-sight.ensures.sees past runs in
+    c.go_on.ensures.keeps past runs sees

@@ -1,0 +1,92 @@
+//! A tick as a whole, once the pattern in command is known. Most of what a tick is about is plain where the cabinet runs free
+//! and goes on to, and is then not looked for.
+
+ghost use Rattle.std.specs.Prelude.{◌≡◌, ◌<◌, ◌+◌};
+
+use crate::Controller;
+use crate::course::Course;
+use crate::seeing::Sight;
+use flash_mode::Turn;
+use sig_types::{Frame, Mode, PhaseSet};
+
+impl Controller {
+    ghost use Rattle.sig_types.specs.declared.frame.Mode.TheVariants.{Free};
+    ghost use Rattle.sig_tables.specs.Past.{Past};
+    ghost use Rattle.sig_tables.specs.Command.{command_now};
+    ghost use Rattle.sig_tables.specs.Decide.{with_moment, next_moment};
+    ghost use Rattle.sig_tables.specs.Seen.{frame_seen, mode_seen};
+    ghost use Rattle.controller.specs.Course.{OnCourse, Runs};
+    ghost use Rattle.controller.specs.Sees.{Sees};
+    ghost use Rattle.controller.specs.StandsFor.{Keeps, tick_count, install_count};
+
+    /// What a tick is about in a cabinet that runs free and goes on to, with this pattern in command.
+    fn free_course(&self, command: u8) -> Course
+        requires few { tick_count self.now < 4294967295 }
+        ensures course { (past : Past) → Keeps self.now past → (frame_seen past).mode ≡ Free → mode_seen past ≡ Free
+            → command ≡ command_now past → OnCourse result past }
+        ensures of_day { result.clock < 864000 }
+    {
+        Course {
+            command,
+            clock: self.orders.clock_now(),
+            mode: Mode::Free,
+            goal: PhaseSet::empty(),
+            turn: Turn::Rings,
+            lesser: None,
+            counter: 0,
+            target: 0,
+            active: None,
+        }
+    }
+
+    /// The frame of a tick that is about this and sees this.
+    fn go_on(&mut self, course: &Course, sight: &Sight) -> Frame
+        requires few { tick_count self.old < 4294967295 }
+        requires of_day { course.now.clock < 864000 }
+        ensures given { (past : Past) → Runs self.old course.now past → Sees sight.now past → result ≡ (next_moment past).frame }
+        ensures keeps { (past : Past) → Runs self.old course.now past → Sees sight.now past → Keeps self.new (with_moment past (next_moment past)) }
+        ensures ticks { tick_count self.new ≡ tick_count self.old + 1 }
+        ensures installs { install_count self.new ≡ install_count self.old }
+    {
+        let next = self.next_frame(course, sight);
+        self.keep(&next, course, sight);
+        next.frame
+    }
+
+    /// The frame of a tick of a cabinet that runs free and goes on to, with this pattern in command.
+    pub(crate) fn tick_free(&mut self, command: u8) -> Frame
+        requires few { tick_count self.old < 4294967295 }
+        ensures given { (past : Past) → Keeps self.old past → (frame_seen past).mode ≡ Free → mode_seen past ≡ Free
+            → command ≡ command_now past → result ≡ (next_moment past).frame }
+        ensures keeps { (past : Past) → Keeps self.old past → (frame_seen past).mode ≡ Free → mode_seen past ≡ Free
+            → command ≡ command_now past → Keeps self.new (with_moment past (next_moment past)) }
+        ensures ticks { tick_count self.new ≡ tick_count self.old + 1 }
+        ensures installs { install_count self.new ≡ install_count self.old }
+    {
+        if self.is_at_rest() {
+            return self.rest(command);
+        }
+        let course = self.free_course(command);
+        let sight = self.sight(&course);
+        if self.repeats(&course, &sight) {
+            return self.repeat(command, course.clock, sight.active, sight.opposed);
+        }
+        self.go_on(&course, &sight)
+    }
+
+    /// The frame of a tick in any mode, with this pattern in command.
+    pub(crate) fn tick_in_any(&mut self, command: u8) -> Frame
+        requires few { tick_count self.old < 4294967295 }
+        ensures given { (past : Past) → Keeps self.old past → command ≡ command_now past → result ≡ (next_moment past).frame }
+        ensures keeps { (past : Past) → Keeps self.old past → command ≡ command_now past
+            → Keeps self.new (with_moment past (next_moment past)) }
+        ensures ticks { tick_count self.new ≡ tick_count self.old + 1 }
+        ensures installs { install_count self.new ≡ install_count self.old }
+    {
+        let mode = self.mode(command);
+        self.follow(mode);
+        let course = self.course(mode, command);
+        let sight = self.sight(&course);
+        self.go_on(&course, &sight)
+    }
+}
