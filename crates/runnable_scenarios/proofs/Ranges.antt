@@ -7,14 +7,14 @@ use Rattle.scenario_data.specs.Causes.{Limit}
 use Rattle.scenario_data.specs.Content.{ScenarioContent}
 use Rattle.scenario_read.specs.Paths.{then_named}
 use Rattle.scenario_read.specs.Kinds.{items_in}
-use Rattle.scenario_read.specs.Fields.{held, field_faults, fields_faults, object_of}
-use Rattle.scenario_read.specs.Table.{cabinet_shape, input_shape, version, rounds, ticks, cabinets, inputs, scenario_shape}
-use Rattle.scenario_read.specs.Content.{round_count, tick_count, cabinet_count, cabinets_of, cabinet_of, input_of, scenario_of}
-use Rattle.scenario_read.specs.Faults.{product_faults, all_table_faults, faults}
+use Rattle.scenario_read.specs.Fields.{held, object_of}
+use Rattle.scenario_read.specs.Table.{cabinet, input_shape, version, rounds, ticks, cabinets, inputs, setup_fields, event_fields, scenario_shape}
+use Rattle.scenario_read.specs.Content.{version_number, round_count, tick_count, cabinet_count, cabinets_of, cabinet_of, input_of, scenario_of}
+use Rattle.scenario_read.specs.Faults.{named_faults, product_faults, all_table_faults, faults}
 use Rattle.scenario_read.specs.Answers.{IsScenario}
 use Rattle.run_text.specs.NotRun.{first_not_run}
 use Rattle.run_text.specs.Runnable.{Runnable}
-use Rattle.runnable_scenarios.proofs.RangesParts.{none-left, whole-in, list-in, each-length, held-in, object-in}
+use Rattle.runnable_scenarios.proofs.RangesParts.{none-left, whole-in, list-in, each-length, held-in, object-in, AllClean, all-clean}
 use Rattle.runnable_scenarios.proofs.RangesLine.{line-lacks, compact-line}
 use Rattle.runnable_scenarios.proofs.RangesCabinets.{all-open, all-heard, all-reach}
 
@@ -25,37 +25,27 @@ product-in n e = from (nat_le n 55296000) refl e
     from true is k = leb-true n 55296000 is
     from false is k = absurd (cc)
 
--- each field of the whole has no faults
-record FieldsClean (d : Data) : Type 0 where
-  rounds_clean : field_faults [] d rounds ≡ []
-  ticks_clean : field_faults [] d ticks ≡ []
-  cabinets_clean : field_faults [] d cabinets ≡ []
-  inputs_clean : field_faults [] d (inputs (round_count d) (cabinet_count d)) ≡ []
-
-clean : (d : Data) → object_of (scenario_shape (round_count d) (cabinet_count d)) [] d ≡ [] → FieldsClean d
+-- the fields of the whole have no faults
+clean : (d : Data) → named_faults d ≡ []
+    → AllClean [] d (version ∷ (setup_fields (version_number d) ++ event_fields (round_count d) (cabinet_count d)))
 clean d e =
-    let all = (object-in (scenario_shape (round_count d) (cabinet_count d)) [] d e).0 in
-    let list = inputs (round_count d) (cabinet_count d) in
-    let a = none-left (field_faults [] d version) (fields_faults [] d (rounds ∷ ticks ∷ cabinets ∷ list ∷ [])) all in
-    let b = none-left (field_faults [] d rounds) (fields_faults [] d (ticks ∷ cabinets ∷ list ∷ [])) a.1 in
-    let c = none-left (field_faults [] d ticks) (fields_faults [] d (cabinets ∷ list ∷ [])) b.1 in
-    let f = none-left (field_faults [] d cabinets) (fields_faults [] d (list ∷ [])) c.1 in
-    let g = none-left (field_faults [] d list) [] f.1 in
-    record { rounds_clean = b.0; ticks_clean = c.0; cabinets_clean = f.0; inputs_clean = g.0 }
+    let shape = scenario_shape (version_number d) (round_count d) (cabinet_count d) in
+    all-clean [] d shape.fields (object-in shape [] d e).0
 
 value-runs : (d : Data) → faults d ≡ [] → first_not_run (scenario_of d) ≡ None → Runnable (scenario_of d)
 value-runs d e all =
+    let v = version_number d in
     let r = round_count d in
     let n = cabinet_count d in
-    let front = none-left (object_of (scenario_shape r n) [] d) (product_faults (n * r * tick_count d) ++ all_table_faults 1 (cabinets_of d)) e in
+    let front = none-left (named_faults d) (product_faults (n * r * tick_count d) ++ all_table_faults 1 (cabinets_of d)) e in
     let back = none-left (product_faults (n * r * tick_count d)) (all_table_faults 1 (cabinets_of d)) front.1 in
     let own = clean d front.0 in
-    let in_rounds = whole-in 1 86400 (then_named [] rounds.name) (held rounds d) (held-in [] d rounds own.rounds_clean) in
-    let in_ticks = whole-in 1 600 (then_named [] ticks.name) (held ticks d) (held-in [] d ticks own.ticks_clean) in
-    let in_cabinets = list-in 1 64 (object_of cabinet_shape) (then_named [] cabinets.name) (held cabinets d) (held-in [] d cabinets own.cabinets_clean) in
+    let in_rounds = whole-in 1 86400 (then_named [] rounds.name) (held rounds d) (held-in [] d rounds own.1.0) in
+    let in_ticks = whole-in 1 600 (then_named [] ticks.name) (held ticks d) (held-in [] d ticks own.1.1.0) in
+    let in_cabinets = list-in 1 64 (cabinet v) (then_named [] (cabinets v).name) (held (cabinets v) d) (held-in [] d (cabinets v) own.1.1.1.1.0) in
     let in_inputs = list-in 0 1000000 (object_of (input_shape r n)) (then_named [] (inputs r n).name) (held (inputs r n) d)
-    (held-in [] d (inputs r n) own.inputs_clean) in
-    let some_cabinets = each-length cabinet_of (items_in (held cabinets d)) in
+    (held-in [] d (inputs r n) own.1.1.1.1.1.1.0) in
+    let some_cabinets = each-length (cabinet_of v) (items_in (held (cabinets v) d)) in
     let some_inputs = each-length (input_of r n) (items_in (held (inputs r n) d)) in
     record {
       some_rounds = in_rounds.0;
@@ -66,7 +56,7 @@ value-runs d e all =
       few_cabinets = rw some_cabinets in_cabinets.1;
       few_inputs = rw some_inputs in_inputs.1;
       short = product-in (n * r * tick_count d) back.0;
-      can_open = all-open (then_named [] cabinets.name) 0 1 (items_in (held cabinets d)) in_cabinets.2 back.1;
+      can_open = all-open v (then_named [] (cabinets v).name) 0 1 (items_in (held (cabinets v) d)) in_cabinets.2 back.1;
       heard = all-heard r n (then_named [] (inputs r n).name) 0 (items_in (held (inputs r n) d)) in_inputs.2;
       in_reach = all-reach r n (then_named [] (inputs r n).name) 0 (items_in (held (inputs r n) d)) in_inputs.2;
       one_line = line-lacks (compact_text d) (compact-line d);

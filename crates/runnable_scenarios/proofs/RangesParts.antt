@@ -1,12 +1,12 @@
 -- What stands at the names of a value without faults.
-use Rattle.std.proofs.Common.{◌≡◌, ◌≤◌, ◌&&◌, ℕ, Bool, true, false, nat_le, if◌then◌else◌, List, [], ◌∷◌, ◌++◌, length, Option, Some, None, unwrap_or}
+use Rattle.std.proofs.Common.{◌≡◌, ◌≤◌, ◌⊎◌, ◌==◌, ◌&&◌, inl, inr, ℕ, Bool, true, false, nat_le, if◌then◌else◌, List, [], ◌∷◌, ◌++◌, length, Option, Some, None, unwrap_or}
 use Rattle.std.proofs.Common.{refl, arith}
-use Rattle.std.proofs.lemmas.Bool.{leb-true}
+use Rattle.std.proofs.lemmas.Bool.{leb-true, eqb-true}
 use Rattle.serde_json.specs.Data.{unsigned, negative, float, Data, null, boolean, number, string, array, object, Items, no_items, item}
 use Rattle.serde_json.specs.Events.{items_len}
 use Rattle.scenario_data.specs.Causes.{Cause}
 use Rattle.scenario_read.specs.Paths.{Step, then_named}
-use Rattle.scenario_read.specs.Kinds.{Fit, Fits, Wrong, Beyond, Kind, fault_at, within, whole, each, items_in, list_of}
+use Rattle.scenario_read.specs.Kinds.{Fit, Fits, Wrong, Beyond, Kind, fault_at, within, whole, rare, rare_number_fits, each, items_in, list_of}
 use Rattle.scenario_read.specs.Fields.{Field, Shape, held, value_of, faults_of, field_faults, fields_faults, names, known_fields, unknown_faults}
 use Rattle.scenario_read.specs.Fields.{alternative_faults, object_of}
 use Rattle.scenario_read.specs.Content.{whole_of, each_of}
@@ -76,3 +76,29 @@ object-in shape path (object ms) e =
     none-left (fields_faults path (object ms) shape.fields) (alternative_faults path (object ms) shape.alternatives)
     (none-left (unknown_faults (names (known_fields shape (object ms))) path ms)
     (fields_faults path (object ms) shape.fields ++ alternative_faults path (object ms) shape.alternatives) e).1
+
+-- 0 or a whole number from a least one on, without faults, is so
+pub rare-in : (least most : ℕ) (path : List Step) (d : Data) → rare least most path d ≡ [] → (whole_of d ≡ 0) ⊎ (least ≤ whole_of d)
+rare-in least most path null e = absurd (cc)
+rare-in least most path (boolean b) e = absurd (cc)
+rare-in least most path (number (unsigned n)) e = from (n == 0) refl (fits-alone path (rare_number_fits least most (unsigned n)) e)
+  where
+    from : (b : Bool) → (n == 0) ≡ b → (if b then Fits else within least most n) ≡ Fits → (n ≡ 0) ⊎ (least ≤ n)
+    from true p k = inl (eqb-true n 0 p)
+    from false p k = inr (in-range least most n k).0
+rare-in least most path (number (negative z)) e = absurd (cc)
+rare-in least most path (number (float x)) e = absurd (cc)
+rare-in least most path (string s) e = absurd (cc)
+rare-in least most path (array ds) e = absurd (cc)
+rare-in least most path (object ms) e = absurd (cc)
+
+-- none of these fields has faults
+abbrev pub AllClean : List Step → Data → List Field → Type 0
+AllClean path d [] = Unit {0}
+AllClean path d (f ∷ fields) = (field_faults path d f ≡ []) × AllClean path d fields
+
+pub all-clean : (path : List Step) (d : Data) (fields : List Field) → fields_faults path d fields ≡ [] → AllClean path d fields
+all-clean path d [] e = tt
+all-clean path d (f ∷ fields) e =
+    let parts = none-left (field_faults path d f) (fields_faults path d fields) e in
+    (parts.0, all-clean path d fields parts.1)
