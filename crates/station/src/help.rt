@@ -10,7 +10,8 @@ and every line of its trace is proved.
       writes its trace to standard output: every change of indication of every
       phase of every cabinet, with its tick (a tenth of a second). A scenario
       with a mistake is refused before anything is written; one line on standard
-      error says where the first mistake stands.
+      error says where the first mistake stands. So is one with messages between
+      the master and its cabinets, which no run carries out yet.
   arterial --help
       Writes this text. Nothing is read.
   arterial --version
