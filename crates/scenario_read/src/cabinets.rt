@@ -71,7 +71,7 @@ fn known_in_cabinet(
     }
 }
 
-/// By how many ticks the clock of a cabinet gains and loses one, which not both may be.
+/// In how many ticks the clock of a cabinet gains one, and in how many it loses one; 0 is never.
 #[derive(Drop)]
 struct Drift {
     gain: u32,

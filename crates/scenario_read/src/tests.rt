@@ -247,13 +247,13 @@ fn cells_are_put_in_order_over_the_base(rt: HostRuntime) -> Result<(), Fail> {
     Ok(())
 }
 
-const EVENTS: &str =
+const WHOLE_FORM: &str =
     "{\"version\":2,\"ticks\":1,\"rounds\":3,\"cabinets\":[{\"pattern\":1,\"section\":2,\"lose\":12000}],\"community\":\"street\",\"master\":{\"clock\":5,\"pattern_every\":2,\"schedule\":[{\"second\":10,\"section\":2,\"pattern\":1}]},\"inputs\":[{\"round\":1,\"cabinet\":1,\"preempt\":8,\"on\":true}],\"loads\":[{\"round\":2,\"cabinet\":1,\"cells\":[[\"unit\",2,90]]}],\"priority\":[{\"round\":1,\"cabinet\":1,\"number\":1,\"class\":2,\"level\":3,\"phase\":2,\"arrival\":5,\"departure\":600},{\"round\":2,\"cabinet\":1,\"cancel\":1}],\"frames\":[{\"round\":3,\"cabinet\":1,\"stream\":\"load\",\"hex\":\"30820C\"}],\"faults\":[{\"round\":1,\"cabinet\":1,\"stream\":\"priority\",\"way\":\"up\",\"kind\":\"cut\"}]}";
 
 #[test]
-fn a_scenario_holds_its_setup_and_its_events(rt: HostRuntime) -> Result<(), Fail> {
+fn a_scenario_holds_what_stands_for_its_whole_run(rt: HostRuntime) -> Result<(), Fail> {
     let alloc = rt.alloc();
-    let Ok(scenario) = read(alloc, EVENTS.as_bytes()) else {
+    let Ok(scenario) = read(alloc, WHOLE_FORM.as_bytes()) else {
         return Err(Fail::from("no scenario"));
     };
     assert!(rt; scenario.version == 2 && scenario.community.as_slice() == "street".as_bytes());
@@ -275,6 +275,15 @@ fn a_scenario_holds_its_setup_and_its_events(rt: HostRuntime) -> Result<(), Fail
                 }]
                 .as_slice()
     );
+    Ok(())
+}
+
+#[test]
+fn a_scenario_holds_its_inputs_loads_and_requests(rt: HostRuntime) -> Result<(), Fail> {
+    let alloc = rt.alloc();
+    let Ok(scenario) = read(alloc, WHOLE_FORM.as_bytes()) else {
+        return Err(Fail::from("no scenario"));
+    };
     let ([input], [load], [request, cancel]) = (
         scenario.inputs.as_slice(),
         scenario.loads.as_slice(),
@@ -305,6 +314,15 @@ fn a_scenario_holds_its_setup_and_its_events(rt: HostRuntime) -> Result<(), Fail
             })
     );
     assert!(rt; cancel.round == 2 && cancel.act == PriorityAct::Cancel(1));
+    Ok(())
+}
+
+#[test]
+fn a_scenario_holds_its_frames_and_faults(rt: HostRuntime) -> Result<(), Fail> {
+    let alloc = rt.alloc();
+    let Ok(scenario) = read(alloc, WHOLE_FORM.as_bytes()) else {
+        return Err(Fail::from("no scenario"));
+    };
     let ([frame], [fault]) = (scenario.frames.as_slice(), scenario.faults.as_slice()) else {
         return Err(Fail::from("other frames or faults"));
     };

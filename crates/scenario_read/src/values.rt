@@ -1,4 +1,4 @@
-//! Values that stand alone: whole numbers, words, and true or false. Nothing here takes memory.
+//! Values that stand alone: whole numbers, texts, words, and true or false. Nothing here takes memory.
 
 ghost use Rattle.std.specs.Prelude.{◌≡◌, ◌≤◌, map, codes, length, ◌∷◌, [], IfOk, OnOk};
 ghost use Rattle.serde_json.specs.View.{view, items_view};
