@@ -3,3 +3,4 @@ pub mod Journals
 pub mod Coming
 pub mod Frames
 pub mod Told
+pub mod Downloads

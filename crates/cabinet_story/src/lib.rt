@@ -4,6 +4,10 @@
 
 use sig_types::{Broken, Octets};
 
+mod laws;
+
+pub use laws::whole_downloads;
+
 /// The end of a load, by the id of its download: the version that an accepted finish made, or the rule that refused a verify or
 /// a finish, with its row.
 #[derive(Clone, Debug, PartialEq, Drop)]

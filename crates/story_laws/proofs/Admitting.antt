@@ -14,9 +14,9 @@ use Rattle.stage_txn.specs.Answers.{answered, staged, first_broken}
 use Rattle.stage_txn.specs.Laws.{InstallsWhatKeepsRules}
 use Rattle.undisturbed.specs.Disturbances.{Drift, drift_of}
 use Rattle.cabinet_story.specs.Story.{Story}
-use Rattle.cabinet_story.specs.Coming.{Coming, past_of, in_force, is_flashing, answer_in, installs, with_events, coming}
+use Rattle.cabinet_story.specs.Coming.{Coming, past_of, in_force, is_flashing, answer_in, installs, with_events, coming, coming_from}
 use Rattle.story_laws.specs.Openings.{IsOpening}
-use Rattle.story_laws.proofs.Steps.{IsPlain, IsMadeAt, called, happened, story-keeps}
+use Rattle.story_laws.proofs.Steps.{IsPlain, IsMadeAt, called, happened, Any, any, story-keeps}
 
 -- the history was opened with these tables and this drift, and each of its tables passed the rules
 pub record Lawful (t : Tables) (d : Drift) (c : Coming) : Type 0 where
@@ -68,8 +68,8 @@ call-lawful fit t d c (Finish id now flashing) is l =
     passed e =
         let rules : broken (staged (answered c.calls)) now flashing ≡ []
         = no-rule (staged (answered c.calls)) now flashing (fit (answered c.calls) id now flashing e).rules in
-        subst (λ (f : Bool). broken (staged (answered c.calls)) (in_force c) f ≡ []) is.1
-        (subst (λ (x : Tables). broken (staged (answered c.calls)) x flashing ≡ []) is.0 rules)
+        subst (λ (f : Bool). broken (staged (answered c.calls)) (in_force c) f ≡ []) is.1.1
+        (subst (λ (x : Tables). broken (staged (answered c.calls)) x flashing ≡ []) is.1.0 rules)
 
 -- the opening
 opens-lawful : (t : Tables) (d : Drift) (h : History) → IsOpening t d h → Consistent t → Lawful t d (record { history = h; calls = [] })
@@ -83,5 +83,7 @@ opens-lawful t d h (command, clock, inr e) fits =
 pub story-lawful : ((past : List Answered) → InstallsWhatKeepsRules past) → (story : Story) (t : Tables) (d : Drift)
     → IsOpening t d story.opening → Consistent t → Lawful t d (coming story)
 story-lawful fit story t d opens fits =
-    story-keeps (Lawful t d) (record { event = plain-lawful t d; call = call-lawful fit t d }) story.community story.opening
+    story-keeps Any (Lawful t d)
+    (record { event = plain-lawful t d; call = λ c call is before after l. call-lawful fit t d c call is l })
+    story.community story.opening (λ items. any (coming_from story.community story.opening items))
     (opens-lawful t d story.opening opens fits) story.items

@@ -1,4 +1,4 @@
--- The id of a download that a frame asks to be verified is 1 or more.
+-- The id of a download that a frame names is 1 or more.
 use Rattle.std.proofs.Common.{◌≡◌, ℕ, ◌≤◌, ◌==◌, ◌∷◌, [], Bool, true, false, List, Option, Some, None, Result, Ok, Err, refl, subst, arith}
 use Rattle.std.specs.Prelude.{pos, negsuc, nat_le, ◌&&◌, IfOk, IfSome, if◌then◌else◌}
 use Rattle.std.proofs.lemmas.Option.{same_Some}
@@ -14,7 +14,7 @@ use Rattle.snmp_msg.specs.declared.message.Bind.{Bind}
 use Rattle.oid_map.specs.Reading.{name_at}
 use Rattle.agent.specs.declared.ask.Order.{Order}
 use Rattle.agent.specs.declared.ask.Wish.{Wish}
-use Rattle.agent.specs.declared.ask.Wish.TheVariants.{Verify}
+use Rattle.agent.specs.declared.ask.Wish.TheVariants.{Begin, Part, Verify, Finish}
 use Rattle.agent.specs.declared.ask.Ask.{Ask}
 use Rattle.agent.specs.declared.bindings.Fault.{Fault}
 use Rattle.agent.specs.Orders.{order_of}
@@ -23,9 +23,12 @@ use Rattle.agent.specs.Downloads.{number_in, id_in, put_of, begin_wish, with_put
 use Rattle.agent.specs.Asks.{direct_wish, set_wish, wish_of, ask_of, Asks}
 use Rattle.agent.proofs.Readings.{read_asked}
 
--- a verify under an id from 1 on, or another wish
+-- a step of a download under an id from 1 on, or another wish
 abbrev pub HasId : Wish → Type 0
+HasId (Begin id) = 1 ≤ id
+HasId (Part id number puts) = 1 ≤ id
 HasId (Verify id total) = 1 ≤ id
+HasId (Finish id) = 1 ≤ id
 HasId _ = Unit {0}
 
 -- an id where it may be one
@@ -44,28 +47,28 @@ id-above (Octets octets) = tt
 id-above Null = tt
 id-above (NameValue name) = tt
 
-begin-id : (r : Result ℕ ℕ) (others : List Bind) → HasId (begin_wish r others)
-begin-id (Ok id) [] = tt
-begin-id (Ok id) (second ∷ others) = tt
-begin-id (Err status) others = tt
+begin-id : (r : Result ℕ ℕ) (others : List Bind) → IfOk r (λ id. 1 ≤ id) → HasId (begin_wish r others)
+begin-id (Ok id) [] above = above
+begin-id (Ok id) (second ∷ others) above = tt
+begin-id (Err status) others above = tt
 
-puts-id : (id number : ℕ) (r : Result (List (Cell × CellValue)) Fault) → HasId (with_puts id number r)
-puts-id id number (Ok puts) = tt
-puts-id id number (Err fault) = tt
+puts-id : (id number : ℕ) (r : Result (List (Cell × CellValue)) Fault) → 1 ≤ id → HasId (with_puts id number r)
+puts-id id number (Ok puts) above = above
+puts-id id number (Err fault) above = tt
 
-part-id : (id : ℕ) (r : Result ℕ ℕ) (cells : List Bind) → HasId (part_wish id r cells)
-part-id id (Ok number) cells = puts-id id number (each_gives put_of 3 cells)
-part-id id (Err status) cells = tt
+part-id : (id : ℕ) (r : Result ℕ ℕ) (cells : List Bind) → 1 ≤ id → HasId (part_wish id r cells)
+part-id id (Ok number) cells above = puts-id id number (each_gives put_of 3 cells) above
+part-id id (Err status) cells above = tt
 
 verify-id : (id : ℕ) (r : Result ℕ ℕ) (others : List Bind) → 1 ≤ id → HasId (verify_wish id r others)
 verify-id id (Ok total) [] above = above
 verify-id id (Ok total) (third ∷ others) above = tt
 verify-id id (Err status) others above = tt
 
-finish-id : (id : ℕ) (r : Result ℕ ℕ) (others : List Bind) → HasId (finish_wish id r others)
-finish-id id (Ok one) [] = tt
-finish-id id (Ok one) (third ∷ others) = tt
-finish-id id (Err status) others = tt
+finish-id : (id : ℕ) (r : Result ℕ ℕ) (others : List Bind) → 1 ≤ id → HasId (finish_wish id r others)
+finish-id id (Ok one) [] above = above
+finish-id id (Ok one) (third ∷ others) above = tt
+finish-id id (Err status) others above = tt
 
 one-of : (test : Bool) (a b : Wish) → HasId a → HasId b → HasId (if test then a else b)
 one-of true a b ha hb = ha
@@ -73,9 +76,9 @@ one-of false a b ha hb = hb
 
 named-id : (object id : ℕ) (value : Value) (others : List Bind) → 1 ≤ id → HasId (step_named object id value others)
 named-id object id value others above =
-    one-of (object == 4) _ _ (part-id id (number_in 1 60000 value) others)
+    one-of (object == 4) _ _ (part-id id (number_in 1 60000 value) others above)
     (one-of (object == 5) _ _ (verify-id id (number_in 0 60000 value) others above)
-    (one-of (object == 6) _ _ (finish-id id (number_in 1 1 value) others) tt))
+    (one-of (object == 6) _ _ (finish-id id (number_in 1 1 value) others above) tt))
 
 step-id : (r : Result ℕ ℕ) (others : List Bind) → IfOk r (λ id. 1 ≤ id) → HasId (step_wish r others)
 step-id (Ok id) [] above = tt
@@ -89,7 +92,7 @@ direct-id (Err fault) = tt
 set-id : (t : Tables) (binds : List Bind) → HasId (set_wish t binds)
 set-id t [] = tt
 set-id t (first ∷ others) =
-    one-of (download_object (name_at first.name.items) == 2) _ _ (begin-id (id_in first.value) others)
+    one-of (download_object (name_at first.name.items) == 2) _ _ (begin-id (id_in first.value) others (id-above first.value))
     (one-of (download_object (name_at first.name.items) == 3) _ _ (step-id (id_in first.value) others (id-above first.value))
     (direct-id (each_gives (order_of t) 1 (first ∷ others))))
 

@@ -3,5 +3,8 @@ pub mod Steps
 pub mod Admitting
 pub mod Ranging
 pub mod Downloading
+pub mod Numbering
+pub mod Versions
+pub mod Judging
 pub mod Changes
 pub mod Telling

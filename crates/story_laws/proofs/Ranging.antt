@@ -15,9 +15,9 @@ use Rattle.stage_txn.proofs.InRange.{staged-fits}
 use Rattle.undisturbed.specs.Disturbances.{Drift}
 use Rattle.coordination_met.specs.Ranged.{PutsInRange, EachInRange}
 use Rattle.cabinet_story.specs.Story.{Story}
-use Rattle.cabinet_story.specs.Coming.{Coming, in_force, answer_in, installs, with_events, coming, history_of}
+use Rattle.cabinet_story.specs.Coming.{Coming, in_force, answer_in, installs, with_events, coming, coming_from, history_of}
 use Rattle.story_laws.specs.Openings.{IsOpening}
-use Rattle.story_laws.proofs.Steps.{IsPlain, IsMadeAt, called, happened, story-keeps}
+use Rattle.story_laws.proofs.Steps.{IsPlain, IsMadeAt, called, happened, Any, any, story-keeps}
 
 -- each cell of the opening tables, of those in force now and at each begin, and of each download put in force is in its range
 pub record Ranged (c : Coming) : Type 0 where
@@ -49,7 +49,7 @@ install-ranged c call next (Refused b) fits begins r = record { opening = r.open
 
 call-ranged : (c : Coming) (call : Call) → IsMadeAt c call → Ranged c → Ranged (called c call)
 call-ranged c (Begin id now) is r =
-    record { opening = r.opening; now = r.now; begins = (subst EachFits (sym is) r.now, r.begins); puts = r.puts }
+    record { opening = r.opening; now = r.now; begins = (subst EachFits (sym is.1) r.now, r.begins); puts = r.puts }
 call-ranged c (Part id number cells) is r = record { opening = r.opening; now = r.now; begins = r.begins; puts = r.puts }
 call-ranged c (Verify id total now flashing) is r = record { opening = r.opening; now = r.now; begins = r.begins; puts = r.puts }
 call-ranged c (Finish id now flashing) is r =
@@ -66,7 +66,8 @@ opens-ranged t d h (command, clock, inr e) fits =
 
 story-ranged : (story : Story) (t : Tables) (d : Drift) → IsOpening t d story.opening → EachFits t → Ranged (coming story)
 story-ranged story t d opens fits =
-    story-keeps Ranged (record { event = plain-ranged; call = call-ranged }) story.community story.opening
+    story-keeps Any Ranged (record { event = plain-ranged; call = λ c call is before after r. call-ranged c call is r })
+    story.community story.opening (λ items. any (coming_from story.community story.opening items))
     (opens-ranged t d story.opening opens fits) story.items
 
 pub now-fits : (story : Story) (t : Tables) (d : Drift) → IsOpening t d story.opening → EachFits t → EachFits (in_force (coming story))

@@ -1,5 +1,5 @@
 -- What the items of a story tell is what is to be told of its history.
-use Rattle.std.proofs.Common.{◌≡◌, ℕ, ◌∙◌, List, [], ◌∷◌, ◌++◌, map, length, Option, Some, None, refl, sym, ap, inl, inr, Bool, true, false, append-nil}
+use Rattle.std.proofs.Common.{◌≡◌, ℕ, ◌∙◌, List, [], ◌∷◌, ◌++◌, map, length, Option, Some, None, refl, sym, ap, inl, inr, Bool, true, false, append-nil, append_assoc}
 use Rattle.std.specs.Prelude.{if◌then◌else◌}
 use Rattle.sig_types.specs.declared.notes.StageAnswer.{StageAnswer}
 use Rattle.sig_types.specs.declared.notes.StageAnswer.TheVariants.{Staged, Repeated, Verified, Accepted, WrongToken, WrongPart, NotVerified, Refused}
@@ -18,12 +18,13 @@ use Rattle.round_streams.specs.Items.{Item, Told as Input, Came, Ticked}
 use Rattle.stage_txn.specs.Calls.{Verify as VerifyCall, Finish as FinishCall}
 use Rattle.stage_txn.specs.Answers.{answered, staged}
 use Rattle.undisturbed.specs.Disturbances.{Drift}
-use Rattle.cabinet_story.specs.Story.{Story}
+use Rattle.cabinet_story.specs.Story.{Story, with_item as with_one_item, after}
+use Rattle.cabinet_story.specs.Journals.{Act, items_in}
 use Rattle.cabinet_story.specs.Coming.{Coming, in_force, past_of, is_flashing, answer_in, outcome, order_event, installs, with_events, carried_out, heeded, with_item, coming_from, history_of}
 use Rattle.cabinet_story.specs.Frames.{has_line, tick_written}
 use Rattle.cabinet_story.specs.Told.{verify_end, finish_end, wish_end, ask_end}
 use Rattle.story_laws.specs.Openings.{IsOpening}
-use Rattle.story_laws.specs.Telling.{load_told, frames_told, item_told, items_told, story_told}
+use Rattle.story_laws.specs.Telling.{load_told, frames_told, item_told, items_told, story_told, acts_told}
 
 -- what is to be told of a history
 abbrev due : History → List Told
@@ -113,3 +114,9 @@ opening-tells t d h (command, clock, inr e) = ap due e
 
 pub story-tells : (story : Story) (t : Tables) (d : Drift) → IsOpening t d story.opening → story_told story ≡ history_told has_line (history_of story)
 story-tells story t d opens = items-tell story.community story.opening (opening-tells t d story.opening opens) story.items
+
+pub acts-tell : (story : Story) (acts : List Act) → story_told (after story (items_in acts)) ≡ story_told story ++ acts_told story acts
+acts-tell story [] = sym (append-nil (story_told story))
+acts-tell story (act ∷ acts) =
+    acts-tell (with_one_item story act.item) acts
+    ∙ append_assoc (story_told story) (item_told story act.item) (acts_told (with_one_item story act.item) acts)

@@ -1,3 +1,4 @@
 pub mod Openings
 pub mod Downloads
+pub mod Judging
 pub mod Telling

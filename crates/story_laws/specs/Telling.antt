@@ -8,7 +8,8 @@ use Rattle.safe_trace.specs.Written.{shown_by}
 use Rattle.safe_streets.specs.Told.{Told, Shows, Loads}
 use Rattle.round_streams.specs.Items.{Item, Told as Input, Came, Ticked}
 use Rattle.cabinet_story.specs.declared.Load.{Load}
-use Rattle.cabinet_story.specs.Story.{Story}
+use Rattle.cabinet_story.specs.Story.{Story, with_item}
+use Rattle.cabinet_story.specs.Journals.{Act}
 use Rattle.cabinet_story.specs.Told.{load_end, item_written}
 
 -- a version that was made
@@ -41,3 +42,8 @@ items_told community opening (item ∷ items) =
 -- what a story tells
 abbrev pub story_told : Story → List Told
 story_told story = items_told story.community story.opening story.items
+
+-- what these acts tell after a story, in order
+abbrev pub acts_told : Story → List Act → List Told
+acts_told story [] = []
+acts_told story (act ∷ acts) = item_told story act.item ++ acts_told (with_item story act.item) acts

@@ -3,7 +3,7 @@
 //! functions do nothing but cite: each stands for the laws of its contract.
 #![tactic(auto)]
 
-ghost use Rattle.std.specs.Prelude.{◌≡◌, ℕ, List, length, None};
+ghost use Rattle.std.specs.Prelude.{◌≡◌, ℕ, List, ◌+◌, ◌++◌, drop, length, None, IfSome, true};
 ghost use Rattle.sig_tables.specs.declared.tables.Tables.{Tables};
 ghost use Rattle.sig_tables.specs.Decide.{past_at, since_opening};
 ghost use Rattle.sig_tables.specs.Putting.{EachFits, with_cells};
@@ -18,20 +18,23 @@ ghost use Rattle.undisturbed.specs.Disturbances.{Drift, IsSlow, drift_of, no_dri
 ghost use Rattle.undisturbed.specs.Meets.{Meets};
 ghost use Rattle.coordination_met.specs.Ranged.{EachInRange};
 ghost use Rattle.agent.specs.Asks.{AsksNothing};
-ghost use Rattle.stage_txn.specs.Answers.{answered, staged, standing};
+ghost use Rattle.stage_txn.specs.Answers.{answered, staged, taken};
 ghost use Rattle.round_streams.specs.Items.{Came};
-ghost use Rattle.cabinet_story.specs.Story.{Story, with_item};
+ghost use Rattle.cabinet_story.specs.Story.{Story, after, with_item};
+ghost use Rattle.cabinet_story.specs.Journals.{Act, items_in};
 ghost use Rattle.cabinet_story.specs.Coming.{coming, history_of, in_force};
+ghost use Rattle.cabinet_story.specs.Downloads.{accepted_by, content_by, deeds_of, is_under_way, with_downloads};
 ghost use Rattle.cabinet_story.specs.Frames.{has_line};
 ghost use Rattle.cabinet_story.specs.Told.{reply_to, load_end};
 ghost use Rattle.story_laws.specs.Openings.{IsOpening};
-ghost use Rattle.story_laws.specs.Downloads.{IsUnderway, accepted, content, with_contents};
-ghost use Rattle.story_laws.specs.Telling.{story_told};
+ghost use Rattle.story_laws.specs.Downloads.{numbers, up_to};
+ghost use Rattle.story_laws.specs.Judging.{IsVerdict};
+ghost use Rattle.story_laws.specs.Telling.{acts_told, story_told};
 
 use agent::other_frames_ask_nothing;
 use coordination_met::coordination_is_met;
 use safe_streets::admitted_streets_are_safe;
-use stage_txn::installs_what_keeps_the_rules;
+use stage_txn::{installs_what_keeps_the_rules, parts_come_in_order};
 
 /// Whatever comes to a cabinet that opened with consistent tables, each download that is put in force broke no rule beside the tables
 /// that it replaces. The clock keeps the drift that it opened with: no frame changes it.
@@ -65,23 +68,42 @@ pub fn stories_meet_coordination()
 }
 
 /// Downloads are whole: the tables in force are the opening ones with the whole content of each download whose finish was accepted, put
-/// in order, and nothing else has a part in them; the version is the number of these downloads. For while a download is under way
-/// nothing else is put in force, so that the staged tables are those in force with the cells of its parts so far.
+/// in order, and nothing else has a part in them. The version is the number of these downloads, and the tables of a version, by which
+/// the street is judged, are made by all but the later ones. For while a download is under way nothing else is put in force: the staged
+/// tables are those in force with the cells of its parts so far, which are the parts from 1 to the number taken, in order.
 pub fn downloads_are_whole()
     ensures in_force { (story : Story) (t : Tables) (d : Drift) → IsOpening t d story.opening
-        → in_force (coming story) ≡ with_contents t (accepted (answered (coming story).calls)) }
+        → in_force (coming story) ≡ with_downloads t (accepted_by (deeds_of (coming story))) }
     ensures version { (story : Story) (t : Tables) (d : Drift) → IsOpening t d story.opening
-        → (past_at (history_of story)).version ≡ length (accepted (answered (coming story).calls)) }
-    ensures staged { (story : Story) (t : Tables) (d : Drift) → IsOpening t d story.opening
-        → IsUnderway (standing (answered (coming story).calls))
-        → staged (answered (coming story).calls) ≡ with_cells (in_force (coming story)) (content (answered (coming story).calls)) }
-{}
+        → (past_at (history_of story)).version ≡ length (accepted_by (deeds_of (coming story))) }
+    ensures versions { (story : Story) (t : Tables) (d : Drift) (version later : ℕ) → IsOpening t d story.opening
+        → version + later ≡ length (accepted_by (deeds_of (coming story)))
+        → tables_of (history_of story) version ≡ with_downloads t (drop later (accepted_by (deeds_of (coming story)))) }
+    ensures staged { (story : Story) → is_under_way (deeds_of (coming story)) ≡ true
+        → staged (answered (coming story).calls) ≡ with_cells (in_force (coming story)) (content_by (deeds_of (coming story))) }
+    ensures parts { (story : Story)
+        → numbers (answered (coming story).calls) ≡ up_to (taken (answered (coming story).calls)) }
+{
+    parts_come_in_order();
+}
+
+/// A download that ends says what the rules say then: where a finish is accepted, the staged tables broke no rule beside those in force,
+/// and the version that is told is the cabinet's from then on; where a verify or a finish is refused, the rule that is told, with its
+/// row, is the first that they broke.
+pub fn downloads_end_as_judged()
+    ensures { (story : Story) (octets : List ℕ)
+        → IfSome (load_end story octets) (λ load. IsVerdict (coming story) (coming (with_item story (Came octets))) load.result) }
+{
+    installs_what_keeps_the_rules();
+}
 
 /// What the items of a story tell one after another is what is to be told of its history. So whoever writes the lines of each item as it
 /// comes has a street that is safe at every tick, and versions that are whole.
 pub fn stories_are_safe()
     ensures told { (story : Story) (t : Tables) (d : Drift) → IsOpening t d story.opening
         → story_told story ≡ history_told has_line (history_of story) }
+    ensures acts { (story : Story) (acts : List Act)
+        → story_told (after story (items_in acts)) ≡ story_told story ++ acts_told story acts }
     ensures safe { (story : Story) (t : Tables) (d : Drift) (cab : ℕ) (lines : List Line)
         → IsOpening t d story.opening → Consistent t → told_in cab lines ≡ story_told story
         → Safe (intersection_of cab (tables_of (history_of story)) lines) }

@@ -1,11 +1,20 @@
-use Rattle.story_laws.proofs.Downloading.{story-whole}
+use Rattle.cabinet_story.specs.Coming.{coming}
+use Rattle.story_laws.proofs.Downloading.{staged-over}
+use Rattle.story_laws.proofs.Numbering.{parts-numbered}
+use Rattle.story_laws.proofs.Versions.{in-force-whole, version-counts, version-whole}
 use Rattle.story_laws.proofs.downloads_are_whole.Goals as goal
 
 pub returns-clause-in_force : goal.returns-clause-in_force
-returns-clause-in_force c = λ story t d opens. (story-whole story t d opens).tables
+returns-clause-in_force c = in-force-whole
 
 pub returns-clause-version : goal.returns-clause-version
-returns-clause-version c = λ story t d opens. (story-whole story t d opens).number
+returns-clause-version c = version-counts
+
+pub returns-clause-versions : goal.returns-clause-versions
+returns-clause-versions c = version-whole
 
 pub returns-clause-staged : goal.returns-clause-staged
-returns-clause-staged c = λ story t d opens under_way. (story-whole story t d opens).copy under_way
+returns-clause-staged c = staged-over
+
+pub returns-clause-parts : goal.returns-clause-parts
+returns-clause-parts c = λ story. parts-numbered c.parts_come_in_order.ensures (coming story).calls

@@ -3,7 +3,7 @@ use Rattle.cabinet_story.specs.Coming.{history_of}
 use Rattle.cabinet_story.specs.Frames.{has_line}
 use Rattle.story_laws.proofs.Admitting.{story-lawful}
 use Rattle.story_laws.proofs.Changes.{tells}
-use Rattle.story_laws.proofs.Telling.{story-tells}
+use Rattle.story_laws.proofs.Telling.{story-tells, acts-tell}
 use Rattle.story_laws.proofs.stories_are_safe.Goals as goal
 
 pub returns-clause-told : goal.returns-clause-told
@@ -17,3 +17,6 @@ returns-clause-safe c = λ story t d cab lines opens fits told.
 pub returns-clause-whole : goal.returns-clause-whole
 returns-clause-whole c = λ story t d cab lines opens told.
     c.admitted_streets_are_safe.ensures.whole (history_of story) has_line cab lines (told ∙ story-tells story t d opens)
+
+pub returns-clause-acts : goal.returns-clause-acts
+returns-clause-acts c = acts-tell
