@@ -1,10 +1,10 @@
 -- What the place of a cabinet's next load says of the load with the next number.
-use Rattle.std.proofs.Common.{◌≡◌, ℕ, zero, suc, ◌+◌, ◌-◌, ◌≤◌, ◌<◌, ◌==◌, nat_le, Bool, true, false, if◌then◌else◌, ℤ, Option, Some, None, List, [], ◌∷◌, map, drop, length, get_or, refl, sym, subst, ◌∙◌, ap, arith}
+use Rattle.std.proofs.Common.{◌≡◌, ℕ, zero, suc, ◌+◌, ◌-◌, ◌≤◌, ◌<◌, ℤ, Option, Some, None, List, [], ◌∷◌, map, drop, length, get_or, refl, sym, subst, ◌∙◌, ap, arith}
 use Rattle.std.specs.List.{slice_get}
 use Rattle.std.proofs.lemmas.List.{drop_all, drop-map}
 use Rattle.std.proofs.lemmas.Grind.{common_steps}
 use Rattle.scenario_data.specs.declared.scenario.LoadItem.{LoadItem}
-use Rattle.scenario_data.specs.Content.{LoadContent, load_content}
+use Rattle.scenario_data.specs.Content.{load_content}
 use Rattle.master_load.specs.declared.download.LoadFrame.{LoadFrame}
 use Rattle.master_load.specs.declared.download.Step.TheVariants.{Begin}
 use Rattle.master_load.specs.Downloads.{IsFirstOf, loads_of, load_at}

@@ -1,5 +1,5 @@
 -- Each frame of a download fits into 1,472 octets: a part has at most 24 cells, so no step more than 26 bindings.
-use Rattle.std.proofs.Common.{◌≡◌, ℕ, zero, suc, Some, None, Option, ◌-◌, ◌*◌, ◌≤◌, ◌==◌, Bool, true, false, if◌then◌else◌, List, [], ◌∷◌, map, take, drop, length, refl, arith}
+use Rattle.std.proofs.Common.{ℕ, zero, suc, ◌-◌, ◌*◌, ◌≤◌, ◌==◌, Bool, true, false, if◌then◌else◌, List, [], ◌∷◌, map, take, drop, length, arith}
 use Rattle.std.specs.Prelude.{ℤ}
 use Rattle.std.specs.List.{slice_get}
 use Rattle.std.proofs.lemmas.List.{length-map}
@@ -14,7 +14,7 @@ use Rattle.requests.proofs.Fits.{AreFew, request_few, own_few, number_few, cell_
 use Rattle.master_load.specs.declared.download.Step.{Step}
 use Rattle.master_load.specs.declared.download.Step.TheVariants.{Begin, Part, Verify, Finish}
 use Rattle.master_load.specs.declared.download.LoadFrame.{LoadFrame}
-use Rattle.master_load.specs.Downloads.{ArePuts, AreLoads, loads_of, load_at, cells_in, cells_of, cell_bind, part_cells, parts_for, step_binds, frame_text}
+use Rattle.master_load.specs.Downloads.{ArePuts, AreLoads, loads_of, cells_in, cells_of, cell_bind, part_cells, parts_for, step_binds, frame_text}
 
 -- an instance of a download with a number
 txn_few : (k n : ℕ) → k ≤ 10 → length (binding_text (number_at (Txn k) n)) ≤ 50

@@ -2,8 +2,8 @@
 use Rattle.std.proofs.Common.{◌≡◌, ℕ, zero, suc, ◌+◌, ◌-◌, ◌≤◌, ◌<◌, min, nat_le, Bool, true, false, Some, List, [], ◌∷◌, map, take, drop, length, get_or, refl, sym, subst, ◌∙◌, ap, arith, add-one, drop-cons, length-drop}
 use Rattle.std.specs.List.{slice_get}
 use Rattle.std.specs.Option.{option_map}
-use Rattle.std.proofs.lemmas.List.{drop_all, take_all, take-map, drop-map, length-map}
-use Rattle.std.proofs.lemmas.Option.{slice_get-get_or, slice_get-map, slice_get_read}
+use Rattle.std.proofs.lemmas.List.{drop_all, take_all, take-map, drop-map}
+use Rattle.std.proofs.lemmas.Option.{slice_get-map, slice_get_read}
 use Rattle.std.proofs.Math.Seq.{take-nil}
 use Rattle.std.proofs.lemmas.Grind.{common_steps}
 use Rattle.sig_tables.specs.declared.cells.Cell.{Cell}
@@ -11,7 +11,7 @@ use Rattle.sig_tables.specs.declared.cells.CellValue.{CellValue}
 use Rattle.sig_tables.specs.Putting.{put_content}
 use Rattle.scenario_data.specs.declared.scenario.LoadItem.{LoadItem}
 use Rattle.scenario_data.specs.Content.{load_content}
-use Rattle.master_load.specs.Downloads.{ArePuts, AreLoads, IsLoad, part_cells}
+use Rattle.master_load.specs.Downloads.{AreLoads, IsLoad}
 
 -- so many elements after the first ones, with both bounds kept within the list
 within : {A : Type 0} (xs : List A) (n first last : ℕ) → first ≡ min (length xs) n → last ≡ min (length xs) (first + 24)

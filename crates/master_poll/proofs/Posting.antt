@@ -8,7 +8,6 @@ use Rattle.std.proofs.lemmas.List.{append_assoc}
 use Rattle.sig_types.specs.declared.notes.MasterNote.{MasterNote}
 use Rattle.sig_types.specs.declared.notes.MasterNote.TheVariants.{Fail, Good}
 use Rattle.snmp_msg.specs.declared.message.Message.{Message}
-use Rattle.master_load.specs.declared.download.LoadFrame.{LoadFrame}
 use Rattle.master_load.specs.declared.loader.Loader.{Loader}
 use Rattle.master_load.specs.Loading.{next_frame}
 use Rattle.master_poll.specs.declared.desk.Desk.{Desk}

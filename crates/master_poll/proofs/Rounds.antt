@@ -1,5 +1,5 @@
 -- The rounds of all cabinets, cabinet by cabinet.
-use Rattle.std.proofs.Common.{◌≡◌, ℕ, zero, suc, ◌+◌, List, [], ◌∷◌, ◌++◌, map, drop, length, Option, Some, None, refl, sym, subst, ◌∙◌, ap, arith, add-one}
+use Rattle.std.proofs.Common.{◌≡◌, ℕ, zero, suc, ◌+◌, List, [], ◌∷◌, ◌++◌, map, drop, length, Option, Some, refl, sym, subst, ◌∙◌, ap, arith, add-one}
 use Rattle.std.specs.List.{slice_get}
 use Rattle.std.proofs.lemmas.Grind.{common_steps}
 use Rattle.std.proofs.lemmas.List.{append_assoc, map-append}
@@ -10,11 +10,10 @@ use Rattle.requests.specs.Requests.{messages, octets_in}
 use Rattle.master_plan.specs.Schedule.{master_clock, scheduled}
 use Rattle.master_poll.specs.declared.command.Now.{Now}
 use Rattle.master_poll.specs.declared.post.Post.{Post}
-use Rattle.master_poll.specs.Turns.{Plan}
 use Rattle.master_poll.specs.Stands.{plan_with}
 use Rattle.master_poll.specs.Posts.{IsPosted}
 use Rattle.master_poll.specs.Sends.{Arrived, Frames, notes_of, plan_of, sending_of, turns}
-use Rattle.master_poll.specs.Masters.{EachStands, GoesOn, PostIsAt, all_notes_of, frames_of, notes_from, sendings_from, sendings_of}
+use Rattle.master_poll.specs.Masters.{GoesOn, PostIsAt, frames_of, notes_from, sendings_from}
 
 -- there are as many turns as rounds
 turn_count : (s : ScenarioContent) (cab : ℕ) (c : CabinetContent) (arrived : List Arrived) → length (turns s cab c arrived) ≡ length arrived

@@ -5,7 +5,7 @@ use Rattle.sig_tables.specs.declared.tables.Tables.{Tables}
 use Rattle.sig_tables.specs.declared.cells.Cell.{Cell}
 use Rattle.sig_tables.specs.Cells.{Content}
 use Rattle.sig_tables.specs.Putting.{with_put, with_cells}
-use Rattle.sig_tables.specs.Past.{Event, History}
+use Rattle.sig_tables.specs.Past.{History}
 use Rattle.sig_tables.specs.Decide.{past_at}
 use Rattle.stage_txn.specs.Calls.{Call, Begin, Part, Verify, Finish, Deed, Began, Took, Closed, Installed, Reopened, Idle, staged_by}
 use Rattle.stage_txn.specs.Answers.{answered, staged}
@@ -14,7 +14,7 @@ use Rattle.cabinet_story.specs.Story.{Story}
 use Rattle.cabinet_story.specs.Coming.{Coming, in_force, coming, coming_from}
 use Rattle.cabinet_story.specs.Downloads.{content_by, accepted_by, is_under_way, base_by, with_downloads, deeds_of, HaveIds}
 use Rattle.cabinet_story.proofs.Whole.{whole}
-use Rattle.story_laws.proofs.Steps.{IsMadeAt, called, Any, any, Keeps, story-keeps}
+use Rattle.story_laws.proofs.Steps.{IsMadeAt, Any, any, story-keeps}
 
 call-ids : (c : Coming) (call : Call) → IsMadeAt c call → HaveIds c.calls → HaveIds (call ∷ c.calls)
 call-ids c (Begin id now) is h = (is.0, h)

@@ -1,5 +1,5 @@
 -- A download that ends is accepted or refused by what the rules say of the staged tables then.
-use Rattle.std.proofs.Common.{◌≡◌, ◌≢◌, ℕ, ◌+◌, ◌==◌, ◌∙◌, List, [], ◌∷◌, Option, Some, None, Result, Ok, Err, refl, sym, ap, Bool, true, false}
+use Rattle.std.proofs.Common.{◌≡◌, ◌≢◌, ℕ, ◌+◌, ◌==◌, List, ◌∷◌, Option, Some, None, Result, Ok, Err, refl, ap, Bool, true, false}
 use Rattle.std.specs.Prelude.{if◌then◌else◌, IfSome}
 use Rattle.sig_types.specs.declared.notes.Broken.{Broken}
 use Rattle.sig_types.specs.declared.notes.StageAnswer.{StageAnswer}
@@ -13,12 +13,12 @@ use Rattle.stage_txn.specs.Laws.{InstallsWhatKeepsRules}
 use Rattle.agent.specs.declared.ask.Wish.{Wish}
 use Rattle.agent.specs.declared.ask.Wish.TheVariants.{Get, Next, Direct, Begin, Part, Verify, Finish, Bad}
 use Rattle.agent.specs.declared.ask.Ask.{Ask}
-use Rattle.round_streams.specs.Items.{Item, Came}
+use Rattle.round_streams.specs.Items.{Came}
 use Rattle.cabinet_story.specs.declared.Load.{Load}
 use Rattle.cabinet_story.specs.Story.{Story, with_item}
 use Rattle.cabinet_story.specs.Coming.{Coming, in_force, past_of, is_flashing, answer_in, outcome, installs, with_events, carried_out, heeded, coming, ask_after}
 use Rattle.cabinet_story.specs.Told.{verify_end, finish_end, wish_end, ask_end, load_end}
-use Rattle.story_laws.specs.Judging.{verdict, IsVerdict}
+use Rattle.story_laws.specs.Judging.{IsVerdict}
 
 -- ---- a refusal names the first rule
 

@@ -1,6 +1,5 @@
 -- The parts that are taken of a download are those from 1 on, each once and in order.
-use Rattle.std.proofs.Common.{◌≡◌, ℕ, ◌+◌, ◌∙◌, List, [], ◌∷◌, ◌++◌, refl, sym, ap, add-one}
-use Rattle.std.specs.Prelude.{suc}
+use Rattle.std.proofs.Common.{◌≡◌, ℕ, ◌+◌, ◌∙◌, List, [], ◌∷◌, ◌++◌, refl, ap, add-one}
 use Rattle.sig_types.specs.declared.notes.StageAnswer.{StageAnswer}
 use Rattle.sig_types.specs.declared.notes.StageAnswer.TheVariants.{Staged, Repeated, Verified, Accepted, WrongToken, WrongPart, NotVerified, Refused}
 use Rattle.sig_tables.specs.declared.tables.Tables.{Tables}
@@ -9,7 +8,7 @@ use Rattle.sig_tables.specs.Cells.{Content}
 use Rattle.stage_txn.specs.Calls.{Call, Answered, Begin, Part, Verify, Finish, Deed, deeds, taken_by, begin_deed, part_deed, verify_deed, finish_deed}
 use Rattle.stage_txn.specs.Answers.{answered, answer_to, taken}
 use Rattle.stage_txn.specs.Laws.{PartsComeInOrder}
-use Rattle.story_laws.specs.Downloads.{with_number, numbers, up_to}
+use Rattle.story_laws.specs.Parts.{with_number, numbers, up_to}
 
 begin-numbered : (id : ℕ) (now : Tables) (a : StageAnswer) (ns : List ℕ) (past : List Deed) → ns ≡ up_to (taken_by past)
     → with_number (Begin id now) a ns ≡ up_to (taken_by (begin_deed id now a ∷ past))

@@ -1,6 +1,5 @@
 -- The tables of each version are the opening ones with the content of each download up to it.
-use Rattle.std.proofs.Common.{◌≡◌, ℕ, ◌+◌, ◌==◌, ◌∙◌, List, [], ◌∷◌, length, drop, refl, sym, ap, subst, inl, inr, Bool, true, false, zero, suc, arith}
-use Rattle.std.specs.Prelude.{◌⊎◌, if◌then◌else◌}
+use Rattle.std.proofs.Common.{◌≡◌, ℕ, ◌+◌, ◌∙◌, List, [], ◌∷◌, length, drop, refl, sym, ap, subst, inl, inr, zero, suc, arith}
 use Rattle.std.proofs.lemmas.Bool.Decides.{eqb_tells}
 use Rattle.sig_types.specs.declared.notes.StageAnswer.{StageAnswer}
 use Rattle.sig_types.specs.declared.notes.StageAnswer.TheVariants.{Staged, Repeated, Verified, Accepted, WrongToken, WrongPart, NotVerified, Refused}
@@ -8,9 +7,9 @@ use Rattle.sig_tables.specs.declared.tables.Tables.{Tables}
 use Rattle.sig_tables.specs.declared.cells.Cell.{Cell}
 use Rattle.sig_tables.specs.Cells.{Content}
 use Rattle.sig_tables.specs.Past.{Event, Tick, Input, Install, SetPattern, SetClock, Ask, Cancel, SetDrift, History}
-use Rattle.sig_tables.specs.Decide.{with_one, opening, opening_drifting, past_at, since_opening}
-use Rattle.safe_trace.specs.Written.{version_tables, tables_of}
-use Rattle.stage_txn.specs.Calls.{Call, Begin, Part, Verify, Finish, Deed, begin_deed, part_deed, verify_deed, finish_deed, deeds}
+use Rattle.sig_tables.specs.Decide.{with_one, opening, opening_drifting, past_at}
+use Rattle.safe_trace.specs.Written.{tables_of}
+use Rattle.stage_txn.specs.Calls.{Call, Begin, Part, Verify, Finish, Deed, begin_deed, part_deed, verify_deed, finish_deed}
 use Rattle.stage_txn.specs.Answers.{answered, staged}
 use Rattle.round_streams.specs.Items.{Item}
 use Rattle.undisturbed.specs.Disturbances.{Drift}
@@ -19,7 +18,7 @@ use Rattle.cabinet_story.specs.Coming.{Coming, past_of, in_force, answer_in, ins
 use Rattle.story_laws.specs.Openings.{IsOpening}
 use Rattle.cabinet_story.specs.Downloads.{content_by, accepted_by, with_downloads, deeds_of}
 use Rattle.cabinet_story.proofs.Whole.{whole}
-use Rattle.story_laws.proofs.Steps.{IsPlain, called, Keeps, story-keeps}
+use Rattle.story_laws.proofs.Steps.{IsPlain, called, story-keeps}
 use Rattle.story_laws.proofs.Downloading.{items-whole}
 
 -- the tables of each version of a history, from these opening tables and these downloads

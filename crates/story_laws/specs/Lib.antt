@@ -1,4 +1,4 @@
 pub mod Openings
-pub mod Downloads
+pub mod Parts
 pub mod Judging
 pub mod Telling

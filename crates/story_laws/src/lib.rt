@@ -7,6 +7,7 @@ ghost use Rattle.std.specs.Prelude.{◌≡◌, ℕ, List, ◌+◌, ◌++◌, dro
 ghost use Rattle.sig_tables.specs.declared.tables.Tables.{Tables};
 ghost use Rattle.sig_tables.specs.Decide.{past_at, since_opening};
 ghost use Rattle.sig_tables.specs.Putting.{EachFits, with_cells};
+ghost use Rattle.sig_tables.specs.Standard.{std8};
 ghost use Rattle.rule_book.specs.Rules.{Consistent};
 ghost use Rattle.rule_facts.specs.Admitted.{Admitted};
 ghost use Rattle.trace_text.specs.declared.lines.Line.{Line};
@@ -27,12 +28,13 @@ ghost use Rattle.cabinet_story.specs.Downloads.{accepted_by, content_by, deeds_o
 ghost use Rattle.cabinet_story.specs.Frames.{has_line};
 ghost use Rattle.cabinet_story.specs.Told.{reply_to, load_end};
 ghost use Rattle.story_laws.specs.Openings.{IsOpening};
-ghost use Rattle.story_laws.specs.Downloads.{numbers, up_to};
+ghost use Rattle.story_laws.specs.Parts.{numbers, up_to};
 ghost use Rattle.story_laws.specs.Judging.{IsVerdict};
 ghost use Rattle.story_laws.specs.Telling.{acts_told, story_told};
 
 use agent::other_frames_ask_nothing;
 use coordination_met::coordination_is_met;
+use rule_book::standard_consistent;
 use safe_streets::admitted_streets_are_safe;
 use stage_txn::{installs_what_keeps_the_rules, parts_come_in_order};
 
@@ -41,10 +43,8 @@ use stage_txn::{installs_what_keeps_the_rules, parts_come_in_order};
 pub fn stories_are_admitted()
     ensures admitted { (story : Story) (t : Tables) (d : Drift) → IsOpening t d story.opening → Consistent t
         → Admitted (history_of story).tables (since_opening (history_of story)) }
-    ensures tables { (story : Story) (t : Tables) (d : Drift) → IsOpening t d story.opening → Consistent t
-        → (history_of story).tables ≡ t }
-    ensures drift { (story : Story) (t : Tables) (d : Drift) → IsOpening t d story.opening → Consistent t
-        → drift_of (past_at (history_of story)) ≡ d }
+    ensures tables { (story : Story) (t : Tables) (d : Drift) → IsOpening t d story.opening → (history_of story).tables ≡ t }
+    ensures drift { (story : Story) (t : Tables) (d : Drift) → IsOpening t d story.opening → drift_of (past_at (history_of story)) ≡ d }
 {
     installs_what_keeps_the_rules();
 }
@@ -65,6 +65,15 @@ pub fn stories_meet_coordination()
 {
     installs_what_keeps_the_rules();
     coordination_is_met();
+}
+
+/// The premises can be met: coordination is met in every story of a cabinet that opens with the standard tables, whose clock drifts slowly
+/// or not at all.
+pub fn standard_stories_meet_coordination()
+    ensures { (story : Story) (d : Drift) → IsOpening std8 d story.opening → IsSlow d → Meets (history_of story) }
+{
+    standard_consistent();
+    stories_meet_coordination();
 }
 
 /// Downloads are whole: the tables in force are the opening ones with the whole content of each download whose finish was accepted, put

@@ -12,7 +12,7 @@ returns-clause-told c = story-tells
 pub returns-clause-safe : goal.returns-clause-safe
 returns-clause-safe c = λ story t d cab lines opens fits told.
     c.admitted_streets_are_safe.ensures.safe (history_of story) has_line cab lines
-    (story-lawful c.installs_what_keeps_the_rules.ensures story t d opens fits).admitted tells (told ∙ story-tells story t d opens)
+    (story-lawful c.installs_what_keeps_the_rules.ensures story t d opens fits) tells (told ∙ story-tells story t d opens)
 
 pub returns-clause-whole : goal.returns-clause-whole
 returns-clause-whole c = λ story t d cab lines opens told.

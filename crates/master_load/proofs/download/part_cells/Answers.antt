@@ -1,4 +1,4 @@
-use Rattle.std.proofs.Common.{◌≡◌, ◌-◌, ◌*◌, length, min, ◌∙◌, ap, arith}
+use Rattle.std.proofs.Common.{◌≡◌, ◌-◌, ◌*◌, length, min, arith}
 use Rattle.master_load.proofs.Places.{part_is}
 use Rattle.master_load.proofs.download.part_cells.Goals as goal
 

@@ -1,13 +1,11 @@
-use Rattle.std.proofs.Common.{◌≡◌, ◌+◌, ◌≤◌, ◌<◌, ◌∷◌, Some, List, map, drop, refl, sym, subst, ◌∙◌, ap, arith, w32, to_z, of_z}
+use Rattle.std.proofs.Common.{◌≡◌, ◌+◌, ◌≤◌, ◌<◌, map, refl, sym, subst, ◌∙◌, ap, arith, w32, to_z, of_z}
 use Rattle.std.proofs.lemmas.List.{drop-map}
 use Rattle.std.proofs.lemmas.Int.{to_z-of_z}
 use Rattle.std.proofs.lemmas.Grind.{common_steps}
 use Rattle.scenario_data.specs.Content.{load_content}
-use Rattle.master_load.specs.declared.download.Step.TheVariants.{Begin}
 use Rattle.std.specs.List.{slice_get}
 use Rattle.master_load.specs.Downloads.{loads_of, load_at}
-use Rattle.master_load.specs.Loading.{LoadEvent, begin_next, begun_by, frame_of, last_frame}
-use Rattle.master_load.specs.Stands.{StandsFor}
+use Rattle.master_load.specs.Loading.{begun_by, last_frame}
 use Rattle.master_load.proofs.Places.{load_there}
 use Rattle.master_load.proofs.Begins.{left_from, nothing_begins, next_load, next_left, begins_now, begins_later}
 use Rattle.master_load.proofs.loader.Loader.begin.Goals as goal

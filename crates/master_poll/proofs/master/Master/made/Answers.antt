@@ -1,11 +1,10 @@
-use Rattle.std.proofs.Common.{◌≡◌, ◌+◌, ◌-◌, ◌*◌, ◌<◌, ◌≤◌, Some, [], ◌∷◌, ◌++◌, map, drop, length, All, refl, sym, subst, ◌∙◌, ap, arith}
+use Rattle.std.proofs.Common.{◌≡◌, ◌+◌, ◌-◌, ◌<◌, ◌≤◌, Some, [], ◌∷◌, ◌++◌, map, drop, length, refl, sym, subst, ◌∙◌, ap, arith}
 use Rattle.std.specs.List.{slice_get}
 use Rattle.std.specs.Option.{option_map}
 use Rattle.std.proofs.lemmas.Grind.{common_steps}
 use Rattle.std.proofs.lemmas.List.{append-nil, drop_all, length-map}
 use Rattle.std.proofs.lemmas.Option.{slice_get-map, slice_get_read}
 use Rattle.scenario_data.specs.Content.{cabinet_content, scenario_content}
-use Rattle.master_poll.specs.Posts.{count_of_post}
 use Rattle.master_poll.specs.Sends.{turns}
 use Rattle.master_poll.specs.Masters.{GoesOn, arrived_in, frames_of, notes_from, sendings_from, with_round}
 use Rattle.master_poll.proofs.Rounds.{Taken, now_of, one_more_cabinet, taken}
