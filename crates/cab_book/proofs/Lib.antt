@@ -1,0 +1,12 @@
+pub mod Pairs
+pub mod Runs
+pub mod Showable
+pub mod Installing
+pub mod Ordering
+pub mod Wishes
+pub mod Ticking
+pub mod Hearing
+pub mod Heeding
+pub mod Answering
+pub mod Opening
+pub mod Installs

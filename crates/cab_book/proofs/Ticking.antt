@@ -1,0 +1,47 @@
+-- A tick of a cabinet.
+use Rattle.std.proofs.Common.{◌≡◌, ℕ, ◌+◌, ◌∙◌, Bool, if◌then◌else◌, [], ◌∷◌, length, ap, arith}
+use Rattle.sig_types.specs.declared.frame.Frame.{Frame}
+use Rattle.sig_tables.specs.Past.{History}
+use Rattle.sig_tables.specs.Decide.{decide, ticked, past_at, frames, last_frame_of}
+use Rattle.controller.specs.declared.Controller.{Controller}
+use Rattle.controller.specs.StandsFor.{StandsFor, tick_count}
+use Rattle.round_streams.specs.Items.{Ticked}
+use Rattle.cabinet_story.specs.Story.{Story, with_item}
+use Rattle.cabinet_story.specs.Coming.{Coming, coming, history_of}
+use Rattle.cabinet_story.specs.Frames.{has_line, tick_written}
+use Rattle.cab_book.specs.declared.cabinet.Cabinet.{Cabinet}
+use Rattle.cab_book.specs.Stands.{Keeps, CabinetStands}
+use Rattle.cab_book.proofs.Showable.{ticked-shows}
+
+-- the cabinet with what its controller has become
+abbrev pub with_tick : Cabinet → Controller → Cabinet
+with_tick c k = record { controller = k; stage = c.stage; community = c.community; ticks = c.ticks + 1 }
+
+pub tick-keeps : (c : Cabinet) (k : Controller) (has : Coming) → Keeps c has → StandsFor k (ticked has.history) → tick_count k ≡ tick_count c.controller + 1
+    → Keeps (with_tick c k) (record { history = ticked has.history; calls = has.calls })
+tick-keeps c k has is stands counted = record {
+  controller = stands;
+  stage = is.stage;
+  counted = omega (arith, counted, is.counted);
+  sound = record {
+    ticks = omega (arith, is.sound.ticks);
+    shows = ticked-shows k (past_at has.history) stands is.sound.fits;
+    fits = is.sound.fits;
+    begins = is.sound.begins;
+    few = is.sound.few;
+    ids = is.sound.ids;
+  };
+}
+
+pub tick-stands : (c : Cabinet) (k : Controller) (story : Story) → CabinetStands c story → StandsFor k (ticked (history_of story))
+    → tick_count k ≡ tick_count c.controller + 1 → CabinetStands (with_tick c k) (with_item story Ticked)
+tick-stands c k story is stands counted = record { community = is.community; keeps = tick-keeps c k (coming story) is.keeps stands counted }
+
+-- the frame is written where it has a line
+pub line-written : (c : Cabinet) (last next : Frame) (told : Bool) (h : History) → last ≡ last_frame_of h → next ≡ decide h → told ≡ has_line last next
+    → c.ticks + 1 ≡ length (frames h) → (if told then (c.ticks + 1, next) ∷ [] else []) ≡ tick_written h
+line-written c last next told h old new e many =
+    let line : told ≡ has_line (last_frame_of h) (decide h) = e ∙ ap (λ (f : Frame). has_line f next) old ∙ ap (λ (f : Frame). has_line (last_frame_of h) f) new in
+    ap (λ (b : Bool). if b then (c.ticks + 1, next) ∷ [] else []) line
+    ∙ ap (λ (n : ℕ). if has_line (last_frame_of h) (decide h) then (n, next) ∷ [] else []) many
+    ∙ ap (λ (f : Frame). if has_line (last_frame_of h) (decide h) then (length (frames h), f) ∷ [] else []) new

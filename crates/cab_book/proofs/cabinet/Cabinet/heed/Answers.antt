@@ -1,0 +1,81 @@
+use Rattle.std.proofs.Common.{◌∙◌, ◌<◌, ap, arith, is_some}
+use Rattle.cabinet_story.specs.Told.{wish_end}
+use Rattle.sig_types.specs.declared.notes.StageAnswer.{StageAnswer}
+use Rattle.std.specs.Prelude.{Option}
+use Rattle.stage_txn.specs.Answers.{answered, kept, standing}
+use Rattle.cabinet_story.specs.Coming.{past_of}
+use Rattle.cab_book.proofs.Installing.{few-within}
+use Rattle.cab_book.proofs.Wishes.{has-outcome}
+use Rattle.cab_book.proofs.Heeding.{carried-sound}
+use Rattle.cab_book.proofs.Answering.{shown-is, seen-is, text-is, shown-within}
+use Rattle.cab_book.proofs.cabinet.Cabinet.heed.Goals as goal
+
+pub answer-text-requires : goal.answer-text-requires
+answer-text-requires c =
+    let has = c.requires.some.0 in
+    let is = c.requires.some.1 in
+    record {
+      asked = c.requires.asked;
+      within = shown-within c.args.self.now.ticks has c.shown-shown.result is.sound (c.shown-shown.ensures.shown has.history is.controller);
+      outcome = ap (λ (o : Option StageAnswer). is_some o) (c.call_stage-outcome.ensures.outcome has is.controller is.stage) ∙ has-outcome has c.args.ask.now.wish;
+    }
+
+pub end_of-load-requires : goal.end_of-load-requires
+end_of-load-requires c =
+    let has = c.requires.some.0 in
+    let is = c.requires.some.1 in
+    let shown = c.shown-shown.ensures.shown has.history is.controller in
+    record { few = omega (arith, shown.version, few-within (past_of has).version (kept (answered has.calls)) (standing (answered has.calls)) is.sound.few, is.sound.ids) }
+
+pub carry_out-requires : goal.carry_out-requires
+carry_out-requires c =
+    let has = c.requires.some.0 in
+    let is = c.requires.some.1 in
+    record {
+      can = c.requires.can;
+      answered = (
+        has,
+        record {
+          controller_stands = is.controller;
+          stage_stands = c.call_stage-outcome.ensures.stands has is.controller is.stage;
+          answer_is = c.call_stage-outcome.ensures.outcome has is.controller is.stage;
+          few = is.sound.few;
+          ids = is.sound.ids;
+        },
+      );
+    }
+
+pub returns-clause-text : goal.returns-clause-text
+returns-clause-text c = λ has is.
+    let vehicle : c.shown-shown.result.veh_calls.0 < 65536 = omega (arith, c.shown-shown.type_inv.1.1.1.0) in
+    let pedestrian : c.shown-shown.result.ped_calls.0 < 65536 = omega (arith, c.shown-shown.type_inv.1.1.1.1.0) in
+    let shown = shown-is c.shown-shown.result (past_of has) vehicle pedestrian
+    (c.shown-shown.ensures.shown has.history is.controller) in
+    text-is has c.args.ask.now _ c.call_stage-outcome.result c.answer-text.result
+    (seen-is has c.tables.result.now c.shown-shown.result c.state-state.result c.last-last.result (c.tables.ensures.tables has.history is.controller) shown
+    (c.state-state.ensures has.calls is.stage) (c.last-last.ensures has.calls is.stage))
+    (c.call_stage-outcome.ensures.outcome has is.controller is.stage) c.answer-text.ensures
+
+pub returns-clause-load : goal.returns-clause-load
+returns-clause-load c = λ has is.
+    let shown = c.shown-shown.ensures.shown has.history is.controller in
+    let o = c.call_stage-outcome.ensures.outcome has is.controller is.stage in
+    c.end_of-load.ensures
+    ∙ ap (λ v. wish_end v c.args.ask.now.wish c.call_stage-outcome.result) shown.version
+    ∙ ap (λ (x : Option StageAnswer). wish_end (past_of has).version c.args.ask.now.wish x) o
+
+pub returns-clause-keeps : goal.returns-clause-keeps
+returns-clause-keeps c = λ has is.
+    let stands = c.call_stage-outcome.ensures.stands has is.controller is.stage in
+    record {
+      controller = c.carry_out.ensures.stands has (record {
+        controller_stands = is.controller;
+        stage_stands = stands;
+        answer_is = c.call_stage-outcome.ensures.outcome has is.controller is.stage;
+        few = is.sound.few;
+        ids = is.sound.ids;
+      });
+      stage = stands;
+      counted = c.carry_out.ensures.counted ∙ is.counted;
+      sound = carried-sound c.args.self.now.ticks has c.args.ask.now.wish c.requires.can is.sound;
+    }

@@ -1,0 +1,11 @@
+use Rattle.std.proofs.Common.{refl}
+use Rattle.cab_book.proofs.Opening.{new-sound, new-ticks}
+use Rattle.cab_book.proofs.cabinet.Cabinet.new.Goals as goal
+
+pub returns : goal.returns
+returns c = record {
+  stands = λ h k new. record {
+    community = refl;
+    keeps = record { controller = k; stage = c.new.ensures.stands; counted = new-ticks c.args.controller h k new; sound = new-sound h new };
+  };
+}

@@ -1,0 +1,31 @@
+use Rattle.std.proofs.Common.{◌∙◌, ◌+◌, arith, sym, ap, Bool, [], ◌∷◌, if◌then◌else◌}
+use Rattle.cabinet_story.specs.Coming.{history_of}
+use Rattle.cab_book.proofs.Ticking.{tick-stands, line-written}
+use Rattle.cab_book.proofs.cabinet.Cabinet.tick.Goals as goal
+
+pub tick-next-requires : goal.tick-next-requires
+tick-next-requires c =
+    let is = c.requires.some.1 in
+    record { few = omega (arith, is.keeps.counted, c.requires.few) }
+
+pub returns-then-has_line-clause-gives : goal.returns-then-has_line-clause-gives
+returns-then-has_line-clause-gives c = λ story is.
+    let shown = line-written c.args.self.now c.frame-last.result c.tick-next.result c.has_line.result (history_of story)
+    (c.frame-last.ensures.frame (history_of story) is.keeps.controller) (c.tick-next.ensures.decided (history_of story) is.keeps.controller)
+    c.has_line.ensures is.keeps.sound.ticks in
+    ap (λ (b : Bool). if b then (c.args.self.now.ticks + 1, c.tick-next.result) ∷ [] else []) (sym c.if-has_line.true) ∙ shown
+
+pub returns-then-has_line-clause-stands : goal.returns-then-has_line-clause-stands
+returns-then-has_line-clause-stands c = λ story is.
+    tick-stands c.args.self.now c.tick-next.new.self story is (c.tick-next.ensures.stands (history_of story) is.keeps.controller) c.tick-next.ensures.counted
+
+pub returns-else-has_line-clause-gives : goal.returns-else-has_line-clause-gives
+returns-else-has_line-clause-gives c = λ story is.
+    let shown = line-written c.args.self.now c.frame-last.result c.tick-next.result c.has_line.result (history_of story)
+    (c.frame-last.ensures.frame (history_of story) is.keeps.controller) (c.tick-next.ensures.decided (history_of story) is.keeps.controller)
+    c.has_line.ensures is.keeps.sound.ticks in
+    ap (λ (b : Bool). if b then (c.args.self.now.ticks + 1, c.tick-next.result) ∷ [] else []) (sym c.if-has_line.false) ∙ shown
+
+pub returns-else-has_line-clause-stands : goal.returns-else-has_line-clause-stands
+returns-else-has_line-clause-stands c = λ story is.
+    tick-stands c.args.self.now c.tick-next.new.self story is (c.tick-next.ensures.stands (history_of story) is.keeps.controller) c.tick-next.ensures.counted

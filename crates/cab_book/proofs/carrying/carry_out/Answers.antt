@@ -1,0 +1,51 @@
+use Rattle.std.proofs.Common.{◌≡◌, ◌∙◌, All, true, false, [], ◌∷◌, List, map, sym, ap, subst, arith}
+use Rattle.sig_tables.specs.Past.{Event, Install}
+use Rattle.sig_tables.specs.declared.tables.Tables.{Tables}
+use Rattle.stage_txn.specs.Answers.{answered, kept, standing}
+use Rattle.controller.specs.StandsFor.{StandsFor, CanRun}
+use Rattle.agent.specs.declared.ask.Order.{Order}
+use Rattle.agent.specs.Orders.{IsFit}
+use Rattle.cabinet_story.specs.Coming.{past_of, outcome, order_event, events_of, with_events, with_call, call_of}
+use Rattle.cab_book.specs.Carried.{is_accepted}
+use Rattle.cab_book.proofs.Installing.{few-within}
+use Rattle.cab_book.proofs.Installs.{orders-fit, orders-alone, puts-staged}
+use Rattle.cab_book.proofs.carrying.carry_out.Goals as goal
+
+pub give-requires : goal.give-requires
+give-requires c = record { fit = subst (λ (xs : List Order). All IsFit xs) (sym c.orders_of.ensures) (orders-fit c.args.wish.now c.requires.can) }
+
+pub install-requires-clause-tables : goal.install-requires-clause-tables
+install-requires-clause-tables c =
+    let has = c.requires.answered.0 in
+    let is = c.requires.answered.1 in
+    let yes : is_accepted c.args.wish.now (outcome has c.args.wish.now) ≡ true =
+    ap (is_accepted c.args.wish.now) (sym is.answer_is) ∙ sym c.is_accepted.ensures ∙ c.if-is_accepted.true in
+    subst CanRun (sym (c.staged.ensures (with_call has.calls (call_of has c.args.wish.now)) is.stage_stands)) (puts-staged has c.args.wish.now yes).runs
+
+pub install-requires-clause-few : goal.install-requires-clause-few
+install-requires-clause-few c =
+    let has = c.requires.answered.0 in
+    let is = c.requires.answered.1 in
+    let yes : is_accepted c.args.wish.now (outcome has c.args.wish.now) ≡ true =
+    ap (is_accepted c.args.wish.now) (sym is.answer_is) ∙ sym c.is_accepted.ensures ∙ c.if-is_accepted.true in
+    let none : map order_event c.orders_of.result.now ≡ [] = ap (map order_event) c.orders_of.ensures ∙ (puts-staged has c.args.wish.now yes).orders in
+    let before = subst (λ (es : List Event). StandsFor c.give.new.controller (with_events has.history es)) none (c.give.ensures.stands has.history is.controller_stands) in
+    omega (arith, before.version, few-within (past_of has).version (kept (answered has.calls)) (standing (answered has.calls)) is.few, is.ids)
+
+pub returns-then-is_accepted-clause-stands : goal.returns-then-is_accepted-clause-stands
+returns-then-is_accepted-clause-stands c = λ has is.
+    let yes : is_accepted c.args.wish.now (outcome has c.args.wish.now) ≡ true =
+    ap (is_accepted c.args.wish.now) (sym is.answer_is) ∙ sym c.is_accepted.ensures ∙ c.if-is_accepted.true in
+    let puts = puts-staged has c.args.wish.now yes in
+    let none : map order_event c.orders_of.result.now ≡ [] = ap (map order_event) c.orders_of.ensures ∙ puts.orders in
+    let before = subst (λ (es : List Event). StandsFor c.give.new.controller (with_events has.history es)) none (c.give.ensures.stands has.history is.controller_stands) in
+    let same = c.staged.ensures (with_call has.calls (call_of has c.args.wish.now)) is.stage_stands in
+    let installed = c.install.ensures.stands has.history before in
+    subst (λ (es : List Event). StandsFor c.install.new.self (with_events has.history es)) (ap (λ (t : Tables). Install t ∷ []) same ∙ sym puts.events) installed
+
+pub returns-else-is_accepted-clause-stands : goal.returns-else-is_accepted-clause-stands
+returns-else-is_accepted-clause-stands c = λ has is.
+    let no : is_accepted c.args.wish.now (outcome has c.args.wish.now) ≡ false =
+    ap (is_accepted c.args.wish.now) (sym is.answer_is) ∙ sym c.is_accepted.ensures ∙ c.if-is_accepted.false in
+    let all : map order_event c.orders_of.result.now ≡ events_of has c.args.wish.now = ap (map order_event) c.orders_of.ensures ∙ orders-alone has c.args.wish.now no in
+    subst (λ (es : List Event). StandsFor c.give.new.controller (with_events has.history es)) all (c.give.ensures.stands has.history is.controller_stands)

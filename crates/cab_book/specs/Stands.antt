@@ -1,0 +1,76 @@
+-- What a cabinet of a book stands for: a story.
+use Rattle.std.specs.Prelude.{ℕ, ◌+◌, ◌≡◌, ◌≤◌, ◌<◌, List, [], ◌∷◌, length, Option}
+use Rattle.sig_tables.specs.Past.{Past, History, Event, SetDrift}
+use Rattle.sig_tables.specs.Seen.{frame_seen}
+use Rattle.sig_tables.specs.Showing.{clock_shown}
+use Rattle.sig_tables.specs.Decide.{frames}
+use Rattle.controller.specs.StandsFor.{StandsFor, tick_count}
+use Rattle.controller.specs.declared.Controller.{Controller}
+use Rattle.stage_txn.specs.declared.Stage.{Stage}
+use Rattle.sig_types.specs.declared.notes.StageAnswer.{StageAnswer}
+use Rattle.agent.specs.declared.ask.Wish.{Wish}
+use Rattle.stage_txn.specs.declared.Standing.{Standing}
+use Rattle.stage_txn.specs.declared.Standing.TheVariants.{Rest, Open, Checked, Done}
+use Rattle.stage_txn.specs.Answers.{answered, kept, standing}
+use Rattle.sig_tables.specs.Putting.{EachFits}
+use Rattle.stage_txn.specs.Laws.{BeginInRange}
+use Rattle.stage_txn.specs.Stands.{StandsFor as StageStands}
+use Rattle.cabinet_story.specs.Story.{Story}
+use Rattle.cabinet_story.specs.Coming.{Coming, past_of, in_force, coming, call_of, outcome, with_call}
+use Rattle.cab_book.specs.declared.cabinet.Cabinet.{Cabinet}
+
+-- the numbers that an answer tells are those of an INTEGER
+pub record IsShowable (past : Past) : Type 0 where
+  pub clock : clock_shown past < 864000
+  pub counter : (frame_seen past).counter ≤ 2147483647
+  pub target : (frame_seen past).target ≤ 2147483647
+
+-- so many downloads were put in force, where the last that began has this id and stands so: each has a greater id than the one
+-- before it
+abbrev pub FewInstalls : ℕ → ℕ → Standing → Type 0
+FewInstalls version id Rest = (version ≡ 0) × (id ≡ 0)
+FewInstalls version id Open = version < id
+FewInstalls version id Checked = version < id
+FewInstalls version id Done = version ≤ id
+
+-- what a story has come to can be gone on with, after so many ticks
+pub record IsSound (n : ℕ) (has : Coming) : Type 0 where
+  pub ticks : n + 1 ≡ length (frames has.history)
+  pub shows : IsShowable (past_of has)
+  pub fits : EachFits (in_force has)
+  pub begins : BeginInRange has.calls
+  pub few : FewInstalls (past_of has).version (kept (answered has.calls)) (standing (answered has.calls))
+  pub ids : kept (answered has.calls) ≤ 2147483647
+
+-- a controller and a stage stand for what a story has come to
+pub record Keeps (c : Cabinet) (has : Coming) : Type 0 where
+  pub controller : StandsFor c.controller has.history
+  pub stage : StageStands c.stage has.calls
+  pub counted : tick_count c.controller ≡ c.ticks
+  pub sound : IsSound c.ticks has
+
+-- and the cabinet is that of the story
+pub record CabinetStands (c : Cabinet) (story : Story) : Type 0 where
+  pub community : c.community.items ≡ story.community
+  pub keeps : Keeps c (coming story)
+
+-- the stage has answered a wish, and the controller has not yet carried it out
+pub record IsAnswered (controller : Controller) (stage : Stage) (has : Coming) (wish : Wish) (answer : Option StageAnswer) : Type 0 where
+  pub controller_stands : StandsFor controller has.history
+  pub stage_stands : StageStands stage (with_call has.calls (call_of has wish))
+  pub answer_is : answer ≡ outcome has wish
+  pub few : FewInstalls (past_of has).version (kept (answered has.calls)) (standing (answered has.calls))
+  pub ids : kept (answered has.calls) ≤ 2147483647
+
+-- nothing but a drift of the clock has been set
+abbrev pub OnlyDrifts : List Event → Type 0
+OnlyDrifts [] = Unit {0}
+OnlyDrifts (SetDrift gain lose ∷ events) = OnlyDrifts events
+OnlyDrifts _ = ⊥
+
+-- the history of a controller that was opened at a time of the day with tables whose every cell holds what may stand in it, and to
+-- which nothing has happened
+pub record IsNew (h : History) : Type 0 where
+  pub events : OnlyDrifts h.events
+  pub of_day : h.clock < 864000
+  pub fits : EachFits h.tables

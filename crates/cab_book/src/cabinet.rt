@@ -1,0 +1,132 @@
+//! A cabinet: its controller, its download stage, and the community of those who may ask it.
+
+ghost use Rattle.std.specs.Prelude.{◌≡◌, ◌<◌, ◌≤◌, ◌+◌, option_to_list, Some};
+ghost use Rattle.sig_tables.specs.Past.{History};
+ghost use Rattle.sig_tables.specs.Decide.{last_frame_of};
+ghost use Rattle.controller.specs.StandsFor.{StandsFor, NamesPlace};
+ghost use Rattle.agent.specs.Asks.{IsAsked, CanBeCarriedOut};
+ghost use Rattle.round_streams.specs.Items.{Told as ToldItem, Came, Ticked};
+ghost use Rattle.cabinet_story.specs.Story.{Story, opened, with_item};
+ghost use Rattle.cabinet_story.specs.Coming.{Coming, history_of, carried_out};
+ghost use Rattle.cabinet_story.specs.Frames.{tick_written};
+ghost use Rattle.cabinet_story.specs.Told.{reply_to, load_end, in_frame, replied, ask_end};
+
+use crate::carrying::{call_stage, carry_out, end_of};
+use crate::frames::has_line;
+use agent::{Ask, answer, decode};
+use arrayvec::ArrayVec;
+use cabinet_story::Load;
+use controller::Controller;
+use sig_types::{Field, Frame, Octets};
+use stage_txn::Stage;
+
+/// A cabinet, and the number of its ticks so far.
+#[derive(Drop)]
+pub struct Cabinet {
+    controller: Controller,
+    stage: Stage,
+    community: ArrayVec<u8, 32>,
+    ticks: u32,
+}
+
+/// What a cabinet tells of a frame: the answer, or silence, and the end of a load where the frame brought one.
+#[derive(Drop)]
+pub struct Told {
+    pub text: Option<Octets>,
+    pub load: Option<Load>,
+}
+
+impl Cabinet {
+    ghost use Rattle.cab_book.specs.Stands.{IsNew, Keeps, CabinetStands};
+
+    /// A cabinet whose controller has just been opened, with the community of those who may ask it. Nothing was sent to its stage.
+    pub fn new(controller: Controller, community: ArrayVec<u8, 32>) -> Cabinet
+        requires new { (h : History) × StandsFor controller h × IsNew h }
+        ensures stands { (h : History) → StandsFor controller h → IsNew h → CabinetStands result (opened community.items h) }
+    {
+        Cabinet {
+            controller,
+            stage: Stage::new(),
+            community,
+            ticks: 0,
+        }
+    }
+
+    /// Its last frame.
+    pub fn frame(&self) -> Frame
+        ensures { (story : Story) → CabinetStands self.now story → result ≡ last_frame_of (history_of story) }
+    {
+        self.controller.frame()
+    }
+
+    /// It hears an input from the street.
+    pub fn hear(&mut self, field: Field)
+        requires place { NamesPlace field }
+        ensures stands { (story : Story) → CabinetStands self.old story → CabinetStands self.new (with_item story (ToldItem field)) }
+        ensures ticks { self.new.ticks ≡ self.old.ticks }
+    {
+        self.controller.input(field);
+    }
+
+    /// A tick of 0.1 s: its frame with its number, where that has a line.
+
+    pub fn tick(&mut self) -> Option<(u32, Frame)>
+        requires few { self.old.ticks < 4294967294 }
+        requires some { (story : Story) × CabinetStands self.old story }
+        ensures gives { (story : Story) → CabinetStands self.old story → option_to_list result ≡ tick_written (history_of story) }
+        ensures stands { (story : Story) → CabinetStands self.old story → CabinetStands self.new (with_item story Ticked) }
+        ensures ticks { self.new.ticks ≡ self.old.ticks + 1 }
+    {
+        let last = self.controller.frame();
+        let next = self.controller.tick();
+        self.ticks += 1;
+        if has_line(&last, &next) {
+            Some((self.ticks, next))
+        } else {
+            None
+        }
+    }
+
+    /// A frame comes to it.
+
+    pub fn receive(&mut self, octets: &[u8]) -> Told
+        requires some { (story : Story) × CabinetStands self.old story }
+        ensures text { (story : Story) → CabinetStands self.old story → result.text ≡ in_frame (reply_to story octets.now) }
+        ensures load { (story : Story) → CabinetStands self.old story → result.load ≡ load_end story octets.now }
+        ensures stands { (story : Story) → CabinetStands self.old story → CabinetStands self.new (with_item story (Came octets.now)) }
+        ensures ticks { self.new.ticks ≡ self.old.ticks }
+    {
+        match decode(octets, self.community.as_slice(), self.controller.tables()) {
+            Some(ask) => self.heed(&ask),
+            None => Told {
+                text: None,
+                load: None,
+            },
+        }
+    }
+
+    /// What is asked is answered, by what was before, and carried out.
+
+    fn heed(&mut self, ask: &Ask) -> Told
+        requires some { (has : Coming) × Keeps self.old has }
+        requires asked { IsAsked ask.now }
+        requires can { CanBeCarriedOut ask.now.wish }
+        ensures text { (has : Coming) → Keeps self.old has → result.text ≡ in_frame (replied has (Some ask.now)) }
+        ensures load { (has : Coming) → Keeps self.old has → result.load ≡ ask_end has (Some ask.now) }
+        ensures keeps { (has : Coming) → Keeps self.old has → Keeps self.new (carried_out has ask.now.wish) }
+        ensures community { self.new.community ≡ self.old.community }
+        ensures ticks { self.new.ticks ≡ self.old.ticks }
+    {
+        let shown = self.controller.shown();
+        let state = self.stage.state();
+        let last = self.stage.last();
+        let outcome = call_stage(&mut self.stage, &self.controller, &ask.wish);
+        let text = answer(ask, self.controller.tables(), &shown, state, last, outcome);
+        let load = end_of(shown.version, &ask.wish, outcome);
+        carry_out(&mut self.controller, &self.stage, &ask.wish, outcome);
+        Told {
+            text: Some(text),
+            load,
+        }
+    }
+}
