@@ -128,6 +128,8 @@ fn scenario(rt: &HostRuntime) -> Result<Scenario, Fail>
                 pattern: 0,
                 clock: 0,
                 section: 1,
+                gain: 0,
+                lose: 0,
             },
         ]?,
         master: MasterSetup {

@@ -55,6 +55,8 @@ fn one_load(alloc: Global) -> Result<Scenario, AllocError>
         pattern: 0,
         clock: 0,
         section: 1,
+        gain: 0,
+        lose: 0,
     };
     let load = LoadItem {
         round: 1,
