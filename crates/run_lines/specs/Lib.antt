@@ -1,0 +1,5 @@
+pub mod Standing
+pub mod Lines
+pub mod Orders
+pub mod Safe
+pub mod Smallest
