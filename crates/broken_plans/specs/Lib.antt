@@ -1,1 +1,2 @@
 pub mod Street
+pub mod Window

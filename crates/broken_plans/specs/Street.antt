@@ -6,15 +6,15 @@ use Rattle.sig_types.specs.declared.frame.Mode.{Mode}
 use Rattle.sig_types.specs.Colour.{colour_of}
 use Rattle.sig_tables.specs.declared.tables.Tables.{Tables}
 use Rattle.sig_tables.specs.Tables.{row}
-use Rattle.sig_tables.specs.Past.{Input, History, Moment}
+use Rattle.sig_tables.specs.Past.{Event, Input, History, Moment}
 use Rattle.sig_tables.specs.Decide.{past_at}
 use Rattle.sig_tables.specs.Seen.{moment_seen}
 use Rattle.sig_tables.specs.Standard.{std8}
-use Rattle.known_histories.specs.Timeline.{Step, ticks, told_in_order, after}
+use Rattle.undisturbed.specs.Rows.{ticks}
 
--- a cabinet with these tables that commands the standard pattern, its clock on the offset: these steps, and then so many ticks
-abbrev pub commanded : Tables → List Step → ℕ → History
-commanded t steps more = record { tables = t; command = 1; clock = 840; events = ticks more (told_in_order steps []) }
+-- a cabinet with these tables that commands the standard pattern, its clock on the offset: these events, the newest first
+abbrev pub commanded : Tables → List Event → History
+commanded t events = record { tables = t; command = 1; clock = 840; events = events }
 
 -- what a moment shows of both coordinated phases of the standard pattern
 pub record Brief : Type 0 where
@@ -37,8 +37,8 @@ long_revert = record std8 { phases = set std8.phases 1 (record (row std8 2) { re
 
 -- a car in the left turn that takes turns with phase 2 in its ring, 16 seconds before local zero comes again: 960 ticks
 abbrev pub late_turn : Tables → History
-late_turn t = commanded t (after 799 (Input (Veh 1 true)) ∷ after 1 (Input (Veh 1 false)) ∷ []) 160
+late_turn t = commanded t (ticks 160 (Input (Veh 1 false) ∷ ticks 1 (Input (Veh 1 true) ∷ ticks 799 [])))
 
 -- cars that keep the detector of phase 3 on, in the side street: 960 ticks
 abbrev pub long_call : Tables → History
-long_call t = commanded t (after 199 (Input (Veh 3 true)) ∷ []) 761
+long_call t = commanded t (ticks 761 (Input (Veh 3 true) ∷ ticks 199 []))
