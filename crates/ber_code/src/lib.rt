@@ -16,6 +16,3 @@ pub use lengths::{
 };
 pub use names::{Oid, oid_size, read_oid, read_oid_into, write_oid};
 pub use room::Full;
-
-#[cfg(test)]
-mod tests;

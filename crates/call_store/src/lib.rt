@@ -251,6 +251,3 @@ fn locks_pedestrian(phase: u8, layout: &Layout, shown: &Frame) -> bool
         false
     }
 }
-
-#[cfg(test)]
-mod tests;

@@ -244,6 +244,3 @@ impl Controller {
         }
     }
 }
-
-#[cfg(test)]
-mod tests;

@@ -184,6 +184,3 @@ fn tick_later(cycle: u32, moment: u32) -> u32
 {
     if moment + 1 == cycle { 0 } else { moment + 1 }
 }
-
-#[cfg(test)]
-mod tests;

@@ -7,6 +7,3 @@ mod gate;
 mod members;
 
 pub use gate::{Gate, filled, fits, released};
-
-#[cfg(test)]
-mod tests;

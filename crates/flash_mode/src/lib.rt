@@ -55,6 +55,3 @@ pub fn mode(shown: &Frame, start_run: u32, command: u8) -> Option<Mode>
         _ => None,
     }
 }
-
-#[cfg(test)]
-mod tests;

@@ -11,8 +11,6 @@ mod lines;
 mod link;
 mod lists;
 mod priority;
-#[cfg(test)]
-mod tests;
 mod wire;
 
 pub use agenda::{Agenda, Due};

@@ -22,6 +22,3 @@ pub use post::Post;
 pub fn open_is_last()
     ensures { (s : ScenarioContent) (cab : ℕ) (c : CabinetContent) (arrived : List Arrived) → OpenIsLast s cab c arrived }
 {}
-
-#[cfg(test)]
-mod tests;

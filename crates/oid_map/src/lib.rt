@@ -15,6 +15,3 @@ pub use laws::{
 pub use names::{Name, TableName, oid_of};
 pub use reading::cell_of;
 pub use walk::next;
-
-#[cfg(test)]
-mod tests;

@@ -15,6 +15,3 @@ pub use laying::services;
 pub use planning::{plan, plan_on};
 pub use standard::standard_plan;
 pub use street::Street;
-
-#[cfg(test)]
-mod tests;

@@ -281,6 +281,3 @@ impl Preempts {
         (self.steps + 1).saturating_sub(self.stage_since)
     }
 }
-
-#[cfg(test)]
-mod tests;

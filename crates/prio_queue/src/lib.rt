@@ -138,6 +138,3 @@ impl Queue {
         ]
     }
 }
-
-#[cfg(test)]
-mod tests;

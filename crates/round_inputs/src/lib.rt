@@ -11,9 +11,6 @@ ghost use Rattle.round_inputs.specs.Order.{ComesLater, IsDue, is_of, by_time, in
 use scenario_data::Input;
 use sig_types::NoMemory;
 
-#[cfg(test)]
-mod tests;
-
 /// The inputs that are still to come.
 #[derive(Drop)]
 pub struct RoundInputs {

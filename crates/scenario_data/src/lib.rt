@@ -14,6 +14,3 @@ pub use scenario::{
     Base, Cabinet, Direction, Entry, Fault, FaultKind, FrameItem, Input, LoadItem, MasterSetup,
     PriorityAct, PriorityItem, Scenario,
 };
-
-#[cfg(test)]
-mod tests;

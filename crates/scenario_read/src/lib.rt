@@ -19,19 +19,6 @@ mod setup;
 mod tables;
 mod values;
 
-pub use events::Events;
-pub use faults::fault_in;
-pub use frames::frame_in;
-pub use inputs::input_in;
-pub use loads::load_in;
-pub use priority::priority_in;
-pub use reading::{read, text};
-pub use scenario::{Parts, checked_parts, scenario_from};
-pub use setup::Setup;
-
-#[cfg(test)]
-mod tests;
-
 ghost use Rattle.std.specs.Prelude.{◌≡◌, ℕ, List, [], ◌∷◌, codes, Some, String, string_bytes};
 ghost use Rattle.std.specs.declared.alloc.Global.{Global};
 ghost use Rattle.serde_json.specs.Data.{object, member, no_members, number, unsigned, array, item, no_items, string};
@@ -41,6 +28,16 @@ ghost use Rattle.scenario_data.specs.declared.refusal.Refusal.{Refusal};
 ghost use Rattle.scenario_data.specs.Content.{ScenarioContent};
 ghost use Rattle.scenario_read.specs.Faults.{faults, first_cause};
 ghost use Rattle.scenario_read.specs.Answers.{IsScenario, IsFirstFault, SameFault};
+
+pub use events::Events;
+pub use faults::fault_in;
+pub use frames::frame_in;
+pub use inputs::input_in;
+pub use loads::load_in;
+pub use priority::priority_in;
+pub use reading::{read, text};
+pub use scenario::{Parts, checked_parts, scenario_from};
+pub use setup::Setup;
 
 /// Small values, as the definitions see them.
 pub fn small_values()

@@ -11,8 +11,3 @@ pub use laws::{messages_stand_alone, shortest_text_is_least};
 pub use message::{Bind, Message, Pdu, TooLong, Value};
 pub use reading::read;
 pub use writing::write;
-
-#[cfg(test)]
-mod captured;
-#[cfg(test)]
-mod tests;

@@ -79,6 +79,3 @@ impl SplitOptions {
         }
     }
 }
-
-#[cfg(test)]
-mod tests;

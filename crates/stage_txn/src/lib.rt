@@ -202,6 +202,3 @@ impl Stage {
         self.last
     }
 }
-
-#[cfg(test)]
-mod tests;

@@ -8,8 +8,6 @@ mod numbers;
 mod pieces;
 mod read;
 mod signs;
-#[cfg(test)]
-mod tests;
 mod words;
 mod write;
 

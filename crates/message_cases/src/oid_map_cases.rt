@@ -1,7 +1,7 @@
 //! Names and walks by hand from the table of the objects.
 
-use super::*;
 use ber_code::Oid;
+use oid_map::*;
 use sig_tables::Cell;
 
 /// Where the objects of NTCIP 1202 (asc) and those of the project (own) stand.

@@ -2,8 +2,8 @@
 
 ghost use Rattle.std.specs.Prelude.{◌≡◌, length, IfOk};
 
-use crate::{FaultList, Line, Link, Wire};
 use arrayvec::ArrayVec;
+use link_sim::{FaultList, Line, Link, Wire};
 use round_streams::{Answers, Sending};
 use scenario_data::{
     Base, Cabinet, Direction, Fault, FaultKind, FrameItem, FrameOctets, Input, MasterSetup,

@@ -1,11 +1,11 @@
 //! Refusals in the words of the program, with texts and lines that another program made from the same rules, and rows
 //! worked by hand; and what a scenario holds.
 
-use crate::{read, text};
 use scenario_data::{
     Base, Direction, Entry, Fault, FaultKind, PriorityAct, ReadFail, Refusal, Scenario,
     opening_tables,
 };
+use scenario_read::{read, text};
 use sig_tables::{Cell, CellValue, Tables};
 use sig_types::{Field, Request, Way};
 use std::alloc::{AllocError, Global};

@@ -4,7 +4,7 @@
 
 ghost use Rattle.std.specs.Prelude.{◌<◌, ◌≤◌};
 
-use crate::{Gate, filled, fits, released};
+use coord_gate::{Gate, filled, fits, released};
 use sig_tables::Plan;
 use sig_types::PhaseSet;
 

@@ -1,6 +1,6 @@
 //! Inputs listed in no order, and what each round of each cabinet has of them, worked by hand.
 
-use crate::RoundInputs;
+use round_inputs::RoundInputs;
 use scenario_data::Input;
 use sig_types::Field;
 use std::test::Fail;

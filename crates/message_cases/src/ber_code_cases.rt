@@ -1,4 +1,4 @@
-use super::*;
+use ber_code::*;
 use sig_types::Octets;
 use std::test::*;
 

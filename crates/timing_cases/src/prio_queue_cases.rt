@@ -2,7 +2,7 @@
 
 ghost use Rattle.std.specs.Prelude.{◌≡◌, ◌<◌, ◌≤◌};
 
-use crate::Queue;
+use prio_queue::Queue;
 use sig_types::{PhaseSet, Request};
 
 /// A request for phase 2 that arrives at once and departs after 600 ticks.

@@ -1,6 +1,6 @@
 //! The octets of a frame go in and come out.
 
-use crate::FrameOctets;
+use scenario_data::FrameOctets;
 use std::test::Fail;
 
 #[test]

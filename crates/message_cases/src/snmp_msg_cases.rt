@@ -1,10 +1,10 @@
 ghost use Rattle.snmp_msg.specs.Shortest.{IsWritableBind, IsWritableMessage};
 
-use super::captured::{REFUSED, SHORTEST};
-use super::*;
+use crate::captured::{REFUSED, SHORTEST};
 use arrayvec::ArrayVec;
 use ber_code::Oid;
 use hex::decode;
+use snmp_msg::*;
 use std::test::*;
 
 /// A Get of coordPatternStatus, its outermost length in one octet, in three, and left open.

@@ -1,6 +1,6 @@
 //! Modes and turns case by case, from the rules of start-up, flash and command.
 
-use crate::{Turn, commanded, mode, reached, running, turn_of};
+use flash_mode::{Turn, commanded, mode, reached, running, turn_of};
 use sig_tables::Tables;
 use sig_types::{Colour, Frame, Mode, Ped, PhaseSet};
 

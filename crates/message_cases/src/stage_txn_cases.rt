@@ -2,9 +2,9 @@
 
 ghost use Rattle.std.specs.Prelude.{◌≤◌};
 
-use crate::Stage;
 use sig_tables::{Cell, CellValue, Tables};
 use sig_types::{Broken, StageAnswer};
+use stage_txn::Stage;
 
 /// The yellow change of a phase, in tenths of a second.
 fn yellow(phase: u8, tenths: u32) -> (Cell, CellValue) {

@@ -1,11 +1,11 @@
 //! The worked lines of the first runs, and texts that are nearly lines.
 
-use super::*;
 use arrayvec::ArrayVec;
 use sig_types::{Broken, Colour, MasterNote, Mode, Ped};
 use std::alloc::Global;
 use std::process::Abort;
 use std::test::Fail;
+use trace_text::*;
 
 /// The line is written so, and so it is read.
 fn is_written(rt: &impl Abort, alloc: Global, line: Line, text: &str) {

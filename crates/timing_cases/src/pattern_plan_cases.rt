@@ -1,6 +1,6 @@
 //! Pattern 1 of the standard tables, and of tables that differ from them in a few cells, worked out by hand.
 
-use crate::plan;
+use pattern_plan::plan;
 use sig_tables::{Cell, CellValue, Plan, Tables};
 
 /// The numbers of eight phases, those of the two rings in turn, and 0 for the other eight.

@@ -5,9 +5,9 @@ ghost use Rattle.std.specs.Prelude.{◌≡◌, ◌≤◌, IfOk, length};
 ghost use Rattle.scenario_data.specs.Content.{scenario_content};
 ghost use Rattle.master_poll.specs.Masters.{IsRun};
 
-use crate::{Master, Round};
 use arrayvec::ArrayVec;
 use hex::decode as octets_of;
+use master_poll::{Master, Round};
 use round_streams::Answers;
 use scenario_data::{Base, Cabinet, LoadItem, MasterSetup, Scenario};
 use sig_tables::{Cell, CellValue};

@@ -2,7 +2,7 @@
 
 ghost use Rattle.std.specs.Prelude.{◌<◌};
 
-use crate::{Count, Limits, needed};
+use coord_count::{Count, Limits, needed};
 use sig_tables::{Plan, Tables};
 
 /// A plan of which only the cycle and the window count here.

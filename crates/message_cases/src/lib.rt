@@ -1,0 +1,27 @@
+//! Worked cases of messages, of the lines of a trace, of the master and its line and of the reading of a scenario, each with its
+//! expected values from outside. They stand in a crate of their own, above the parts, so that a part is proved once and not again
+//! for its tests.
+#![tactic(auto)]
+
+#[cfg(test)]
+mod ber_code_cases;
+#[cfg(test)]
+mod captured;
+#[cfg(test)]
+mod link_sim_cases;
+#[cfg(test)]
+mod master_poll_cases;
+#[cfg(test)]
+mod oid_map_cases;
+#[cfg(test)]
+mod round_inputs_cases;
+#[cfg(test)]
+mod scenario_data_cases;
+#[cfg(test)]
+mod scenario_read_cases;
+#[cfg(test)]
+mod snmp_msg_cases;
+#[cfg(test)]
+mod stage_txn_cases;
+#[cfg(test)]
+mod trace_text_cases;
