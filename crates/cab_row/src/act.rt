@@ -1,0 +1,90 @@
+//! What a pass does at a cabinet: it looks, takes the book if nobody has it, applies one item and gives the book back. It never
+//! waits: where it meets another pass it says so.
+ghost use Rattle.std.specs.Prelude.{◌≡◌, ℕ, ◌+◌, ◌-◌, ◌<◌, ◌≤◌, [], ◌∷◌, length, map};
+ghost use Rattle.cab_row.specs.Passes.{IsPassOf, IsOwn, books_of, view_of, remains, done_by, HasActed, WasMet, SameCounts, HasSeen};
+ghost use Rattle.cab_row.specs.Views.{count};
+ghost use mathlib.Core.Option.{some};
+ghost use lib.ListN.{get_elem?};
+
+use crate::logged::Logged;
+use crate::pass::Pass;
+use crate::plays::{Finish, Look, Take};
+use crate::row::Row;
+use crate::view::View;
+use atomic_table::{Badge, Seat};
+use std::mem::replace;
+
+/// What came of one call: an item was applied, or another pass was met, and this is the word that showed it.
+#[derive(Clone, Copy, Debug, PartialEq, Eq)]
+pub enum Act {
+    Done,
+    Busy(u64),
+}
+
+impl<B: Logged> Row<B> {
+    /// How many items the pass has left at the cabinet (1 to the number of cabinets): those that it was opened with, less its calls
+    /// of `act` there that were answered Done.
+    pub fn remaining(&self, pass: &Pass, cab: u32) -> u32
+        requires pass { IsPassOf B.row.coded.code B.left_of self.now pass.now }
+        requires cab { (1 ≤ cab) × (cab ≤ length (books_of self.now)) }
+        ensures remains { result ≡ remains self.now pass.now cab }
+        ensures own { (first : B) → get_elem? (books_of self.now) (cab - 1) ≡ some first → result + done_by pass.now cab ≡ B.left_of first pass.now.number }
+    {
+        let c = cab as usize - 1;
+        self.items[c][pass.number as usize] - pass.done[c]
+    }
+
+    /// Applies the pass's next item at the cabinet, unless another pass is there. Done: it looked, found the cabinet free, and
+    /// applied one item. Busy: it found a word that is odd, or one that had changed since this call looked; it changed no book and
+    /// no word. On a row with one pass the answer is Done. It takes no memory and waits for nothing.
+    pub fn act(&self, pass: &mut Pass, cab: u32) -> Act
+        requires pass { IsPassOf B.row.coded.code B.left_of self.now pass.old }
+        requires cab { (1 ≤ cab) × (cab ≤ length (books_of self.now)) }
+        requires left { 0 < remains self.now pass.old cab }
+        ensures pass { IsPassOf B.row.coded.code B.left_of self.now pass.new × (pass.new.number ≡ pass.old.number) }
+        ensures done { result ≡ Act.Done → HasActed (view_of pass.old) (view_of pass.new) (cab - 1) }
+        ensures busy { (w : ℕ) → result ≡ Act.Busy w → WasMet (view_of pass.old) (view_of pass.new) (cab - 1) w }
+        ensures same { (w : ℕ) → result ≡ Act.Busy w → SameCounts (view_of pass.old) (view_of pass.new) }
+        ensures seen { (w : ℕ) → result ≡ Act.Busy w → HasSeen (view_of pass.old) (view_of pass.new) (cab - 1) w }
+        ensures remains { result ≡ Act.Done → remains self.now pass.new cab + 1 ≡ remains self.now pass.old cab }
+        ensures alone { self.now.passes ≡ 1 → result ≡ Act.Done }
+    {
+        let c = cab as usize - 1;
+        let mut seat = replace(&mut pass.badge, Badge::blank()).into_seat();
+        let answer = self.turn(&mut seat, pass.number, c);
+        pass.badge = seat.into_badge();
+        if let Act::Done = answer {
+            pass.done[c] += 1;
+        }
+        answer
+    }
+
+    // One try of a pass that has an item left at the cabinet, which is counted from 0.
+    fn turn(&self, seat: &mut Seat<Option<B>, View>, number: u32, c: usize) -> Act
+        requires seat { (seat.old.table_id ≡ self.now.table.shared.table_id) × (seat.old.me.1 ≡ []) × IsOwn (map B.row.coded.code (books_of self.now)) self.now.passes number seat.old.me.0 }
+        requires cab { c < length (books_of self.now) }
+        requires left { (first : B) → get_elem? (books_of self.now) c ≡ some first → count number c seat.old.me.0 < B.left_of first number }
+        ensures seat { (seat.new.table_id ≡ self.now.table.shared.table_id) × (seat.new.me.1 ≡ []) × IsOwn (map B.row.coded.code (books_of self.now)) self.now.passes number seat.new.me.0 }
+        ensures done { result ≡ Act.Done → HasActed seat.old.me.0 seat.new.me.0 c }
+        ensures busy { (w : ℕ) → result ≡ Act.Busy w → WasMet seat.old.me.0 seat.new.me.0 c w }
+        ensures alone { self.now.passes ≡ 1 → result ≡ Act.Done }
+    {
+        let shared = &self.table.shared;
+        let seen = shared.load::<Look>(seat, c);
+        if seen % 2 == 1 {
+            return Act::Busy(seen);
+        }
+        let found = shared.compare_exchange::<Take>(seat, c, seen, seen + 1);
+        if found != seen {
+            return Act::Busy(found);
+        }
+        let mut book = shared.exchange(seat, c, None).unwrap();
+        book.apply(number);
+        match shared.exchange(seat, c, Some(book)) {
+            None => {}
+            Some(_) => unreachable!(),
+        }
+        shared.fetch_add::<Finish>(seat, c, 1);
+        Act::Done
+    }
+}

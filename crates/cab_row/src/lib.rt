@@ -1,0 +1,19 @@
+//! Cabinets shared by threads: books that several passes change in turn, with no lock and no call that waits. Each book lies behind
+//! a word, which is odd while a pass has the book and otherwise twice the number of items applied so far. A pass that meets
+//! another at a cabinet is told so, and goes on elsewhere.
+#![tactic(auto)]
+
+mod act;
+mod close;
+mod logged;
+mod moves;
+mod open;
+mod pass;
+mod plays;
+mod row;
+mod view;
+
+pub use act::Act;
+pub use logged::Logged;
+pub use pass::Pass;
+pub use row::Row;

@@ -1,0 +1,28 @@
+//! What a row asks of a book: a journal of the passes that brought its items, and how many items each has left. Nothing else of a
+//! book matters here, so that a row serves any value that keeps a journal.
+ghost use Rattle.std.specs.Prelude.{◌≡◌, ◌≢◌, ℕ, ◌+◌, ◌<◌, List, [], ◌∷◌, ◌++◌};
+
+/// A value that passes change item by item, and that keeps a journal of them.
+pub trait Logged {
+    // The passes that brought the items applied so far, in order.
+    ghost journal: { Self → List ℕ };
+    // How many items each pass has left.
+    ghost left_of: { Self → ℕ → ℕ };
+    // The second value is what the first one comes to by the second one's journal.
+    ghost replays: { Self → Self → Type 0 };
+
+    /// How many items the pass has left.
+    fn left(&self, pass: u32) -> u32
+        ensures { result ≡ left_of self.now pass };
+
+    /// Applies the pass's next item. It takes no memory.
+    fn apply(&mut self, pass: u32)
+        requires { 0 < left_of self.old pass }
+        ensures journal { journal self.new ≡ journal self.old ++ pass ∷ [] }
+        ensures own { left_of self.new pass + 1 ≡ left_of self.old pass }
+        ensures others { (p : ℕ) → p ≢ pass → left_of self.new p ≡ left_of self.old p }
+        ensures replays { (first : Self) → replays first self.old → replays first self.new };
+
+    // A value with an empty journal is its own replay.
+    ghost fresh: { (x : Self) → journal x ≡ [] → replays x x };
+}

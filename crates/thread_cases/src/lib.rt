@@ -1,0 +1,11 @@
+//! Worked cases of cabinets shared by threads, over a book as simple as can be. They stand in a crate of their own, above the parts,
+//! so that a part is proved once and not again for its tests.
+#![tactic(auto)]
+
+mod acts;
+#[cfg(test)]
+mod row_cases;
+mod tally;
+
+pub use acts::acts_done;
+pub use tally::Tally;
