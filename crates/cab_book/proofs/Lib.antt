@@ -10,3 +10,10 @@ pub mod Heeding
 pub mod Answering
 pub mod Opening
 pub mod Installs
+pub mod Interleaving
+pub mod Keeping
+pub mod Bringing
+pub mod Coming
+pub mod Beginning
+pub mod Texts
+pub mod Counting

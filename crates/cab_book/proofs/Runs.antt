@@ -36,7 +36,7 @@ begins (run ∷ next ∷ runs) d zero pass e ne = absurd (omega (arith, e))
 begins (run ∷ next ∷ runs) d (suc last) pass e ne =
     ap (λ (rest : List (ℕ × ℕ)). run ∷ rest) (begins (next ∷ runs) d last pass (omega (arith, e)) ne)
 
-times_both : (p : ℕ) (xs ys : List ℕ) → times p (xs ++ ys) ≡ times p xs + times p ys
+pub times_both : (p : ℕ) (xs ys : List ℕ) → times p (xs ++ ys) ≡ times p xs + times p ys
 times_both p [] ys = omega arith
 times_both p (x ∷ xs) ys = split (p == x) (times_both p xs ys)
   where
@@ -45,7 +45,7 @@ times_both p (x ∷ xs) ys = split (p == x) (times_both p xs ys)
     split true e = omega (arith, e)
     split false e = e
 
-times_run : (p n : ℕ) → times p (replicate n p) ≡ n
+pub times_run : (p n : ℕ) → times p (replicate n p) ≡ n
 times_run p zero = refl
 times_run p (suc n) = elim (eqb_tells p p) [
   | inl (t, e) ↦ rw t (omega (arith, times_run p n))

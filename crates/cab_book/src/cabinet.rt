@@ -7,7 +7,7 @@ ghost use Rattle.controller.specs.StandsFor.{StandsFor, NamesPlace};
 ghost use Rattle.agent.specs.Asks.{IsAsked, CanBeCarriedOut};
 ghost use Rattle.round_streams.specs.Items.{Told as ToldItem, Came, Ticked};
 ghost use Rattle.cabinet_story.specs.Story.{Story, opened, with_item};
-ghost use Rattle.cabinet_story.specs.Coming.{Coming, history_of, carried_out};
+ghost use Rattle.cabinet_story.specs.Coming.{Coming, history_of, ask_after, carried_out};
 ghost use Rattle.cabinet_story.specs.Frames.{tick_written};
 ghost use Rattle.cabinet_story.specs.Told.{reply_to, load_end, in_frame, replied, ask_end};
 
@@ -69,10 +69,9 @@ impl Cabinet {
     }
 
     /// A tick of 0.1 s: its frame with its number, where that has a line.
-
     pub fn tick(&mut self) -> Option<(u32, Frame)>
         requires few { self.old.ticks < 4294967294 }
-        requires some { (story : Story) × CabinetStands self.old story }
+        requires some { ∥ ((story : Story) × CabinetStands self.old story) ∥₁ }
         ensures gives { (story : Story) → CabinetStands self.old story → option_to_list result ≡ tick_written (history_of story) }
         ensures stands { (story : Story) → CabinetStands self.old story → CabinetStands self.new (with_item story Ticked) }
         ensures ticks { self.new.ticks ≡ self.old.ticks + 1 }
@@ -87,14 +86,16 @@ impl Cabinet {
         }
     }
 
-    /// A frame comes to it.
-
+    /// A frame comes to it. One that asks nothing of it, as it is no message, of another community, or a Response, is met with silence
+    /// and changes nothing.
     pub fn receive(&mut self, octets: &[u8]) -> Told
-        requires some { (story : Story) × CabinetStands self.old story }
+        requires some { ∥ ((story : Story) × CabinetStands self.old story) ∥₁ }
         ensures text { (story : Story) → CabinetStands self.old story → result.text ≡ in_frame (reply_to story octets.now) }
         ensures load { (story : Story) → CabinetStands self.old story → result.load ≡ load_end story octets.now }
         ensures stands { (story : Story) → CabinetStands self.old story → CabinetStands self.new (with_item story (Came octets.now)) }
         ensures ticks { self.new.ticks ≡ self.old.ticks }
+        ensures nothing { (story : Story) → CabinetStands self.old story → ask_after story octets.now ≡ None
+            → (self.new ≡ self.old) × (result ≡ record { text = None; load = None }) }
     {
         match decode(octets, self.community.as_slice(), self.controller.tables()) {
             Some(ask) => self.heed(&ask),
@@ -106,9 +107,8 @@ impl Cabinet {
     }
 
     /// What is asked is answered, by what was before, and carried out.
-
     fn heed(&mut self, ask: &Ask) -> Told
-        requires some { (has : Coming) × Keeps self.old has }
+        requires some { ∥ ((has : Coming) × Keeps self.old has) ∥₁ }
         requires asked { IsAsked ask.now }
         requires can { CanBeCarriedOut ask.now.wish }
         ensures text { (has : Coming) → Keeps self.old has → result.text ≡ in_frame (replied has (Some ask.now)) }

@@ -125,7 +125,7 @@ pub fn carry_out(
     outcome: Option<StageAnswer>,
 )
     requires can { CanBeCarriedOut wish.now }
-    requires answered { (has : Coming) × IsAnswered controller.old stage.now has wish.now outcome }
+    requires answered { ∥ ((has : Coming) × IsAnswered controller.old stage.now has wish.now outcome) ∥₁ }
     ensures stands { (has : Coming) → IsAnswered controller.old stage.now has wish.now outcome
         → StandsFor controller.new (with_events has.history (events_of has wish.now)) }
     ensures counted { tick_count controller.new ≡ tick_count controller.old }

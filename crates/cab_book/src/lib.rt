@@ -1,11 +1,18 @@
 //! The book of a cabinet: its controller, its download stage and the community of those who may ask it; what it hears, what it
-//! answers and what it shows. Nothing here takes memory.
+//! answers and what it shows; and what a round has come to, pass by pass. Only the start of a round takes memory.
 #![tactic(auto)]
 
+mod book;
+mod book_laws;
 mod cabinet;
 mod carrying;
 mod frames;
+mod happened;
 mod journal;
+mod logged;
 
+pub use book::Book;
+pub use book_laws::fresh_books;
 pub use cabinet::{Cabinet, Told};
+pub use happened::Answered;
 pub use journal::Journal;

@@ -1,9 +1,12 @@
 use Rattle.std.proofs.Common.{◌∙◌, ◌<◌, ap, arith, is_some}
+use Rattle.std.specs.Coded.{le_prop, Coded-set, coded_bool}
+use Rattle.std.proofs.Math.Logic.{∥∥₁_elim, ∥∥₁_map}
 use Rattle.cabinet_story.specs.Told.{wish_end}
 use Rattle.sig_types.specs.declared.notes.StageAnswer.{StageAnswer}
 use Rattle.std.specs.Prelude.{Option}
 use Rattle.stage_txn.specs.Answers.{answered, kept, standing}
-use Rattle.cabinet_story.specs.Coming.{past_of}
+use Rattle.cabinet_story.specs.Coming.{Coming, past_of}
+use Rattle.cab_book.specs.Stands.{Keeps}
 use Rattle.cab_book.proofs.Installing.{few-within}
 use Rattle.cab_book.proofs.Wishes.{has-outcome}
 use Rattle.cab_book.proofs.Heeding.{carried-sound}
@@ -12,37 +15,44 @@ use Rattle.cab_book.proofs.cabinet.Cabinet.heed.Goals as goal
 
 pub answer-text-requires : goal.answer-text-requires
 answer-text-requires c =
-    let has = c.requires.some.0 in
-    let is = c.requires.some.1 in
+    let within = λ (some : (has : Coming) × Keeps c.args.self.now has).
+    shown-within c.args.self.now.ticks some.0 c.shown-shown.result some.1.sound (c.shown-shown.ensures.shown some.0.history some.1.controller) in
     record {
       asked = c.requires.asked;
-      within = shown-within c.args.self.now.ticks has c.shown-shown.result is.sound (c.shown-shown.ensures.shown has.history is.controller);
-      outcome = ap (λ (o : Option StageAnswer). is_some o) (c.call_stage-outcome.ensures.outcome has is.controller is.stage) ∙ has-outcome has c.args.ask.now.wish;
+      within = record {
+        clock = ∥∥₁_elim c.requires.some le_prop (λ some. (within some).clock);
+        version = ∥∥₁_elim c.requires.some le_prop (λ some. (within some).version);
+        counter = ∥∥₁_elim c.requires.some le_prop (λ some. (within some).counter);
+        target = ∥∥₁_elim c.requires.some le_prop (λ some. (within some).target);
+      };
+      outcome = ∥∥₁_elim c.requires.some (Coded-set coded_bool _ _) (λ some.
+          ap (λ (o : Option StageAnswer). is_some o) (c.call_stage-outcome.ensures.outcome some.0 some.1.controller some.1.stage)
+          ∙ has-outcome some.0 c.args.ask.now.wish);
     }
 
 pub end_of-load-requires : goal.end_of-load-requires
-end_of-load-requires c =
-    let has = c.requires.some.0 in
-    let is = c.requires.some.1 in
-    let shown = c.shown-shown.ensures.shown has.history is.controller in
-    record { few = omega (arith, shown.version, few-within (past_of has).version (kept (answered has.calls)) (standing (answered has.calls)) is.sound.few, is.sound.ids) }
+end_of-load-requires c = record {
+  few = ∥∥₁_elim c.requires.some le_prop (λ some.
+      let has = some.0 in
+      let is = some.1 in
+      let shown = c.shown-shown.ensures.shown has.history is.controller in
+      omega (arith, shown.version, few-within (past_of has).version (kept (answered has.calls)) (standing (answered has.calls)) is.sound.few, is.sound.ids));
+}
 
 pub carry_out-requires : goal.carry_out-requires
 carry_out-requires c =
-    let has = c.requires.some.0 in
-    let is = c.requires.some.1 in
     record {
       can = c.requires.can;
-      answered = (
-        has,
+      answered = ∥∥₁_map c.requires.some (λ some. (
+        some.0,
         record {
-          controller_stands = is.controller;
-          stage_stands = c.call_stage-outcome.ensures.stands has is.controller is.stage;
-          answer_is = c.call_stage-outcome.ensures.outcome has is.controller is.stage;
-          few = is.sound.few;
-          ids = is.sound.ids;
+          controller_stands = some.1.controller;
+          stage_stands = c.call_stage-outcome.ensures.stands some.0 some.1.controller some.1.stage;
+          answer_is = c.call_stage-outcome.ensures.outcome some.0 some.1.controller some.1.stage;
+          few = some.1.sound.few;
+          ids = some.1.sound.ids;
         },
-      );
+      ));
     }
 
 pub returns-clause-text : goal.returns-clause-text

@@ -1,4 +1,5 @@
 use Rattle.std.proofs.Common.{◌≡◌, ◌∙◌, List, ℕ, Option, Some, None, ap, subst}
+use Rattle.std.proofs.Math.Logic.{∥∥₁_map}
 use Rattle.sig_tables.specs.declared.tables.Tables.{Tables}
 use Rattle.agent.specs.declared.ask.Ask.{Ask}
 use Rattle.agent.specs.Asks.{ask_of}
@@ -14,9 +15,12 @@ asked : (found : Option Ask) (octets community items : List ℕ) (t : Tables) (s
 asked found octets community items t story e a b f =
     e ∙ ap (λ (x : List ℕ). ask_of octets x t) (a ∙ b) ∙ ap (λ (x : Tables). ask_of octets story.community x) f
 
+some-none : (ask : Ask) → Some ask ≡ None → ⊥
+some-none ask e = cc
+
 pub heed-requires : goal.heed-requires
 heed-requires c =
-    record { some = (coming c.requires.some.0, c.requires.some.1.keeps); asked = c.in-Some.ensures.asked; can = c.in-Some.ensures.fit }
+    record { some = ∥∥₁_map c.requires.some (λ some. (coming some.0, some.1.keeps)); asked = c.in-Some.ensures.asked; can = c.in-Some.ensures.fit }
 
 pub returns-in-Some-clause-text : goal.returns-in-Some-clause-text
 returns-in-Some-clause-text c = λ story is.
@@ -38,6 +42,12 @@ returns-in-Some-clause-stands c = λ story is.
       community = ap (λ a. a.items) c.heed.ensures.community ∙ is.community;
       keeps = subst (λ (x : Option Ask). Keeps c.heed.new.self (heeded (coming story) x)) e (c.heed.ensures.keeps (coming story) is.keeps);
     }
+
+pub returns-in-Some-clause-nothing : goal.returns-in-Some-clause-nothing
+returns-in-Some-clause-nothing c = λ story is none.
+    let e = asked (Some c.in-Some.ask) c.args.octets.now c.as_slice.result.now c.args.self.now.community.items c.tables.result.now story c.in-Some.ensures.reads
+    c.as_slice.ensures.value is.community (c.tables.ensures.tables (coming story).history is.keeps.controller) in
+    absurd (some-none c.in-Some.ask (e ∙ none))
 
 pub returns-in-None-clause-text : goal.returns-in-None-clause-text
 returns-in-None-clause-text c = λ story is.

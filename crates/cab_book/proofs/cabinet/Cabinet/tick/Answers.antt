@@ -1,12 +1,12 @@
 use Rattle.std.proofs.Common.{◌∙◌, ◌+◌, arith, sym, ap, Bool, [], ◌∷◌, if◌then◌else◌}
+use Rattle.std.specs.Coded.{le_prop}
+use Rattle.std.proofs.Math.Logic.{∥∥₁_elim}
 use Rattle.cabinet_story.specs.Coming.{history_of}
 use Rattle.cab_book.proofs.Ticking.{tick-stands, line-written}
 use Rattle.cab_book.proofs.cabinet.Cabinet.tick.Goals as goal
 
 pub tick-next-requires : goal.tick-next-requires
-tick-next-requires c =
-    let is = c.requires.some.1 in
-    record { few = omega (arith, is.keeps.counted, c.requires.few) }
+tick-next-requires c = record { few = ∥∥₁_elim c.requires.some le_prop (λ some. omega (arith, some.1.keeps.counted, c.requires.few)) }
 
 pub returns-then-has_line-clause-gives : goal.returns-then-has_line-clause-gives
 returns-then-has_line-clause-gives c = λ story is.

@@ -1,0 +1,93 @@
+-- A round at its start: nothing was brought, and all items are left.
+use Rattle.std.proofs.Common.{◌≡◌, ℕ, zero, suc, ◌+◌, ◌∙◌, List, [], ◌∷◌, length, get_or, replicate, refl, sym, ap, subst, arith}
+use Rattle.std.proofs.lemmas.List.{length-map, length-replicate}
+use Rattle.sig_types.specs.declared.frame.Frame.{Frame}
+use Rattle.round_streams.specs.declared.Streams.{Streams}
+use Rattle.round_streams.specs.Items.{Item, Told, Ticked, items_of}
+use Rattle.cabinet_story.specs.Story.{Story, after}
+use Rattle.cabinet_story.specs.Journals.{Act, times, acts_of, items_in}
+use Rattle.cab_book.specs.declared.cabinet.Cabinet.{Cabinet}
+use Rattle.cab_book.specs.declared.happened.Answered.{Answered}
+use Rattle.cab_book.specs.declared.happened.Happened.{Happened}
+use Rattle.cab_book.specs.Stands.{CabinetStands}
+use Rattle.cab_book.specs.Happenings.{interleaved, replies_in, AreInOrder}
+use Rattle.cab_book.specs.Happened.{IsWritten, journal_in, written_of, answered_of}
+use Rattle.cab_book.proofs.Coming.{frames-many}
+use Rattle.cab_book.specs.Rounds.{CanBeTaken, ArePlaced, AreShort, AreTallied, acts_so_far, RoundStands}
+
+-- the round begins at the story that the cabinet stands for
+pub round-begins : (c : Cabinet) (streams : Streams) (h : Happened) (story : Story) → journal_in h ≡ [] → written_of h ≡ [] → answered_of h ≡ []
+    → CabinetStands c story → RoundStands c streams h story
+round-begins c streams h story journal written answered is =
+    let acts : acts_so_far streams h ≡ [] = ap (acts_of (items_of streams)) journal in
+    record {
+      cabinet = subst (λ (x : List Act). CabinetStands c (after story (items_in x))) (sym acts) is;
+      written = subst (IsWritten h story) (sym acts) (record {
+        frames = written;
+        replies = ap replies_in answered;
+        order = ap (λ (x : List (ℕ × Frame)). interleaved 0 x (answered_of h)) written ∙ ap (interleaved 0 []) answered;
+        counts = subst (λ (x : List Answered). AreInOrder 0 x (length (written_of h))) (sym answered) (omega arith);
+      });
+    }
+
+-- the streams of a round that can be taken are short
+pub taken-short : (streams : Streams) → CanBeTaken streams → AreShort streams
+taken-short streams can zero = omega (arith, can.few_fields, length-map streams.fields.items Told)
+taken-short streams can (suc zero) = omega (arith, can.few_polls, frames-many streams.polls.items)
+taken-short streams can (suc (suc zero)) = omega (arith, can.few_loads, frames-many streams.loads.items)
+taken-short streams can (suc (suc (suc zero))) = omega (arith, can.few_prios, frames-many streams.prios.items)
+taken-short streams can (suc (suc (suc (suc zero)))) = omega (arith, can.few_ticks, length-replicate streams.ticks Ticked)
+taken-short streams can (suc (suc (suc (suc (suc p))))) = omega arith
+
+-- all items are left
+pub all-left : (streams : Streams) (fields polls loads prios : ℕ) (h : Happened) → fields ≡ length streams.fields.items → polls ≡ length streams.polls.items
+    → loads ≡ length streams.loads.items → prios ≡ length streams.prios.items → journal_in h ≡ []
+    → AreTallied streams (fields ∷ polls ∷ loads ∷ prios ∷ streams.ticks ∷ []) h
+all-left streams fields polls loads prios h a b d e journal = λ p.
+    let none : times p (journal_in h) ≡ 0 = ap (times p) journal in
+    all p none
+  where
+    all : (p : ℕ) → times p (journal_in h) ≡ 0
+        → get_or (fields ∷ polls ∷ loads ∷ prios ∷ streams.ticks ∷ []) p 0 + times p (journal_in h) ≡ length (get_or (items_of streams) p [])
+    all zero none = omega (arith, none, a, length-map streams.fields.items Told)
+    all (suc zero) none = omega (arith, none, b, frames-many streams.polls.items)
+    all (suc (suc zero)) none = omega (arith, none, d, frames-many streams.loads.items)
+    all (suc (suc (suc zero))) none = omega (arith, none, e, frames-many streams.prios.items)
+    all (suc (suc (suc (suc zero)))) none = omega (arith, none, length-replicate streams.ticks Ticked)
+    all (suc (suc (suc (suc (suc p))))) none = omega (arith, none)
+
+-- streams of no items
+abbrev no_items : List Item
+no_items = []
+
+none_at : (p : ℕ) → get_or (replicate 5 no_items) p no_items ≡ no_items
+none_at zero = refl
+none_at (suc zero) = refl
+none_at (suc (suc zero)) = refl
+none_at (suc (suc (suc zero))) = refl
+none_at (suc (suc (suc (suc zero)))) = refl
+none_at (suc (suc (suc (suc (suc p))))) = refl
+
+pub no-items : (streams : Streams) → items_of streams ≡ replicate 5 [] → (p : ℕ) → length (get_or (items_of streams) p []) ≡ 0
+no-items streams none p =
+    ap (λ (x : List (List Item)). length (get_or x p [])) none ∙ ap (λ (x : List Item). length x) (none_at p)
+
+pub no-fields : (streams : Streams) → items_of streams ≡ replicate 5 [] → ArePlaced streams
+no-fields streams none k field less = absurd (omega (arith, less, no-items streams none 0, length-map streams.fields.items Told))
+
+abbrev zeros : List ℕ
+zeros = 0 ∷ 0 ∷ 0 ∷ 0 ∷ 0 ∷ []
+
+none_left : (p : ℕ) → get_or zeros p 0 ≡ 0
+none_left zero = refl
+none_left (suc zero) = refl
+none_left (suc (suc zero)) = refl
+none_left (suc (suc (suc zero))) = refl
+none_left (suc (suc (suc (suc zero)))) = refl
+none_left (suc (suc (suc (suc (suc p))))) = refl
+
+pub none-left : (streams : Streams) (h : Happened) → items_of streams ≡ replicate 5 [] → journal_in h ≡ []
+    → AreTallied streams (0 ∷ 0 ∷ 0 ∷ 0 ∷ 0 ∷ []) h
+none-left streams h none journal p =
+    let never : times p (journal_in h) ≡ 0 = ap (times p) journal in
+    omega (arith, none_left p, never, no-items streams none p)

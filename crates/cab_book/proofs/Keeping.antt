@@ -1,0 +1,89 @@
+-- What is kept of a round, with one act more.
+use Rattle.std.proofs.Common.{◌≡◌, ℕ, ◌+◌, ◌∙◌, List, [], ◌∷◌, ◌++◌, length, map, refl, sym, ap, subst, append-nil, length-append, arith}
+use Rattle.std.proofs.lemmas.List.{map-append}
+use Rattle.sig_types.specs.declared.frame.Frame.{Frame}
+use Rattle.round_streams.specs.Items.{Item, Told, Came, Ticked}
+use Rattle.cabinet_story.specs.declared.Reply.{Reply}
+use Rattle.cabinet_story.specs.Story.{Story, after}
+use Rattle.cabinet_story.specs.Journals.{Act, items_in}
+use Rattle.cabinet_story.specs.Told.{item_replies, item_written, acts_replies, acts_written}
+use Rattle.cabinet_story.proofs.Growing.{told-more}
+use Rattle.cab_book.specs.declared.happened.Answered.{Answered}
+use Rattle.cab_book.specs.declared.happened.Happened.{Happened}
+use Rattle.cab_book.specs.Happenings.{Happening, Wrote, item_happenings, acts_happenings, interleaved, replies_in, AreInOrder}
+use Rattle.cab_book.specs.Happened.{written_of, answered_of, behind, IsWritten, GoesOn}
+use Rattle.cab_book.proofs.Interleaving.{interleaved-frames, interleaved-reply, in-order-frames, in-order-reply}
+
+written-more : (story : Story) (acts : List Act) (act : Act)
+    → acts_written story (acts ++ act ∷ []) ≡ acts_written story acts ++ item_written (after story (items_in acts)) act.item
+written-more = told-more (λ (s : Story) (a : Act). item_written s a.item) acts_written (λ s. refl) (λ s a acts. refl)
+
+replies-more : (story : Story) (acts : List Act) (act : Act)
+    → acts_replies story (acts ++ act ∷ []) ≡ acts_replies story acts ++ item_replies (after story (items_in acts)) act.pass act.item
+replies-more = told-more (λ (s : Story) (a : Act). item_replies s a.pass a.item) acts_replies (λ s. refl) (λ s a acts. refl)
+
+happenings-more : (story : Story) (acts : List Act) (act : Act)
+    → acts_happenings story (acts ++ act ∷ []) ≡ acts_happenings story acts ++ item_happenings (after story (items_in acts)) act.pass act.item
+happenings-more = told-more (λ (s : Story) (a : Act). item_happenings s a.pass a.item) acts_happenings (λ s. refl) (λ s a acts. refl)
+
+replies_behind : (many : ℕ) (replies : List Reply) → replies_in (behind many replies) ≡ replies
+replies_behind many [] = refl
+replies_behind many (r ∷ replies) = ap (λ (rest : List Reply). r ∷ rest) (replies_behind many replies)
+
+-- an item gives frames or one reply, and those stand where they came
+record Ordered (frames : List (ℕ × Frame)) (answered : List Answered) (now : Story) (pass : ℕ) (item : Item) : Type 0 where
+  order : interleaved 0 (frames ++ item_written now item) (answered ++ behind (length frames) (item_replies now pass item))
+      ≡ interleaved 0 frames answered ++ item_happenings now pass item
+  counts : AreInOrder 0 (answered ++ behind (length frames) (item_replies now pass item)) (length (frames ++ item_written now item))
+
+-- an item without a reply
+quiet : (frames : List (ℕ × Frame)) (answered : List Answered) (more : List (ℕ × Frame)) → AreInOrder 0 answered (length frames)
+    → (interleaved 0 (frames ++ more) (answered ++ []) ≡ interleaved 0 frames answered ++ (map Wrote more ++ [])) × AreInOrder 0 (answered ++ []) (length (frames ++ more))
+quiet frames answered more is =
+    let is_from : AreInOrder 0 answered (0 + length frames) = subst (AreInOrder 0 answered) (omega arith) is in (
+      ap (interleaved 0 (frames ++ more)) (append-nil answered)
+          ∙ interleaved-frames 0 frames answered more is_from
+          ∙ ap (λ (x : List Happening). interleaved 0 frames answered ++ x) (sym (append-nil (map Wrote more))),
+      subst (λ (x : List Answered). AreInOrder 0 x (length (frames ++ more))) (sym (append-nil answered))
+          (in-order-frames 0 answered (length frames) (length (frames ++ more)) (omega (arith, length-append frames more)) is),
+    )
+
+ordered : (frames : List (ℕ × Frame)) (answered : List Answered) (now : Story) (pass : ℕ) (item : Item) → AreInOrder 0 answered (length frames)
+    → Ordered frames answered now pass item
+ordered frames answered now pass (Told field) is =
+    let q = quiet frames answered [] is in
+    record { order = q.0; counts = q.1 }
+ordered frames answered now pass Ticked is =
+    let q = quiet frames answered (item_written now Ticked) is in
+    record { order = q.0; counts = q.1 }
+ordered frames answered now pass (Came octets) is =
+    let is_from : AreInOrder 0 answered (0 + length frames) = subst (AreInOrder 0 answered) (omega arith) is in
+    let all = answered ++ behind (length frames) (item_replies now pass (Came octets)) in
+    record {
+      order = ap (λ (x : List (ℕ × Frame)). interleaved 0 x all) (append-nil frames) ∙ interleaved-reply 0 frames answered _ is_from (omega arith);
+      counts = subst (λ (x : List (ℕ × Frame)). AreInOrder 0 all (length x)) (sym (append-nil frames)) (in-order-reply 0 answered _ (length frames) refl is);
+    }
+
+-- what is kept goes on with what an act gives
+pub kept-more : (old new : Happened) (story : Story) (acts : List Act) (act : Act) → IsWritten old story acts
+    → GoesOn old new act.pass (item_written (after story (items_in acts)) act.item) (item_replies (after story (items_in acts)) act.pass act.item)
+    → IsWritten new story (acts ++ act ∷ [])
+kept-more old new story acts act is goes =
+    let now = after story (items_in acts) in
+    let replies = item_replies now act.pass act.item in
+    let o = ordered (written_of old) (answered_of old) now act.pass act.item is.counts in
+    record {
+      frames = goes.written ∙ ap (λ (x : List (ℕ × Frame)). x ++ item_written now act.item) is.frames ∙ sym (written-more story acts act);
+      replies = ap replies_in goes.replies
+          ∙ map-append (λ (a : Answered). a.reply) (answered_of old) (behind (length (written_of old)) replies)
+          ∙ ap (λ (x : List Reply). replies_in (answered_of old) ++ x) (replies_behind (length (written_of old)) replies)
+          ∙ ap (λ (x : List Reply). x ++ replies) is.replies
+          ∙ sym (replies-more story acts act);
+      order = ap (λ (x : List (ℕ × Frame)). interleaved 0 x (answered_of new)) goes.written
+          ∙ ap (interleaved 0 (written_of old ++ item_written now act.item)) goes.replies
+          ∙ o.order
+          ∙ ap (λ (x : List Happening). x ++ item_happenings now act.pass act.item) is.order
+          ∙ sym (happenings-more story acts act);
+      counts = subst (λ (x : List (ℕ × Frame)). AreInOrder 0 (answered_of new) (length x)) (sym goes.written)
+          (subst (λ (x : List Answered). AreInOrder 0 x (length (written_of old ++ item_written now act.item))) (sym goes.replies) o.counts);
+    }

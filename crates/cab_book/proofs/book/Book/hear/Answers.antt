@@ -1,0 +1,56 @@
+use Rattle.std.proofs.Common.{◌≡◌, ◌<◌, ◌+◌, ◌-◌, get_or, slice_set, length, refl, sym, subst, arith}
+use Rattle.std.proofs.Math.Logic.{∥∥₁_map, ∥∥₁_elim}
+use Rattle.controller.specs.StandsFor.{NamesPlace}
+use Rattle.cab_book.specs.Rounds.{frames_left, items_left}
+use Rattle.cab_book.proofs.Bringing.{one-less, tallied-more, input-taken, room-less}
+use Rattle.cab_book.proofs.Coming.{NamesPlace-prop, left-of-fields, heard}
+use Rattle.cab_book.proofs.book.Book.hear.Goals as goal
+
+pub hear-requires : goal.hear-requires
+hear-requires c =
+    let b = c.args.self.now in
+    let place = c.len.result - get_or b.left 0 0 in
+    let less : place < length b.streams.fields.items = omega (arith, c.len.ensures, b.streams.fields.ok.0, c.requires, left-of-fields b.streams b.left b.happened b.tallied) in
+    record {
+      place = ∥∥₁_elim b.placed (NamesPlace-prop c.index.result.now) (λ placed.
+          subst NamesPlace (sym c.index.ensures) (placed place c.index.result.now less));
+    }
+
+pub invariant_of-self : goal.invariant_of-self
+invariant_of-self c =
+    let b = c.args.self.now in
+    let rest = slice_set b.left 0 (get_or b.left 0 0 - 1) in
+    let o = one-less b.left 0 (get_or b.left 0 0 - 1) (omega (arith, c.requires)) in
+    let t = input-taken b.left rest o in
+    let place : (c.len.result - get_or b.left 0 0) + get_or b.left 0 0 ≡ length b.streams.fields.items =
+    omega (arith, c.len.ensures, b.streams.fields.ok.0, left-of-fields b.streams b.left b.happened b.tallied) in
+    record {
+      placed = b.placed;
+      short = b.short;
+      tallied = tallied-more b.streams b.left rest b.happened c.add_input.new.self 0 o c.add_input.ensures.goes.journal b.tallied;
+      few = omega (arith, b.few, c.hear.ensures.ticks, t.0);
+      room = c.add_input.ensures.room (get_or rest 4 0) (frames_left rest) (items_left rest)
+          (room-less b.happened (get_or b.left 4 0) (frames_left b.left) (items_left b.left) (get_or rest 4 0) (frames_left rest) (items_left rest + 1)
+          (omega (arith, t.0)) (omega (arith, t.1)) (omega (arith, t.2)) b.room);
+      some = ∥∥₁_map b.some (λ some. (
+        some.0,
+        heard b.cabinet c.hear.new.self b.streams b.left b.happened c.add_input.new.self c.index.result.now (c.len.result - get_or b.left 0 0) b.tallied place
+            c.requires c.index.ensures c.hear.ensures.stands c.add_input.ensures.goes some.0 some.1,
+      ));
+    }
+
+pub returns : goal.returns
+returns c =
+    let b = c.args.self.now in
+    let o = one-less b.left 0 (get_or b.left 0 0 - 1) (omega (arith, c.requires)) in
+    let place : (c.len.result - get_or b.left 0 0) + get_or b.left 0 0 ≡ length b.streams.fields.items =
+    omega (arith, c.len.ensures, b.streams.fields.ok.0, left-of-fields b.streams b.left b.happened b.tallied) in
+    record {
+      stands = heard b.cabinet c.hear.new.self b.streams b.left b.happened c.add_input.new.self c.index.result.now (c.len.result - get_or b.left 0 0) b.tallied place
+          c.requires c.index.ensures c.hear.ensures.stands c.add_input.ensures.goes;
+      streams = refl;
+      journal = c.add_input.ensures.goes.journal;
+      own = o.own;
+      others = o.others;
+      ticks = omega (arith, c.hear.ensures.ticks, o.others 4 (omega arith));
+    }

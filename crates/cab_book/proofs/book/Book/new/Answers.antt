@@ -1,0 +1,19 @@
+use Rattle.std.proofs.Common.{arith}
+use Rattle.cab_book.proofs.Beginning.{no-items, no-fields, none-left, round-begins}
+use Rattle.cab_book.proofs.book.Book.new.Goals as goal
+
+pub invariant_of-result : goal.invariant_of-result
+invariant_of-result c =
+    let streams = c.no_streams.result in
+    let happened = c.none.result in
+    record {
+      placed = ∣ no-fields streams c.no_streams.ensures ∣₁;
+      short = λ p. omega (arith, no-items streams c.no_streams.ensures p);
+      tallied = none-left streams happened c.no_streams.ensures c.none.ensures.journal;
+      few = omega (arith, c.requires.few);
+      room = c.none.ensures.room;
+      some = ∣ (
+        c.requires.some.0,
+        round-begins c.args.cabinet streams happened c.requires.some.0 c.none.ensures.journal c.none.ensures.none.0 c.none.ensures.none.1 c.requires.some.1,
+      ) ∣₁;
+    }

@@ -1,0 +1,24 @@
+use Rattle.std.proofs.Common.{◌∙◌, arith}
+use Rattle.std.proofs.Math.Logic.{∥∥₁_map}
+use Rattle.cab_book.specs.Rounds.{story_after}
+use Rattle.cab_book.proofs.Beginning.{round-begins, taken-short, all-left}
+use Rattle.cab_book.proofs.book.Book.open_round.Goals as goal
+
+pub invariant_of-self : goal.invariant_of-self
+invariant_of-self c =
+    let b = c.args.self.now in
+    let streams = c.args.streams in
+    let happened = c.in-Ok.happened in
+    record {
+      placed = ∣ c.requires.can.placed ∣₁;
+      short = taken-short streams c.requires.can;
+      tallied = all-left streams c.len-fields.result c.len-polls.result c.len-loads.result c.len-prios.result happened (c.len-fields.ensures ∙ streams.fields.ok.0)
+          (c.len-polls.ensures ∙ streams.polls.ok.0) (c.len-loads.ensures ∙ streams.loads.ok.0) (c.len-prios.ensures ∙ streams.prios.ok.0) c.in-Ok.ensures.journal;
+      few = omega (arith, c.requires.few);
+      room = c.in-Ok.ensures.room;
+      some = ∥∥₁_map b.some (λ some. (
+        story_after b.streams b.happened some.0,
+        round-begins b.cabinet streams happened (story_after b.streams b.happened some.0) c.in-Ok.ensures.journal c.in-Ok.ensures.none.0 c.in-Ok.ensures.none.1
+            some.1.cabinet,
+      ));
+    }

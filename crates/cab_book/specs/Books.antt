@@ -1,0 +1,62 @@
+-- What a book stands for: the story at which its round began, the streams of the round, and the journal of what was taken from them.
+use Rattle.std.specs.Prelude.{ℕ, ◌+◌, ◌≡◌, ◌≢◌, List, [], ◌∷◌, ◌++◌, get_or}
+use Rattle.sig_types.specs.declared.frame.Frame.{Frame}
+use Rattle.round_streams.specs.Items.{Item, items_of}
+use Rattle.cabinet_story.specs.Story.{Story}
+use Rattle.cabinet_story.specs.Journals.{Act}
+use Rattle.cab_book.specs.declared.book.Book.{Book}
+use Rattle.cab_book.specs.declared.happened.Answered.{Answered}
+use Rattle.cab_book.specs.Happened.{journal_in, written_of, answered_of}
+use Rattle.cab_book.specs.Rounds.{RoundStands, acts_so_far, story_after}
+pub use Rattle.cab_book.specs.Rounds.{CanBeTaken}
+
+-- the streams of the round
+abbrev pub streams_in : Book → List (List Item)
+streams_in b = items_of b.streams
+
+-- the journal of the round so far
+abbrev pub journal_of : Book → List ℕ
+journal_of b = journal_in b.happened
+
+-- the frames of the round that have a line, and the replies
+abbrev pub written_in : Book → List (ℕ × Frame)
+written_in b = written_of b.happened
+
+abbrev pub answered_in : Book → List Answered
+answered_in b = answered_of b.happened
+
+-- how many items of a pass are left in the round
+abbrev pub left_of : Book → ℕ → ℕ
+left_of b pass = get_or b.left pass 0
+
+-- what has been brought in the round so far
+abbrev pub acts_in : Book → List Act
+acts_in b = acts_so_far b.streams b.happened
+
+-- the story by now, where the round began at this one
+abbrev pub story_now : Book → Story → Story
+story_now b story = story_after b.streams b.happened story
+
+-- how many ticks the cabinet will have had by the end of the round
+abbrev pub ticks_by_end : Book → ℕ
+ticks_by_end b = b.cabinet.ticks + left_of b 4
+
+-- the book's round began at this story, and what it has written and replied since is what the journal has brought
+abbrev pub BookStands : Book → Story → Type 0
+BookStands b story = RoundStands b.cabinet b.streams b.happened story
+
+-- a pass has brought the next item of its stream
+pub record IsBrought (old new : Book) (pass : ℕ) : Type 0 where
+  pub stands : (story : Story) → BookStands old story → BookStands new story
+  pub streams : streams_in new ≡ streams_in old
+  pub journal : journal_of new ≡ journal_of old ++ pass ∷ []
+  pub own : left_of new pass + 1 ≡ left_of old pass
+  pub others : (p : ℕ) → p ≢ pass → left_of new p ≡ left_of old p
+  pub ticks : ticks_by_end new ≡ ticks_by_end old
+
+-- the book now is what the first has come to by passes that brought items of the same round: it has the same streams, the round of
+-- each began at the same stories, and the cabinet will have had as many ticks by its end
+pub record Replays (first now : Book) : Type 0 where
+  pub streams : streams_in now ≡ streams_in first
+  pub stories : (story : Story) → BookStands first story → BookStands now story
+  pub ticks : ticks_by_end now ≡ ticks_by_end first

@@ -1,0 +1,45 @@
+-- What a round has come to so far, as it is kept: its journal, the frames that have a line, and the replies.
+use Rattle.std.specs.Prelude.{ℕ, ◌≡◌, ◌≤◌, ◌+◌, List, [], ◌∷◌, ◌++◌, length, map, vec_len, vec_capacity}
+use Rattle.sig_types.specs.declared.frame.Frame.{Frame}
+use Rattle.cabinet_story.specs.declared.Reply.{Reply}
+use Rattle.cabinet_story.specs.Story.{Story}
+use Rattle.cabinet_story.specs.Journals.{Act, passes_of}
+use Rattle.cabinet_story.specs.Told.{acts_replies, acts_written}
+use Rattle.cab_book.specs.declared.happened.Answered.{Answered}
+use Rattle.cab_book.specs.declared.happened.Happened.{Happened}
+use Rattle.cab_book.specs.Happenings.{acts_happenings, interleaved, replies_in, AreInOrder}
+
+-- the journal
+abbrev pub journal_in : Happened → List ℕ
+journal_in h = passes_of h.journal.runs.items
+
+-- the frames that have a line
+abbrev pub written_of : Happened → List (ℕ × Frame)
+written_of h = h.written.items
+
+-- the replies
+abbrev pub answered_of : Happened → List Answered
+answered_of h = h.replies.items
+
+-- there is room for so many ticks, so many frames from elsewhere and so many items in all, beside what there is
+pub record HasRoom (h : Happened) (ticks frames items : ℕ) : Type 0 where
+  pub written : vec_len h.written + ticks ≤ vec_capacity h.written
+  pub replies : vec_len h.replies + frames ≤ vec_capacity h.replies
+  pub journal : vec_len h.journal.runs + items ≤ vec_capacity h.journal.runs
+
+-- what is kept is what these acts give after a story: the frames, the replies, and their order
+pub record IsWritten (h : Happened) (story : Story) (acts : List Act) : Type 0 where
+  pub frames : written_of h ≡ acts_written story acts
+  pub replies : replies_in (answered_of h) ≡ acts_replies story acts
+  pub order : interleaved 0 (written_of h) (answered_of h) ≡ acts_happenings story acts
+  pub counts : AreInOrder 0 (answered_of h) (length (written_of h))
+
+-- replies that came behind so many of the frames
+abbrev pub behind : ℕ → List Reply → List Answered
+behind many replies = map (λ r. record { reply = r; behind = many }) replies
+
+-- one pass more, which has brought these frames and these replies
+pub record GoesOn (old new : Happened) (pass : ℕ) (frames : List (ℕ × Frame)) (told : List Reply) : Type 0 where
+  pub journal : journal_in new ≡ journal_in old ++ pass ∷ []
+  pub written : written_of new ≡ written_of old ++ frames
+  pub replies : answered_of new ≡ answered_of old ++ behind (length (written_of old)) told

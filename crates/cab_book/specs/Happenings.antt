@@ -1,0 +1,38 @@
+-- What of a round has a line, in the order in which it came: frames of the cabinet with the number of their tick, and replies. The
+-- code keeps the two apart; each reply then stands behind so many of the frames.
+use Rattle.std.specs.Prelude.{ℕ, ◌-◌, ◌≤◌, List, [], ◌∷◌, ◌++◌, map, take, drop}
+use Rattle.sig_types.specs.declared.frame.Frame.{Frame}
+use Rattle.round_streams.specs.Items.{Item}
+use Rattle.cabinet_story.specs.declared.Reply.{Reply}
+use Rattle.cabinet_story.specs.Story.{Story, with_item}
+use Rattle.cabinet_story.specs.Journals.{Act}
+use Rattle.cabinet_story.specs.Told.{item_replies, item_written}
+use Rattle.cab_book.specs.declared.happened.Answered.{Answered}
+
+pub data Happening : Type 0 where
+  Wrote : (written : ℕ × Frame) → Happening
+  Replied : (reply : Reply) → Happening
+
+-- what an item that a pass brings after a story gives
+abbrev pub item_happenings : Story → ℕ → Item → List Happening
+item_happenings story pass item = map Wrote (item_written story item) ++ map Replied (item_replies story pass item)
+
+-- what these acts give, in order
+abbrev pub acts_happenings : Story → List Act → List Happening
+acts_happenings story [] = []
+acts_happenings story (act ∷ acts) = item_happenings story act.pass act.item ++ acts_happenings (with_item story act.item) acts
+
+-- frames and replies in the order in which they came, after so many frames: each reply stands behind as many as it says
+abbrev pub interleaved : ℕ → List (ℕ × Frame) → List Answered → List Happening
+interleaved before frames [] = map Wrote frames
+interleaved before frames (a ∷ answered) =
+    map Wrote (take (a.behind - before) frames) ++ (Replied a.reply ∷ interleaved a.behind (drop (a.behind - before) frames) answered)
+
+-- each reply stands behind no fewer frames than the one before it, and behind at most so many
+abbrev pub AreInOrder : ℕ → List Answered → ℕ → Type 0
+AreInOrder before [] most = before ≤ most
+AreInOrder before (a ∷ answered) most = (before ≤ a.behind) × AreInOrder a.behind answered most
+
+-- the replies alone
+abbrev pub replies_in : List Answered → List Reply
+replies_in answered = map (λ a. a.reply) answered

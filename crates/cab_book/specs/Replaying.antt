@@ -1,0 +1,7 @@
+-- A book to which nothing was brought replays itself.
+use Rattle.std.specs.Prelude.{◌≡◌, [], refl}
+use Rattle.cab_book.specs.declared.book.Book.{Book}
+use Rattle.cab_book.specs.Books.{Replays, journal_of}
+
+pub replays_itself : (b : Book) → journal_of b ≡ [] → Replays b b
+replays_itself b none = record { streams = refl; stories = λ story stands. stands; ticks = refl }

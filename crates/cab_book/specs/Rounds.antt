@@ -1,0 +1,57 @@
+-- A round of a cabinet, part by part: which streams it can take, what of them is left, and the story of what was brought.
+use Rattle.std.specs.Prelude.{ℕ, ◌+◌, ◌≡◌, ◌≤◌, ◌<◌, List, [], length, get_or}
+use Rattle.sig_types.specs.declared.frame.Field.{Field}
+use Rattle.controller.specs.StandsFor.{NamesPlace}
+use Rattle.round_streams.specs.declared.Streams.{Streams}
+use Rattle.round_streams.specs.Items.{items_of}
+use Rattle.cabinet_story.specs.Story.{Story, after}
+use Rattle.cabinet_story.specs.Journals.{Act, times, acts_of, items_in}
+use Rattle.cab_book.specs.declared.cabinet.Cabinet.{Cabinet}
+use Rattle.cab_book.specs.declared.happened.Happened.{Happened}
+use Rattle.cab_book.specs.Stands.{CabinetStands}
+use Rattle.cab_book.specs.Happened.{IsWritten, HasRoom, journal_in}
+
+-- each input has its place
+abbrev pub ArePlaced : Streams → Type 0
+ArePlaced streams = (k : ℕ) (field : Field) → k < length streams.fields.items → NamesPlace (get_or streams.fields.items k field)
+
+-- a round that a cabinet can take: each input has its place, and the streams are short
+pub record CanBeTaken (streams : Streams) : Type 0 where
+  pub placed : ArePlaced streams
+  pub few_fields : length streams.fields.items ≤ 1000000
+  pub few_polls : length streams.polls.items ≤ 1000000
+  pub few_loads : length streams.loads.items ≤ 1000000
+  pub few_prios : length streams.prios.items ≤ 1000000
+  pub few_ticks : streams.ticks ≤ 600
+
+-- no stream is longer than this
+abbrev pub AreShort : Streams → Type 0
+AreShort streams = (p : ℕ) → length (get_or (items_of streams) p []) ≤ 1000000
+
+-- of each stream, what is left and what the journal has brought are all its items
+abbrev pub AreTallied : Streams → List ℕ → Happened → Type 0
+AreTallied streams left h = (p : ℕ) → get_or left p 0 + times p (journal_in h) ≡ length (get_or (items_of streams) p [])
+
+-- how many frames of messages are left, and how many items in all
+abbrev pub frames_left : List ℕ → ℕ
+frames_left left = get_or left 1 0 + get_or left 2 0 + get_or left 3 0
+
+abbrev pub items_left : List ℕ → ℕ
+items_left left = get_or left 0 0 + frames_left left + get_or left 4 0
+
+-- there is room for what all that is left may give
+abbrev pub HasRoomFor : List ℕ → Happened → Type 0
+HasRoomFor left h = HasRoom h (get_or left 4 0) (frames_left left) (items_left left)
+
+-- what has been brought so far
+abbrev pub acts_so_far : Streams → Happened → List Act
+acts_so_far streams h = acts_of (items_of streams) (journal_in h)
+
+-- the story by now, where the round began at this one
+abbrev pub story_after : Streams → Happened → Story → Story
+story_after streams h story = after story (items_in (acts_so_far streams h))
+
+-- the round began at this story, and the cabinet and what it has written and replied since are what the journal has brought
+pub record RoundStands (c : Cabinet) (streams : Streams) (h : Happened) (story : Story) : Type 0 where
+  pub cabinet : CabinetStands c (story_after streams h story)
+  pub written : IsWritten h story (acts_so_far streams h)

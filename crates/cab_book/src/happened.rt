@@ -1,0 +1,133 @@
+//! What a round of a cabinet has come to so far: its journal, the frames that have a line, and the replies, each behind as many of
+//! the frames as came before it. Room for the whole round is taken at its start.
+
+ghost use Rattle.std.specs.Prelude.{◌≡◌, ◌≤◌, ◌<◌, ◌+◌, ℕ, [], ◌∷◌, IfOk, option_to_list, vec_capacity};
+ghost use Rattle.cabinet_story.specs.Journals.{runs_of, times};
+
+use crate::journal::Journal;
+use cabinet_story::Reply;
+use sig_types::{Frame, NoMemory};
+use std::alloc::{AllocError, Global};
+
+/// A reply, and behind how many of the frames of its round that have a line it came.
+#[derive(Debug, Drop)]
+pub struct Answered {
+    pub reply: Reply,
+    pub behind: u32,
+}
+
+/// What a round has come to so far.
+#[derive(Drop)]
+pub struct Happened {
+    journal: Journal,
+    written: Vec<(u32, Frame)>,
+    replies: Vec<Answered>,
+    ghost short: { vec_capacity written < 4294967296 },
+}
+
+impl Happened {
+    ghost use Rattle.cab_book.specs.Happened.{journal_in, written_of, answered_of, HasRoom, GoesOn};
+
+    /// No round: there is room for nothing.
+    pub fn none(alloc: Global) -> Happened
+        ensures room { HasRoom result 0 0 0 }
+        ensures journal { journal_in result ≡ [] }
+        ensures none { (written_of result ≡ []) × (answered_of result ≡ []) }
+    {
+        Happened {
+            journal: Journal::new(Vec::new(alloc)),
+            written: Vec::new(alloc),
+            replies: Vec::new(alloc),
+        }
+    }
+
+    /// A round in which nothing has happened, with room for so many ticks, so many frames from elsewhere and so many items in all.
+    pub fn with_room(
+        alloc: Global,
+        ticks: u32,
+        frames: usize,
+        items: usize,
+    ) -> Result<Happened, NoMemory>
+        ensures room { IfOk result (λ h. HasRoom h ticks frames items) }
+        ensures journal { IfOk result (λ h. journal_in h ≡ []) }
+        ensures none { IfOk result (λ h. (written_of h ≡ []) × (answered_of h ≡ [])) }
+    {
+        match Happened::taken(alloc, ticks, frames, items) {
+            Ok(happened) => Ok(happened),
+            Err(_) => Err(NoMemory),
+        }
+    }
+
+    /// The same, where memory may be refused.
+    fn taken(alloc: Global, ticks: u32, frames: usize, items: usize) -> Result<Happened, AllocError>
+        ensures room { IfOk result (λ h. HasRoom h ticks frames items) }
+        ensures journal { IfOk result (λ h. journal_in h ≡ []) }
+        ensures none { IfOk result (λ h. (written_of h ≡ []) × (answered_of h ≡ [])) }
+    {
+        let runs = Vec::with_capacity(alloc, items)?;
+        let written = Vec::with_capacity(alloc, ticks as usize)?;
+        let replies = Vec::with_capacity(alloc, frames)?;
+        Ok(Happened {
+            journal: Journal::new(runs),
+            written,
+            replies,
+        })
+    }
+
+    /// An input was heard. It takes no memory.
+    pub fn add_input(&mut self)
+        requires room { HasRoom self.old 0 0 1 }
+        requires few { times 0 (journal_in self.old) < 4294967295 }
+        ensures goes { GoesOn self.old self.new 0 [] [] }
+        ensures room { (ticks frames items : ℕ) → HasRoom self.old ticks frames (items + 1) → HasRoom self.new ticks frames items }
+    {
+        self.journal.add(0);
+    }
+
+    /// A tick gave a frame with its number, or one that has no line. It takes no memory.
+    pub fn add_tick(&mut self, written: Option<(u32, Frame)>)
+        requires room { HasRoom self.old 1 0 1 }
+        requires few { times 4 (journal_in self.old) < 4294967295 }
+        ensures goes { GoesOn self.old self.new 4 (option_to_list written) [] }
+        ensures room { (ticks frames items : ℕ) → HasRoom self.old (ticks + 1) frames (items + 1) → HasRoom self.new ticks frames items }
+    {
+        if let Some(frame) = written {
+            self.written.push_reserved(frame);
+        }
+        self.journal.add(4);
+    }
+
+    /// A frame came and was replied to, or met with silence. It takes no memory.
+    pub fn add_reply(&mut self, reply: Reply)
+        requires room { HasRoom self.old 0 1 1 }
+        requires few { times reply.pass (journal_in self.old) < 4294967295 }
+        ensures goes { GoesOn self.old self.new reply.pass [] (reply ∷ []) }
+        ensures room { (ticks frames items : ℕ) → HasRoom self.old ticks (frames + 1) (items + 1) → HasRoom self.new ticks frames items }
+    {
+        let pass = reply.pass;
+        let behind = self.written.len() as u32;
+        self.replies.push_reserved(Answered { reply, behind });
+        self.journal.add(pass);
+    }
+
+    /// The longest runs of the journal.
+    pub fn runs(&self) -> &[(u32, u32)]
+        ensures { result.now ≡ runs_of (journal_in self.now) }
+    {
+        self.journal.runs()
+    }
+
+    /// The frames that have a line.
+    pub fn written(&self) -> &[(u32, Frame)]
+        ensures { result.now ≡ written_of self.now }
+    {
+        self.written.as_slice()
+    }
+
+    /// The replies.
+    pub fn replies(&self) -> &[Answered]
+        ensures { result.now ≡ answered_of self.now }
+    {
+        self.replies.as_slice()
+    }
+}
