@@ -2,7 +2,7 @@ mod Sorting
 mod Order
 mod Dues
 mod Dates
-mod Fits
+pub mod Fits
 mod Lookups
 mod Picked
 mod Carried

@@ -3,3 +3,4 @@ pub mod Told
 pub mod Posting
 pub mod Fits
 pub mod Rounds
+pub mod Each

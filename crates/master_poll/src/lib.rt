@@ -14,7 +14,7 @@ ghost use Rattle.master_poll.specs.Laws.{OpenIsLast};
 
 pub use command::{Command, Kind, Now, Task, Turned, task_octets};
 pub use desk::Desk;
-pub use master::{Master, Round};
+pub use master::{Master, Next, Round};
 pub use post::Post;
 
 /// A law: what the master takes for open, the command of the last turn, is the last command that it sent, where that was neither

@@ -22,7 +22,14 @@ pub struct Round {
     pub notes: Vec<MasterNote>,
 }
 
-/// A round that is made but not yet taken: the posts after it, and what it sends and notes.
+/// The master after a round that is not yet taken, and what the round sends and notes.
+#[derive(Debug, Drop)]
+pub struct Next {
+    pub master: Master,
+    pub round: Round,
+}
+
+/// The posts after a round, and what it sends and notes.
 #[derive(Debug, Drop)]
 struct Made {
     posts: Vec<Post>,
@@ -101,6 +108,7 @@ impl Master {
         ensures made { IfOk result (λ m. (before : ℕ → List Arrived) → MasterStands self.now (scenario_content s.now) before
             → IsMade m.posts.items m.round (scenario_content s.now) round (with_round arrived.now before)) }
         ensures cabinets { IfOk result (λ m. length m.posts.items ≡ cabinet_count self.now) }
+        ensures each { IfOk result (λ m. length m.round.sendings.items ≡ cabinet_count self.now) }
         ensures counted { IfOk result (λ m. All (λ p. count_of_post p ≤ 2 * round) m.posts.items) }
     {
         let clock = master_clock(s, round);
@@ -118,7 +126,41 @@ impl Master {
         Ok(Made { posts, round })
     }
 
-    /// The master's round, where this has arrived from each cabinet, in the cabinets' order; rounds come one after another
+    /// The master after the next round, and what it then sends and notes, where this has arrived from each cabinet, in the
+    /// cabinets' order; rounds come one after another from 1. The master itself stays as it is: put the new one in its place, or let
+    /// the round come again.
+    pub fn next(
+        &self,
+        alloc: Global,
+        round: u32,
+        s: &Scenario,
+        arrived: &[Answers],
+    ) -> Result<Next, NoMemory>
+        requires order { round ≡ round_count self.now + 1 }
+        requires few { round ≤ 86400 }
+        requires cabinets { cabinet_count self.now ≡ length s.now.cabinets.items }
+        requires arrived { length arrived.now ≡ length s.now.cabinets.items }
+        requires run { IsRun (scenario_content s.now) }
+        ensures round { IfOk result (λ n. (before : ℕ → List Arrived) → MasterStands self.now (scenario_content s.now) before
+            → IsRound n.master n.round (scenario_content s.now) (with_round arrived.now before)) }
+        ensures rounds { IfOk result (λ n. round_count n.master ≡ round) }
+        ensures cabinets { IfOk result (λ n. cabinet_count n.master ≡ cabinet_count self.now) }
+        ensures each { IfOk result (λ n. length n.round.sendings.items ≡ cabinet_count self.now) }
+    {
+        let Ok(made) = self.made(alloc, round, s, arrived) else {
+            return Err(NoMemory);
+        };
+        let master = Master {
+            posts: made.posts,
+            rounds: round,
+        };
+        Ok(Next {
+            master,
+            round: made.round,
+        })
+    }
+
+    /// Takes the next round, where this has arrived from each cabinet, in the cabinets' order; rounds come one after another
     /// from 1. Where memory is wanting the master is as before, and the same round may come again.
     pub fn step(
         &mut self,
@@ -138,11 +180,10 @@ impl Master {
         ensures cabinets { OnOk result (cabinet_count self.new ≡ cabinet_count self.old) }
         ensures no_memory { OnErr result (self.new ≡ self.old) }
     {
-        match self.made(alloc, round, s, arrived) {
-            Ok(made) => {
-                self.posts = made.posts;
-                self.rounds = round;
-                Ok(made.round)
+        match self.next(alloc, round, s, arrived) {
+            Ok(next) => {
+                *self = next.master;
+                Ok(next.round)
             }
             Err(_) => Err(NoMemory),
         }

@@ -2,7 +2,7 @@ use Rattle.std.proofs.Common.{◌≡◌, ◌+◌, ◌-◌, ◌<◌, ◌≤◌, S
 use Rattle.std.specs.List.{slice_get}
 use Rattle.std.specs.Option.{option_map}
 use Rattle.std.proofs.lemmas.Grind.{common_steps}
-use Rattle.std.proofs.lemmas.List.{append-nil, drop_all, length-map}
+use Rattle.std.proofs.lemmas.List.{append-nil, drop_all, length-append, length-map}
 use Rattle.std.proofs.lemmas.Option.{slice_get-map, slice_get_read}
 use Rattle.scenario_data.specs.Content.{cabinet_content, scenario_content}
 use Rattle.master_poll.specs.Sends.{turns}
@@ -17,6 +17,7 @@ loop-place-preserved c =
     let sendings : c.push-in-loop-place.new.self.items ≡ c.loop-place.sendings.items ++ c.in_ok-sending.sending ∷ [] = c.in_ok-push-2.ensures.items in
     record {
       count = omega (arith, c.in_ok-push.ensures.len, c.loop-place.invariant.count);
+      sent = ap length sendings ∙ omega (arith, c.loop-place.invariant.sent, length-append c.loop-place.sendings.items (c.in_ok-sending.sending ∷ []));
       counted = grind (arith, c.loop-place.invariant.counted, c.in_ok-sending.ensures.two, c.post_at-post.ensures.counted, c.requires.order, posts, common_steps);
       goes = λ before h.
           let s = scenario_content c.args.s.now in

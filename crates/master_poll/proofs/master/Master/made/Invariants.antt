@@ -9,6 +9,7 @@ use Rattle.master_poll.proofs.master.Master.made.Given as goal
 abbrev pub invariant-loop-place : goal.invariant-loop-place
 invariant-loop-place l = record {
   count : length l.posts.items ≡ l.place;
+  sent : length l.sendings.items ≡ l.place;
   counted : All (λ p. count_of_post p ≤ 2 * l.round) l.posts.items;
   goes : (before : ℕ → List Arrived) → MasterStands l.self (scenario_content l.s) before
       → GoesOn l.posts.items l.sendings.items l.notes.items (scenario_content l.s) l.round l.place (with_round l.arrived before);

@@ -1,0 +1,5 @@
+pub mod Lines
+pub mod Short
+pub mod Turn
+pub mod Back
+pub mod Heard

@@ -1,0 +1,5 @@
+pub mod Served
+pub mod Bounds
+pub mod Answered
+pub mod Stands
+pub mod Begun
