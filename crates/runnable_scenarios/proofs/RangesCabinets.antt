@@ -1,5 +1,6 @@
 -- Each cabinet of a value without faults can open, and each input has its place.
 use Rattle.std.proofs.Common.{◌≡◌, ◌≤◌, ◌+◌, ◌⊎◌, ◌==◌, ◌&&◌, inl, inr, ℕ, Bool, true, false, if◌then◌else◌, nat_lt, nat_le, List, [], ◌∷◌, refl, arith}
+use Rattle.std.specs.List.{AllByRecursion}
 use Rattle.std.proofs.lemmas.Bool.{lt-ltb, le-leb, ltb-false}
 use Rattle.sig_types.specs.declared.notes.Broken.{Broken}
 use Rattle.sig_types.specs.declared.frame.Field.{Field as Street}
@@ -11,14 +12,18 @@ use Rattle.serde_json.specs.Data.{Data, Items, no_items, item}
 use Rattle.scenario_data.specs.Content.{CabinetContent}
 use Rattle.scenario_data.specs.Opening.{opening_tables}
 use Rattle.scenario_read.specs.Paths.{Step, then_named, then_item}
-use Rattle.scenario_read.specs.Kinds.{Fits, Wrong, fault_at, each}
+use Rattle.scenario_read.specs.Kinds.{Fits, Wrong, fault_at, each, items_in}
 use Rattle.scenario_read.specs.Fields.{Field, held, field_faults, fields_faults, stands, only_one, chosen_faults, object_of}
 use Rattle.scenario_read.specs.Table.{number_at, base, cells, pattern, clock, section, gain, lose, drift_fields, cabinet_shape, drift_faults, cabinet, veh, on, ped, preempt}
 use Rattle.scenario_read.specs.Table.{input_shape, round, cabinet_number}
 use Rattle.scenario_read.specs.Content.{whole_of, flag_of, each_of, cabinet_of, input_of}
+use Rattle.scenario_read.specs.CellLists.{cell, cell_of}
 use Rattle.scenario_read.specs.Faults.{broken_causes, table_faults, all_table_faults}
-use Rattle.run_text.specs.Runnable.{HasPlace, AllOpen, AllHeard, InReach, AllInReach}
-use Rattle.runnable_scenarios.proofs.RangesParts.{none-left, whole-in, rare-in, held-in, object-in, AllClean, all-clean}
+use Rattle.runnable.specs.Octets.{HoldsOctets, PutOctets}
+use Rattle.runnable.specs.Runnable.{HasPlace, AllOpen, AllHeard, InReach, AllInReach}
+use Rattle.runnable_scenarios.proofs.RangesParts.{none-left, whole-in, list-in, rare-in, held-in, object-in, AllClean, all-clean}
+use Rattle.runnable_scenarios.proofs.RangesLists.{each-holds}
+use Rattle.runnable_scenarios.proofs.RangesCells.{cell-in}
 
 no-causes : (cabinet : ℕ) (found : List Broken) → broken_causes cabinet found ≡ [] → found ≡ []
 no-causes cabinet [] e = refl
@@ -77,6 +82,18 @@ all-open version path place number (item d ds) e t =
       },
       all-open version path (place + 1) (number + 1) ds parts.1 tables.1,
     )
+
+-- what each of them puts into its cells is octets
+cabinet-puts : (version : ℕ) (path : List Step) (d : Data) → cabinet version path d ≡ [] → PutOctets (cabinet_of version d).cells
+cabinet-puts version path d e =
+    let own = (cabinet-clean version path d e).0 in
+    let at : List Step = then_named path cells.name in
+    let list = list-in 0 4096 cell at (held cells d) (held-in path d cells own.1.0) in
+    each-holds cell cell_of (λ put. HoldsOctets put.1) (λ p x k. (cell-in p x k).1) at 0 (items_in (held cells d)) list.2
+
+pub all-puts : (version : ℕ) (path : List Step) (ds : Items) → each (cabinet version) path 0 ds ≡ []
+    → AllByRecursion (λ c. PutOctets c.cells) (each_of (cabinet_of version) ds)
+all-puts version path ds e = each-holds (cabinet version) (cabinet_of version) (λ c. PutOctets c.cells) (cabinet-puts version) path 0 ds e
 
 -- the field of an input, by which of its names stand there
 abbrev field_if : Bool → Bool → Data → Street

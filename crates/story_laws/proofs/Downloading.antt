@@ -17,10 +17,10 @@ use Rattle.cabinet_story.proofs.Whole.{whole}
 use Rattle.story_laws.proofs.Steps.{IsMadeAt, Any, any, story-keeps}
 
 call-ids : (c : Coming) (call : Call) → IsMadeAt c call → HaveIds c.calls → HaveIds (call ∷ c.calls)
-call-ids c (Begin id now) is h = (is.0, h)
-call-ids c (Part id number cells) is h = (is, h)
-call-ids c (Verify id total now flashing) is h = (is, h)
-call-ids c (Finish id now flashing) is h = (is.0, h)
+call-ids c (Begin id now) is h = (is.0.0, h)
+call-ids c (Part id number cells) is h = (is.0, h)
+call-ids c (Verify id total now flashing) is h = (is.0, h)
+call-ids c (Finish id now flashing) is h = (is.0.0, h)
 
 have-ids : (opening : History) (community : List ℕ) (items : List Item) → HaveIds (coming_from community opening items).calls
 have-ids opening community items =

@@ -1,8 +1,8 @@
--- The id of a download that a frame names is 1 or more.
-use Rattle.std.proofs.Common.{◌≡◌, ℕ, ◌≤◌, ◌==◌, ◌∷◌, [], Bool, true, false, List, Option, Some, None, Result, Ok, Err, refl, subst, arith}
+-- The id of a download that a frame names is a number that an INTEGER holds, from 1 on.
+use Rattle.std.proofs.Common.{◌≡◌, ℕ, ◌==◌, ◌∷◌, [], Bool, true, false, List, Option, Some, None, Result, Ok, Err, refl, subst}
 use Rattle.std.specs.Prelude.{pos, negsuc, nat_le, ◌&&◌, IfOk, IfSome, if◌then◌else◌}
 use Rattle.std.proofs.lemmas.Option.{same_Some}
-use Rattle.std.proofs.lemmas.Bool.Decides.{nat_tests}
+use Rattle.std.proofs.lemmas.Bool.{leb-true}
 use Rattle.sig_tables.specs.declared.tables.Tables.{Tables}
 use Rattle.sig_tables.specs.declared.cells.Cell.{Cell}
 use Rattle.sig_tables.specs.declared.cells.CellValue.{CellValue}
@@ -19,53 +19,53 @@ use Rattle.agent.specs.declared.ask.Ask.{Ask}
 use Rattle.agent.specs.declared.bindings.Fault.{Fault}
 use Rattle.agent.specs.Orders.{order_of}
 use Rattle.agent.specs.Bindings.{each_gives}
-use Rattle.agent.specs.Downloads.{number_in, id_in, put_of, begin_wish, with_puts, part_wish, verify_wish, finish_wish, download_object, step_named, step_wish}
+use Rattle.agent.specs.Downloads.{IsId, number_in, id_in, put_of, begin_wish, with_puts, part_wish, verify_wish, finish_wish, download_object, step_named, step_wish}
 use Rattle.agent.specs.Asks.{direct_wish, set_wish, wish_of, ask_of, Asks}
 use Rattle.agent.proofs.Readings.{read_asked}
 
--- a step of a download under an id from 1 on, or another wish
+-- a step of a download under such an id, or another wish
 abbrev pub HasId : Wish → Type 0
-HasId (Begin id) = 1 ≤ id
-HasId (Part id number puts) = 1 ≤ id
-HasId (Verify id total) = 1 ≤ id
-HasId (Finish id) = 1 ≤ id
+HasId (Begin id) = IsId id
+HasId (Part id number puts) = IsId id
+HasId (Verify id total) = IsId id
+HasId (Finish id) = IsId id
 HasId _ = Unit {0}
 
 -- an id where it may be one
 abbrev id_if : Bool → ℕ → Result ℕ ℕ
 id_if test n = if test then Ok n else Err 3
 
-lies-above : (n : ℕ) (test : Bool) → nat_le 1 n ≡ test → (most : Bool) → IfOk (id_if (test && most) n) (λ id. 1 ≤ id)
-lies-above n true e true = grind (arith, nat_tests)
-lies-above n true e false = tt
-lies-above n false e most = tt
+lies-within : (n : ℕ) (least most : Bool) → nat_le 1 n ≡ least → nat_le n 2147483647 ≡ most → IfOk (id_if (least && most) n) IsId
+lies-within n true true e f = (leb-true 1 n e, leb-true n 2147483647 f)
+lies-within n true false e f = tt
+lies-within n false most e f = tt
 
-id-above : (value : Value) → IfOk (id_in value) (λ id. 1 ≤ id)
-id-above (Int (pos n)) = lies-above n (nat_le 1 n) refl (nat_le n 2147483647)
+id-above : (value : Value) → IfOk (id_in value) IsId
+id-above (Int (pos n)) = lies-within n (nat_le 1 n) (nat_le n 2147483647) refl refl
 id-above (Int (negsuc n)) = tt
 id-above (Octets octets) = tt
 id-above Null = tt
 id-above (NameValue name) = tt
 
-begin-id : (r : Result ℕ ℕ) (others : List Bind) → IfOk r (λ id. 1 ≤ id) → HasId (begin_wish r others)
+begin-id : (r : Result ℕ ℕ) (others : List Bind) → IfOk r IsId → HasId (begin_wish r others)
 begin-id (Ok id) [] above = above
 begin-id (Ok id) (second ∷ others) above = tt
 begin-id (Err status) others above = tt
 
-puts-id : (id number : ℕ) (r : Result (List (Cell × CellValue)) Fault) → 1 ≤ id → HasId (with_puts id number r)
+puts-id : (id number : ℕ) (r : Result (List (Cell × CellValue)) Fault) → IsId id → HasId (with_puts id number r)
 puts-id id number (Ok puts) above = above
 puts-id id number (Err fault) above = tt
 
-part-id : (id : ℕ) (r : Result ℕ ℕ) (cells : List Bind) → 1 ≤ id → HasId (part_wish id r cells)
+part-id : (id : ℕ) (r : Result ℕ ℕ) (cells : List Bind) → IsId id → HasId (part_wish id r cells)
 part-id id (Ok number) cells above = puts-id id number (each_gives put_of 3 cells) above
 part-id id (Err status) cells above = tt
 
-verify-id : (id : ℕ) (r : Result ℕ ℕ) (others : List Bind) → 1 ≤ id → HasId (verify_wish id r others)
+verify-id : (id : ℕ) (r : Result ℕ ℕ) (others : List Bind) → IsId id → HasId (verify_wish id r others)
 verify-id id (Ok total) [] above = above
 verify-id id (Ok total) (third ∷ others) above = tt
 verify-id id (Err status) others above = tt
 
-finish-id : (id : ℕ) (r : Result ℕ ℕ) (others : List Bind) → 1 ≤ id → HasId (finish_wish id r others)
+finish-id : (id : ℕ) (r : Result ℕ ℕ) (others : List Bind) → IsId id → HasId (finish_wish id r others)
 finish-id id (Ok one) [] above = above
 finish-id id (Ok one) (third ∷ others) above = tt
 finish-id id (Err status) others above = tt
@@ -74,13 +74,13 @@ one-of : (test : Bool) (a b : Wish) → HasId a → HasId b → HasId (if test t
 one-of true a b ha hb = ha
 one-of false a b ha hb = hb
 
-named-id : (object id : ℕ) (value : Value) (others : List Bind) → 1 ≤ id → HasId (step_named object id value others)
+named-id : (object id : ℕ) (value : Value) (others : List Bind) → IsId id → HasId (step_named object id value others)
 named-id object id value others above =
     one-of (object == 4) _ _ (part-id id (number_in 1 60000 value) others above)
     (one-of (object == 5) _ _ (verify-id id (number_in 0 60000 value) others above)
     (one-of (object == 6) _ _ (finish-id id (number_in 1 1 value) others above) tt))
 
-step-id : (r : Result ℕ ℕ) (others : List Bind) → IfOk r (λ id. 1 ≤ id) → HasId (step_wish r others)
+step-id : (r : Result ℕ ℕ) (others : List Bind) → IfOk r IsId → HasId (step_wish r others)
 step-id (Ok id) [] above = tt
 step-id (Ok id) (second ∷ others) above = named-id (download_object (name_at second.name.items)) id second.value others above
 step-id (Err status) others above = tt

@@ -8,3 +8,4 @@ pub mod Versions
 pub mod Judging
 pub mod Changes
 pub mod Telling
+pub mod Installing

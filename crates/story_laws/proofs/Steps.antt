@@ -1,5 +1,5 @@
 -- What comes to a cabinet, step by step: events that leave its tables and its drift, and calls of its download stage.
-use Rattle.std.proofs.Common.{◌≡◌, ℕ, ◌≤◌, List, [], ◌∷◌, map, Option, Some, None, refl}
+use Rattle.std.proofs.Common.{◌≡◌, ℕ, List, [], ◌∷◌, map, Option, Some, None, refl}
 use Rattle.std.specs.Prelude.{IfSome}
 use Rattle.sig_tables.specs.Past.{Event, Tick, Input, Install, SetDrift, History}
 use Rattle.sig_tables.specs.Decide.{with_one}
@@ -12,6 +12,7 @@ use Rattle.agent.specs.declared.ask.Wish.{Wish}
 use Rattle.agent.specs.declared.ask.Wish.TheVariants.{Get, Next, Direct, Begin, Part, Verify, Finish, Bad}
 use Rattle.agent.specs.declared.ask.Ask.{Ask}
 use Rattle.agent.specs.Asks.{ask_of}
+use Rattle.agent.specs.Downloads.{IsId}
 use Rattle.round_streams.specs.Items.{Item, Told, Came, Ticked}
 use Rattle.cabinet_story.specs.Coming.{Coming, in_force, past_of, is_flashing, answer_in, order_event, installs, with_events, carried_out, heeded, with_item, coming_from}
 use Rattle.story_laws.proofs.Ids.{HasId, ask-id}
@@ -22,12 +23,12 @@ IsPlain (Install t) = ⊥
 IsPlain (SetDrift gain lose) = ⊥
 IsPlain _ = Unit {0}
 
--- a call that was made under an id from 1 on, with the tables in force and whether the cabinet flashed
+-- a call that was made under an id, with the tables in force and whether the cabinet flashed
 abbrev pub IsMadeAt : Coming → Call → Type 0
-IsMadeAt c (BeginCall id t) = (1 ≤ id) × (t ≡ in_force c)
-IsMadeAt c (PartCall id number cells) = 1 ≤ id
-IsMadeAt c (VerifyCall id total t flashing) = 1 ≤ id
-IsMadeAt c (FinishCall id t flashing) = (1 ≤ id) × ((t ≡ in_force c) × (flashing ≡ is_flashing (past_of c)))
+IsMadeAt c (BeginCall id t) = IsId id × (t ≡ in_force c)
+IsMadeAt c (PartCall id number cells) = IsId id
+IsMadeAt c (VerifyCall id total t flashing) = IsId id
+IsMadeAt c (FinishCall id t flashing) = IsId id × ((t ≡ in_force c) × (flashing ≡ is_flashing (past_of c)))
 
 -- what a call does to the controller
 abbrev pub call_events : Coming → Call → List Event

@@ -1,0 +1,4 @@
+pub mod Messages
+pub mod Tables
+pub mod Items
+pub mod Rounds

@@ -1,0 +1,3 @@
+pub mod Cabinets
+pub mod Octets
+pub mod Runnable
