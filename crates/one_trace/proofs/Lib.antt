@@ -3,3 +3,4 @@ pub mod SameModes
 pub mod SameLines
 pub mod NoNewline
 pub mod SameTexts
+pub mod RunTexts

@@ -1,15 +1,10 @@
 -- The text of some lines tells the lines: each ends at its newline.
-use Rattle.std.proofs.Common.{◌≡◌, ℕ, ◌+◌, List, [], ◌∷◌, ◌++◌, length, refl, sym, ap, ◌∙◌, arith, append_assoc, subst}
+use Rattle.std.proofs.Common.{◌≡◌, ℕ, ◌+◌, List, [], ◌∷◌, ◌++◌, length, refl, sym, ap, ◌∙◌, arith, append_assoc}
 use Rattle.std.proofs.lemmas.List.{length-append}
-use Rattle.scenario_data.specs.Content.{ScenarioContent}
 use Rattle.trace_text.specs.declared.lines.Line.{Line}
 use Rattle.trace_text.specs.Line.{line_text}
 use Rattle.trace_text.proofs.Cuts.{one_cut}
 use Rattle.safe_trace.specs.TraceText.{AreLines, lines_text}
-use Rattle.run_text.specs.Runnable.{Runnable}
-use Rattle.run_text.specs.Lines.{run_lines, trace_of}
-use Rattle.run_text.specs.Streets.{StreetsSafe}
-use Rattle.run_text.proofs.Streets.{streets-safe}
 use Rattle.one_trace.proofs.NoNewline.{no_newline}
 use Rattle.one_trace.proofs.SameLines.{front, front_ended, same_front}
 
@@ -32,8 +27,3 @@ same_lines (x ∷ xs) (y ∷ ys) are also e =
     let first : x ≡ y = same_front x y are.0 also.0 both.0 in
     let rest : xs ≡ ys = same_lines xs ys are.1 also.1 both.1 in
     rw (first, rest) refl
-
-pub lines_safe : (s : ScenarioContent) → Runnable s → (lines : List Line) → AreLines lines → lines_text lines ≡ trace_of s → StreetsSafe s lines
-lines_safe s run lines are e =
-    let own = streets-safe s run in
-    subst (StreetsSafe s) (same_lines (run_lines s) lines own.proper are (sym e)) own

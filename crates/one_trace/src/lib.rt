@@ -1,16 +1,20 @@
-//! A text has one list of lines: so what the lines of a run tell, its text tells, whoever reads it and however.
-//! There is no code here.
+//! A text has one list of lines: so what the lines of a run tell, its text tells, whoever reads it and however. There is no code here.
 #![tactic(auto)]
 
-ghost use Rattle.std.specs.Prelude.{◌≡◌, List};
+ghost use Rattle.std.specs.Prelude.{◌≡◌, ℕ, List};
 ghost use Rattle.trace_text.specs.declared.lines.Line.{Line};
 ghost use Rattle.trace_text.specs.IsLine.{IsLine};
 ghost use Rattle.trace_text.specs.Line.{line_text};
 ghost use Rattle.safe_trace.specs.TraceText.{AreLines, lines_text};
 ghost use Rattle.scenario_data.specs.Content.{ScenarioContent};
-ghost use Rattle.run_text.specs.Lines.{trace_of};
-ghost use Rattle.run_text.specs.Runnable.{Runnable};
-ghost use Rattle.run_text.specs.Streets.{StreetsSafe};
+ghost use Rattle.runnable.specs.Runnable.{Runnable};
+ghost use Rattle.run_lines.specs.Lines.{run_text};
+ghost use Rattle.run_lines.specs.Orders.{AreJournals};
+ghost use Rattle.run_lines.specs.Safe.{AllKept};
+ghost use Rattle.one_trace.specs.Text.{TellsAllKept};
+
+use proper_lines::lines_are_proper;
+use run_lines::any_order_is_safe;
 
 /// Two lines of a trace with one text are the same line.
 pub fn lines_differ()
@@ -22,8 +26,15 @@ pub fn texts_have_one_list()
     ensures { (a b : List Line) → AreLines a → AreLines b → lines_text a ≡ lines_text b → a ≡ b }
 {}
 
-/// So whatever proper lines have the text of a run, by them every street is safe.
-pub fn any_lines_are_safe()
-    ensures { (s : ScenarioContent) → Runnable s → (lines : List Line) → AreLines lines → lines_text lines ≡ trace_of s
-        → StreetsSafe s lines }
-{}
+/// In whatever order the items of a run come to its cabinets, its text has lines, and no others; and by them the street of each cabinet is
+/// safe at every tick of 0.1 s with the tables of each version, its versions are whole, and coordination is met. So whatever proper lines
+/// have the text of a run, by them all this holds.
+pub fn run_texts_are_safe()
+    ensures tells { (s : ScenarioContent) → Runnable s → (journals : List (List (List ℕ))) → AreJournals s journals
+        → TellsAllKept s journals (run_text s journals) }
+    ensures any { (s : ScenarioContent) → Runnable s → (journals : List (List (List ℕ))) → AreJournals s journals → (lines : List Line)
+        → AreLines lines → lines_text lines ≡ run_text s journals → AllKept s journals lines }
+{
+    lines_are_proper();
+    any_order_is_safe();
+}

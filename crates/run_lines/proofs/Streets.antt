@@ -21,13 +21,13 @@ use Rattle.desk_rounds.specs.Rounds.{noted}
 use Rattle.story_laws.specs.Openings.{IsOpening}
 use Rattle.story_laws.specs.Telling.{story_told}
 use Rattle.story_laws.proofs.Telling.{acts-tell}
-use Rattle.run_text.specs.Cabinets.{IsNumbered, IsCabinet}
+use Rattle.runnable.specs.Cabinets.{IsNumbered, IsCabinet}
 use Rattle.run_lines.specs.Standing.{Standing, opened_standing, opened_standings, round_acts, next_standing, each_standing, standings_after, HasComeTo}
 use Rattle.run_lines.specs.Lines.{cabinet_lines, acts_lines, each_lines, notes_lines, head_lines, round_lines, rounds_lines, opening_lines, front_lines, run_lines}
 use Rattle.run_lines.specs.Orders.{EachMerges, AreMerges, AreJournals}
 use Rattle.run_lines.proofs.Telling.{told-append, told-behind, told-before, acts-lines-tell, other-acts, notes-tell}
 
-after-opening : (story : Story) (items : List Item) → (after story items).opening ≡ story.opening
+pub after-opening : (story : Story) (items : List Item) → (after story items).opening ≡ story.opening
 after-opening story [] = refl
 after-opening story (item ∷ items) = after-opening (with_item story item) items
 

@@ -4,7 +4,7 @@ use Rattle.std.specs.Prelude.{ℕ, ◌+◌, List, [], ◌∷◌, ◌++◌, map, 
 use Rattle.sig_types.specs.declared.frame.Frame.{Frame}
 use Rattle.sig_tables.specs.Decide.{last_frame_of}
 use Rattle.trace_text.specs.declared.lines.Line.{Line}
-use Rattle.trace_text.specs.declared.lines.Line.TheVariants.{S, R, M, J, L, A, Z}
+use Rattle.trace_text.specs.declared.lines.Line.TheVariants.{S, F, R, M, J, L, A, Z}
 use Rattle.safe_trace.specs.TraceText.{lines_text}
 use Rattle.scenario_data.specs.Content.{ScenarioContent}
 use Rattle.round_streams.specs.Items.{Item}
@@ -15,8 +15,11 @@ use Rattle.cabinet_story.specs.Journals.{Act, runs_of}
 use Rattle.cabinet_story.specs.Coming.{history_of}
 use Rattle.cabinet_story.specs.Told.{item_replies, item_written}
 use Rattle.desk_rounds.specs.Rounds.{noted}
-use Rattle.run_text.specs.Lines.{shown_line}
 use Rattle.run_lines.specs.Standing.{Standing, opened_standings, round_acts, each_standing}
+
+-- the line of a frame that a cabinet shows after so many ticks
+abbrev pub shown_line : ℕ → ℕ → Frame → Line
+shown_line cab tick f = F cab tick f.veh f.ped f.mode f.counter f.target f.version
 
 -- the lines of frames with the numbers of their ticks
 abbrev pub frame_lines : ℕ → List (ℕ × Frame) → List Line

@@ -1,25 +1,51 @@
--- What the lines of a run tell of each cabinet, whatever its journals: the street is safe, versions are whole, coordination is met.
-use Rattle.std.specs.Prelude.{ℕ, ◌≡◌, List}
+-- What the lines of a run tell of each cabinet, whatever its journals: the street is safe, versions are whole, coordination is met, and
+-- the tables in force are those of whole downloads that were accepted.
+use Rattle.std.specs.Prelude.{ℕ, ◌≡◌, ◌+◌, List, ◌∷◌, ◌++◌, drop, length, IfSome}
+use Rattle.trace_text.specs.declared.lines.Line.{Line}
 use Rattle.safe_trace.specs.Safe.{Safe, intersection_of}
 use Rattle.safe_trace.specs.Whole.{Whole}
 use Rattle.safe_trace.specs.Written.{tables_of}
 use Rattle.undisturbed.specs.Meets.{Meets}
 use Rattle.scenario_data.specs.Content.{CabinetContent, ScenarioContent}
-use Rattle.cabinet_story.specs.Coming.{history_of}
-use Rattle.run_text.specs.Cabinets.{IsCabinet}
+use Rattle.scenario_data.specs.Opening.{opening_tables}
+use Rattle.round_streams.specs.Items.{Item, Came}
+use Rattle.cabinet_story.specs.Story.{Story, with_item}
+use Rattle.cabinet_story.specs.Coming.{coming, history_of}
+use Rattle.cabinet_story.specs.Downloads.{accepted_by, deeds_of, with_downloads}
+use Rattle.cabinet_story.specs.Told.{load_end}
+use Rattle.story_laws.specs.Judging.{IsVerdict}
+use Rattle.runnable.specs.Cabinets.{IsCabinet}
 use Rattle.run_lines.specs.Standing.{Standing, HasComeTo, opened_standings, standings_after}
-use Rattle.run_lines.specs.Lines.{run_lines}
 
--- what a cabinet has come to by the end of a run, and what is promised of it: by the lines of the cabinet alone its street is safe with
--- the tables of each version of its history, its versions are whole, and its history meets coordination
-pub record Kept (s : ScenarioContent) (journals : List (List (List ℕ))) (cab : ℕ) (c : CabinetContent) : Type 0 where
+-- the tables of each version are the opening ones with the whole content of each download that was accepted up to it put in order, and
+-- nothing else: so many downloads were accepted later
+abbrev pub AreMadeOfDownloads : CabinetContent → Story → Type 0
+AreMadeOfDownloads c story = (version later : ℕ) → version + later ≡ length (accepted_by (deeds_of (coming story)))
+    → tables_of (history_of story) version ≡ with_downloads (opening_tables c) (drop later (accepted_by (deeds_of (coming story))))
+
+-- the story as far as these of its items, of which the newest stands first
+abbrev pub as_far_as : Story → List Item → Story
+as_far_as story items = record { community = story.community; opening = story.opening; items = items }
+
+-- each frame that ended a download told what the rules said of the staged tables when it came
+abbrev pub EndAsJudged : Story → Type 0
+EndAsJudged story = (later earlier : List Item) (octets : List ℕ) → story.items ≡ later ++ (Came octets ∷ earlier)
+    → IfSome (load_end (as_far_as story earlier) octets)
+    (λ load. IsVerdict (coming (as_far_as story earlier)) (coming (with_item (as_far_as story earlier) (Came octets))) load.result)
+
+-- what a cabinet has come to by the end of a run with these journals, and what is promised of it where these lines are read: by those
+-- of the cabinet alone its street is safe with the tables of each version of its history, and its versions are whole; these tables are
+-- those of whole downloads, accepted or refused by the rules; and its history meets coordination
+pub record Kept (s : ScenarioContent) (journals : List (List (List ℕ))) (lines : List Line) (cab : ℕ) (c : CabinetContent) : Type 0 where
   pub end : Standing
   pub own : end.cabinet ≡ c
   pub come : HasComeTo cab end 1 (standings_after s (opened_standings s s.cabinets) journals)
-  pub safe : Safe (intersection_of cab (tables_of (history_of end.story)) (run_lines s journals))
-  pub whole : Whole cab (run_lines s journals)
+  pub safe : Safe (intersection_of cab (tables_of (history_of end.story)) lines)
+  pub whole : Whole cab lines
+  pub tables : AreMadeOfDownloads c end.story
+  pub judged : EndAsJudged end.story
   pub meets : Meets (history_of end.story)
 
 -- this is so of each cabinet
-abbrev pub AllKept : ScenarioContent → List (List (List ℕ)) → Type 0
-AllKept s journals = (cab : ℕ) (c : CabinetContent) → IsCabinet s cab c → Kept s journals cab c
+abbrev pub AllKept : ScenarioContent → List (List (List ℕ)) → List Line → Type 0
+AllKept s journals lines = (cab : ℕ) (c : CabinetContent) → IsCabinet s cab c → Kept s journals lines cab c

@@ -10,7 +10,7 @@ use Rattle.cabinet_story.specs.Story.{Story, opened, after}
 use Rattle.cabinet_story.specs.Journals.{Act, acts_of, items_in}
 use Rattle.cabinet_story.specs.Told.{acts_replies}
 use Rattle.desk_rounds.specs.Rounds.{streams_of}
-use Rattle.run_text.specs.Cabinets.{opening_history}
+use Rattle.runnable.specs.Cabinets.{opening_history}
 
 -- what a cabinet has come to: its story, and its answers round by round; those of a round are in order
 pub record Standing : Type 0 where

@@ -5,14 +5,16 @@
 
 ghost use Rattle.std.specs.Prelude.{◌≡◌, ◌+◌, ◌++◌, ℕ, List, length};
 ghost use Rattle.scenario_data.specs.Content.{ScenarioContent};
-ghost use Rattle.run_text.specs.Runnable.{AllOpen};
+ghost use Rattle.runnable.specs.Runnable.{AllOpen};
 ghost use Rattle.run_lines.specs.Standing.{opened_standings, standings_after};
 ghost use Rattle.run_lines.specs.Lines.{front_lines, rounds_lines, run_lines};
 ghost use Rattle.run_lines.specs.Orders.{AreJournals, BeginJournals, Continues, serial_journals};
 ghost use Rattle.run_lines.specs.Safe.{AllKept};
 ghost use Rattle.run_lines.specs.Smallest.{smallest, one_tick, smallest_lines};
 
-use story_laws::{stories_are_safe, stories_meet_coordination};
+use story_laws::{
+    downloads_are_whole, downloads_end_as_judged, stories_are_safe, stories_meet_coordination,
+};
 
 /// The smallest run: one cabinet with the standard tables, to which one tick comes, shows all red throughout.
 pub fn smallest_run()
@@ -26,11 +28,15 @@ pub fn serial_is_an_order()
 
 /// In whatever order the items of a run come to its cabinets: where these open with consistent tables and slow drifts, the lines of each
 /// cabinet alone tell that its street is safe at every tick of 0.1 s and in every mode, with the tables of each version, and that its
-/// versions are whole; and its history meets what coordination promises (FHWA Signal Timing Manual: offset, transition).
+/// versions are whole. These tables are the opening ones with the whole content of each download that the rules accepted; and the
+/// cabinet's history meets what coordination promises (FHWA Signal Timing Manual: offset, transition).
 pub fn any_order_is_safe()
-    ensures { (s : ScenarioContent) → AllOpen s.cabinets → (journals : List (List (List ℕ))) → AreJournals s journals → AllKept s journals }
+    ensures { (s : ScenarioContent) → AllOpen s.cabinets → (journals : List (List (List ℕ))) → AreJournals s journals
+        → AllKept s journals (run_lines s journals) }
 {
     stories_are_safe();
+    downloads_are_whole();
+    downloads_end_as_judged();
     stories_meet_coordination();
 }
 

@@ -1,7 +1,8 @@
 use Rattle.scenario_data.specs.Opening.{opening_tables}
-use Rattle.run_text.specs.Runnable.{CanOpen}
-use Rattle.run_text.proofs.Streets.{can-open}
+use Rattle.runnable.specs.Runnable.{CanOpen}
+use Rattle.runnable.proofs.Numbered.{can-open}
 use Rattle.run_lines.specs.Lines.{run_lines}
+use Rattle.run_lines.specs.Safe.{as_far_as}
 use Rattle.run_lines.proofs.Streets.{Ended, drift_in, opening-fits, run-ended}
 use Rattle.run_lines.proofs.any_order_is_safe.Goals as goal
 
@@ -15,5 +16,7 @@ returns c = λ s open_all journals are cab d is.
       come = e.come;
       safe = c.stories_are_safe.ensures.safe e.end.story (opening_tables d) (drift_in d) cab (run_lines s journals) e.opens can.consistent e.told;
       whole = c.stories_are_safe.ensures.whole e.end.story (opening_tables d) (drift_in d) cab (run_lines s journals) e.opens e.told;
+      tables = λ version later counted. c.downloads_are_whole.ensures.versions e.end.story (opening_tables d) (drift_in d) version later e.opens counted;
+      judged = λ later earlier octets came. c.downloads_end_as_judged.ensures (as_far_as e.end.story earlier) octets;
       meets = c.stories_meet_coordination.ensures.drifting e.end.story (opening_tables d) (drift_in d) e.opens can.consistent (opening-fits d) can.slow;
     }
