@@ -1,0 +1,115 @@
+-- What a round by workers makes of the books is what a run with their journals makes of them.
+use Rattle.std.proofs.Common.{◌≡◌, ◌<◌, ◌≤◌, ◌+◌, ◌∙◌, ℕ, zero, suc, List, [], ◌∷◌, length, get_or, inl, inr, refl, sym, ap, subst, arith}
+use Rattle.std.specs.List.{AllZip}
+use Rattle.std.proofs.lemmas.Bool.{cases_lt}
+use Rattle.std.proofs.lemmas.List.{get_or-map, length-map}
+use Rattle.scenario_data.specs.Content.{ScenarioContent}
+use Rattle.round_streams.specs.declared.Streams.{Streams}
+use Rattle.round_streams.specs.Items.{Item, items_of}
+use Rattle.cabinet_story.specs.Journals.{times, IsMerge}
+use Rattle.run_lines.specs.Standing.{Standing, coming_streams}
+use Rattle.run_lines.specs.Orders.{EachMerges}
+use Rattle.cab_workers.specs.Whole.{IsWhole}
+use Rattle.cab_book.specs.declared.book.Book.{Book}
+use Rattle.cab_book.specs.Books.{Replays, streams_in, journal_of, left_of, ticks_by_end}
+use Rattle.cab_book.proofs.Counting.{times-same}
+use Rattle.round_run.specs.Standings.{HasRun, HaveRun, no_journals, TicksWithin}
+use Rattle.round_run.specs.Joined.{journals_in, HaveMerged}
+
+-- lists that stand side by side
+module _ {A : Type 0} (R : A → A → Type 0) where
+  pub zip-length : (xs ys : List A) → AllZip R xs ys → length ys ≡ length xs
+  zip-length [] [] h = refl
+  zip-length [] (y ∷ ys) h = absurd h
+  zip-length (x ∷ xs) [] h = absurd h
+  zip-length (x ∷ xs) (y ∷ ys) h = ap suc (zip-length xs ys h.1)
+
+  pub zip-at : (xs ys : List A) (k : ℕ) (d : A) → k < length xs → AllZip R xs ys → R (get_or xs k d) (get_or ys k d)
+  zip-at [] ys k d below h = absurd (omega (arith, below))
+  zip-at (x ∷ xs) [] k d below h = absurd h
+  zip-at (x ∷ xs) (y ∷ ys) zero d below h = h.0
+  zip-at (x ∷ xs) (y ∷ ys) (suc k) d below h = zip-at xs ys k d (omega (arith, below)) h.1
+
+-- no stream has more items than a pass of a row may bring
+pub few-left : (b : Book) (p : ℕ) → left_of b p ≤ 2147483648
+few-left b p = omega (arith, b.tallied p, b.short p)
+
+-- five passes have brought all that came to the first book
+abbrev pub IsWholeBook : Book → Book → Type 0
+IsWholeBook first now = IsWhole journal_of left_of Replays 5 first now
+
+no_sixth : (streams : Streams) (p : ℕ) → 5 ≤ p → length (get_or (items_of streams) p []) ≡ 0
+no_sixth streams zero most = absurd (omega (arith, most))
+no_sixth streams (suc zero) most = absurd (omega (arith, most))
+no_sixth streams (suc (suc zero)) most = absurd (omega (arith, most))
+no_sixth streams (suc (suc (suc zero))) most = absurd (omega (arith, most))
+no_sixth streams (suc (suc (suc (suc zero)))) most = absurd (omega (arith, most))
+no_sixth streams (suc (suc (suc (suc (suc p))))) most = refl
+
+-- then each pass stands in the journal just as often as its stream has items
+merged : (first now : Book) → journal_of first ≡ [] → IsWholeBook first now → IsMerge (streams_in now) (journal_of now)
+merged first now none whole p =
+    let never : times p (journal_of first) ≡ 0 = ap (times p) none in
+    let many : length (get_or (streams_in now) p []) ≡ length (get_or (streams_in first) p []) =
+    ap (λ (streams : List (List Item)). length (get_or streams p [])) whole.replays.streams in
+    elim (cases_lt p 5) [
+      | inl less ↦ omega (arith, times-same p (journal_of now), whole.each p less, first.tallied p, never, many)
+      | inr most ↦ omega (arith, now.tallied p, no_sixth now.streams p most)
+    ]
+
+-- and the book has run the round to come by its journal
+run_whole : (s : ScenarioContent) (cab : ℕ) (t : Standing) (first now : Book) → HasRun s cab t [] first → IsWholeBook first now → HasRun s cab t (journal_of now) now
+run_whole s cab t first now run whole = record {
+  stands = whole.replays.stories t.story run.stands;
+  streams = whole.replays.streams ∙ run.streams;
+  journal_is = refl;
+}
+
+each_merges : (s : ScenarioContent) (first : ℕ) (ts : List Standing) (books : List Book) → length books ≡ length ts
+    → ((k : ℕ) (t : Standing) (b : Book) → k < length ts → IsMerge (coming_streams s (first + k) (get_or ts k t)) (journal_of (get_or books k b)))
+    → EachMerges s first ts (journals_in books)
+each_merges s first [] [] many each = tt
+each_merges s first [] (b ∷ books) many each = absurd (omega (arith, many))
+each_merges s first (t ∷ ts) [] many each = absurd (omega (arith, many))
+each_merges s first (t ∷ ts) (b ∷ books) many each =
+    let here : first + 0 ≡ first = omega arith in (
+      subst (λ (cab : ℕ). IsMerge (coming_streams s cab t) (journal_of b)) here (each 0 t b (omega arith)),
+      each_merges s (first + 1) ts books (omega (arith, many)) (λ k u c below.
+          let there : first + suc k ≡ first + 1 + k = omega arith in
+          subst (λ (cab : ℕ). IsMerge (coming_streams s cab (get_or ts k u)) (journal_of (get_or books k c))) there (each (suc k) u c (omega (arith, below)))),
+    )
+
+-- nothing was brought to the book at a place yet
+own_round : (s : ScenarioContent) (ts : List Standing) (books : List Book) (k : ℕ) (b : Book) (t : Standing) → k < length ts
+    → HaveRun s ts (no_journals ts) books → HasRun s (k + 1) (get_or ts k t) [] (get_or books k b)
+own_round s ts books k b t below have =
+    subst (λ (passes : List ℕ). HasRun s (k + 1) (get_or ts k t) passes (get_or books k b)) (get_or-map (λ (u : Standing). []) ts k t [] below)
+    (have.each k b t [] below)
+
+pub joined-run : (s : ScenarioContent) (ts : List Standing) (old now : List Book) → AllZip IsWholeBook old now → HaveRun s ts (no_journals ts) old
+    → HaveMerged s ts now
+joined-run s ts old now whole have =
+    let many : length now ≡ length ts = zip-length IsWholeBook old now whole ∙ have.many in
+    let run : (k : ℕ) (b : Book) (t : Standing) → k < length ts → HasRun s (k + 1) (get_or ts k t) (journal_of (get_or now k b)) (get_or now k b) =
+    λ k b t below. run_whole s (k + 1) (get_or ts k t) (get_or old k b) (get_or now k b) (own_round s ts old k b t below have)
+    (zip-at IsWholeBook old now k b (omega (arith, below, have.many)) whole) in
+    record {
+      merges = each_merges s 1 ts now many (λ k t b below.
+          let number : k + 1 ≡ 1 + k = omega arith in
+          subst (λ (cab : ℕ). IsMerge (coming_streams s cab (get_or ts k t)) (journal_of (get_or now k b))) number
+          (subst (λ (streams : List (List Item)). IsMerge streams (journal_of (get_or now k b))) (run k b t below).streams
+          (merged (get_or old k b) (get_or now k b) (own_round s ts old k b t below have).journal_is
+          (zip-at IsWholeBook old now k b (omega (arith, below, have.many)) whole))));
+      run = record {
+        many = many;
+        as_many = length-map now journal_of ∙ many;
+        each = λ k b t journal below.
+            subst (λ (passes : List ℕ). HasRun s (k + 1) (get_or ts k t) passes (get_or now k b))
+            (sym (get_or-map journal_of now k b journal (omega (arith, below, many)))) (run k b t below);
+      };
+    }
+
+pub joined-ticks : (old now : List Book) (most : ℕ) → AllZip IsWholeBook old now → TicksWithin most old → TicksWithin most now
+joined-ticks old now most whole few k b below =
+    let less : k < length old = omega (arith, below, zip-length IsWholeBook old now whole) in
+    omega (arith, (zip-at IsWholeBook old now k b less whole).replays.ticks, few k b less)

@@ -1,0 +1,6 @@
+pub mod Following
+pub mod Telling
+pub mod Begun
+pub mod InSerial
+pub mod Texts
+pub mod Joining

@@ -1,0 +1,8 @@
+use Rattle.std.proofs.Common.{◌≡◌, ◌++◌, drop}
+use Rattle.round_streams.specs.Items.{texts_of}
+use Rattle.round_run.proofs.Texts.{left_on}
+use Rattle.round_run.proofs.replying.texts_on.Given as goal
+
+-- the texts of the replies from this place on come behind those so far
+abbrev pub invariant-loop-answered : goal.invariant-loop-answered
+invariant-loop-answered l = texts_of l.texts.items ++ left_on l.pass (drop l.answered-index l.replies) ≡ left_on l.pass l.replies

@@ -1,0 +1,5 @@
+pub mod Standings
+pub mod Opening
+pub mod Replied
+pub mod Lines
+pub mod Joined

@@ -1,0 +1,30 @@
+-- The lines of a cabinet's round as they are written of its book: its journal, and the replies, each behind the frames before it.
+use Rattle.std.specs.Prelude.{ℕ, ◌-◌, List, [], ◌∷◌, ◌++◌, take, drop}
+use Rattle.sig_types.specs.declared.frame.Frame.{Frame}
+use Rattle.trace_text.specs.declared.lines.Line.{Line}
+use Rattle.trace_text.specs.declared.lines.Line.TheVariants.{J, A}
+use Rattle.cabinet_story.specs.declared.Reply.{Reply}
+use Rattle.cabinet_story.specs.Journals.{runs_of}
+use Rattle.run_lines.specs.Lines.{frame_lines, load_lines}
+use Rattle.cab_book.specs.declared.book.Book.{Book}
+use Rattle.cab_book.specs.declared.happened.Answered.{Answered}
+use Rattle.cab_book.specs.Books.{journal_of, written_in, answered_in}
+
+-- the frames of a round that have a line, from one place up to another
+abbrev pub frames_between : ℕ → ℕ → List (ℕ × Frame) → List (ℕ × Frame)
+frames_between first end written = take (end - first) (drop first written)
+
+-- the lines of a reply: the end of a download, where there is one, and then the answer or silence
+abbrev pub answer_lines : ℕ → Reply → List Line
+answer_lines cab r = load_lines cab r.load ++ A cab r.pass r.text ∷ []
+
+-- the lines of these replies, each behind the frames before it, and of the frames behind the last; the frames before a first place
+-- have theirs already
+abbrev pub told_lines : ℕ → ℕ → List (ℕ × Frame) → List Answered → List Line
+told_lines cab first written [] = frame_lines cab (drop first written)
+told_lines cab first written (a ∷ answered) =
+    frame_lines cab (frames_between first a.behind written) ++ (answer_lines cab a.reply ++ told_lines cab a.behind written answered)
+
+-- the lines of a book's round
+abbrev pub book_lines : ℕ → Book → List Line
+book_lines cab b = J cab (runs_of (journal_of b)) ∷ told_lines cab 0 (written_in b) (answered_in b)

@@ -1,0 +1,37 @@
+-- What opening a round asks of its streams, and what it makes of a book.
+use Rattle.std.specs.Prelude.{ℕ, ◌+◌, ◌≡◌, ◌<◌, ◌≤◌, ◌⊎◌, List, [], length, get_or}
+use Rattle.scenario_data.specs.Content.{ScenarioContent}
+use Rattle.round_streams.specs.declared.Streams.{Streams}
+use Rattle.round_streams.specs.Items.{items_of}
+use Rattle.cabinet_story.specs.Story.{Story}
+use Rattle.run_lines.specs.Standing.{Standing, coming_streams}
+use Rattle.cab_book.specs.declared.book.Book.{Book}
+use Rattle.cab_book.specs.Books.{BookStands, CanBeTaken, streams_in, journal_of, story_now, ticks_by_end}
+
+-- there are streams for each book, a cabinet can take them, and it has had few ticks
+pub record CanOpen (books : List Book) (streams : List Streams) : Type 0 where
+  pub many : length streams ≡ length books
+  pub taken : (k : ℕ) (one : Streams) → k < length books → CanBeTaken (get_or streams k one)
+  pub few : (k : ℕ) (b : Book) (one : Streams) → k < length books → ticks_by_end (get_or books k b) + (get_or streams k one).ticks < 4294967294
+
+-- the streams are those that come to the cabinets, which have come to this
+pub record AreComing (s : ScenarioContent) (ts : List Standing) (streams : List Streams) : Type 0 where
+  pub many : length streams ≡ length ts
+  pub each : (k : ℕ) (t : Standing) (one : Streams) → k < length ts → items_of (get_or streams k one) ≡ coming_streams s (k + 1) (get_or ts k t)
+
+-- a round has so many ticks at most
+abbrev pub TicksAtMost : ℕ → List Streams → Type 0
+TicksAtMost ticks streams = (k : ℕ) (one : Streams) → k < length streams → (get_or streams k one).ticks ≤ ticks
+
+-- a round with these streams was begun on a book: nothing of it was brought yet
+pub record Begins (old new : Book) (one : Streams) : Type 0 where
+  pub stands : (story : Story) → BookStands old story → BookStands new (story_now old story)
+  pub streams : streams_in new ≡ items_of one
+  pub journal : journal_of new ≡ []
+  pub ticks : ticks_by_end new ≤ ticks_by_end old + one.ticks
+
+-- a round was begun on some of the books, and the others are as before
+pub record BeginsSome (old new : List Book) (streams : List Streams) : Type 0 where
+  pub many : length new ≡ length old
+  pub each : (k : ℕ) (b : Book) (one : Streams) → k < length old
+      → (get_or new k b ≡ get_or old k b) ⊎ Begins (get_or old k b) (get_or new k b) (get_or streams k one)

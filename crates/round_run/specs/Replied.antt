@@ -1,0 +1,24 @@
+-- What books have replied in a round, silence left out.
+use Rattle.std.specs.Prelude.{ℕ, ◌≡◌, ◌<◌, List, length, get_or}
+use Rattle.round_streams.specs.declared.Answers.{Answers}
+use Rattle.round_streams.specs.Items.{texts_of}
+use Rattle.round_streams.specs.Replies.{Reply, replied_on}
+use Rattle.run_lines.specs.Standing.{answers_in}
+use Rattle.cab_book.specs.declared.book.Book.{Book}
+use Rattle.cab_book.specs.Happenings.{replies_in}
+use Rattle.cab_book.specs.Books.{answered_in}
+
+-- what a book has replied in its round, in order
+abbrev pub replied_in : Book → List Reply
+replied_in b = answers_in (replies_in (answered_in b))
+
+-- these are the texts of the replies on each of the three streams
+pub record AreAnswers (answers : Answers) (replies : List Reply) : Type 0 where
+  pub polls : texts_of answers.polls.items ≡ replied_on 1 replies
+  pub loads : texts_of answers.loads.items ≡ replied_on 2 replies
+  pub prios : texts_of answers.prios.items ≡ replied_on 3 replies
+
+-- these are those of each book
+pub record EachAnswers (all : List Answers) (books : List Book) : Type 0 where
+  pub many : length all ≡ length books
+  pub each : (k : ℕ) (answers : Answers) (b : Book) → k < length books → AreAnswers (get_or all k answers) (replied_in (get_or books k b))

@@ -1,0 +1,15 @@
+//! A round of all cabinets: their books begin it with what comes to each, all that comes is brought, and what they replied goes back
+//! to the master's desk. What a book has come to, and the lines that are written of it, are those of a run.
+#![tactic(auto)]
+
+mod joined;
+mod replying;
+mod run_laws;
+mod serial;
+mod starting;
+
+pub use joined::joined_round;
+pub use replying::answers;
+pub use run_laws::books_follow_runs;
+pub use serial::serial_round;
+pub use starting::open_rounds;
