@@ -1,17 +1,14 @@
 -- What is put into the frame of a scenario is put into its value.
-use Rattle.std.proofs.Common.{◌≡◌, ℕ, Bool, true, false, if◌then◌else◌, List, codes, Some, Ordering, Less, Equal, Greater, nat_cmp, bytes_eq, is_eq, refl, sym, ap, ◌∙◌, subst}
+use Rattle.std.proofs.Common.{◌≡◌, ℕ, Bool, true, false, if◌then◌else◌, List, Some, option_map, Ordering, Less, Equal, Greater, nat_cmp, bytes_eq, is_eq, refl, sym, ap, ◌∙◌, subst}
 use Rattle.std.proofs.lemmas.Cmp.{nat_list_cmp_total, tied_itself}
 use Rattle.std.proofs.lemmas.Map.Text.{is_eq-slice_cmp}
 use Rattle.std.proofs.lemmas.Slice.Eq.{bytes_eq-Decides}
 use Rattle.std.specs.Cmp.Lexicographic.{slice_cmp}
 use Rattle.std.specs.Ordering.{match_ordering}
-use Rattle.serde_json.specs.Data.{Data, Members, no_members, member, put}
+use Rattle.serde_json.specs.Data.{Data, array, Items, no_items, Members, no_members, member, put}
 use Rattle.serde_json.specs.Find.{get_member}
 use Rattle.scenario_read.specs.Sorted.{Below, MembersSorted}
-use Rattle.scenario_file.specs.Framing.{with_inputs}
-
-abbrev pub inputs_name : List ℕ
-inputs_name = codes "inputs"
+use Rattle.scenario_file.specs.Framing.{is_list, value_in, with_lists, with_rows}
 
 equal-names : (a b : List ℕ) → slice_cmp nat_cmp a b ≡ Equal → a ≡ b
 equal-names a b is = (bytes_eq-Decides a b).0 (sym (is_eq-slice_cmp a b) ∙ ap is_eq is)
@@ -29,73 +26,66 @@ not-less o a b = cc
 not-greater : (o : Ordering) → o ≡ Greater → o ≡ Equal → ⊥
 not-greater o a b = cc
 
-pub put-other : (name : List ℕ) (d inputs : Data) (ms : Members) → bytes_eq name inputs_name ≡ false → put name d (with_inputs inputs ms) ≡ with_inputs inputs (put name d ms)
-put-other name d inputs no_members other = rw other refl
-put-other name d inputs (member l e ms) other = at (slice_cmp nat_cmp name l) refl (put-other name d inputs ms other)
-  where
-    at : (o : Ordering) → slice_cmp nat_cmp name l ≡ o → put name d (with_inputs inputs ms) ≡ with_inputs inputs (put name d ms)
-        → match_ordering o (member name d (with_inputs inputs (member l e ms))) (member l d (with_inputs inputs ms))
-        (member l (if bytes_eq l inputs_name then inputs else e) (put name d (with_inputs inputs ms)))
-        ≡ with_inputs inputs (match_ordering o (member name d (member l e ms)) (member l d ms) (member l e (put name d ms)))
-    at Less is rest = rw other refl
-    at Equal is rest =
-        let apart : bytes_eq l inputs_name ≡ false = subst (λ n. bytes_eq n inputs_name ≡ false) (equal-names name l is) other in
-        rw apart refl
-    at Greater is rest = ap (member l (if bytes_eq l inputs_name then inputs else e)) rest
-
-pub without : (inputs : Data) (ms : Members) → Below inputs_name ms → with_inputs inputs ms ≡ ms
-without inputs no_members below = refl
-without inputs (member name d ms) below = rw (apart-names inputs_name name (not-less (slice_cmp nat_cmp inputs_name name) below.0)) (ap (member name d) (without inputs ms below.1))
-
 Below-chain : (low name : List ℕ) (ms : Members) → slice_cmp nat_cmp low name ≡ Less → Below name ms → Below low ms
 Below-chain low name no_members less below = tt
 Below-chain low name (member other d ms) less below = (nat_list_cmp_total.trans low name other less below.0, Below-chain low name ms less below.1)
 
-same-name : bytes_eq inputs_name inputs_name ≡ true
-same-name = (bytes_eq-Decides inputs_name inputs_name).1 refl
+-- the values are the same, but for that at one name
+abbrev pub SameBut : List ℕ → (List ℕ → Items) → (List ℕ → Items) → Type 0
+SameBut l rows now = (name : List ℕ) → bytes_eq name l ≡ false → (d : Data) → value_in rows name d ≡ value_in now name d
 
-pub put-inputs : (d old new : Data) (ms : Members) → MembersSorted ms → put inputs_name new (with_inputs old ms) ≡ with_inputs new (put inputs_name d ms)
-put-inputs d old new no_members sorted = refl
-put-inputs d old new (member l e ms) sorted = at (slice_cmp nat_cmp inputs_name l) refl (put-inputs d old new ms sorted.2)
-  where
-    at : (o : Ordering) → slice_cmp nat_cmp inputs_name l ≡ o → put inputs_name new (with_inputs old ms) ≡ with_inputs new (put inputs_name d ms)
-        → match_ordering o (member inputs_name new (with_inputs old (member l e ms))) (member l new (with_inputs old ms))
-        (member l (if bytes_eq l inputs_name then old else e) (put inputs_name new (with_inputs old ms)))
-        ≡ with_inputs new (match_ordering o (member inputs_name d (member l e ms)) (member l d ms) (member l e (put inputs_name d ms)))
-    at Less is rest =
-        let below : Below inputs_name (member l e ms) = (is, Below-chain inputs_name l ms is sorted.1) in
-        ap (member inputs_name new) (without old (member l e ms) below ∙ sym (without new (member l e ms) below))
-    at Equal is rest =
-        let same : inputs_name ≡ l = equal-names inputs_name l is in
-        let below : Below inputs_name ms = subst (λ n. Below n ms) (sym same) sorted.1 in
-        let here : bytes_eq l inputs_name ≡ true = (bytes_eq-Decides l inputs_name).1 (sym same) in
-        rw here (ap (member l new) (without old ms below ∙ sym (without new ms below)))
-    at Greater is rest =
-        let apart : bytes_eq l inputs_name ≡ false = apart-names inputs_name l (not-greater (slice_cmp nat_cmp inputs_name l) is) in
-        rw apart (ap (member l e) rest)
+module _ (l : List ℕ) (rows now : List ℕ → Items) (but : SameBut l rows now) where
+  pub without : (ms : Members) → Below l ms → with_lists rows ms ≡ with_lists now ms
+  without no_members below = refl
+  without (member name d ms) below =
+      let first = but name (apart-names l name (not-less (slice_cmp nat_cmp l name) below.0)) d in
+      ap (λ e. member name e (with_lists rows ms)) first ∙ ap (member name (value_in now name d)) (without ms below.1)
+
+  -- a value that is put at the name, is put into the frame as what it stands for
+  pub put-through : (d new : Data) (ms : Members) → value_in now l d ≡ new → MembersSorted ms → put l new (with_lists rows ms) ≡ with_lists now (put l d ms)
+  put-through d new no_members is sorted = ap (λ e. member l e no_members) (sym is)
+  put-through d new (member name e ms) is sorted = at (slice_cmp nat_cmp l name) refl (put-through d new ms is sorted.2)
+    where
+      at : (o : Ordering) → slice_cmp nat_cmp l name ≡ o → put l new (with_lists rows ms) ≡ with_lists now (put l d ms)
+          → match_ordering o (member l new (with_lists rows (member name e ms))) (member name new (with_lists rows ms)) (member name (value_in rows name e) (put l new (with_lists rows ms)))
+          ≡ with_lists now (match_ordering o (member l d (member name e ms)) (member name d ms) (member name e (put l d ms)))
+      at Less less rest =
+          let below : Below l (member name e ms) = (less, Below-chain l name ms less sorted.1) in
+          ap (λ v. member l v (with_lists rows (member name e ms))) (sym is) ∙ ap (member l (value_in now l d)) (without (member name e ms) below)
+      at Equal same rest =
+          let here : l ≡ name = equal-names l name same in
+          let below : Below l ms = subst (λ n. Below n ms) (sym here) sorted.1 in
+          ap (λ v. member name v (with_lists rows ms)) (sym is ∙ ap (λ n. value_in now n d) here) ∙ ap (member name (value_in now name d)) (without ms below)
+      at Greater more rest =
+          let first = but name (apart-names l name (not-greater (slice_cmp nat_cmp l name) more)) e in
+          ap (λ v. member name v (put l new (with_lists rows ms))) first ∙ ap (member name (value_in now name e)) rest
+
+-- a value at a name that is none of a list
+pub put-other : (name : List ℕ) (d : Data) (rows : List ℕ → Items) (ms : Members) → is_list name ≡ false → MembersSorted ms → put name d (with_lists rows ms) ≡ with_lists rows (put name d ms)
+put-other name d rows ms other sorted = put-through name rows rows (λ n apart e. refl) d d ms (ap (λ b. if b then array (rows name) else d) other) sorted
+
+with-same : (rows : List ℕ → Items) (l : List ℕ) (ds : Items) → with_rows rows l ds l ≡ ds
+with-same rows l ds = ap (λ b. if b then ds else rows l) ((bytes_eq-Decides l l).1 refl)
+
+rows-but : (l : List ℕ) (rows : List ℕ → Items) (ds : Items) → SameBut l rows (with_rows rows l ds)
+rows-but l rows ds name apart d = ap (λ b. if is_list name then array (if b then ds else rows name) else d) (sym apart)
+
+-- a list at its name
+pub put-list : (l : List ℕ) (rows : List ℕ → Items) (ds : Items) (ms : Members) → is_list l ≡ true → MembersSorted ms
+    → put l (array ds) (with_lists rows ms) ≡ with_lists (with_rows rows l ds) (put l (array no_items) ms)
+put-list l rows ds ms is sorted =
+    put-through l rows (with_rows rows l ds) (rows-but l rows ds) (array no_items) (array ds) ms
+    (ap (λ b. if b then array (with_rows rows l ds l) else array no_items) is ∙ ap array (with-same rows l ds)) sorted
 
 -- ---- what is found in the value
 
-pub get-other : (name : List ℕ) (inputs : Data) (ms : Members) → bytes_eq name inputs_name ≡ false → get_member name (with_inputs inputs ms) ≡ get_member name ms
-get-other name inputs no_members other = refl
-get-other name inputs (member l e ms) other = at (slice_cmp nat_cmp name l) refl (get-other name inputs ms other)
+pub get-through : (rows : List ℕ → Items) (name : List ℕ) (ms : Members) → get_member name (with_lists rows ms) ≡ option_map (value_in rows name) (get_member name ms)
+get-through rows name no_members = refl
+get-through rows name (member l e ms) = at (slice_cmp nat_cmp name l) refl (get-through rows name ms)
   where
-    at : (o : Ordering) → slice_cmp nat_cmp name l ≡ o → get_member name (with_inputs inputs ms) ≡ get_member name ms
-        → match_ordering o (get_member name (with_inputs inputs ms)) (Some (if bytes_eq l inputs_name then inputs else e))
-        (get_member name (with_inputs inputs ms)) ≡ match_ordering o (get_member name ms) (Some e) (get_member name ms)
+    at : (o : Ordering) → slice_cmp nat_cmp name l ≡ o → get_member name (with_lists rows ms) ≡ option_map (value_in rows name) (get_member name ms)
+        → match_ordering o (get_member name (with_lists rows ms)) (Some (value_in rows l e)) (get_member name (with_lists rows ms))
+        ≡ option_map (value_in rows name) (match_ordering o (get_member name ms) (Some e) (get_member name ms))
     at Less is rest = rest
-    at Equal is rest =
-        let apart : bytes_eq l inputs_name ≡ false = subst (λ n. bytes_eq n inputs_name ≡ false) (equal-names name l is) other in
-        rw apart refl
+    at Equal is rest = ap (λ n. Some (value_in rows n e)) (sym (equal-names name l is))
     at Greater is rest = rest
-
-pub get-inputs : (inputs found : Data) (ms : Members) → get_member inputs_name ms ≡ Some found → get_member inputs_name (with_inputs inputs ms) ≡ Some inputs
-get-inputs inputs found no_members e = absurd (cc)
-get-inputs inputs found (member l d ms) e = at (slice_cmp nat_cmp inputs_name l) refl (get-inputs inputs found ms) e
-  where
-    at : (o : Ordering) → slice_cmp nat_cmp inputs_name l ≡ o → (get_member inputs_name ms ≡ Some found → get_member inputs_name (with_inputs inputs ms) ≡ Some inputs)
-        → match_ordering o (get_member inputs_name ms) (Some d) (get_member inputs_name ms) ≡ Some found
-        → match_ordering o (get_member inputs_name (with_inputs inputs ms)) (Some (if bytes_eq l inputs_name then inputs else d)) (get_member inputs_name (with_inputs inputs ms)) ≡ Some inputs
-    at Less is rest e = rest e
-    at Equal is rest e = rw ((bytes_eq-Decides l inputs_name).1 (sym (equal-names inputs_name l is))) refl
-    at Greater is rest e = rest e

@@ -1,16 +1,19 @@
--- One input more, and all inputs of a list.
-use Rattle.std.proofs.Common.{◌≡◌, ℕ, suc, ◌+◌, Bool, true, false, nat_lt, List, [], ◌∷◌, ◌++◌, length, refl, sym, ap, ◌∙◌, subst, arith, append_assoc, append-nil, lt-ltb}
-use Rattle.std.proofs.lemmas.List.{length-append}
+-- One item more, and all items of a list.
+use Rattle.std.proofs.Common.{◌≡◌, ◌≤◌, ℕ, suc, codes, ◌+◌, Bool, true, false, List, [], ◌∷◌, ◌++◌, length, refl, sym, ap, ◌∙◌, subst, arith, append_assoc, append-nil}
 use Rattle.serde_json.specs.Data.{Data, Items, no_items, item}
 use Rattle.serde_json.specs.Events.{items_len}
 use Rattle.serde_json.specs.Written.{comma_if, compact_text, items_text}
 use Rattle.scenario_data.specs.Causes.{Cause}
-use Rattle.scenario_data.specs.declared.scenario.Input.{Input}
+use Rattle.scenario_data.specs.Content.{LoadContent}
 use Rattle.scenario_read.specs.Paths.{Step, then_item}
-use Rattle.scenario_read.specs.Kinds.{Kind, each}
-use Rattle.scenario_read.specs.Content.{each_of, input_of}
-use Rattle.scenario_file.specs.Growing.{both, inner_text}
-use Rattle.scenario_file.specs.Listing.{inputs_path, any_input, Lists, Adds}
+use Rattle.scenario_read.specs.Kinds.{Kind, each, each_behind}
+use Rattle.scenario_read.specs.Table.{round, cabinet_number, load_cabinet}
+use Rattle.scenario_read.specs.Content.{each_of, number_at, load_of}
+use Rattle.scenario_file.specs.Growing.{both, inner_text, follows}
+use Rattle.std.specs.Prelude.{string_bytes}
+use Rattle.scenario_file.specs.declared.found.Spot.{Spot}
+use Rattle.scenario_file.specs.declared.listed.Listed.{Listed}
+use Rattle.scenario_file.specs.Listing.{Told, ToldLoads, Adds, AllWithin, Holds, IsSpot, Lists, any_load, list_path}
 
 pub none-left : (xs ys : List Cause) → xs ++ ys ≡ [] → (xs ≡ []) × (ys ≡ [])
 none-left [] ys e = (refl, e)
@@ -29,50 +32,81 @@ each-next kind path d at here (item first ds) p is e =
     let later : at ≡ (p + 1) + items_len ds = omega (arith, is) in
     none-both (kind (then_item path p) first) (each kind path (p + 1) (both ds (item d no_items))) parts.0 (each-next kind path d at here ds (p + 1) later parts.1)
 
+-- where the faults of an item hang on those before
+behind-next : {A : Type 0} (kind : List A → Kind) (says : Data → A) (path : List Step) (d : Data) (at : ℕ) (all : List A) → kind all (then_item path at) d ≡ [] → (ds : Items) (p : ℕ) (earlier : List A)
+    → at ≡ p + items_len ds → all ≡ earlier ++ each_of says ds → each_behind kind says path p earlier ds ≡ [] → each_behind kind says path p earlier (both ds (item d no_items)) ≡ []
+behind-next kind says path d at all here no_items p earlier is same e =
+    let place : at ≡ p = omega (arith, is) in
+    let whole : all ≡ earlier = same ∙ append-nil earlier in
+    none-both (kind earlier (then_item path p) d) [] (subst (λ n. kind earlier (then_item path n) d ≡ []) place (subst (λ xs. kind xs (then_item path at) d ≡ []) whole here)) refl
+behind-next kind says path d at all here (item first ds) p earlier is same e =
+    let next = earlier ++ says first ∷ [] in
+    let parts = none-left (kind earlier (then_item path p) first) (each_behind kind says path (p + 1) next ds) e in
+    let later : at ≡ (p + 1) + items_len ds = omega (arith, is) in
+    let whole : all ≡ next ++ each_of says ds = same ∙ sym (append_assoc earlier (says first ∷ []) (each_of says ds)) in
+    none-both (kind earlier (then_item path p) first) (each_behind kind says path (p + 1) next (both ds (item d no_items))) parts.0
+    (behind-next kind says path d at all here ds (p + 1) next later whole parts.1)
+
 each_of-next : {A : Type 0} (f : Data → A) (d : Data) (ds : Items) → each_of f (both ds (item d no_items)) ≡ each_of f ds ++ f d ∷ []
 each_of-next f d no_items = refl
 each_of-next f d (item first ds) = ap (λ rest. f first ∷ rest) (each_of-next f d ds)
 
-abbrev follows : Bool → Items → Bool
-follows later no_items = later
-follows later (item d ds) = true
+pub each_of-len : {A : Type 0} (f : Data → A) (ds : Items) → length (each_of f ds) ≡ items_len ds
+each_of-len f no_items = refl
+each_of-len f (item d ds) = ap suc (each_of-len f ds)
+
+pub told-next : {A : Type 0} (name : List ℕ) (kind : Kind) (says : Data → A) (most : ℕ) (old new : List A) (ds : Items) (d : Data)
+    → Told name kind says most old ds → Adds kind says name most old new d → Told name kind says most new (both ds (item d no_items))
+told-next name kind says most old new ds d t a =
+    let counted : length old ≡ items_len ds = ap length t.said ∙ each_of-len says ds in
+    record {
+      causes = each-next kind (list_path name) d (length old) a.causes ds 0 (omega (arith, counted)) t.causes;
+      said = a.more ∙ ap (λ found. found ++ says d ∷ []) t.said ∙ sym (each_of-next says d ds);
+      few = a.few;
+    }
+
+pub loads-next : (old new : List LoadContent) (cabinets now : List ℕ) (at : ℕ) (ds : Items) (d : Data) → ToldLoads old cabinets ds
+    → any_load cabinets (then_item (list_path (codes "loads")) at) d ≡ [] → at ≡ length old → new ≡ old ++ load_of 86400 64 d ∷ [] → now ≡ cabinets ++ load_cabinet 64 d ∷ []
+    → ToldLoads new now (both ds (item d no_items))
+loads-next old new cabinets now at ds d t none place more named =
+    let counted : at ≡ items_len ds = place ∙ ap length t.said ∙ each_of-len (load_of 86400 64) ds in
+    record {
+      causes = behind-next any_load (load_cabinet 64) (list_path (codes "loads")) d at cabinets none ds 0 [] (omega (arith, counted)) t.whose t.causes;
+      said = more ∙ ap (λ found. found ++ load_of 86400 64 d ∷ []) t.said ∙ sym (each_of-next (load_of 86400 64) d ds);
+      whose = named ∙ ap (λ found. found ++ load_cabinet 64 d ∷ []) t.whose ∙ sym (each_of-next (load_cabinet 64) d ds);
+    }
 
 follows-more : (ds : Items) → follows true ds ≡ true
 follows-more no_items = refl
 follows-more (item d ds) = refl
 
-follows-some : (ds : Items) → follows false ds ≡ nat_lt 0 (items_len ds)
-follows-some no_items = refl
-follows-some (item d ds) = sym (lt-ltb 0 (suc (items_len ds)) (omega arith))
+pub follows-next : (later : Bool) (ds : Items) (d : Data) → follows later (both ds (item d no_items)) ≡ true
+follows-next later no_items d = refl
+follows-next later (item first ds) d = refl
 
 regroup : (a b c d e : List ℕ) → a ++ (b ++ ((c ++ d) ++ e)) ≡ ((a ++ (b ++ c)) ++ d) ++ e
 regroup a b c d e = simp append_assoc
 
-text-next : (later : Bool) (d : Data) (ds : Items) → inner_text later (both ds (item d no_items)) ≡ (inner_text later ds ++ comma_if (follows later ds)) ++ compact_text d
+pub text-next : (later : Bool) (d : Data) (ds : Items) → inner_text later (both ds (item d no_items)) ≡ (inner_text later ds ++ comma_if (follows later ds)) ++ compact_text d
 text-next later d no_items = ap (λ s. comma_if later ++ s) (append-nil (compact_text d))
 text-next later d (item first ds) =
     ap (λ s. comma_if later ++ (compact_text first ++ s)) (text-next true d ds ∙ ap (λ b. (inner_text true ds ++ comma_if b) ++ compact_text d) (follows-more ds))
     ∙ regroup (comma_if later) (compact_text first) (inner_text true ds) (comma_if true) (compact_text d)
 
-len-next : (d : Data) (ds : Items) → items_len (both ds (item d no_items)) ≡ items_len ds + 1
-len-next d no_items = refl
-len-next d (item first ds) = omega (arith, len-next d ds)
+-- ---- rounds and cabinets
 
-pub Lists-start : Lists [] [] no_items
-Lists-start = record { causes = refl; inputs = refl; text_is = refl; many = refl }
+chain : (a b c : ℕ) → a ≤ b → b ≤ c → a ≤ c
+chain a b c p q = omega (arith, p, q)
 
-pub Lists-at : (found : List Input) (text : List ℕ) (ds : Items) → found ≡ [] → text ≡ [] → Lists [] [] ds → Lists found text ds
-Lists-at found text ds p q l = subst (λ i. Lists i text ds) (sym p) (subst (λ s. Lists [] s ds) (sym q) l)
+pub within-more : (r k rounds cabinets : ℕ) (ds : Items) → r ≤ rounds → k ≤ cabinets → AllWithin r k ds → AllWithin rounds cabinets ds
+within-more r k rounds cabinets no_items e f within = tt
+within-more r k rounds cabinets (item d ds) e f within =
+    (chain (number_at (round 86400) d) r rounds within.0 e, chain (number_at (cabinet_number 64) d) k cabinets within.1 f, within-more r k rounds cabinets ds e f within.2)
 
-pub Lists-next : (old new : List Input) (before after : List ℕ) (ds : Items) (d : Data) → Lists old before ds → Adds old new before after d → Lists new after (both ds (item d no_items))
-Lists-next old new before after ds d l a =
-    record {
-      causes = each-next any_input inputs_path d (length old) a.causes ds 0 (omega (arith, l.many)) l.causes;
-      inputs = a.input ∙ ap (λ found. found ++ input_of 86400 64 d ∷ []) l.inputs ∙ sym (each_of-next (input_of 86400 64) d ds);
-      text_is = a.text ∙ ap (λ s. (s ++ comma_if (nat_lt 0 (length old))) ++ compact_text d) l.text_is
-          ∙ ap (λ b. (inner_text false ds ++ comma_if b) ++ compact_text d) (ap (nat_lt 0) (sym l.many) ∙ sym (follows-some ds)) ∙ sym (text-next false d ds);
-      many = len-next d ds ∙ (omega (arith, l.many, ap length a.input, length-append old (input_of 86400 64 d ∷ [])));
-    }
+pub within-next : (rounds cabinets : ℕ) (ds : Items) (d : Data) → AllWithin rounds cabinets ds → number_at (round 86400) d ≤ rounds → number_at (cabinet_number 64) d ≤ cabinets
+    → AllWithin rounds cabinets (both ds (item d no_items))
+within-next rounds cabinets no_items d within r k = (r, k, tt)
+within-next rounds cabinets (item first ds) d within r k = (within.0, within.1, within-next rounds cabinets ds d within.2 r k)
 
 -- the list's own text has the brackets
 pub bracketed : (later : Bool) (ds : Items) → items_text later ds ≡ inner_text later ds ++ 93 ∷ []
@@ -81,3 +115,19 @@ bracketed later (item d ds) = ap (λ s. comma_if later ++ (compact_text d ++ s))
   where
     closing : (a b c : List ℕ) → a ++ (b ++ (c ++ 93 ∷ [])) ≡ (a ++ (b ++ c)) ++ 93 ∷ []
     closing a b c = simp append_assoc
+
+-- ---- a list with one item more
+
+at-most : (a b c : ℕ) → a ≡ b → a ≤ c → b ≤ c
+at-most a b c is le = omega (arith, is, le)
+
+pub lists-next : (old new : Listed) (ds : Items) (d : Data) (spot : Spot) → Lists old ds → Holds new.found (both ds (item d no_items))
+    → string_bytes new.text ≡ (string_bytes old.text ++ comma_if old.some) ++ compact_text d → new.some ≡ true → IsSpot spot d
+    → old.last.round ≤ new.last.round → old.last.cabinet ≤ new.last.cabinet → spot.round ≤ new.last.round → spot.cabinet ≤ new.last.cabinet → Lists new (both ds (item d no_items))
+lists-next old new ds d spot l holds text some is-spot r c sr sc = record {
+  holds = holds;
+  text = text ∙ ap (λ s. (s ++ comma_if old.some) ++ compact_text d) l.text ∙ ap (λ b. (inner_text false ds ++ comma_if b) ++ compact_text d) l.some ∙ sym (text-next false d ds);
+  some = some ∙ sym (follows-next false ds d);
+  within = within-next new.last.round new.last.cabinet ds d (within-more old.last.round old.last.cabinet new.last.round new.last.cabinet ds r c l.within)
+      (at-most spot.round (number_at (round 86400) d) new.last.round is-spot.round sr) (at-most spot.cabinet (number_at (cabinet_number 64) d) new.last.cabinet is-spot.cabinet sc);
+}

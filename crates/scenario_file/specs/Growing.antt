@@ -12,3 +12,8 @@ both (item d ds) more = item d (both ds more)
 abbrev pub inner_text : Bool → Items → List ℕ
 inner_text later no_items = []
 inner_text later (item d ds) = comma_if later ++ (compact_text d ++ inner_text true ds)
+
+-- something stands before what follows the items: an item, or what stood before them
+abbrev pub follows : Bool → Items → Bool
+follows later no_items = later
+follows later (item d ds) = true

@@ -1,13 +1,14 @@
-//! The compact text of a scenario: its members in order, with the inputs in their place.
+//! The compact text of a scenario: its members in order, with the lists of what happens in their places.
 
-ghost use Rattle.std.specs.Prelude.{◌≡◌, [], ◌∷◌, ◌++◌, false, if◌then◌else◌, codes, bytes_eq, IfSome, string_bytes};
+ghost use Rattle.std.specs.Prelude.{◌≡◌, ℕ, List, [], ◌∷◌, ◌++◌, true, false, IfSome, string_bytes};
 ghost use Rattle.json.specs.Print.{quoted};
-ghost use Rattle.serde_json.specs.Data.{Items, array, object};
+ghost use Rattle.serde_json.specs.Data.{Items, object};
 ghost use Rattle.serde_json.specs.View.{view, members_view};
 ghost use Rattle.serde_json.specs.Written.{has_float, members_have_float, comma_if, compact_text};
 ghost use Rattle.scenario_file.specs.Growing.{inner_text};
-ghost use Rattle.scenario_file.specs.Framing.{with_inputs};
+ghost use Rattle.scenario_file.specs.Framing.{is_list, text_named, value_in, with_lists};
 
+use crate::lists::Texts;
 use crate::pieces::{add, add_comma, add_value};
 use serde_json::{Map, Value};
 use std::alloc::Global;
@@ -24,36 +25,37 @@ fn add_name(alloc: Global, text: &mut String, name: &str, later: bool) -> Option
     add(text, ":")
 }
 
-/// Adds what stands at a name: the list of inputs, or another value.
+/// Adds what stands at a name: a list that was read item by item, or another value.
 fn add_member(
     alloc: Global,
     text: &mut String,
     name: &str,
     value: &Value,
-    inputs: &str,
+    texts: &Texts,
 ) -> Option<()>
-    ensures { IfSome result (λ _. (ds : Items) → inputs.now ≡ inner_text false ds → has_float (view value.now) ≡ false
-        → string_bytes text.new ≡ string_bytes text.old ++ compact_text (if bytes_eq name.now (codes "inputs") then array ds else view value.now)) }
+    ensures { IfSome result (λ _. (rows : List ℕ → Items) → (is_list name.now ≡ true → text_named texts.now name.now ≡ inner_text false (rows name.now)) → has_float (view value.now) ≡ false
+        → string_bytes text.new ≡ string_bytes text.old ++ compact_text (value_in rows name.now (view value.now))) }
 {
-    if name == "inputs" {
-        add(text, "[")?;
-        add(text, inputs)?;
-        add(text, "]")?;
-        Some(())
-    } else {
-        add_value(alloc, text, value)
+    match texts.at(name) {
+        Some(items) => {
+            add(text, "[")?;
+            add(text, items)?;
+            add(text, "]")?;
+            Some(())
+        }
+        None => add_value(alloc, text, value),
     }
 }
 
-/// The compact text of an object of these members, with the inputs in their place, in room for so many bytes.
+/// The compact text of an object of these members, with the lists in their places, in room for so many bytes.
 pub(crate) fn compact(
     alloc: Global,
     frame: &Map<String, Value>,
-    inputs: &str,
+    texts: &Texts,
     room: usize,
 ) -> Option<String>
-    ensures { IfSome result (λ text. (ds : Items) → inputs.now ≡ inner_text false ds → members_have_float (members_view frame.now.entries) ≡ false
-        → string_bytes text ≡ compact_text (object (with_inputs (array ds) (members_view frame.now.entries)))) }
+    ensures { IfSome result (λ text. (rows : List ℕ → Items) → ((name : List ℕ) → is_list name ≡ true → text_named texts.now name ≡ inner_text false (rows name)) → members_have_float (members_view frame.now.entries) ≡ false
+        → string_bytes text ≡ compact_text (object (with_lists rows (members_view frame.now.entries)))) }
 {
     let Ok(mut text) = String::with_capacity(alloc, room) else {
         return None;
@@ -62,7 +64,7 @@ pub(crate) fn compact(
     let mut later = false;
     for (name, value) in frame.iter() {
         add_name(alloc, &mut text, name.as_str(), later)?;
-        add_member(alloc, &mut text, name.as_str(), value, inputs)?;
+        add_member(alloc, &mut text, name.as_str(), value, texts)?;
         later = true;
     }
     add(&mut text, "}")?;

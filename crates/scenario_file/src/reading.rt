@@ -1,4 +1,4 @@
-//! The scenario file: bytes in, a scenario or the first fault out. A right scenario with inputs is read with little memory;
+//! The scenario file: bytes in, a scenario or the first fault out. A right scenario is read with little memory;
 //! all else is given to the reader of the whole value, which names the first fault.
 
 ghost use Rattle.std.specs.Prelude.{IfOk, IfErr, IfSome};
@@ -6,31 +6,31 @@ ghost use Rattle.scenario_data.specs.Content.{scenario_content};
 ghost use Rattle.scenario_read.specs.Answers.{IsScenario, IsFirstFault, OnRefusal};
 
 use crate::compact::compact;
-use crate::listed::all_within;
 use crate::top::whole_of;
 use scenario_data::{ReadFail, Scenario};
-use scenario_read::{checked_parts, scenario_from};
+use scenario_read::{Parts, checked_parts, scenario_from};
 use serde_json::Value;
 use std::alloc::Global;
 
-/// A scenario that is right and says inputs, where there is memory for it.
+/// A scenario that is right, where there is memory for it.
 pub(crate) fn scenario_of(alloc: Global, bytes: &[u8]) -> Option<Scenario>
     ensures scenario { IfSome result (λ s. IsScenario bytes.now (scenario_content s)) }
     ensures reads_back { IfSome result (λ s. IsScenario s.compact.items (scenario_content s)) }
 {
     let whole = whole_of(alloc, bytes)?;
-    let text = compact(alloc, &whole.frame, whole.listed.text.as_str(), bytes.len())?;
-    let Ok(mut parts) = checked_parts(alloc, &Value::Object(whole.frame)) else {
+    let text = compact(alloc, &whole.frame, &whole.lists.texts, bytes.len())?;
+    let Ok(parts) = checked_parts(alloc, &Value::Object(whole.frame)) else {
         return None;
     };
-    if !all_within(
-        &whole.listed.inputs,
-        parts.setup.rounds,
-        parts.setup.cabinets.len(),
-    ) {
+    let last = whole.lists.last;
+    if last.round > parts.setup.rounds || last.cabinet as usize > parts.setup.cabinets.len() {
         return None;
     }
-    parts.events.inputs = whole.listed.inputs;
+    let parts = Parts {
+        version: parts.version,
+        setup: parts.setup,
+        events: whole.lists.events,
+    };
     Some(scenario_from(parts, text.into_bytes()))
 }
 

@@ -2,7 +2,7 @@
 
 use crate::read;
 use crate::reading::scenario_of;
-use scenario_data::{Input, ReadFail, Refusal, Scenario};
+use scenario_data::{FaultKind, Input, PriorityAct, ReadFail, Refusal, Scenario};
 use sig_types::Field;
 use std::alloc::{AllocError, Global};
 use std::test::Fail;
@@ -71,10 +71,37 @@ fn the_last_of_equal_names_counts(rt: HostRuntime) -> Result<(), Fail> {
     Ok(())
 }
 
-const GIVES_UP: [(&str, &str); 5] = [
+const LISTS: &str =
+    "{\"faults\":[{\"kind\":\"late\",\"way\":\"up\",\"stream\":\"load\",\"cabinet\":2,\"round\":3}],\"frames\":[{\"hex\":\"0aFf\",\"stream\":\"poll\",\"cabinet\":1,\"round\":2}],\"priority\":[{\"cancel\":7,\"cabinet\":2,\"round\":1},{\"round\":2,\"cabinet\":1,\"number\":1,\"class\":2,\"level\":3,\"phase\":4,\"arrival\":5,\"departure\":6}],\"loads\":[{\"cells\":[[\"unit\",5,60],[\"split\",1,2,3,20]],\"cabinet\":2,\"round\":3}],\"inputs\":[],\"cabinets\":[{},{}],\"rounds\":3,\"ticks\":1,\"version\":1}";
+
+const LISTS_COMPACT: &str =
+    "{\"cabinets\":[{},{}],\"faults\":[{\"cabinet\":2,\"kind\":\"late\",\"round\":3,\"stream\":\"load\",\"way\":\"up\"}],\"frames\":[{\"cabinet\":1,\"hex\":\"0aFf\",\"round\":2,\"stream\":\"poll\"}],\"inputs\":[],\"loads\":[{\"cabinet\":2,\"cells\":[[\"unit\",5,60],[\"split\",1,2,3,20]],\"round\":3}],\"priority\":[{\"cabinet\":2,\"cancel\":7,\"round\":1},{\"arrival\":5,\"cabinet\":1,\"class\":2,\"departure\":6,\"level\":3,\"number\":1,\"phase\":4,\"round\":2}],\"rounds\":3,\"ticks\":1,\"version\":1}";
+
+#[test]
+fn each_list_is_read_item_by_item(rt: HostRuntime) -> Result<(), Fail> {
+    let alloc = rt.alloc();
+    let Some(scenario) = scenario_of(alloc, LISTS.as_bytes()) else {
+        return Err(Fail::from("not read in parts"));
+    };
+    assert!(rt; scenario.compact.as_slice() == LISTS_COMPACT.as_bytes());
+    assert!(rt; scenario.inputs.is_empty());
+    assert!(rt; scenario.loads.len() == 1 && scenario.loads[0].cells.len() == 2);
+    assert!(rt; scenario.priority.len() == 2 && scenario.priority[0].act == PriorityAct::Cancel(7));
+    assert!(rt;
+        scenario.frames.len() == 1 && scenario.frames[0].hex.as_slice() == [10, 255].as_slice()
+    );
+    assert!(rt; scenario.faults.len() == 1 && scenario.faults[0].kind == FaultKind::Late);
+    Ok(())
+}
+
+const GIVES_UP: [(&str, &str); 6] = [
     (
-        "{\"cabinets\":[{}],\"rounds\":1,\"ticks\":1,\"version\":1}",
-        "a scenario",
+        "{\"loads\":[{\"cabinet\":1,\"cells\":[[\"unit\",9,1]],\"round\":1}],\"cabinets\":[{}],\"rounds\":1,\"ticks\":1,\"version\":1}",
+        "field loads[0].cells[0]",
+    ),
+    (
+        "{\"faults\":[{\"cabinet\":2,\"kind\":\"lose\",\"round\":1,\"stream\":\"poll\",\"way\":\"up\"}],\"cabinets\":[{}],\"rounds\":1,\"ticks\":1,\"version\":1}",
+        "limit faults[0].cabinet",
     ),
     (
         "{\"inputs\":[{\"cabinet\":1,\"ped\":1,\"round\":2}],\"cabinets\":[{}],\"rounds\":1,\"ticks\":1,\"version\":1}",

@@ -1,23 +1,22 @@
-use Rattle.std.proofs.Common.{rules, ◌≡◌, ◌∷◌, ◌++◌, [], false, if◌then◌else◌, bytes_eq, string_bytes, ap, ◌∙◌}
+use Rattle.std.proofs.Common.{rules, ◌≡◌, ◌∷◌, ◌++◌, [], false, string_bytes, ap, ◌∙◌}
 use Rattle.json.specs.Print.{quoted}
-use Rattle.serde_json.specs.Data.{array, member}
+use Rattle.serde_json.specs.Data.{member}
 use Rattle.serde_json.specs.View.{view, members_view}
 use Rattle.serde_json.specs.Written.{comma_if, members_text, compact_text}
-use Rattle.scenario_file.specs.Framing.{with_inputs}
-use Rattle.scenario_file.proofs.Frames.{inputs_name}
+use Rattle.scenario_file.specs.Framing.{value_in, with_lists}
 use Rattle.scenario_file.proofs.Texts.{one-member}
 use Rattle.scenario_file.proofs.compact.compact.Goals as goal
 
 pub loop-name-preserved : goal.loop-name-preserved
-loop-name-preserved c = λ ds is plain.
+loop-name-preserved c = λ rows is plain.
     let l = c.loop-name in
-    let so-far = l.invariant ds is plain in
+    let so-far = l.invariant rows is plain in
     let name = string_bytes c.in-Some.name.now in
     let d = view c.in-Some.value.now in
     let rest = members_view c.next.new.self in
     let first : members_view l.name-iterator ≡ member name d rest = search rules in
-    one-member ds name d rest (members_view l.name-iterator) l.later (string_bytes l.text) (string_bytes c.add_name.new.text) (string_bytes c.add_member.new.text)
-    (123 ∷ members_text false (with_inputs (array ds) (members_view c.args.frame.now.entries)))
+    one-member rows name d rest (members_view l.name-iterator) l.later (string_bytes l.text) (string_bytes c.add_name.new.text) (string_bytes c.add_member.new.text)
+    (123 ∷ members_text false (with_lists rows (members_view c.args.frame.now.entries)))
     first so-far.0 so-far.1
     (c.in_ok-add_name.ensures ∙ ap (λ n. ((string_bytes l.text ++ comma_if l.later) ++ quoted n) ++ 58 ∷ []) c.as_str.ensures.value)
-    (λ none. c.in_ok-add_member.ensures ds is none ∙ ap (λ n. string_bytes c.add_name.new.text ++ compact_text (if bytes_eq n inputs_name then array ds else d)) c.as_str-in-loop-name.ensures.value)
+    (λ none. c.in_ok-add_member.ensures rows (is _) none ∙ ap (λ n. string_bytes c.add_name.new.text ++ compact_text (value_in rows n d)) c.as_str-in-loop-name.ensures.value)

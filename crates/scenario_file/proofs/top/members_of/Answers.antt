@@ -1,46 +1,46 @@
-use Rattle.std.proofs.Common.{rules, ◌≡◌, ◌-◌, false, Some, bytes_eq, length, string_bytes, sym, ap, ap₂, ◌∙◌, subst, arith}
-use Rattle.std.proofs.lemmas.Slice.Eq.{bytes_eq-Decides}
+use Rattle.std.proofs.Common.{rules, ◌≡◌, ◌-◌, true, false, List, ℕ, Some, length, string_bytes, sym, ap, ap₂, ◌∙◌, subst, arith}
 use Rattle.json.specs.Json.{value, members, read_key}
 use Rattle.json.proofs.Grammar.{read_key-shorter}
-use Rattle.serde_json.specs.Data.{array, no_items, put}
+use Rattle.serde_json.specs.Data.{array, Items, no_items, put}
 use Rattle.serde_json.specs.Read.{of_json, of_members, converted}
-use Rattle.serde_json.specs.Find.{get_member}
 use Rattle.serde_json.specs.View.{view, items_view, members_view}
 use Rattle.serde_json.specs.declared.value.Value.{Array}
 use Rattle.serde_json.proofs.Views.{view-Array}
 use Rattle.scenario_read.specs.Sorted.{MembersSorted}
 use Rattle.scenario_read.proofs.Rising.{tree-sorted, sorted-put}
-use Rattle.scenario_file.specs.Framing.{with_inputs, MayStand}
+use Rattle.scenario_file.specs.Listing.{name_of}
+use Rattle.scenario_file.specs.Framing.{is_list, with_lists, with_rows, AllStand}
 use Rattle.scenario_file.proofs.Turns.{converted_some, member_read, members_over}
-use Rattle.scenario_file.proofs.Frames.{inputs_name, put-other, put-inputs}
-use Rattle.scenario_file.proofs.Standing.{stand-other, place-put}
+use Rattle.scenario_file.proofs.Frames.{put-other, put-list}
+use Rattle.scenario_file.proofs.Standing.{all-stand-other, named-list}
 use Rattle.scenario_file.proofs.top.members_of.Goals as goal
 
 pub members-init : goal.members-init
 members-init c =
     let all = members (value 126) (length c.args.reader.now) c.args.reader.now in
-    let empty = sym c.new-frame.ensures.empty in (
+    let empty = sym c.new-frame.ensures.empty in
+    let none : List ℕ → Items = λ (name : List ℕ). no_items in (
       length c.args.reader.now,
-      no_items,
+      none,
       omega arith,
-      ap (λ es. converted (λ ms. of_members ms (with_inputs (array no_items) (members_view es))) all) empty,
+      ap (λ es. converted (λ ms. of_members ms (with_lists none (members_view es))) all) empty,
       omega arith,
       subst (λ es. MembersSorted (members_view es)) empty tt,
-      tt,
+      subst (λ es. AllStand c.no_lists-lists.result (members_view es) none) empty c.no_lists-lists.ensures,
     )
 
-pub returns-in-Some : goal.returns-in-Some
-returns-in-Some c =
+pub returns-in-Ok-None : goal.returns-in-Ok-None
+returns-in-Ok-None c =
     let p = value 126 in
     let l = c.members in
     let n = l.invariant.0 in
-    let ds = l.invariant.1 in
+    let rows = l.invariant.1 in
     let frame = members_view l.frame.entries in
     record {
       ok = (
-        ds,
-        l.invariant.3 ∙ members_over p (with_inputs (array ds) frame) n l.reader c.next_key.new.self l.invariant.2 (grind arith),
-        subst (λ o. MayStand o frame ds) c.in-Some.is l.invariant.6,
+        rows,
+        l.invariant.3 ∙ members_over p (with_lists rows frame) n l.reader c.next_key.new.self l.invariant.2 (grind arith),
+        l.invariant.6,
       );
       sorted = l.invariant.5;
     }
@@ -50,36 +50,35 @@ members-preserved-in-Some-put_member c =
     let p = value 126 in
     let l = c.members in
     let n = l.invariant.0 in
-    let ds = l.invariant.1 in
+    let rows = l.invariant.1 in
     let frame = members_view l.frame.entries in
-    let old = with_inputs (array ds) frame in
+    let old = with_lists rows frame in
     let k = c.in-Ok-Some.name.now in
     let s = c.next_key.new.self in
     let named : read_key l.reader ≡ Some (Some k, s) = grind arith in
-    let done = c.in_ok-listed.ensures in
+    let done = c.in_ok-listed-in-Some.ensures in
     let es = done.ok.0 in
-    let r = c.inputs_at.new.reader in
+    let now = with_rows rows k es in
+    let r = c.list_at.new.reader in
     let less = read_key-shorter l.reader (Some k) s named in
     let lesser = done.shorter in
-    let here : k ≡ inputs_name = (bytes_eq-Decides k inputs_name).0 (sym c.eq.ensures ∙ c.if-eq.true) in
+    let here : is_list k ≡ true = named-list c.in-Some.found k c.in-Some.ensures.0 in
+    let named-so : name_of c.in_ok-listed-in-Some.listed.found ≡ k = done.list ∙ c.in-Some.ensures.0 in
     let copied : string_bytes c.in-Ok.key ≡ k = search rules in
     let empty : view (Array c.new.result) ≡ array no_items = view-Array c.new.result ∙ ap (λ vs. array (items_view vs)) c.new.ensures.items in
-    let inserted : members_view c.put_member.new.members.entries ≡ put inputs_name (array no_items) frame =
-    c.in-Some-put_member.ensures ∙ ap₂ (λ name d. put name d frame) (copied ∙ here) empty in
-    let there : put k (array es) old ≡ with_inputs (array es) (members_view c.put_member.new.members.entries) =
-    ap (λ name. put name (array es) old) here ∙ put-inputs (array no_items) (array ds) (array es) frame l.invariant.5 ∙ ap (with_inputs (array es)) (sym inserted) in (
+    let inserted : members_view c.put_member.new.members.entries ≡ put k (array no_items) frame =
+    c.in-Some-put_member.ensures ∙ ap₂ (λ name d. put name d frame) copied empty in
+    let there : put k (array es) old ≡ with_lists now (members_view c.put_member.new.members.entries) = put-list k rows es frame here l.invariant.5 ∙ ap (with_lists now) (sym inserted) in
+    let stand : AllStand c.with_list-lists.result (put k (array no_items) frame) now =
+    subst (λ name. AllStand c.with_list-lists.result (put name (array no_items) frame) (with_rows rows name es)) named-so (c.with_list-lists.ensures frame rows es l.invariant.6 done.ok.2) in (
       n - 1,
-      es,
+      now,
       omega (arith, l.invariant.2),
       l.invariant.3 ∙ member_read p old n k l.reader s r (array es) (omega (arith, l.invariant.2)) named done.ok.1
           ∙ ap (λ found. converted (λ ms. of_members ms found) (members p (n - 1) r)) there,
       omega (arith, l.invariant.4),
-      subst MembersSorted (sym inserted) (sorted-put inputs_name (array no_items) frame tt l.invariant.5),
-      record {
-        lists = done.ok.2;
-        few = done.few;
-        place = subst (λ ms. get_member inputs_name ms ≡ Some (array no_items)) (sym inserted) (place-put frame);
-      },
+      subst MembersSorted (sym inserted) (sorted-put k (array no_items) frame tt l.invariant.5),
+      subst (λ ms. AllStand c.with_list-lists.result ms now) (sym inserted) stand,
     )
 
 pub members-preserved : goal.members-preserved
@@ -87,28 +86,38 @@ members-preserved c =
     let p = value 126 in
     let l = c.members in
     let n = l.invariant.0 in
-    let ds = l.invariant.1 in
+    let rows = l.invariant.1 in
     let frame = members_view l.frame.entries in
-    let old = with_inputs (array ds) frame in
+    let old = with_lists rows frame in
     let k = c.in-Ok-Some.name.now in
     let s = c.next_key.new.self in
     let named : read_key l.reader ≡ Some (Some k, s) = grind arith in
-    let done = c.in_ok-value.ensures in
-    let v = view c.in_ok-value.value in
+    let done = c.in_ok-value-in-None.ensures in
+    let v = view c.in_ok-value-in-None.value in
     let r = c.tree.new.reader in
     let less = read_key-shorter l.reader (Some k) s named in
     let lesser = done.shorter in
-    let other : bytes_eq k inputs_name ≡ false = sym c.eq.ensures ∙ c.if-eq.false in
+    let other : is_list k ≡ false = c.in-None.ensures in
     let copied : string_bytes c.in-Ok.key ≡ k = search rules in
     let tree = converted_some of_json (value 126 s) v r done.ok in
-    let inserted : members_view c.put_member-else-eq.new.members.entries ≡ put k v frame = c.in_ok-put_member.ensures ∙ ap (λ name. put name v frame) copied in
-    let there : put k v old ≡ with_inputs (array ds) (members_view c.put_member-else-eq.new.members.entries) = put-other k v (array ds) frame other ∙ ap (with_inputs (array ds)) (sym inserted) in (
+    let inserted : members_view c.put_member-in-None.new.members.entries ≡ put k v frame = c.in_ok-put_member-in-None.ensures ∙ ap (λ name. put name v frame) copied in
+    let there : put k v old ≡ with_lists rows (members_view c.put_member-in-None.new.members.entries) = put-other k v rows frame other l.invariant.5 ∙ ap (with_lists rows) (sym inserted) in (
       n - 1,
-      ds,
+      rows,
       omega (arith, l.invariant.2),
       l.invariant.3 ∙ member_read p old n k l.reader s r v (omega (arith, l.invariant.2)) named done.ok
           ∙ ap (λ found. converted (λ ms. of_members ms found) (members p (n - 1) r)) there,
       omega (arith, l.invariant.4),
       subst MembersSorted (sym inserted) (sorted-put k v frame (tree-sorted tree.0 v tree.2) l.invariant.5),
-      subst (λ ms. MayStand l.inputs ms ds) (sym inserted) (stand-other l.inputs frame ds k v other l.invariant.6),
+      subst (λ ms. AllStand l.lists ms rows) (sym inserted) (all-stand-other l.lists frame rows k v other l.invariant.6),
     )
+
+pub members-smaller-in-Some-put_member : goal.members-smaller-in-Some-put_member
+members-smaller-in-Some-put_member c =
+    let l = c.members in
+    let k = c.in-Ok-Some.name.now in
+    let s = c.next_key.new.self in
+    let named : read_key l.reader ≡ Some (Some k, s) = grind arith in
+    let less = read_key-shorter l.reader (Some k) s named in
+    let lesser = c.in_ok-listed-in-Some.ensures.shorter in
+    omega arith

@@ -4,10 +4,10 @@ use Rattle.json.specs.Lex.{tokens}
 use Rattle.json.specs.Json.{value, members, parse_map}
 use Rattle.json.specs.Reads.{token_of}
 use Rattle.json.proofs.Grammar.{value-begin_object}
-use Rattle.serde_json.specs.Data.{array, object}
+use Rattle.serde_json.specs.Data.{object}
 use Rattle.serde_json.specs.Read.{of_json, converted, read}
 use Rattle.serde_json.specs.View.{members_view}
-use Rattle.scenario_file.specs.Framing.{with_inputs}
+use Rattle.scenario_file.specs.Framing.{with_lists}
 use Rattle.scenario_file.proofs.Turns.{converted-object, whole_read}
 use Rattle.scenario_file.proofs.top.whole_of.Goals as goal
 
@@ -17,7 +17,7 @@ returns-clause-ok c =
     let rest = c.next.new.self in
     let whole = c.in_ok-whole.whole in
     let found = c.in_ok-whole.ensures.ok in
-    let d = object (with_inputs (array found.0) (members_view whole.frame.entries)) in
+    let d = object (with_lists found.0 (members_view whole.frame.entries)) in
     let same : text ≡ c.args.bytes.now = search rules in
     let first : tokens text ≡ Token.begin_object ∷ rest = sym c.in-Ok-new.ensures.ok ∙ c.in-Some-BeginObject.ensures.value ∙ ap (λ k. token_of k ∷ rest) c.in-Some-BeginObject.field-0-is in
     let opened = ap (converted of_json) (ap (value 127) first ∙ value-begin_object 127 rest (omega arith)) ∙ converted-object (members (value 126) (length rest) rest) in

@@ -6,7 +6,7 @@ use Rattle.json.proofs.Grammar.{value-begin_array}
 use Rattle.serde_json.specs.Data.{array}
 use Rattle.serde_json.specs.Read.{of_json, converted}
 use Rattle.scenario_file.proofs.Turns.{converted-array}
-use Rattle.scenario_file.proofs.top.inputs_at.Goals as goal
+use Rattle.scenario_file.proofs.top.list_at.Goals as goal
 
 pub returns-in-Some-clause-ok : goal.returns-in-Some-clause-ok
 returns-in-Some-clause-ok c =
