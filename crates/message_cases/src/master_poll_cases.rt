@@ -4,30 +4,31 @@
 ghost use Rattle.std.specs.Prelude.{◌≡◌, ◌≤◌, IfOk, length};
 ghost use Rattle.scenario_data.specs.Content.{scenario_content};
 ghost use Rattle.master_poll.specs.Masters.{IsRun};
+ghost use Rattle.desk.specs.Served.{CanBeServed};
 
 use arrayvec::ArrayVec;
 use hex::decode as octets_of;
 use master_poll::{Master, Round};
 use round_streams::Answers;
-use scenario_data::{Base, Cabinet, LoadItem, MasterSetup, Scenario};
+use scenario_data::{Base, Cabinet, Fault, LoadItem, MasterSetup, Scenario};
 use sig_tables::{Cell, CellValue};
 use sig_types::{MasterNote, Octets};
 use std::alloc::{AllocError, Global};
 use std::test::Fail;
 
-const BEGIN: &str =
+pub(crate) const BEGIN: &str =
     "302b02010004067075626c6963a31e02010102010002010030133011060c2b0601040181fd5901010200020101";
 
-const BEGUN: &str =
+pub(crate) const BEGUN: &str =
     "302b02010004067075626c6963a21e02010102010002010030133011060c2b0601040181fd5901010200020101";
 
-const PART: &str =
+pub(crate) const PART: &str =
     "306a02010004067075626c6963a35d02010202010002010030523011060c2b0601040181fd59010103000201013011060c2b0601040181fd59010104000201013014060f2b060104018936040201010201080202011e3014060f2b060104018936040201010201080602011e";
 
-const TAKEN: &str =
+pub(crate) const TAKEN: &str =
     "306a02010004067075626c6963a25d02010202010002010030523011060c2b0601040181fd59010103000201013011060c2b0601040181fd59010104000201013014060f2b060104018936040201010201080202011e3014060f2b060104018936040201010201080602011e";
 
-const VERIFY: &str =
+pub(crate) const VERIFY: &str =
     "303e02010004067075626c6963a33102010302010002010030263011060c2b0601040181fd59010103000201013011060c2b0601040181fd5901010500020101";
 
 const VERIFIED: &str =
@@ -42,9 +43,11 @@ const FINISH: &str =
 const DONE: &str =
     "303e02010004067075626c6963a23102010402010002010030263011060c2b0601040181fd59010103000201013011060c2b0601040181fd5901010600020101";
 
-/// One cabinet, and a load for it in the first round: yellow change of phases 2 and 6.
-fn one_load(alloc: Global) -> Result<Scenario, AllocError>
+/// One cabinet, and a load for it in the first round: yellow change of phases 2 and 6. The link has these faults.
+pub(crate) fn one_load(alloc: Global, faults: Vec<Fault>) -> Result<Scenario, AllocError>
+    requires { length faults.items ≤ 9 }
     ensures run { IfOk result (λ s. IsRun (scenario_content s)) }
+    ensures served { IfOk result (λ s. CanBeServed (scenario_content s)) }
     ensures cabinets { IfOk result (λ s. length s.cabinets.items ≡ 1) }
 {
     let mut community = ArrayVec::new();
@@ -96,7 +99,7 @@ fn one_load(alloc: Global) -> Result<Scenario, AllocError>
         loads: vec![in alloc; load]?,
         priority: Vec::new(alloc),
         frames: Vec::new(alloc),
-        faults: Vec::new(alloc),
+        faults,
         compact: Vec::new(alloc),
     })
 }
@@ -145,7 +148,7 @@ fn is_made(
 fn meets(alloc: Global, rounds: &[(&str, &str, Option<MasterNote>)]) -> Result<bool, Fail>
     requires { length rounds.now ≤ 9 }
 {
-    let s = one_load(alloc)?;
+    let s = one_load(alloc, Vec::new(alloc))?;
     let Ok(mut master) = Master::open(alloc, &s) else {
         return Ok(false);
     };

@@ -1,20 +1,12 @@
-pub mod Writing
 mod Reading
-mod Pairs
 mod Words
-mod ScenarioLine
-mod Journals
-mod Histories
-mod Numbered
+mod Places
+mod Texts
+mod RoundLines
+mod Serial
+mod Streams
 mod Opening
-mod Hearing
-mod Ticking
 mod Rounds
-mod EachLine
-mod Openings
-mod Inputs
-mod OneRound
-mod Refusals
-mod AllRounds
-mod Due
 mod WholeText
+mod Refusals
+mod Due

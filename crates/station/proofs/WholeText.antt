@@ -1,65 +1,52 @@
--- The whole text: the line of the scenario, and what comes behind it.
-use Rattle.std.proofs.Common.{◌≡◌, ◌≢◌, ◌≤◌, ℕ, List, [], ◌∷◌, ◌++◌, Option, length, refl, subst, arith}
+-- The whole text of a run, in its parts.
+use Rattle.std.proofs.Common.{◌≡◌, ◌≢◌, ◌+◌, ◌∙◌, ℕ, suc, List, [], ◌∷◌, ◌++◌, sym, ap, append-nil, append_assoc}
 use Rattle.trace_text.specs.Line.{line_text}
 use Rattle.trace_text.specs.declared.lines.Line.{Line}
-use Rattle.trace_text.specs.declared.lines.Line.TheVariants.{S, Z}
-use Rattle.trace_text.proofs.Ends.{some_text}
+use Rattle.trace_text.specs.declared.lines.Line.TheVariants.{R, S, Z}
 use Rattle.safe_trace.specs.TraceText.{lines_text}
 use Rattle.scenario_data.specs.Content.{ScenarioContent}
-use Rattle.controller.specs.declared.Controller.{Controller}
-use Rattle.run_text.specs.Runnable.{Runnable}
-use Rattle.run_text.specs.Lines.{trace_of, run_lines, each_lines, opening_lines, rounds_lines}
-use Rattle.station.specs.Bytes.{AppendsFront, Puts, PutsFront}
-use Rattle.station.specs.Rounds.{EachRuns, rest_lines}
-use Rattle.station.proofs.Writing.{some_before, some_behind, front_first, front_yet, puts_then, puts_front}
-use Rattle.station.proofs.Numbered.{each_length}
+use Rattle.run_lines.specs.Standing.{Standing, opened_standings, each_standing}
+use Rattle.run_lines.specs.Orders.{serial_round, serial_rounds, serial_journals}
+use Rattle.run_lines.specs.Lines.{notes_lines, each_lines, round_lines, opening_lines, rounds_lines, front_lines, rest_lines, run_text}
+use Rattle.trace_text.proofs.Ends.{some_text}
+use Rattle.trace_out.proofs.Writing.{some_behind}
+use Rattle.station.proofs.Texts.{text_append, text_some}
 
--- the text of some lines isn't empty
-lines_some : (lines : List Line) → lines ≢ [] → lines_text lines ≢ []
-lines_some [] some = absurd (some refl)
-lines_some (line ∷ lines) some = some_before (line_text line) (lines_text lines) (some_text line)
+-- a round: its number, the notes, and the cabinets
+pub round_spelled : (s : ScenarioContent) (round : ℕ) (ts : List Standing) (journals : List (List ℕ)) (notes : List Line) → notes ≡ notes_lines s 1 ts
+    → lines_text (round_lines s round ts journals) ≡ line_text (R round) ++ (lines_text notes ++ lines_text (each_lines s 1 ts journals))
+round_spelled s round ts journals notes same =
+    ap (λ (x : List ℕ). line_text (R round) ++ x)
+    (text_append (notes_lines s 1 ts) (each_lines s 1 ts journals)
+    ∙ ap (λ (lines : List Line). lines_text lines ++ lines_text (each_lines s 1 ts journals)) (sym same))
 
--- nor is what comes behind the first line: it has the end
-rest_some : (s : ScenarioContent) → lines_text (rest_lines s) ≢ []
-rest_some s =
-    lines_some (rest_lines s) (some_behind (each_lines opening_lines 1 s.cabinets) (rounds_lines s 0 s.rounds ++ Z s.rounds ∷ [])
-    (some_behind (rounds_lines s 0 s.rounds) (Z s.rounds ∷ []) (λ none. cc none)))
+pub round_some : (s : ScenarioContent) (round : ℕ) (ts : List Standing) (journals : List (List ℕ)) → lines_text (round_lines s round ts journals) ≢ []
+round_some s round ts journals = text_some (R round) (notes_lines s 1 ts ++ each_lines s 1 ts journals)
 
--- nothing of it was written yet
-pub text_yet : (s : ScenarioContent) (old : Option (List ℕ)) → AppendsFront old old (trace_of s)
-text_yet s old = front_yet old (trace_of s) (lines_some (run_lines s) (λ none. cc none))
+-- what comes behind the scenario: what each cabinet shows before any tick, the rounds, and the end
+abbrev pub all_openings : ScenarioContent → List Line
+all_openings s = opening_lines 1 (opened_standings s s.cabinets)
 
--- a front of the first line
-pub text_first : (s : ScenarioContent) (compact : List ℕ) (old new : Option (List ℕ)) (held : List ℕ) → compact ≡ s.compact
-    → PutsFront old new held (line_text (S compact)) → PutsFront old new held (trace_of s)
-text_first s compact old new held e p =
-    front_first old new held (line_text (S s.compact)) (lines_text (rest_lines s)) (subst (λ (x : List ℕ). PutsFront old new held (line_text (S x))) e p)
+abbrev pub all_rounds : ScenarioContent → List Line
+all_rounds s = rounds_lines s 1 (opened_standings s s.cabinets) (serial_journals s)
 
--- the first line alone
-pub text_line : (s : ScenarioContent) (compact : List ℕ) (old new : Option (List ℕ)) (held holds : List ℕ) → compact ≡ s.compact
-    → Puts old new held holds (line_text (S compact)) → PutsFront old new held (trace_of s)
-text_line s compact old new held holds e p =
-    puts_front old new new held holds (line_text (S s.compact)) (lines_text (rest_lines s))
-    (subst (λ (x : List ℕ). Puts old new held holds (line_text (S x))) e p)
-    (front_yet new (holds ++ lines_text (rest_lines s)) (some_behind holds (lines_text (rest_lines s)) (rest_some s)))
+pub rest_spelled : (s : ScenarioContent)
+    → lines_text (rest_lines s (serial_journals s)) ≡ lines_text (all_openings s) ++ (lines_text (all_rounds s) ++ line_text (Z s.rounds))
+rest_spelled s =
+    text_append (front_lines s (serial_journals s)) (Z s.rounds ∷ [])
+    ∙ ap (λ (x : List ℕ). x ++ lines_text (Z s.rounds ∷ [])) (text_append (all_openings s) (all_rounds s))
+    ∙ append_assoc (lines_text (all_openings s)) (lines_text (all_rounds s)) (lines_text (Z s.rounds ∷ []))
+    ∙ ap (λ (x : List ℕ). lines_text (all_openings s) ++ (lines_text (all_rounds s) ++ x)) (append-nil (line_text (Z s.rounds)))
 
--- the first line, and a front of what comes behind it
-pub text_front : (s : ScenarioContent) (compact : List ℕ) (old mid new : Option (List ℕ)) (held holds : List ℕ) → compact ≡ s.compact
-    → Puts old mid held holds (line_text (S compact)) → PutsFront mid new holds (lines_text (rest_lines s))
-    → PutsFront old new held (trace_of s)
-text_front s compact old mid new held holds e p q =
-    puts_front old mid new held holds (line_text (S s.compact)) (lines_text (rest_lines s))
-    (subst (λ (x : List ℕ). Puts old mid held holds (line_text (S x))) e p) q
+pub rest_some : (s : ScenarioContent) → lines_text (rest_lines s (serial_journals s)) ≢ []
+rest_some s = rw (rest_spelled s) (some_behind (lines_text (all_openings s)) (lines_text (all_rounds s) ++ line_text (Z s.rounds))
+    (some_behind (lines_text (all_rounds s)) (line_text (Z s.rounds)) (some_text (Z s.rounds))))
 
--- all of it
-pub text_put : (s : ScenarioContent) (compact : List ℕ) (old mid new : Option (List ℕ)) (held holds last : List ℕ) → compact ≡ s.compact
-    → Puts old mid held holds (line_text (S compact)) → Puts mid new holds last (lines_text (rest_lines s))
-    → Puts old new held last (trace_of s)
-text_put s compact old mid new held holds last e p q =
-    puts_then old mid new held holds last (line_text (S s.compact)) (lines_text (rest_lines s))
-    (subst (λ (x : List ℕ). Puts old mid held holds (line_text (S x))) e p) q
+pub trace_some : (s : ScenarioContent) → run_text s (serial_journals s) ≢ []
+trace_some s = text_some (S s.compact) (rest_lines s (serial_journals s))
 
--- there are no more controllers than cabinets
-pub few_controllers : (s : ScenarioContent) (ks : List Controller) → Runnable s → EachRuns s (λ cab. 0) 1 ks s.cabinets → length ks ≤ 64
-few_controllers s ks runnable each = let same : length ks ≡ length s.cabinets = each_length s
-    (λ cab. 0) 1 ks s.cabinets each in omega (arith, same, runnable.few_cabinets)
+-- the rounds that are left have text
+pub rounds_some : (s : ScenarioContent) (round : ℕ) (ts : List Standing) (n : ℕ) → lines_text (rounds_lines s round ts (serial_rounds s ts (suc n))) ≢ []
+rounds_some s round ts n =
+    text_some (R round) ((notes_lines s 1 ts ++ each_lines s 1 ts (serial_round s 1 ts)) ++ rounds_lines s (round + 1) (each_standing s 1 ts (serial_round s 1 ts))
+    (serial_rounds s (each_standing s 1 ts (serial_round s 1 ts)) n))

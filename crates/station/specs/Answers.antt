@@ -1,17 +1,15 @@
 -- What each answer of the top call says of the words, the input, the output and the faults.
-use Rattle.std.specs.Prelude.{◌≡◌, ◌≤◌, ◌<◌, ◌⊎◌, ℕ, List, [], ◌∷◌, Option, Some, None, IfSome, codes, drop, length, string_bytes}
+use Rattle.std.specs.Prelude.{◌≡◌, ◌≤◌, ◌<◌, ◌⊎◌, ℕ, List, [], ◌∷◌, Option, Some, IfSome, codes, drop, length, string_bytes}
 use Rattle.io_edge.specs.Edge.{Appends}
 use Rattle.scenario_data.specs.declared.refusal.Refusal.{Refusal}
 use Rattle.scenario_data.specs.declared.refusal.Refusal.TheVariants.{Syntax, Field, Limit, Broken}
 use Rattle.scenario_data.specs.Content.{ScenarioContent}
 use Rattle.scenario_read.specs.Answers.{IsScenario, IsFirstFault}
-use Rattle.run_text.specs.NotRun.{first_not_run}
-use Rattle.run_text.specs.Lines.{trace_of}
-use Rattle.run_text.specs.Streets.{TellsSafeStreets}
-use Rattle.run_text.specs.Coordination.{EachMeets}
 use Rattle.station.specs.declared.status.Status.{Status}
 use Rattle.station.specs.declared.status.Status.TheVariants.{Done, Scenario, NotATrace, ReadFault, WriteFault, NoMemory}
-use Rattle.station.specs.Bytes.{AppendsFront, nothing_left}
+use Rattle.trace_out.specs.Bytes.{AppendsFront}
+use Rattle.station.specs.Bytes.{nothing_left}
+use Rattle.station.specs.Serial.{trace_of, KeepsStreets}
 
 -- the words are those of `run`
 abbrev pub IsRun : List (List ℕ) → Type 0
@@ -47,49 +45,27 @@ AreInput left bytes = IfSome left (λ input. bytes ≡ input)
 abbrev pub IsRead : Option (List ℕ) → ScenarioContent → Type 0
 IsRead left s = (bytes : List ℕ) × AreInput left bytes × IsShort bytes × IsScenario bytes s
 
--- and a run carries all of it out
-abbrev pub IsInput : Option (List ℕ) → ScenarioContent → Type 0
-IsInput left s = IsRead left s × (first_not_run s ≡ None)
+-- the input is no scenario
+abbrev pub IsNoScenario : List ℕ → Type 0
+IsNoScenario input = (s : ScenarioContent) → IsScenario input s → ⊥
 
--- the input is such a scenario
-abbrev pub HoldsScenario : Option (List ℕ) → Type 0
-HoldsScenario left = (s : ScenarioContent) × IsInput left s
+-- `run` is done: the source, which had this left, was read to its end; its bytes are a scenario; the whole trace of the scenario was
+-- appended to the sink; and by the lines of the trace every street is safe, versions are whole, the tables in force are those of whole
+-- accepted downloads, and coordination is met
+pub record RunsWhole (left ends old new : Option (List ℕ)) : Type 0 where
+  pub scenario : ScenarioContent
+  pub input : IsRead left scenario
+  pub ended : ends ≡ nothing_left left
+  pub written : Appends old new (trace_of scenario)
+  pub kept : KeepsStreets scenario
 
--- the refusal is of the field with this name
-abbrev pub IsField : Refusal → List ℕ → Type 0
-IsField Syntax name = ⊥
-IsField (Field path) name = string_bytes path ≡ name
-IsField (Limit path) name = ⊥
-IsField (Broken cabinet rule row) name = ⊥
-
--- the bytes are a scenario, and the refusal names the first of what no run carries out yet
-abbrev pub IsFirstNotRun : List ℕ → Refusal → Type 0
-IsFirstNotRun bytes refusal =
-    (s : ScenarioContent) × (name : List ℕ) × IsScenario bytes s × (first_not_run s ≡ Some name) × IsField refusal name
-
--- why bytes are refused: for their first fault, or, where they are a scenario, for what no run carries out yet
-abbrev pub IsCause : List ℕ → Refusal → Type 0
-IsCause bytes refusal = IsFirstFault bytes refusal ⊎ IsFirstNotRun bytes refusal
-
--- the input is within the limit, and this is why it is refused
-abbrev pub HasCause : Option (List ℕ) → Refusal → Type 0
-HasCause left refusal = (bytes : List ℕ) × AreInput left bytes × IsShort bytes × IsCause bytes refusal
-
--- the input is a scenario, and all of its trace was appended
-abbrev pub WritesTrace : Option (List ℕ) → Option (List ℕ) → Option (List ℕ) → Type 0
-WritesTrace left old new = (s : ScenarioContent) × IsInput left s × Appends old new (trace_of s)
-
--- the input is a scenario, and a front of its trace was appended, and not all of it
-abbrev pub WritesFront : Option (List ℕ) → Option (List ℕ) → Option (List ℕ) → Type 0
-WritesFront left old new = (s : ScenarioContent) × IsInput left s × AppendsFront old new (trace_of s)
-
--- the input is a scenario, and all of its trace was appended: by its lines every street is safe, and the versions are whole
-abbrev pub WritesSafe : Option (List ℕ) → Option (List ℕ) → Option (List ℕ) → Type 0
-WritesSafe left old new = (s : ScenarioContent) × IsInput left s × Appends old new (trace_of s) × TellsSafeStreets s (trace_of s)
-
--- the input is a scenario, and all of its trace was appended: the histories that it tells meet what coordination promises
-abbrev pub WritesMet : Option (List ℕ) → Option (List ℕ) → Option (List ℕ) → Type 0
-WritesMet left old new = (s : ScenarioContent) × IsInput left s × Appends old new (trace_of s) × EachMeets s
+-- `run` stopped short while it wrote: the source was read to its end, its bytes are a scenario, and a front of the trace was appended,
+-- and not all of it
+pub record StopsShort (left ends old new : Option (List ℕ)) : Type 0 where
+  pub scenario : ScenarioContent
+  pub input : IsRead left scenario
+  pub ended : ends ≡ nothing_left left
+  pub front : AppendsFront old new (trace_of scenario)
 
 -- the refusal is that of the whole input, for its length
 abbrev pub IsLengthLimit : Refusal → Type 0
@@ -98,57 +74,48 @@ IsLengthLimit (Field path) = ⊥
 IsLengthLimit (Limit path) = string_bytes path ≡ codes "."
 IsLengthLimit (Broken cabinet rule row) = ⊥
 
--- the answer is the refusal of the whole input for its length
-abbrev pub IsLengthRefusal : Status → Type 0
-IsLengthRefusal (Scenario refusal) = IsLengthLimit refusal
-IsLengthRefusal _ = ⊥
+-- the input is too long: it was read to one byte past the limit
+abbrev pub IsTooLong : Option (List ℕ) → Option (List ℕ) → Type 0
+IsTooLong left ends = IfSome left (λ input. (16777216 < length input) × (ends ≡ Some (drop 16777217 input)))
+
+-- the input was read to its end, and this is its first fault
+pub record HasFault (refusal : Refusal) (left ends : Option (List ℕ)) : Type 0 where
+  pub bytes : List ℕ
+  pub all : AreInput left bytes
+  pub short : IsShort bytes
+  pub first : IsFirstFault bytes refusal
+  pub ended : ends ≡ nothing_left left
+
+-- why a refusal comes, and what it leaves of the input: its length, which has a refusal of its own; or else its first fault
+abbrev pub IsRefused : Refusal → Option (List ℕ) → Option (List ℕ) → Type 0
+IsRefused refusal left ends =
+    (IsLengthLimit refusal × IsTooLong left ends) ⊎ ((IsLengthLimit refusal → ⊥) × HasFault refusal left ends)
+
+-- what an answer to `run` tells of the input, with the faults of reading, and of the output, with the faults of writing
+abbrev pub Ran : Status → Option (List ℕ) → Option (List ℕ) → Type 0 → Option (List ℕ) → Option (List ℕ) → Type 0 → Type 0
+Ran Done left ends unread old new unwritten = RunsWhole left ends old new
+Ran (Scenario refusal) left ends unread old new unwritten = IsRefused refusal left ends × (new ≡ old)
+Ran ReadFault left ends unread old new unwritten = unread × (new ≡ old)
+Ran WriteFault left ends unread old new unwritten = unwritten × StopsShort left ends old new
+Ran NoMemory left ends unread old new unwritten = (new ≡ old) ⊎ StopsShort left ends old new
+Ran _ left ends unread old new unwritten = ⊥
 
 -- an answer that the program has: it reads no traces yet
 abbrev pub IsAnswer : Status → Type 0
 IsAnswer (NotATrace fault) = ⊥
 IsAnswer _ = Unit {0}
 
--- the input has a first fault, and the answer is the refusal that names it
+-- the answer is the refusal of the whole input for its length
+abbrev pub IsLengthRefusal : Status → Type 0
+IsLengthRefusal (Scenario refusal) = IsLengthLimit refusal
+IsLengthRefusal _ = ⊥
+
+-- the answer is the refusal that names the first fault of the input
 abbrev pub NamesFault : Status → List ℕ → Type 0
 NamesFault status input = (refusal : Refusal) × (status ≡ Scenario refusal) × IsFirstFault input refusal
 
--- the answer is the refusal of the field with this name
-abbrev pub NamesField : Status → List ℕ → Type 0
-NamesField status name = (refusal : Refusal) × (status ≡ Scenario refusal) × IsField refusal name
-
--- the input is no scenario
-abbrev pub IsNoScenario : List ℕ → Type 0
-IsNoScenario input = (s : ScenarioContent) → IsScenario input s → ⊥
-
--- why a refusal comes: the input is too long, or else this is its cause
-abbrev pub IsRefusedFor : Refusal → Option (List ℕ) → Type 0
-IsRefusedFor refusal left =
-    (IsLengthLimit refusal × IfSome left (λ input. 16777216 < length input)) ⊎ ((IsLengthLimit refusal → ⊥) × HasCause left refusal)
-
--- what the source has left after a refusal: nothing, or for too long an input what is behind the first byte past the limit
-abbrev pub LeavesRefused : Refusal → Option (List ℕ) → Option (List ℕ) → Type 0
-LeavesRefused refusal old new =
-    (IsLengthLimit refusal × IfSome old (λ input. new ≡ Some (drop 16777217 input))) ⊎ ((IsLengthLimit refusal → ⊥) × (new ≡ nothing_left old))
-
--- what an answer to `run` tells of the input, and of the faults of reading and of writing
-abbrev pub Tells : Status → Option (List ℕ) → Type 0 → Type 0 → Type 0
-Tells Done left unread unwritten = HoldsScenario left
-Tells ReadFault left unread unwritten = unread
-Tells WriteFault left unread unwritten = unwritten × HoldsScenario left
-Tells (Scenario refusal) left unread unwritten = IsRefusedFor refusal left
-Tells NoMemory left unread unwritten = Unit {0}
-Tells _ left unread unwritten = ⊥
-
--- what the source has left after an answer to `run`: nothing after all of it was read; reading stops one byte past the limit
-abbrev pub LeavesInput : Status → Option (List ℕ) → Option (List ℕ) → Type 0
-LeavesInput Done old new = new ≡ nothing_left old
-LeavesInput WriteFault old new = new ≡ nothing_left old
-LeavesInput (Scenario refusal) old new = LeavesRefused refusal old new
-LeavesInput _ old new = Unit {0}
-
--- what was appended to the sink after an answer to `run`, whose source had these bytes left and was read to its end
-abbrev pub AppendsOutput : Status → Option (List ℕ) → Type 0 → Option (List ℕ) → Option (List ℕ) → Type 0
-AppendsOutput Done left ended old new = WritesTrace left old new
-AppendsOutput WriteFault left ended old new = WritesFront left old new
-AppendsOutput NoMemory left ended old new = (new ≡ old) ⊎ (ended × WritesFront left old new)
-AppendsOutput _ left ended old new = new ≡ old
+-- the answer to `run` that an input is due, where no read fails: for too long an input, one that is no scenario, and a scenario
+pub record IsDue (status : Status) (input : List ℕ) (unwritten : Type 0) : Type 0 where
+  pub too_long : 16777216 < length input → IsLengthRefusal status
+  pub fault : IsShort input → IsNoScenario input → NamesFault status input
+  pub done : IsShort input → (s : ScenarioContent) → IsScenario input s → ¬ unwritten → status ≡ Done

@@ -1,5 +1,4 @@
 pub mod Bytes
-pub mod Outbox
-pub mod Rounds
-pub mod Ready
+pub mod Serial
+pub mod Corridor
 pub mod Answers

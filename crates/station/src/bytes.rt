@@ -1,10 +1,10 @@
-//! All bytes of a source, and a whole piece into a sink.
+//! All bytes of a source, up to the limit of an input.
 
 ghost use Rattle.std.specs.Prelude.{◌≡◌, ◌<◌, ◌≤◌, Some, Err, take, drop, length, IfOk, IfSome, OnOk, OnErr};
-ghost use Rattle.io_edge.specs.Edge.{Rises, Reads, Appends};
-ghost use Rattle.station.specs.Bytes.{AppendsFront, nothing_left};
+ghost use Rattle.io_edge.specs.Edge.{Rises, Reads};
+ghost use Rattle.station.specs.Bytes.{nothing_left};
 
-use io_edge::{Failed, Sink, Source};
+use io_edge::{Failed, Source};
 use std::alloc::Global;
 
 /// Why a source was not read to its end.
@@ -63,21 +63,4 @@ pub fn read_all<S: Source>(alloc: Global, source: &mut S) -> Result<Vec<u8>, Rea
             return Err(ReadEnd::TooLong);
         }
     }
-}
-
-/// Writes the whole piece; where a write fails, a front of it, and not all of it.
-pub fn put_all<K: Sink>(sink: &mut K, piece: &[u8]) -> Result<(), Failed>
-    ensures ok { OnOk result (Appends (K.written sink.old) (K.written sink.new) piece.now) }
-    ensures err { OnErr result (AppendsFront (K.written sink.old) (K.written sink.new) piece.now) }
-    ensures fault { OnErr result (Rises (K.faults sink.old) (K.faults sink.new)) }
-    ensures kept { K.faults sink.old ≤ K.faults sink.new }
-{
-    let mut rest = piece;
-    while !rest.is_empty() {
-        match sink.write(rest) {
-            Ok(count) => rest = &rest[count..],
-            Err(Failed) => return Err(Failed),
-        }
-    }
-    Ok(())
 }

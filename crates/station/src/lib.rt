@@ -3,12 +3,9 @@
 #![tactic(auto)]
 
 mod bytes;
-mod cabinets;
-mod frames;
+mod corridor;
 mod help;
 mod lines;
-mod not_run;
-mod outbox;
 #[cfg(test)]
 mod run_tests;
 mod status;

@@ -16,14 +16,14 @@ pub enum Status {
     Done,
     /// The words are no command.
     Usage,
-    /// The input is too long, or is no scenario.
+    /// The input is too long, or is no scenario: the first fault, and nothing was written.
     Scenario(Refusal),
     /// The input is no trace.
     NotATrace(TraceFault),
-    /// A read failed.
+    /// A read failed, and nothing was written.
     ReadFault,
-    /// A write failed.
+    /// A write failed: a front of the text was written, and not all of it.
     WriteFault,
-    /// There was not memory enough.
+    /// There was not memory enough: nothing was written, or a front of the text and not all of it.
     NoMemory,
 }

@@ -100,7 +100,7 @@ fn other_words_are_usage(rt: HostRuntime) -> Result<(), Fail> {
 }
 
 /// Scenarios that are refused, and what is said of them.
-const REFUSED: [(&str, &str); 16] = [
+const REFUSED: [(&str, &str); 14] = [
     ("", "not JSON"),
     (
         "{\"cabinets\":[{\"base\":\"max8\"}],\"rounds\":1,\"ticks\":60,\"version\":1",
@@ -150,15 +150,6 @@ const REFUSED: [(&str, &str); 16] = [
     (
         "{\"cabinets\":[{}],\"inputs\":[{\"cabinet\":2,\"ped\":2,\"round\":1}],\"rounds\":1,\"ticks\":60,\"version\":1}",
         "limit inputs[0].cabinet",
-    ),
-    // What no run carries out yet is named, the first of it.
-    (
-        "{\"cabinets\":[{}],\"faults\":[],\"frames\":[{\"cabinet\":1,\"hex\":\"30\",\"round\":1,\"stream\":\"poll\"}],\"master\":{\"poll_every\":1},\"rounds\":1,\"ticks\":60,\"version\":1}",
-        "field master",
-    ),
-    (
-        "{\"cabinets\":[{}],\"community\":\"private\",\"rounds\":1,\"ticks\":60,\"version\":1}",
-        "field community",
     ),
 ];
 

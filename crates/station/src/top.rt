@@ -1,27 +1,24 @@
 //! All that the program does.
 
-ghost use Rattle.std.specs.Prelude.{ℕ, List, ◌≡◌, ◌≤◌, ◌<◌, ◌⊎◌, ◌↔◌, ◌∷◌, [], Err, Some, None, IfOk, IfSome, OnOk, IsTrue, codes, drop, length, map, string_bytes};
+ghost use Rattle.std.specs.Prelude.{◌≡◌, ◌≤◌, ◌⊎◌, ◌↔◌, ◌∷◌, [], Err, IfOk, IfSome, OnOk, IsTrue, map, string_bytes};
 ghost use Rattle.io_edge.specs.Edge.{Rises};
-ghost use Rattle.scenario_data.specs.Content.{ScenarioContent, scenario_content};
+ghost use Rattle.scenario_data.specs.Content.{scenario_content};
 ghost use Rattle.scenario_data.specs.declared.refusal.Refusal.{Refusal};
-ghost use Rattle.scenario_read.specs.Answers.{IsScenario, IsFirstFault};
-ghost use Rattle.run_text.specs.NotRun.{first_not_run};
-ghost use Rattle.run_text.specs.Runnable.{Runnable};
+ghost use Rattle.runnable.specs.Runnable.{Runnable};
 ghost use Rattle.station.specs.Bytes.{nothing_left};
-ghost use Rattle.station.specs.Answers.{IsRun, IsHelp, IsVersion, IsCommand, WritesText, IsShort, WritesTrace, WritesFront, WritesSafe, WritesMet, IsLengthRefusal, IsLengthLimit, IsAnswer, IsRead, IsInput};
-ghost use Rattle.station.specs.Answers.{HasCause, IsField, NamesFault, NamesField, IsNoScenario, IsRefusedFor, LeavesRefused, Tells, LeavesInput, AppendsOutput};
+ghost use Rattle.station.specs.Answers.{IsRun, IsHelp, IsVersion, IsCommand, IsAnswer, WritesText, IsRead, IsLengthLimit, IsRefused};
+ghost use Rattle.station.specs.Answers.{RunsWhole, StopsShort, Ran, IsDue};
 
-use crate::bytes::{ReadEnd, put_all, read_all};
+use crate::bytes::{ReadEnd, read_all};
 use crate::help::{HELP, VERSION};
-use crate::lines::Stop;
-use crate::not_run::first_not_run;
 use crate::status::Status;
-use crate::trace::write_trace;
+use crate::trace::{traces_keep_streets, write_trace};
 use io_edge::{Failed, Gate, Sink, Source};
 use scenario_data::{ReadFail, Refusal, Scenario};
 use scenario_file::read;
 use std::alloc::Global;
 use std::thread::Threads;
+use trace_out::{Stop, put_all};
 
 /// Whether there is one word, and it is this one.
 fn is_lone(words: &Vec<String>, name: &str) -> bool
@@ -65,10 +62,10 @@ fn too_long(alloc: Global) -> Unread
 /// The scenario that the whole input is. The memory of the input's bytes is given back.
 fn read_scenario<S: Source>(alloc: Global, source: &mut S) -> Result<Scenario, Unread>
     ensures scenario { IfOk result (λ s. IsRead (S.left source.old) (scenario_content s)) }
+    ensures runnable { IfOk result (λ s. Runnable (scenario_content s)) }
     ensures ended { OnOk result (S.left source.new ≡ nothing_left (S.left source.old)) }
     ensures fault { result ≡ Err Unread.Fault → Rises (S.faults source.old) (S.faults source.new) }
-    ensures refused { (r : Refusal) → result ≡ Err (Unread.Refused r) → IsRefusedFor r (S.left source.old) }
-    ensures leaves { (r : Refusal) → result ≡ Err (Unread.Refused r) → LeavesRefused r (S.left source.old) (S.left source.new) }
+    ensures refused { (r : Refusal) → result ≡ Err (Unread.Refused r) → IsRefused r (S.left source.old) (S.left source.new) }
     ensures kept { S.faults source.old ≤ S.faults source.new }
 {
     let input = match read_all(alloc, source) {
@@ -84,52 +81,20 @@ fn read_scenario<S: Source>(alloc: Global, source: &mut S) -> Result<Scenario, U
     }
 }
 
-/// The refusal of a name that no run carries out yet.
-fn not_yet(alloc: Global, name: &str) -> Unread
-    ensures refused { (r : Refusal) → result ≡ Unread.Refused r → IsField r name.now }
-    ensures no_fault { result ≡ Unread.Fault → ⊥ }
-{
-    match String::from_str(alloc, name) {
-        Ok(path) => Unread::Refused(Refusal::Field(path)),
-        Err(_) => Unread::NoMemory,
-    }
-}
-
-/// The scenario that the whole input is, where a run carries all of it out.
-fn scenario_in<S: Source>(alloc: Global, source: &mut S) -> Result<Scenario, Unread>
-    ensures scenario { IfOk result (λ s. IsInput (S.left source.old) (scenario_content s)) }
-    ensures runnable { IfOk result (λ s. Runnable (scenario_content s)) }
-    ensures ended { OnOk result (S.left source.new ≡ nothing_left (S.left source.old)) }
-    ensures fault { result ≡ Err Unread.Fault → Rises (S.faults source.old) (S.faults source.new) }
-    ensures refused { (r : Refusal) → result ≡ Err (Unread.Refused r) → IsRefusedFor r (S.left source.old) }
-    ensures leaves { (r : Refusal) → result ≡ Err (Unread.Refused r) → LeavesRefused r (S.left source.old) (S.left source.new) }
-    ensures kept { S.faults source.old ≤ S.faults source.new }
-{
-    let scenario = match read_scenario(alloc, source) {
-        Ok(scenario) => scenario,
-        Err(unread) => return Err(unread),
-    };
-    match first_not_run(&scenario) {
-        None => Ok(scenario),
-        Some(name) => Err(not_yet(alloc, name)),
-    }
-}
-
 /// Reads a scenario, and writes its trace.
 fn run<S: Source, K: Sink>(alloc: Global, source: &mut S, sink: &mut K) -> Status
-    ensures tells { Tells result (S.left source.old) (Rises (S.faults source.old) (S.faults source.new)) (Rises (K.faults sink.old) (K.faults sink.new)) }
-    ensures leaves { LeavesInput result (S.left source.old) (S.left source.new) }
-    ensures appends { AppendsOutput result (S.left source.old) (S.left source.new ≡ nothing_left (S.left source.old))
-        (K.written sink.old) (K.written sink.new) }
+    ensures ran { Ran result (S.left source.old) (S.left source.new) (Rises (S.faults source.old) (S.faults source.new))
+        (K.written sink.old) (K.written sink.new) (Rises (K.faults sink.old) (K.faults sink.new)) }
     ensures kept { (S.faults source.old ≤ S.faults source.new) × (K.faults sink.old ≤ K.faults sink.new) }
 {
-    let scenario = match scenario_in(alloc, source) {
+    let scenario = match read_scenario(alloc, source) {
         Ok(scenario) => scenario,
         Err(Unread::Fault) => return Status::ReadFault,
         Err(Unread::Refused(refusal)) => return Status::Scenario(refusal),
         Err(Unread::NoMemory) => return Status::NoMemory,
     };
-    match write_trace(alloc, sink, scenario) {
+    traces_keep_streets();
+    match write_trace(alloc, sink, &scenario) {
         Ok(()) => Status::Done,
         Err(Stop::WriteFault) => Status::WriteFault,
         Err(Stop::NoMemory) => Status::NoMemory,
@@ -149,8 +114,9 @@ pub fn station<R: Threads + Sync, S: Source, K: Sink, G: Gate + Sync>(
     sink: &mut K,
     _gate: &G,
 ) -> Status
-    // Which answers there are.
+    // Which answers there are. No count of faults falls.
     ensures answers { IsAnswer result }
+    ensures kept { (S.faults source.old ≤ S.faults source.new) × (K.faults sink.old ≤ K.faults sink.new) }
 
     // Usage comes exactly where the words are no command; nothing is read or written then.
     ensures usage { result ≡ Status.Usage ↔ ¬ IsCommand (map string_bytes words.now.items) }
@@ -162,49 +128,27 @@ pub fn station<R: Threads + Sync, S: Source, K: Sink, G: Gate + Sync>(
     ensures version { IsVersion (map string_bytes words.now.items) → (source.new ≡ source.old)
         × WritesText result VERSION.now (Rises (K.faults sink.old) (K.faults sink.new)) (K.written sink.old) (K.written sink.new) }
 
-    // Done after `run`: the source was read to its end, its bytes are a scenario, and the whole trace was appended to the sink.
-    ensures done { IsRun (map string_bytes words.now.items) → result ≡ Status.Done → (S.left source.new ≡ nothing_left (S.left source.old))
-        × WritesTrace (S.left source.old) (K.written sink.old) (K.written sink.new) }
-
-    // And the trace is safe: by its frame lines alone every street is safe at every tick, with the tables that its cabinet
-    // opened with; the versions are whole.
-    ensures safe { IsRun (map string_bytes words.now.items) → result ≡ Status.Done → WritesSafe (S.left source.old) (K.written sink.old) (K.written sink.new) }
-
-    // And at every tick of each cabinet what coordination promises is met: both coordinated phases are green at each local zero, and
-    // where nothing disturbs the cabinet, a local zero comes in time, and the offset is met and held.
-    ensures meets { IsRun (map string_bytes words.now.items) → result ≡ Status.Done → WritesMet (S.left source.old) (K.written sink.old) (K.written sink.new) }
-
-    // Why a failed read and each refusal come, and that nothing was written then. A refusal names the first fault of the input; or,
-    // where it is a scenario, the first name that no run carries out yet. The path `.` with `Limit` is the input's length alone: no
-    // other fault has it.
-    ensures read_fault { result ≡ Status.ReadFault → Rises (S.faults source.old) (S.faults source.new) × (K.written sink.new ≡ K.written sink.old) }
-    ensures refused { (r : Refusal) → result ≡ Status.Scenario r → (IsLengthLimit r → ⊥) → (K.written sink.new ≡ K.written sink.old)
-        × (S.left source.new ≡ nothing_left (S.left source.old)) × HasCause (S.left source.old) r }
-    ensures limit { IsLengthRefusal result → (K.written sink.new ≡ K.written sink.old)
-        × IfSome (S.left source.old) (λ input. (16777216 < length input) × (S.left source.new ≡ Some (drop 16777217 input))) }
+    // Done after `run`: the source was read to its end, its bytes are a scenario, and the whole trace was appended to the sink: the text
+    // of the run in its serial order. By the lines of this text every street is safe at every tick, with the tables of each version;
+    // versions are whole; these tables are those of whole accepted downloads; and each cabinet's history meets what coordination promises.
+    ensures done { IsRun (map string_bytes words.now.items) → result ≡ Status.Done
+        → RunsWhole (S.left source.old) (S.left source.new) (K.written sink.old) (K.written sink.new) }
 
     // Where writing stops short, the bytes written are a front of the trace, and not all of it.
-    ensures write_fault { IsRun (map string_bytes words.now.items) → result ≡ Status.WriteFault → Rises (K.faults sink.old) (K.faults sink.new) × (S.left source.new ≡ nothing_left (S.left source.old))
-        × WritesFront (S.left source.old) (K.written sink.old) (K.written sink.new) }
+    ensures write_fault { IsRun (map string_bytes words.now.items) → result ≡ Status.WriteFault → Rises (K.faults sink.old) (K.faults sink.new)
+        × StopsShort (S.left source.old) (S.left source.new) (K.written sink.old) (K.written sink.new) }
     ensures no_memory { result ≡ Status.NoMemory → (K.written sink.new ≡ K.written sink.old)
-        ⊎ ((S.left source.new ≡ nothing_left (S.left source.old)) × WritesFront (S.left source.old) (K.written sink.old) (K.written sink.new)) }
+        ⊎ StopsShort (S.left source.old) (S.left source.new) (K.written sink.old) (K.written sink.new) }
 
-    // No count of faults falls.
-    ensures kept { (S.faults source.old ≤ S.faults source.new) × (K.faults sink.old ≤ K.faults sink.new) }
+    // Why a failed read and each refusal come, and that nothing was written then. A refusal names the first fault of the input; the path
+    // `.` with `Limit` is the input's length alone: no other fault has it.
+    ensures read_fault { result ≡ Status.ReadFault → Rises (S.faults source.old) (S.faults source.new) × (K.written sink.new ≡ K.written sink.old) }
+    ensures refused { (r : Refusal) → result ≡ Status.Scenario r
+        → IsRefused r (S.left source.old) (S.left source.new) × (K.written sink.new ≡ K.written sink.old) }
 
-    // Which answer comes where no read fails, and for a scenario no write: for too long an input, one that is no scenario, a scenario
-    // that uses what no run carries out yet, and any other scenario.
-    ensures too_long { IsRun (map string_bytes words.now.items) → IfSome (S.left source.old) (λ input. 16777216 < length input
-        → ¬ Rises (S.faults source.old) (S.faults source.new) → IsLengthRefusal result ⊎ (result ≡ Status.NoMemory)) }
-    ensures first_fault { IsRun (map string_bytes words.now.items) → IfSome (S.left source.old) (λ input. IsShort input → IsNoScenario input
-        → ¬ Rises (S.faults source.old) (S.faults source.new) → NamesFault result input ⊎ (result ≡ Status.NoMemory)) }
-    ensures not_run { IsRun (map string_bytes words.now.items) → IfSome (S.left source.old) (λ input. IsShort input
-        → (s : ScenarioContent) → IsScenario input s → (name : List ℕ) → first_not_run s ≡ Some name
-        → ¬ Rises (S.faults source.old) (S.faults source.new) → NamesField result name ⊎ (result ≡ Status.NoMemory)) }
-    ensures complete { IsRun (map string_bytes words.now.items) → IfSome (S.left source.old) (λ input. IsShort input
-        → (s : ScenarioContent) → IsScenario input s → first_not_run s ≡ None
-        → ¬ Rises (S.faults source.old) (S.faults source.new) → ¬ Rises (K.faults sink.old) (K.faults sink.new)
-        → (result ≡ Status.Done) ⊎ (result ≡ Status.NoMemory)) }
+    // Which answer comes where no read fails: for too long an input, one that is no scenario, and any scenario.
+    ensures due { IsRun (map string_bytes words.now.items) → ¬ Rises (S.faults source.old) (S.faults source.new)
+        → IfSome (S.left source.old) (λ input. IsDue result input (Rises (K.faults sink.old) (K.faults sink.new)) ⊎ (result ≡ Status.NoMemory)) }
 {
     if is_lone(words, "run") {
         run(alloc, source, sink)

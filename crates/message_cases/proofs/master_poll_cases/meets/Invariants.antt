@@ -1,6 +1,6 @@
 use Rattle.std.proofs.Common.{◌≡◌, length}
 use Rattle.master_poll.specs.Masters.{cabinet_count, round_count}
-use Rattle.master_poll.proofs.tests.meets.Given as goal
+use Rattle.message_cases.proofs.master_poll_cases.meets.Given as goal
 
 abbrev pub invariant-loop-place : goal.invariant-loop-place
 invariant-loop-place l = record {

@@ -1,26 +1,23 @@
-use Rattle.std.proofs.Common.{arith}
-use Rattle.station.proofs.Openings.{shown_by, openings_start, openings_go, openings_stop, openings_done}
+use Rattle.std.proofs.Common.{List, ◌+◌, ap, arith}
+use Rattle.std.proofs.lemmas.List.{drop_all}
+use Rattle.safe_trace.specs.TraceText.{lines_text}
+use Rattle.run_lines.specs.Standing.{Standing}
+use Rattle.run_lines.specs.Lines.{opening_lines}
+use Rattle.trace_out.proofs.Handed.{left-all, left-next, left-stops, left-none}
+use Rattle.station.proofs.Rounds.{next_opening}
 use Rattle.station.proofs.trace.put_openings.Goals as goal
 
 pub loop-i-init : goal.loop-i-init
-loop-i-init g c = record {
-  goes = λ s. openings_start s _ _ _;
-  kept = omega arith;
-}
+loop-i-init g c = λ ts at. left-all g.K.Sink.written g.K.Sink.faults _ _ _
 
 pub loop-i-preserved : goal.loop-i-preserved
-loop-i-preserved g c = record {
-  goes = λ s. openings_go s c.args.controllers.now.items c.loop-i.i c.index.result.now _ _ _ _ _ _ _ (omega arith)
-      (shown_by c.args.controllers.now.items c.loop-i.i c.index.result.now c.frame-frame.result c.index.ensures c.frame-frame.ensures.frame)
-      (c.loop-i.invariant.goes s) c.in-Ok.ensures.ok;
-  kept = omega (arith, c.loop-i.invariant.kept, c.in-Ok.ensures.kept);
-}
+loop-i-preserved g c = λ ts at. left-next g.K.Sink.written g.K.Sink.faults _ _ _ _ _ _ _ _ _ _
+    (next_opening c.args.books.now.items c.loop-i.i _ _ ts (omega arith) c.index.ensures c.frame-frame.ensures at) (c.loop-i.invariant ts at) c.in-Ok.ensures
 
-pub returns-clause-ok : goal.returns-clause-ok
-returns-clause-ok g c = λ s each. openings_done s c.args.controllers.now.items c.loop-i.i _ _ _ _ (omega arith) (c.loop-i.invariant.goes s) each
+pub returns-in-Err : goal.returns-in-Err
+returns-in-Err g c = λ ts at. left-stops g.K.Sink.written g.K.Sink.faults _ _ _ _ _ _ _ _ _ _
+    (next_opening c.args.books.now.items c.loop-i.i _ _ ts (omega arith) c.index.ensures c.frame-frame.ensures at) (c.loop-i.invariant ts at) c.in-Err.ensures
 
-pub returns-in-Err-clause-err : goal.returns-in-Err-clause-err
-returns-in-Err-clause-err g c = λ s each.
-    openings_stop s c.args.controllers.now.items c.loop-i.i c.index.result.now _ _ _ _ _ _ (omega arith)
-    (shown_by c.args.controllers.now.items c.loop-i.i c.index.result.now c.frame-frame.result c.index.ensures c.frame-frame.ensures.frame)
-    (c.loop-i.invariant.goes s) c.in-Err.ensures.err each
+pub returns : goal.returns
+returns g c = λ ts at. left-none g.K.Sink.written g.K.Sink.faults _ _ _ _ _ _
+    (ap (λ (us : List Standing). lines_text (opening_lines (c.loop-i.i + 1) us)) (drop_all c.loop-i.i ts (omega (arith, at.many)))) (c.loop-i.invariant ts at)

@@ -1,13 +1,12 @@
-use Rattle.std.proofs.Common.{◌≤◌}
-use Rattle.scenario_data.specs.Content.{ScenarioContent}
-use Rattle.station.specs.Outbox.{held_by}
-use Rattle.station.proofs.Openings.{OpeningsGo}
+use Rattle.std.proofs.Common.{List, ◌+◌, drop}
+use Rattle.safe_trace.specs.TraceText.{lines_text}
+use Rattle.run_lines.specs.Standing.{Standing}
+use Rattle.run_lines.specs.Lines.{opening_lines}
+use Rattle.round_run.specs.Standings.{AreAt}
+use Rattle.trace_out.proofs.Handed.{Left}
 use Rattle.station.proofs.trace.put_openings.Given as goal
 
 -- what the cabinets before this place show was handed over
 abbrev pub invariant-loop-i : goal.invariant-loop-i
-invariant-loop-i g l = record {
-  goes : (s : ScenarioContent)
-      → OpeningsGo s l.controllers.items (g.K.Sink.written l.fn.sink) (g.K.Sink.written l.sink) (held_by l.fn.out) (held_by l.out) l.i;
-  kept : g.K.Sink.faults l.fn.sink ≤ g.K.Sink.faults l.sink;
-}
+invariant-loop-i g l = (ts : List Standing) → AreAt l.books.items ts → Left g.K.Sink.written g.K.Sink.faults l.fn.writer l.writer l.fn.sink l.sink
+    (lines_text (opening_lines 1 ts)) (lines_text (opening_lines (l.i + 1) (drop l.i ts)))

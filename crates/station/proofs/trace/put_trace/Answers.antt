@@ -1,20 +1,25 @@
+use Rattle.std.proofs.Common.{List, ℕ, Ok, Err, subst}
+use Rattle.trace_text.specs.Line.{line_text}
+use Rattle.trace_text.specs.declared.lines.Line.TheVariants.{S}
+use Rattle.safe_trace.specs.TraceText.{lines_text}
 use Rattle.scenario_data.specs.Content.{scenario_content}
-use Rattle.station.proofs.WholeText.{text_first, text_line, text_front, text_put}
+use Rattle.run_lines.specs.Orders.{serial_journals}
+use Rattle.run_lines.specs.Lines.{rest_lines}
+use Rattle.trace_out.specs.Handing.{HandsOver}
+use Rattle.trace_out.proofs.Handed.{hands-first, hands-then}
 use Rattle.station.proofs.trace.put_trace.Goals as goal
 
-pub returns-in-Err-clause-err : goal.returns-in-Err-clause-err
-returns-in-Err-clause-err g c = text_first (scenario_content c.args.scenario) _ _ _ _ c.as_slice.ensures.value c.in-Err.ensures.err
+pub returns-in-Err : goal.returns-in-Err
+returns-in-Err g c =
+    let s = scenario_content c.args.s.now in
+    hands-first g.K.Sink.written g.K.Sink.faults _ _ _ _ (line_text (S s.compact)) (lines_text (rest_lines s (serial_journals s)))
+    (subst (λ (x : List ℕ). HandsOver g.K.Sink.written g.K.Sink.faults (Err c.in-Err.stop) c.args.writer.now c.put_scenario.new.self c.args.sink.now c.put_scenario.new.sink (line_text (S x)))
+    c.as_slice.ensures.value c.in-Err.ensures)
 
-pub returns-in-Err-open-clause-err : goal.returns-in-Err-open-clause-err
-returns-in-Err-open-clause-err g c = text_line (scenario_content c.args.scenario) _ _ _ _ _ c.as_slice.ensures.value c.in-Ok.ensures.ok
-
-pub put_rest-requires : goal.put_rest-requires
-put_rest-requires g c = record { ready = (scenario_content c.args.scenario, c.in-Ok-open.ensures) }
-
-pub returns-in-Ok-put_rest-clause-ok : goal.returns-in-Ok-put_rest-clause-ok
-returns-in-Ok-put_rest-clause-ok g c = text_put (scenario_content c.args.scenario) _ _ _ _ _ _ _ c.as_slice.ensures.value c.in-Ok.ensures.ok
-    (c.in-Ok-put_rest.ensures.ok (scenario_content c.args.scenario) c.in-Ok-open.ensures)
-
-pub returns-clause-err : goal.returns-clause-err
-returns-clause-err g c = text_front (scenario_content c.args.scenario) _ _ _ _ _ _ c.as_slice.ensures.value c.in-Ok.ensures.ok
-    (c.in-Err-put_rest.ensures.err (scenario_content c.args.scenario) c.in-Ok-open.ensures)
+pub returns : goal.returns
+returns g c =
+    let s = scenario_content c.args.s.now in
+    hands-then g.K.Sink.written g.K.Sink.faults _ _ _ _ _ _ _ (line_text (S s.compact)) (lines_text (rest_lines s (serial_journals s)))
+    (subst (λ (x : List ℕ). HandsOver g.K.Sink.written g.K.Sink.faults (Ok c.in-Ok.field-0) c.args.writer.now c.put_scenario.new.self c.args.sink.now c.put_scenario.new.sink (line_text (S x)))
+    c.as_slice.ensures.value c.in-Ok.ensures)
+    c.put_rest.ensures

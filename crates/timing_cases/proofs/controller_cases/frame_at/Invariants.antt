@@ -1,6 +1,6 @@
 use Rattle.std.proofs.Common.{◌≡◌}
 use Rattle.controller.specs.StandsFor.{tick_count}
-use Rattle.controller.proofs.tests.frame_at.Given as goal
+use Rattle.timing_cases.proofs.controller_cases.frame_at.Given as goal
 
 abbrev pub invariant-loop-tick : goal.invariant-loop-tick
 invariant-loop-tick l = tick_count l.controller ≡ l.tick

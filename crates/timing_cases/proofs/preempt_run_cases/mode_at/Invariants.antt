@@ -1,6 +1,6 @@
 use Rattle.std.proofs.Common.{◌≡◌}
 use Rattle.preempt_run.specs.Stands.{step_count}
-use Rattle.preempt_run.proofs.tests.mode_at.Given as goal
+use Rattle.timing_cases.proofs.preempt_run_cases.mode_at.Given as goal
 
 abbrev pub invariant-loop-before : goal.invariant-loop-before
 invariant-loop-before l = step_count l.preempts ≡ l.before
