@@ -87,7 +87,7 @@ class Tally:
         self.modes, self.mode, self.since = Counter(), None, 0
         self.patterns = {}
         self.replies = {way: Counter() for way in WAYS}
-        self.orders, self.accepted, self.refused = Counter(), [], Counter()
+        self.orders, self.loads = Counter(), []
         self.notes = {}
 
     def take(self, happening):
@@ -101,12 +101,9 @@ class Tally:
                 self.replies.setdefault(way, Counter())["silent" if digits is None else "answered"] += 1
                 for order in answers.orders(digits) if digits else ():
                     self.ordered(order, happening.tick)
-            case Ended(load=load):
+            case Ended(tick=tick, load=load):
                 self.cabinet.ended(load)
-                if load.version is None:
-                    self.refused[load.rule, load.row] += 1
-                else:
-                    self.accepted.append(load.version)
+                self.loads.append((tick, load))
             case Noted(round=number, words=words):
                 count, first, _ = self.notes.get(words, (0, number, number))
                 self.notes[words] = (count + 1, first, number)
@@ -161,13 +158,15 @@ class Tally:
             "patterns": [it.value(pattern) for pattern, it in sorted(self.patterns.items())],
             "replies": {WAYS.get(way, str(way)): dict(count) for way, count in self.replies.items() if count},
             "orders": {word: count for word, count in self.orders.items() if count},
-            "downloads": {
-                "accepted": len(self.accepted),
-                "version": max(self.accepted, default=0),
-                "refused": [{"rule": rule, "row": row, "times": times} for (rule, row), times in sorted(self.refused.items())],
-            },
+            "downloads": [load_value(tick, load) for tick, load in self.loads],
             "notes": [{"note": words, "times": n, "first": one, "last": end} for words, (n, one, end) in sorted(self.notes.items())],
         }
+
+
+def load_value(tick, load):
+    """Returns the row of a download that ended after a tick: the version that it made, or the rule that it breaks."""
+    result = {"rule": load.rule, "row": load.row} if load.version is None else {"version": load.version}
+    return {"download": load.number, "seconds": seconds(tick)} | result
 
 
 def seconds(ticks):
@@ -213,6 +212,13 @@ def pattern_rows(patterns):
         yield row | {"never": it["offset_not_reached"]}
 
 
+def load_rows(loads):
+    """Returns the table of downloads."""
+    for it in loads:
+        end = f"in force as version {it['version']}" if "version" in it else f"refused by rule {it['rule']} in row {it['row']}"
+        yield {"download": it["download"], "seconds": it["seconds"], "end": end}
+
+
 def cabinet_text(value, whole):
     """Returns a cabinet's part of the report as text."""
     parts = [f"Cabinet {value['cabinet']}\n", table(list(phase_rows(value["phases"])))]
@@ -222,10 +228,7 @@ def cabinet_text(value, whole):
     said = [f"{way}: {n.get('answered', 0)} answered, {n.get('silent', 0)} silent" for way, n in value["replies"].items()]
     parts.append("replies to " + "; ".join(said) + "\n" if said else "")
     parts.append("orders: " + ", ".join(f"{word} {count}" for word, count in value["orders"].items()) + "\n" if value["orders"] else "")
-    loads = value["downloads"]
-    refused = [f"{it['times']} by rule {it['rule']} in row {it['row']}" for it in loads["refused"]]
-    if loads["accepted"] or refused:
-        parts.append(f"downloads accepted: {loads['accepted']}; refused: {', '.join(refused) or 0}\n")
+    parts.append(table(list(load_rows(value["downloads"]))))
     notes = [{"note of the master": it["note"], "times": it["times"], "first round": it["first"], "last round": it["last"]}
              for it in value["notes"]]  # fmt: skip
     parts.append(table(notes))

@@ -11,8 +11,9 @@ TOP = HERE.parent.parent
 sys.path.insert(0, str(TOP))
 sys.dont_write_bytecode = True
 
-VECTORS = [HERE / "traces" / f"{name}.trace" for name in ("coord-003", "preempt-002", "link-003")]
-"""Complete traces that an independent program wrote: patterns, preempts, and two cabinets with downloads, flash and priority."""
+VECTORS = [HERE / "traces" / f"{name}.trace" for name in ("coord-003", "preempt-002", "link-003", "mixed")]
+"""Complete traces that an independent program wrote: patterns; preempts; two cabinets with downloads, flash and priority; and journals in
+which inputs, frames and ticks come in any order."""
 
 STREET = HERE / "traces/street.trace"
 

@@ -7,7 +7,7 @@ from conftest import SMALL, STREET, VECTORS, run
 
 from looking import lines
 from looking.course import Answered, Course, Ended, Input, Noted
-from looking.lines import NotATrace
+from looking.lines import Frame, NotATrace
 
 GOOD = [
     b"F 1 60 RGYCRRRRRRRRRRRR DWFDDDDDDDDDDDDD P3t 0 0 1\n",
@@ -74,6 +74,33 @@ def test_replies_downloads_and_notes_have_their_ticks():
     assert sum(isinstance(it, Answered) for it in found) == sum(line.startswith("A ") for line in text)
     assert [it.tick for it in found if isinstance(it, Ended)][0] % 37 == 0
     assert [(it.cabinet, it.round) for it in found if isinstance(it, Noted)] == [(2, 13), (2, 21), (1, 36)]
+
+
+MIXED = """\
+2@14 1@25
+2@48 veh@50 veh@59 F@60 1@73
+2@104 3@110
+3@130 L@143 2@143 F@144 1@144 1@154
+ped@184 2@189
+1@206 2@235
+"""
+"""What happens in each round of the trace `mixed`, and after which tick, worked out by hand from its journals."""
+
+
+def word(happening):
+    """Returns what happened, in a word, and its tick."""
+    match happening:
+        case Answered(way=way):
+            return f"{way}@{happening.tick}"
+        case Input(kind=kind):
+            return f"{kind}@{happening.tick}"
+    return f"{'F' if isinstance(happening, Frame) else 'L'}@{happening.tick}"
+
+
+def test_any_order_of_a_journal_has_its_ticks():
+    with VECTORS[3].open("rb") as stream:
+        found = [it for it in Course(stream).happenings() if isinstance(it, (Frame, Input, Answered, Ended)) and it.tick]
+    assert [word(it) for it in found] == MIXED.split()
 
 
 def test_a_fault_is_told_and_writes_nothing_over_a_picture(tmp_path):

@@ -41,7 +41,19 @@ def test_what_a_master_notes_and_a_cabinet_answers(look):
     first, second = reported(look, VECTORS[2])["cabinets"]
     assert first["notes"] == [{"note": "load 1 done", "times": 1, "first": 36, "last": 36}]
     assert [it["note"] for it in second["notes"]] == ["load 1 refused 3 1", "load 2 refused 3 1"]
-    assert first["downloads"] == {"accepted": 1, "version": 1, "refused": []}
+    (load,) = first["downloads"]
+    assert (load["download"], load["version"], second["downloads"]) == (1, 1, [])
+
+
+def test_downloads_are_named_with_their_ends(look):
+    (cabinet,) = reported(look, VECTORS[3])["cabinets"]
+    assert cabinet["downloads"] == [{"download": 1, "seconds": 14.3, "version": 1}]
+    refused = VECTORS[3].read_text().replace("L 1 1 accepted 1", "L 1 1 refused 10 2")
+    (cabinet,) = reported(look, given=refused)["cabinets"]
+    assert cabinet["downloads"] == [{"download": 1, "seconds": 14.3, "rule": 10, "row": 2}]
+    assert "refused by rule 10 in row 2" in look("report", given=refused)
+    assert "in force as version 1" in look("report", VECTORS[3])
+    assert [it["note"] for it in cabinet["notes"]] == ["load 1 done", "pattern 1"]
 
 
 @pytest.mark.parametrize("path", VECTORS)
