@@ -1,6 +1,7 @@
 """The module is clean, and has a name and a syntax for each instance that a cabinet answers for."""
 
 import itertools
+import os
 import pathlib
 import re
 import shutil
@@ -10,6 +11,7 @@ import pytest
 
 MIBS = pathlib.Path(__file__).resolve().parent.parent
 MODULE = MIBS / "ARTERIAL-PROFILE-MIB"
+PROGRAM = pathlib.Path(os.environ.get("ARTERIAL_PROGRAM", MIBS.parent / "crates/arterial/out/arterial"))
 ASC = "1.3.6.1.4.1.1206.4.2.1"
 OWN = "1.3.6.1.4.1.32473.1"
 
@@ -44,18 +46,48 @@ def instances(rows):
     return [".".join([arcs, *map(str, indices)]) for arcs, ranges in rows for indices in itertools.product(*ranges)]
 
 
-def asked(tool, *words, **more):
-    """Returns what a tool prints, on both of its outputs together; the test is skipped where there is no such tool."""
+def asked(tool, *words, errors=subprocess.STDOUT, **more):
+    """Returns what a tool prints, on both of its outputs together where not told otherwise; the test is skipped where there is
+    no such tool."""
     if shutil.which(tool) is None:
         pytest.skip(f"no {tool} here")
-    ran = subprocess.run([tool, *words], stdout=subprocess.PIPE, stderr=subprocess.STDOUT, text=True, check=False, **more)
+    ran = subprocess.run([tool, *words], stdout=subprocess.PIPE, stderr=errors, text=True, check=False, **more)
     return ran.stdout
 
 
 def translated(names):
-    """Returns the textual name of each instance."""
+    """Returns the textual name of each instance. On its first run the tool says on standard error what folders it made."""
     path = f"{MIBS}:{MIBS / 'base'}"
-    return asked("snmptranslate", "-M", path, "-m", "ARTERIAL-PROFILE-MIB", "-Os", *names).split()
+    words = ["-M", path, "-m", "ARTERIAL-PROFILE-MIB", "-Os", *names]
+    return asked("snmptranslate", *words, errors=subprocess.DEVNULL).split()
+
+
+def syntaxes():
+    """Returns for each object of the module its syntax: the kind of its value, and a test of the value as it is printed."""
+    text = MODULE.read_text(encoding="ascii")
+    return dict(map(syntax, re.findall(r"^(\w+) OBJECT-TYPE\n    SYNTAX      ((?:INTEGER|Integer32|OCTET STRING) .*)\n", text, re.M)))
+
+
+def syntax(found):
+    """Returns an object's name, with the kind of its value and a test of it."""
+    name, words = found
+    if named := re.fullmatch(r"INTEGER \{(.*)\}", words):
+        values = set(re.findall(r"\((\d+)\)", named[1]))
+        return name, ("INTEGER", lambda value: value in values)
+    kind, least, most = re.fullmatch(r"(Integer32 \(|OCTET STRING \(SIZE \()(\d+)(?:\.\.(\d+))?\)+", words).groups()
+    bounds = range(int(least), int(most or least) + 1)
+    if kind.startswith("Integer32"):
+        return name, ("INTEGER", lambda value: int(value) in bounds)
+    return name, ("OCTET STRING", lambda value: len(value) // 2 in bounds)
+
+
+@pytest.fixture(scope="module")
+def walk():
+    """Returns what a walk over a cabinet meets: name, kind and value of each instance, in order."""
+    if not PROGRAM.is_file():
+        pytest.skip(f"no program at {PROGRAM}")
+    lines = subprocess.run([MIBS / "objects", "--program", PROGRAM], capture_output=True, text=True, check=True).stdout.splitlines()
+    return [re.fullmatch(r"([0-9.]+) (INTEGER|OCTET STRING) (.*)", line).groups() for line in lines]
 
 
 def test_lints_without_a_warning():
@@ -78,3 +110,21 @@ def test_leaves_no_object_unread_but_those_written_only():
     read = {text.split(".")[0] for text in translated(instances(READABLE))}
     assert leaves == read | written
     assert not read & written
+
+
+def test_a_walk_meets_what_is_readable_and_nothing_else(walk):
+    assert [name for name, _, _ in walk] == instances(READABLE)
+
+
+def test_each_instance_of_a_walk_has_a_name_and_a_syntax(walk):
+    known = syntaxes()
+    texts = translated([name for name, _, _ in walk])
+    assert len(set(texts)) == len(walk)
+    for text, (_, kind, value) in zip(texts, walk, strict=True):
+        due, fits = known[text.split(".")[0]]
+        assert kind == due and fits(value), (text, kind, value)
+
+
+def test_each_readable_object_is_met_by_a_walk(walk):
+    written = {text.split(".")[0] for text in translated(instances(WRITTEN_ONLY))}
+    assert {text.split(".")[0] for text in translated([name for name, _, _ in walk])} == set(syntaxes()) - written
