@@ -32,9 +32,10 @@ def has_equal_names(text):
 
 def texts():
     """Yields each text of the vectors with the line that refuses it, or None."""
-    for line in (ROOT / "vectors/refusals.jsonl").read_text(encoding="utf-8").splitlines():
-        vector = json.loads(line)
-        yield vector["text"], vector["line"] or None
+    for name in ("accepted", "refusals"):
+        for line in (ROOT / f"vectors/{name}.jsonl").read_text(encoding="utf-8").splitlines():
+            vector = json.loads(line)
+            yield vector["text"], vector.get("line")
 
 
 def test_takes_every_scenario(schema):
@@ -43,6 +44,10 @@ def test_takes_every_scenario(schema):
     for file in files:
         errors = [error.message for error in schema.iter_errors(json.loads(file.read_text(encoding="utf-8")))]
         assert not errors, file.name
+    for name in ("worked", "worked_lines"):
+        for line in (ROOT / f"vectors/{name}.jsonl").read_text(encoding="utf-8").splitlines():
+            vector = json.loads(line)
+            assert schema.is_valid(vector["scenario"]), vector["name"]
 
 
 def test_takes_each_accepted_text_and_refuses_the_others(schema):
