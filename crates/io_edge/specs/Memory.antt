@@ -19,6 +19,10 @@ reads_so_far s = s.calls
 abbrev pub source_faults : MemSource → ℕ
 source_faults s = s.faults
 
+-- how many bytes a read gives at the most
+abbrev pub most_read : MemSource → ℕ
+most_read s = s.most
+
 -- the bytes that were written to a sink
 abbrev pub written_of : MemSink → List ℕ
 written_of s = s.bytes.items
@@ -38,3 +42,7 @@ sink_faults s = s.faults
 -- the room that is left
 abbrev pub room_left : MemSink → ℕ
 room_left s = s.room - length s.bytes.items
+
+-- how many bytes a write takes at the most
+abbrev pub most_written : MemSink → ℕ
+most_written s = s.most

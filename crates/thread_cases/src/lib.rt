@@ -1,8 +1,11 @@
-//! Worked cases of cabinets shared by threads, over a book as simple as can be. They stand in a crate of their own, above the parts,
-//! so that a part is proved once and not again for its tests.
+//! Worked cases of cabinets shared by threads, and of sources and sinks that move small pieces.
+//! The cabinets are books as simple as can be. The cases stand in a crate of their own, above the parts, so that a part is proved
+//! once and not again for its tests.
 #![tactic(auto)]
 
 mod acts;
+#[cfg(test)]
+mod edge_cases;
 #[cfg(test)]
 mod row_cases;
 mod tally;

@@ -9,4 +9,4 @@ returns-clause-ok c =
     let whole = c.deref-2.ensures.value in
     let front = rw (whole, to_end items at) at c.copy_front-count.ensures.front in
     let count = rw (whole, to_end items at) at c.copy_front-count.ensures.count in
-    (_, refl, read_front items _ at c.copy_front-count.result front, λ none. none_left (drop at items) _ _ count c.requires (sym front ∙ none))
+    (_, refl, read_front items _ at c.copy_front-count.result front, λ none. none_left (drop at items) _ _ _ count c.requires c.args.self.now.moves (sym front ∙ none))

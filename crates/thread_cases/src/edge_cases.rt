@@ -1,0 +1,35 @@
+//! Sources and sinks that move small pieces: the bytes that each call moves, and the calls that fail.
+use io_edge::{Failed, MemSink, MemSource, Sink, Source};
+use std::test::Fail;
+
+#[test]
+fn a_source_gives_two_bytes_at_a_time(rt: HostRuntime) -> Result<(), Fail> {
+    let alloc = rt.alloc();
+    let bytes = vec![in alloc; 1, 2, 3, 4, 5]?;
+    let mut source = MemSource::in_pieces(bytes, vec![in alloc; 2]?, 2);
+    let mut buf = [0u8; 8];
+    for (due, front) in [
+        (Ok(2), [1, 2]),
+        (Err(Failed), [1, 2]),
+        (Ok(2), [3, 4]),
+        (Ok(1), [5, 4]),
+        (Ok(0), [5, 4]),
+    ] {
+        assert_eq!(rt; source.read(&mut buf), due);
+        assert_eq!(rt; &buf[..2], &front[..]);
+    }
+    Ok(())
+}
+
+#[test]
+fn a_sink_takes_two_bytes_at_a_time(rt: HostRuntime) -> Result<(), Fail> {
+    let alloc = rt.alloc();
+    let Ok(mut sink) = MemSink::in_pieces(alloc, 5, vec![in alloc; 3]?, 2) else {
+        panic!(rt; "no memory")
+    };
+    for due in [Ok(2), Ok(2), Err(Failed), Ok(1), Err(Failed)] {
+        assert_eq!(rt; sink.write(&[7, 8, 9]), due);
+    }
+    assert_eq!(rt; sink.bytes().as_slice(), &[7u8, 8, 7, 8, 7][..]);
+    Ok(())
+}
