@@ -11,7 +11,7 @@ use Rattle.sig_types.specs.declared.frame.Mode.TheVariants.{Start, Free, Seek, C
 use Rattle.sig_types.specs.declared.phase_set.PhaseSet.{PhaseSet}
 use Rattle.sig_types.specs.PhaseSet.{has, phases_of}
 use Rattle.sig_types.specs.Phases.{is_phase, is_in, some, those, all_phases}
-use Rattle.sig_types.specs.Colour.{same_colour, colour_in, colour_of, signal_of, is_start}
+use Rattle.sig_types.specs.Colour.{same_colour, same_signal, colour_in, colour_of, signal_of, is_start}
 use Rattle.sig_types.proofs.Sets.{in-phases, listed-phase}
 use Rattle.sig_tables.specs.declared.tables.Tables.{Tables}
 use Rattle.sig_tables.specs.Sides.{are_incompatible}
@@ -24,10 +24,10 @@ use Rattle.sig_tables.specs.Preempts.{all_preempts, stage_after, stage_now}
 use Rattle.sig_tables.specs.Choosing.{mode_sought, mode_after, mode_staged, mode_running, mode_reached, is_in_step}
 use Rattle.sig_tables.specs.Course.{Turn, Rings, turn_of, course_of}
 use Rattle.sig_tables.specs.Walking.{Crossing, has_walk, walk_begins}
-use Rattle.sig_tables.specs.Moves.{Moves}
-use Rattle.sig_tables.specs.View.{is_open, ended_of}
+use Rattle.sig_tables.specs.Moves.{Moves, ring_moves}
+use Rattle.sig_tables.specs.View.{is_open, is_done, ended_of}
 use Rattle.sig_tables.specs.Ticking.{moves_of, colours_of, frame_of, frame_with, next_moment}
-use Rattle.sig_tables.specs.Seen.{frame_seen, mode_seen, view_seen, moves_seen, sight_seen, demand_with, pedestrian_seen}
+use Rattle.sig_tables.specs.Seen.{frame_seen, mode_seen, view_seen, moves_seen, sight_seen, demand_with, pedestrian_seen, opposed_seen}
 use Rattle.call_store.proofs.Listed.{none-has}
 use Rattle.controller.specs.Modes.{is_free}
 use Rattle.controller.specs.Shows.{is_clearing, is_signalling}
@@ -36,7 +36,8 @@ use Rattle.controller.specs.Rests.{IsCurrent}
 use Rattle.controller.proofs.Colours.{still-colours}
 use Rattle.controller.proofs.Signals.{still-signals}
 use Rattle.controller.proofs.Frames.{frame-parts}
-use Rattle.controller.proofs.Resting.{resting}
+use Rattle.ring_barrier.proofs.Entering.{idle-moves}
+use Rattle.controller.proofs.Resting.{resting, none-done}
 use Rattle.controller.proofs.Seen.{clearance-none}
 use Rattle.sig_tables.proofs.FreeCourse.{forced-unbound}
 
@@ -79,17 +80,21 @@ free-on t version n on past was none other undefined =
 pub rings-turn : (t : Tables) (past : List Moment) (mode : Mode) → (last_frame past).mode ≡ Free → mode ≡ Free → turn_of t past mode ≡ Rings
 rings-turn t past mode was e = rw (was, e) refl
 
--- no walk begins on a phase that keeps its colour, but on one in Green that is called to
+-- no walk begins on a phase that keeps its colour, but on one in Green with Dont that is called to and isn't opposed
 no-walk : (c : Crossing) (mode : Mode) (p : ℕ) (before after : Colour) (signal : Ped) → mode ≡ Free → after ≡ before
-    → ((has_walk c.tables p && is_in c.pedestrian p) && same_colour before Green) ≡ false → walk_begins c mode p before after signal ≡ false
+    → ((has_walk c.tables p && is_in c.pedestrian p)
+    && ((same_colour before Green && not (same_signal signal Walk || same_signal signal Flash)) && not (is_in c.opposed p))) ≡ false
+    → walk_begins c mode p before after signal ≡ false
 no-walk c mode p before after signal e f none = rw (e, f) (of-colour before signal none)
   where
-    uncalled : (a b o : Bool) → ((a && b) && true) ≡ false → (a && b && not o) ≡ false
+    uncalled : (a b o : Bool) → ((a && b) && not o) ≡ false → (a && b && not o) ≡ false
     uncalled false b o e = refl
     uncalled true false o e = refl
-    uncalled true true o e = absurd (false≢true (sym e))
+    uncalled true true o e = e
 
-    of-colour : (colour : Colour) (s : Ped) → ((has_walk c.tables p && is_in c.pedestrian p) && same_colour colour Green) ≡ false
+    of-colour : (colour : Colour) (s : Ped)
+        → ((has_walk c.tables p && is_in c.pedestrian p)
+        && ((same_colour colour Green && not (same_signal s Walk || same_signal s Flash)) && not (is_in c.opposed p))) ≡ false
         → walk_begins c Free p colour colour s ≡ false
     of-colour Green Dont e = uncalled (has_walk c.tables p) (is_in c.pedestrian p) (is_in c.opposed p) e
     of-colour Green Walk e = refl
@@ -110,12 +115,22 @@ unopposed t f demand p h e =
 abbrev no-moves : Moves
 no-moves = record { ends = []; begins = [] }
 
-pub moves-none : (past : Past) → (frame_seen past).mode ≡ Free → mode_seen past ≡ Free → demand_with None past ≡ []
-    → is_open (view_seen past) 1 ≡ false → is_open (view_seen past) 2 ≡ false → moves_seen past ≡ record { ends = []; begins = [] }
-moves-none past was mode none first second =
-    ap (λ (t : Turn). moves_of t (view_seen past)) (rings-turn past.tables past.moments (mode_seen past) was mode)
-    ∙ resting (view_seen past) (λ p. forced-unbound (view_seen past) p (ap bound mode))
+-- what both rings do, where nothing has demand and neither is open
+pub rings-rest : (past : Past) → mode_seen past ≡ Free → demand_with None past ≡ []
+    → is_open (view_seen past) 1 ≡ false → is_open (view_seen past) 2 ≡ false → ring_moves (view_seen past) ≡ record { ends = []; begins = [] }
+rings-rest past mode none first second =
+    resting (view_seen past) (λ p. forced-unbound (view_seen past) p (ap bound mode))
     (ap (λ (m : Mode). demand_with (bound m) past) mode ∙ none) first second
+
+-- and where no phase is done
+pub rings-undone : (past : Past) → mode_seen past ≡ Free → ((p : ℕ) → is_phase p ≡ true → is_done (view_seen past) p ≡ false)
+    → is_open (view_seen past) 1 ≡ false → is_open (view_seen past) 2 ≡ false → ring_moves (view_seen past) ≡ record { ends = []; begins = [] }
+rings-undone past mode none first second =
+    idle-moves (view_seen past) first second (none-done (view_seen past) none) (λ p. forced-unbound (view_seen past) p (ap bound mode))
+
+moves-none : (past : Past) → (frame_seen past).mode ≡ Free → mode_seen past ≡ Free → ring_moves (view_seen past) ≡ record { ends = []; begins = [] }
+    → moves_seen past ≡ record { ends = []; begins = [] }
+moves-none past was mode none = ap (λ (t : Turn). moves_of t (view_seen past)) (rings-turn past.tables past.moments (mode_seen past) was mode) ∙ none
 
 -- no counter and no target in Free
 pub no-counter : (past : Past) → mode_seen past ≡ Free → (course_of past).counter ≡ 0
@@ -161,26 +176,25 @@ frame-same past now was mode veh ped =
       version = f.version;
     }) e
 
--- and so they do at rest
-pub frame-again : (past : Past) → IsCurrent past → (frame_seen past).mode ≡ Free → mode_seen past ≡ Free → demand_with None past ≡ []
+-- and so they do where what clears or signals goes on with it, the rings stay as they are, and no walk begins
+pub frame-again : (past : Past) → IsCurrent past → (frame_seen past).mode ≡ Free → mode_seen past ≡ Free
+    → ring_moves (view_seen past) ≡ record { ends = []; begins = [] }
     → length (frame_seen past).veh ≡ 16 → length (frame_seen past).ped ≡ 16
-    → is_open (view_seen past) 1 ≡ false → is_open (view_seen past) 2 ≡ false
-    → ((p : ℕ) → is_phase p ≡ true → is_clearing (frame_seen past).veh p ≡ false)
-    → ((p : ℕ) → is_phase p ≡ true → is_signalling (frame_seen past) p ≡ false)
+    → ((p : ℕ) → is_phase p ≡ true → is_clearing (frame_seen past).veh p ≡ true
+    → runs_on p past.tables past.moments (colour_of (frame_seen past) p) ≡ colour_of (frame_seen past) p)
+    → ((p : ℕ) → is_phase p ≡ true → is_signalling (frame_seen past) p ≡ true → signal_seen past p ≡ signal_of (frame_seen past) p)
     → ((p : ℕ) → is_phase p ≡ true
-    → ((has_walk past.tables p && is_in (pedestrian_seen past) p) && same_colour (colour_of (frame_seen past) p) Green) ≡ false)
+    → ((has_walk past.tables p && is_in (pedestrian_seen past) p)
+    && ((same_colour (colour_of (frame_seen past) p) Green && not (is_signalling (frame_seen past) p)) && not (is_in (opposed_seen past) p))) ≡ false)
     → (next_moment past).frame ≡ frame_seen past
-frame-again past now was mode none wide long first second clear dark calls =
+frame-again past now was mode none wide long clear dark calls =
     let f : Frame = frame_seen past in
-    let moves : moves_seen past ≡ no-moves = moves-none past was mode none first second in
-    let still : f.veh ≡ colours_of past no-moves =
-    still-colours past no-moves f.veh wide refl (λ p h. refl) (λ p h. refl)
-    (λ p h c. absurd (false≢true (sym (clear p h) ∙ c))) in
+    let moves : moves_seen past ≡ no-moves = moves-none past was mode none in
+    let still : f.veh ≡ colours_of past no-moves = still-colours past no-moves f.veh wide refl (λ p h. refl) (λ p h. refl) clear in
     let veh : f.veh ≡ colours_of past (moves_seen past) = still ∙ ap (λ (w : Moves). colours_of past w) (sym moves) in
     let ped : f.ped ≡ map (λ (p : ℕ). if walk_after past Free f.veh p then Walk else signal_seen past p) all_phases =
     still-signals past (walk_after past Free f.veh) f.ped long refl
-    (λ p h. no-walk (crossing_seen past Free) Free p (colour_of f p) (colour_in f.veh p) (signal_of f p) refl refl (calls p h))
-    (λ p h s. absurd (false≢true (sym (dark p h) ∙ s))) in
+    (λ p h. no-walk (crossing_seen past Free) Free p (colour_of f p) (colour_in f.veh p) (signal_of f p) refl refl (calls p h)) dark in
     frame-same past now was mode veh
     (ped ∙ ap (λ (x : List Colour). map (λ (p : ℕ). if walk_after past Free x p then Walk else signal_seen past p) all_phases) veh)
 
@@ -191,31 +205,45 @@ free-apart f version n e = rw e refl
 pub free-started : (m : Mode) → m ≡ Free → false ≡ is_start m
 free-started m e = rw e refl
 
-pub kept-on-ring : (before on : ℕ) → on ≢ 0 → on ≡ (if false then 0 else if on == 0 then before else on)
-kept-on-ring before on some = rw (ne_eqb on 0 some) refl
-
-pub kept-on-first : (before first second : ℕ) → first ≢ 0
-    → first ≡ (if false then 0 else if first == 0 then (if second == 0 then before else second) else first)
-kept-on-first before first second some = rw (ne_eqb first 0 some) refl
-
--- where nothing clears, no ring opens in which something is on
-settled : (past : Past) (p : ℕ) → is_phase p ≡ true → is_clearing (frame_seen past).veh p ≡ false
+-- where what clears stays in it, no ring opens in which something is on
+settled : (past : Past) (p : ℕ) → is_phase p ≡ true
+    → (is_clearing (frame_seen past).veh p ≡ true
+    → runs_on p past.tables past.moments (colour_of (frame_seen past) p) ≡ colour_of (frame_seen past) p)
     → is_in (ended_of past.tables past.moments) p ≡ false
-settled past p h e =
+settled past p h clear =
     in-phases (λ q. not (same_colour (colour_of (frame_seen past) q) Red)
     && same_colour (runs_on q past.tables past.moments (colour_of (frame_seen past) q)) Red) p h
-    ∙ stays (colour_of (frame_seen past) p) e
+    ∙ stays (colour_of (frame_seen past) p) clear
   where
-    stays : (c : Colour) → (same_colour c Yellow || same_colour c Clear) ≡ false
+    stays : (c : Colour) → ((same_colour c Yellow || same_colour c Clear) ≡ true → runs_on p past.tables past.moments c ≡ c)
         → (not (same_colour c Red) && same_colour (runs_on p past.tables past.moments c) Red) ≡ false
     stays Green k = refl
     stays Red k = refl
-    stays Yellow k = absurd (false≢true (sym k))
-    stays Clear k = absurd (false≢true (sym k))
+    stays Yellow k = ap (λ (x : Colour). same_colour x Red) (k refl)
+    stays Clear k = ap (λ (x : Colour). same_colour x Red) (k refl)
 
-pub shut : (past : Past) (n : ℕ) → n ≢ 0 → ((p : ℕ) → is_phase p ≡ true → is_clearing (frame_seen past).veh p ≡ false)
-    → (n == 0 || is_in (ended_of past.tables past.moments) n) ≡ false
-shut past n some clear = rw (ne_eqb n 0 some) (elim (cases_Bool (is_in all_phases n)) [
+none-ends : (past : Past) (n : ℕ)
+    → ((p : ℕ) → is_phase p ≡ true → is_clearing (frame_seen past).veh p ≡ true
+    → runs_on p past.tables past.moments (colour_of (frame_seen past) p) ≡ colour_of (frame_seen past) p)
+    → is_in (ended_of past.tables past.moments) n ≡ false
+none-ends past n clear = elim (cases_Bool (is_in all_phases n)) [
   | inl i ↦ let h = listed-phase n i in settled past n h (clear n h)
   | inr o ↦ clearance-none past n o
-])
+]
+
+pub shut : (past : Past) (n : ℕ) → n ≢ 0
+    → ((p : ℕ) → is_phase p ≡ true → is_clearing (frame_seen past).veh p ≡ true
+    → runs_on p past.tables past.moments (colour_of (frame_seen past) p) ≡ colour_of (frame_seen past) p)
+    → (n == 0 || is_in (ended_of past.tables past.moments) n) ≡ false
+shut past n some clear = rw (ne_eqb n 0 some) (none-ends past n clear)
+
+-- and it is open where nothing is
+pub open-empty : (past : Past) (n : ℕ)
+    → ((p : ℕ) → is_phase p ≡ true → is_clearing (frame_seen past).veh p ≡ true
+    → runs_on p past.tables past.moments (colour_of (frame_seen past) p) ≡ colour_of (frame_seen past) p)
+    → (n == 0) ≡ (n == 0 || is_in (ended_of past.tables past.moments) n)
+open-empty past n clear = rw (none-ends past n clear) (alone (n == 0))
+  where
+    alone : (b : Bool) → b ≡ (b || false)
+    alone true = refl
+    alone false = refl

@@ -38,7 +38,7 @@ pub start-next : (m : Moment) (past : List Moment) (count : ℕ) (s : Bool) → 
     → (if s then count + 1 else 0) ≡ start_run (m ∷ past)
 start-next m past count s e f = rw (e, f) refl
 
-start-zero : (past : List Moment) → is_start (last_frame past).mode ≡ false → start_run past ≡ 0
+pub start-zero : (past : List Moment) → is_start (last_frame past).mode ≡ false → start_run past ≡ 0
 start-zero [] e = refl
 start-zero (m ∷ past) e = rw e refl
 

@@ -5,7 +5,7 @@ use Rattle.sig_types.specs.Phases.{is_in, some}
 use Rattle.sig_tables.specs.Tables.{clearance}
 use Rattle.sig_tables.specs.Sides.{are_of_one_side}
 use Rattle.sig_tables.specs.View.{View, on_phase, is_open, present_side, later, earlier, has_room_in, is_wanted}
-use Rattle.sig_tables.specs.View.{is_served, has_reason, is_forced, greatest_clearance}
+use Rattle.sig_tables.specs.View.{is_served, has_reason, is_done, is_forced, greatest_clearance}
 use Rattle.sig_tables.specs.Moves.{is_free_to_leave, is_to_end, ending_in, beginning_of, Moves, ring_moves}
 use Rattle.sig_tables.specs.View.{other_ring}
 use Rattle.std.proofs.lemmas.Bool.{cases_Bool}
@@ -54,6 +54,13 @@ none-begins v r shut = rw shut refl
 pub none-forced : (v : View) (s : PhaseSet) → Has s (is_forced v) → phases_of s ≡ [] → (p : ℕ) → is_forced v p ≡ false
 none-forced v s h none p = elim (cases_Bool (is_phase p)) [
   | inl i ↦ sym (h p i) ∙ none-has s p i none
+  | inr i ↦ rw i refl
+]
+
+-- where no phase is done, nothing else is
+pub none-done : (v : View) → ((p : ℕ) → is_phase p ≡ true → is_done v p ≡ false) → (p : ℕ) → is_done v p ≡ false
+none-done v none p = elim (cases_Bool (is_phase p)) [
+  | inl i ↦ none p i
   | inr i ↦ rw i refl
 ]
 

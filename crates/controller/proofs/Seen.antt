@@ -2,7 +2,7 @@
 use Rattle.std.proofs.Common.{◌≡◌, ◌≢◌, ◌<◌, ◌≤◌, ◌+◌, ◌-◌, ℕ, nat_le, Bool, true, false, not}
 use Rattle.std.proofs.Common.{◌&&◌, ◌||◌, Option, Some, None, refl, sym, ◌∙◌, ap, arith, inl, inr}
 use Rattle.std.proofs.lemmas.Bool.{cases_Bool, false≢true, leb-true, leb-false, le-leb, lt-leb}
-use Rattle.std.proofs.Math.Bool.{and-false, and-true, not-not}
+use Rattle.std.proofs.Math.Bool.{and-false, not-not}
 use Rattle.sig_types.specs.declared.frame.Colour.{Colour}
 use Rattle.sig_types.specs.declared.frame.Colour.TheVariants.{Green, Yellow, Clear, Red}
 use Rattle.sig_types.specs.declared.frame.Ped.TheVariants.{Dont}
@@ -214,20 +214,23 @@ cleared-signal past p count least signal is ls long follows =
     both : (a b c : Bool) → a ≡ true → b ≡ c → b ≡ (a && c)
     both a b c e f = rw (e, f) refl
 
-pub done-unserved : (past : Past) (p : ℕ) → is_served past.tables past.moments p ≡ false → false ≡ is_done (view_seen past) p
-done-unserved past p e = unserved _ _ e
+pub done-unreasoned : (past : Past) (p : ℕ) → is_reasoned (bound (mode_seen past)) (view_seen past) p ≡ false → false ≡ is_done (view_seen past) p
+done-unreasoned past p e =
+    unreasoned (is_enabled past.tables p) (same_colour (colour_of (frame_seen past) p) Green) (is_reasoned (bound (mode_seen past)) (view_seen past) p)
+    (is_served past.tables past.moments p) e
   where
-    unserved : (a b : Bool) → b ≡ false → false ≡ (a && b)
-    unserved true b e = sym e
-    unserved false b e = refl
+    unreasoned : (a b c d : Bool) → c ≡ false → false ≡ (a && b && c && d)
+    unreasoned false b c d e = refl
+    unreasoned true false c d e = refl
+    unreasoned true true c d e = rw e refl
 
-pub done-reason : (past : Past) (p : ℕ) (x : Bool) → is_served past.tables past.moments p ≡ true → is_enabled past.tables p ≡ true
+pub done-served : (past : Past) (p : ℕ) (x : Bool) → is_reasoned (bound (mode_seen past)) (view_seen past) p ≡ true → is_enabled past.tables p ≡ true
     → same_colour (colour_of (frame_seen past) p) Green ≡ true
-    → x ≡ is_reasoned (bound (mode_seen past)) (view_seen past) p → x ≡ is_done (view_seen past) p
-done-reason past p x s on green e = e ∙ all-of _ _ _ _ on green s
+    → x ≡ is_served past.tables past.moments p → x ≡ is_done (view_seen past) p
+done-served past p x reason on green e = e ∙ all-of _ _ _ _ on green reason
   where
-    all-of : (a b c d : Bool) → a ≡ true → b ≡ true → d ≡ true → c ≡ (a && b && c && d)
-    all-of a b c d e f g = rw (e, f, g) (sym (and-true c))
+    all-of : (a b c d : Bool) → a ≡ true → b ≡ true → c ≡ true → d ≡ (a && b && c && d)
+    all-of a b c d e f g = rw (e, f, g) refl
 
 pub done-not : (past : Past) (p : ℕ) → (is_enabled past.tables p && same_colour (colour_of (frame_seen past) p) Green) ≡ false
     → false ≡ is_done (view_seen past) p

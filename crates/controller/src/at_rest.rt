@@ -1,6 +1,6 @@
-//! Ticks of free operation that give the last frame again: those at rest, where nothing is asked for and nothing runs out, and
-//! most of what other ticks look at is not looked at; and those at which no phase ends, begins or walks. Only the registers
-//! that count are stepped.
+//! Ticks of free operation that give the last frame again: those at rest, where nothing is asked for and nothing runs out;
+//! plain ones, where what is on stays as it is and no more is looked at; and those at which no phase ends, begins or walks.
+//! Only the registers that count are stepped.
 
 ghost use Rattle.std.specs.Prelude.{◌≡◌, ◌≢◌, ◌<◌, ◌≤◌, ◌+◌, ◌&&◌, ◌∷◌, [], ℕ, true, false, None, IsTrue, length, get_or, not};
 ghost use Rattle.controller.specs.Modes.{is_free};
@@ -55,7 +55,7 @@ impl Controller {
     ghost use Rattle.sig_tables.specs.Clock.{clock_now};
     ghost use Rattle.sig_tables.specs.Calls.{is_green};
     ghost use Rattle.sig_tables.specs.Layout.{Has};
-    ghost use Rattle.sig_types.specs.PhaseSet.{has};
+    ghost use Rattle.sig_types.specs.PhaseSet.{has, phases_of};
     ghost use Rattle.sig_tables.specs.Walking.{has_walk};
     ghost use Rattle.sig_tables.specs.Decide.{with_moment, next_moment};
     ghost use Rattle.sig_tables.specs.Seen.{frame_seen, mode_seen, pedestrian_seen, demand_with, quiet_seen, opposed_seen};
@@ -82,19 +82,17 @@ impl Controller {
         }
     }
 
-    /// Whether no phase has demand where no pattern binds, and no Green one is called to walk.
-    fn is_unasked(&self) -> bool
-        ensures demand { (past : Past) → Keeps self.now past → IsTrue result → demand_with None past ≡ [] }
-        ensures walks { (past : Past) (p : ℕ) → Keeps self.now past → IsTrue result → is_phase p ≡ true
-            → ((has_walk past.tables p && is_in (pedestrian_seen past) p) && same_colour (colour_of (frame_seen past) p) Green) ≡ false }
+    /// Whether no walk begins on a phase that stays Green: of those that show steady don't walk and are not opposed none is
+    /// called to.
+    fn is_uncalled(&self, opposed: PhaseSet) -> bool
+        ensures walks { (past : Past) (p : ℕ) → Keeps self.now past → Has opposed (is_in (opposed_seen past)) → IsTrue result → is_phase p ≡ true
+            → ((has_walk past.tables p && is_in (pedestrian_seen past) p)
+            && ((same_colour (colour_of (frame_seen past) p) Green && not (is_signalling (frame_seen past) p))
+            && not (is_in (opposed_seen past) p))) ≡ false }
     {
-        let walking = self.layout.walks.meet(self.calls.pedestrian());
-        if walking.meet(self.shown.green).is_empty() {
-            let demand = self.calls.demand(&self.layout, self.shown.red, None);
-            demand.is_empty()
-        } else {
-            false
-        }
+        let called = self.layout.walks.meet(self.calls.pedestrian());
+        let steady = self.shown.green.minus(self.signalling);
+        called.meet(steady.minus(opposed)).is_empty()
     }
 
     /// Whether nothing runs out: no phase is in Yellow or red clearance, and none shows Walk or Flash.
@@ -132,16 +130,18 @@ impl Controller {
         }
     }
 
-    /// Whether this tick, of a cabinet that runs free and goes on to, is one at rest.
-    pub(crate) fn is_at_rest(&self) -> bool
+    /// Whether this tick, of a cabinet that runs free and goes on to, with these phases that have demand, is one at rest.
+    pub(crate) fn is_at_rest(&self, demand: PhaseSet) -> bool
         ensures repeats { (past : Past) → Keeps self.now past → (frame_seen past).mode ≡ Free → mode_seen past ≡ Free
-            → IsTrue result → Repeats past }
-        ensures demand { (past : Past) → Keeps self.now past → IsTrue result → demand_with None past ≡ [] }
+            → phases_of demand ≡ demand_with None past → IsTrue result → Repeats past }
+        ensures demand { IsTrue result → phases_of demand ≡ [] }
     {
         shows_sixteen(self.frame);
-        if !self.is_unasked() {
+        if !demand.is_empty() {
             false
         } else if !self.is_settled() {
+            false
+        } else if !self.is_uncalled(PhaseSet::empty()) {
             false
         } else if !self.is_current() {
             false
@@ -162,6 +162,29 @@ impl Controller {
         let clock = self.orders.clock_now();
         let active = self.calls.active(&self.layout, None);
         self.repeat(command, clock, active, PhaseSet::empty())
+    }
+
+    /// Whether this tick, of a cabinet that runs free and goes on to, is plain: what clears or walks goes on with it, no walk
+    /// begins, and no Green phase is done, or none has demand.
+    pub(crate) fn is_plain(&self, sight: &Sight) -> bool
+        requires few { tick_count self.now < 4294967295 }
+        ensures repeats { (past : Past) → Keeps self.now past → Sees sight.now past → (frame_seen past).mode ≡ Free → mode_seen past ≡ Free
+            → IsTrue result → Repeats past }
+    {
+        shows_sixteen(self.frame);
+        if !self.clears_on() {
+            false
+        } else if !self.is_uncalled(sight.opposed) {
+            false
+        } else if !self.all_walk_on() {
+            false
+        } else if !self.all_stay(sight) {
+            false
+        } else if !self.is_current() {
+            false
+        } else {
+            are_both_on(self.frame.on)
+        }
     }
 
     /// Whether this tick gives the last frame again, of a cabinet that runs free and goes on to.
@@ -202,17 +225,13 @@ impl Controller {
         ensures ticks { tick_count self.new ≡ tick_count self.old + 1 }
         ensures installs { install_count self.new ≡ install_count self.old }
     {
-        let frame = self.frame;
         self.calls.step(self.shown.green, self.walking);
         self.clocks
-            .step(&frame, true, active, opposed, &self.tables);
-        self.signals.step(&frame, true, &self.tables);
-        self.preempts.step(&frame);
+            .step(&self.frame, true, active, opposed, &self.tables);
+        self.signals.step(&self.frame, true, &self.tables);
+        self.preempts.step(&self.frame);
         self.requests.step(None);
         self.orders.step(command, clock);
-        self.last = frame.on;
-        self.latest = frame.on[0];
-        self.start_run = 0;
-        frame
+        self.frame
     }
 }

@@ -102,7 +102,7 @@ impl Controller {
 
     /// Whether every phase in Yellow or red clearance stays in it. Only those that are on in a ring are looked at: where
     /// another clears, this says no.
-    fn clears_on(&self) -> bool
+    pub(crate) fn clears_on(&self) -> bool
         requires few { tick_count self.now < 4294967295 }
         ensures stays { (past : Past) (p : ℕ) → Keeps self.now past → IsTrue result → is_phase p ≡ true
             → is_clearing (frame_seen past).veh p ≡ true

@@ -25,6 +25,7 @@ mod moving;
 mod orders;
 mod reasons;
 mod seeing;
+mod staying;
 mod ticking;
 mod walking;
 

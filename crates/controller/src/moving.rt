@@ -71,10 +71,12 @@ impl Controller {
         requires few { tick_count self.now < 4294967295 }
         ensures opening { (past : Past) → Keeps self.now past → Opens result (view_seen past) }
     {
-        [
-            self.is_open(self.frame.on[0]),
-            self.is_open(self.frame.on[1]),
-        ]
+        let [first, second] = self.frame.on;
+        if self.shown.clearing.is_empty() {
+            [first == 0, second == 0]
+        } else {
+            [self.is_open(first), self.is_open(second)]
+        }
     }
 
     /// Those of the phases that have room where they begin after so many ticks: all of them where no pattern binds.

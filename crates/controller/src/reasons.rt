@@ -77,7 +77,7 @@ impl Controller {
     }
 
     /// Whether there is a reason to end an enabled Green phase, 1 to 16, where no pattern binds: gap or maximum.
-    fn free_reason(&self, phase: u8, active: bool, opposed: bool) -> bool
+    pub(crate) fn free_reason(&self, phase: u8, active: bool, opposed: bool) -> bool
         requires above { 0 < phase }
         requires within { phase ≤ 16 }
         ensures reason { (past : Past) → Keeps self.now past → is_enabled past.tables phase ≡ true
@@ -161,8 +161,8 @@ impl Controller {
             → is_green (frame_seen past) phase ≡ true → active ≡ not (is_in (quiet_seen past) phase)
             → opposed ≡ is_in (opposed_seen past) phase → result ≡ is_done (view_seen past) phase }
     {
-        if self.is_served(phase) {
-            self.has_reason(course, phase, active, opposed)
+        if self.has_reason(course, phase, active, opposed) {
+            self.is_served(phase)
         } else {
             false
         }

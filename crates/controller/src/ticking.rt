@@ -9,35 +9,41 @@ use crate::seeing::Sight;
 use flash_mode::Turn;
 use sig_types::{Frame, Mode, PhaseSet};
 
+/// What a tick is about in a cabinet that runs free and goes on to, with this pattern in command, at this time.
+fn free_course(command: u8, clock: u32) -> Course
+    ensures course { (past : Past) → (frame_seen past).mode ≡ Free → mode_seen past ≡ Free → command ≡ command_now past → clock ≡ clock_now past
+        → OnCourse result past }
+    ensures clock { result.clock ≡ clock }
+{
+    Course {
+        command,
+        clock,
+        mode: Mode::Free,
+        goal: PhaseSet::empty(),
+        turn: Turn::Rings,
+        lesser: None,
+        counter: 0,
+        target: 0,
+        active: None,
+    }
+}
+
+ghost use Rattle.sig_types.specs.declared.frame.Mode.TheVariants.{Free};
+ghost use Rattle.sig_tables.specs.Past.{Past};
+ghost use Rattle.sig_tables.specs.Command.{command_now};
+ghost use Rattle.sig_tables.specs.Clock.{clock_now};
+ghost use Rattle.sig_tables.specs.Seen.{frame_seen, mode_seen};
+ghost use Rattle.controller.specs.Course.{OnCourse};
+
 impl Controller {
     ghost use Rattle.sig_types.specs.declared.frame.Mode.TheVariants.{Free};
     ghost use Rattle.sig_tables.specs.Past.{Past};
     ghost use Rattle.sig_tables.specs.Command.{command_now};
     ghost use Rattle.sig_tables.specs.Decide.{with_moment, next_moment};
     ghost use Rattle.sig_tables.specs.Seen.{frame_seen, mode_seen};
-    ghost use Rattle.controller.specs.Course.{OnCourse, Runs};
+    ghost use Rattle.controller.specs.Course.{Runs};
     ghost use Rattle.controller.specs.Sees.{Sees};
     ghost use Rattle.controller.specs.StandsFor.{Keeps, tick_count, install_count};
-
-    /// What a tick is about in a cabinet that runs free and goes on to, with this pattern in command.
-    fn free_course(&self, command: u8) -> Course
-        requires few { tick_count self.now < 4294967295 }
-        ensures course { (past : Past) → Keeps self.now past → (frame_seen past).mode ≡ Free → mode_seen past ≡ Free
-            → command ≡ command_now past → OnCourse result past }
-        ensures of_day { result.clock < 864000 }
-    {
-        Course {
-            command,
-            clock: self.orders.clock_now(),
-            mode: Mode::Free,
-            goal: PhaseSet::empty(),
-            turn: Turn::Rings,
-            lesser: None,
-            counter: 0,
-            target: 0,
-            active: None,
-        }
-    }
 
     /// The frame of a tick that is about this and sees this.
     fn go_on(&mut self, course: &Course, sight: &Sight) -> Frame
@@ -63,13 +69,18 @@ impl Controller {
         ensures ticks { tick_count self.new ≡ tick_count self.old + 1 }
         ensures installs { install_count self.new ≡ install_count self.old }
     {
-        if self.is_at_rest() {
+        let demand = self.free_demand();
+        if self.is_at_rest(demand) {
             return self.rest(command);
         }
-        let course = self.free_course(command);
-        let sight = self.sight(&course);
+        let sight = self.free_sight(demand);
+        let clock = self.orders.clock_now();
+        if self.is_plain(&sight) {
+            return self.repeat(command, clock, sight.active, sight.opposed);
+        }
+        let course = free_course(command, clock);
         if self.repeats(&course, &sight) {
-            return self.repeat(command, course.clock, sight.active, sight.opposed);
+            return self.repeat(command, clock, sight.active, sight.opposed);
         }
         self.go_on(&course, &sight)
     }

@@ -1,9 +1,9 @@
-use Rattle.std.proofs.Common.{◌≡◌, ◌≢◌, ◌+◌, ◌&&◌, ◌∷◌, Bool, false, refl, sym, ◌∙◌, ap, arith, subst}
+use Rattle.std.proofs.Common.{◌≡◌, ◌+◌, ◌&&◌, ◌∷◌, Bool, false, refl, sym, ◌∙◌, ap, arith, subst}
 use Rattle.std.proofs.lemmas.Bool.{false≢true}
 use Rattle.sig_types.specs.declared.frame.Frame.{Frame}
 use Rattle.sig_types.specs.declared.frame.Mode.{Mode}
 use Rattle.sig_types.specs.declared.frame.Mode.TheVariants.{Free}
-use Rattle.sig_types.specs.Colour.{is_start, on_in}
+use Rattle.sig_types.specs.Colour.{is_start}
 use Rattle.sig_tables.specs.Looking.{last_on}
 use Rattle.sig_tables.specs.Past.{Moment}
 use Rattle.sig_tables.specs.Calls.{is_green}
@@ -18,11 +18,11 @@ use Rattle.preempt_run.specs.Dwelling.{NamesPhases}
 use Rattle.preempt_run.proofs.Called.{seen-is}
 use Rattle.prio_queue.specs.Places.{some_number}
 use Rattle.controller.specs.Shows.{ShowsColours, is_signalling}
-use Rattle.controller.proofs.Rings.{each-ring, last-next, latest-next}
+use Rattle.controller.proofs.Rings.{each-ring, last-again, latest-again}
 use Rattle.controller.proofs.Seen.{opposed-green}
 use Rattle.controller.proofs.Sought.{start-again}
-use Rattle.controller.proofs.Pickups.{start-next, few-next, one-more, same-most}
-use Rattle.controller.proofs.Again.{free-apart, free-started, kept-on-ring, kept-on-first}
+use Rattle.controller.proofs.Pickups.{start-zero, start-next, few-next, one-more, same-most}
+use Rattle.controller.proofs.Again.{free-apart, free-started}
 use Rattle.controller.proofs.Controller.repeat.Goals as goal
 
 pub returns-clause-keeps : goal.returns-clause-keeps
@@ -38,9 +38,7 @@ returns-clause-keeps c = λ past k e at quiet opposed r.
     let signalling : Has c.args.self.now.signalling (is_signalling m.frame) =
     subst (λ (x : Frame). Has c.args.self.now.signalling (is_signalling x)) f k.signalling in
     let names : NamesPhases m.frame = subst (λ (x : Frame). NamesPhases x) f k.names in
-    let start : false ≡ is_start old.mode = free-started old.mode (ap (λ (x : Frame). x.mode) k.frame ∙ r.was) in
-    let first : on_in old 1 ≢ 0 = λ x. r.first (ap (λ (y : Frame). on_in y 1) (sym k.frame) ∙ x) in
-    let second : on_in old 2 ≢ 0 = λ x. r.second (ap (λ (y : Frame). on_in y 2) (sym k.frame) ∙ x) in
+    let going : is_start (frame_seen past).mode ≡ false = sym (free-started (frame_seen past).mode r.was) in
     record {
       tables = k.tables;
       layout = k.layout;
@@ -61,11 +59,12 @@ returns-clause-keeps c = λ past k e at quiet opposed r.
       walking = walking;
       signalling = signalling;
       names = names;
-      last = each-ring old.on 0 (λ q. last_on q (m ∷ past.moments))
-          (kept-on-ring _ _ first ∙ last-next m past.moments old 1 _ false g start (k.last 1 (omega arith) (omega arith)))
-          (kept-on-ring _ _ second ∙ last-next m past.moments old 2 _ false g start (k.last 2 (omega arith) (omega arith)));
-      latest = kept-on-first _ _ (on_in old 2) first ∙ latest-next m past.moments old _ false g start k.latest;
-      start = start-next m past.moments c.args.self.now.start_run false (free-started m.frame.mode free) k.start;
+      last = each-ring c.args.self.now.last 0 (λ q. last_on q (m ∷ past.moments))
+          (k.last 1 (omega arith) (omega arith) ∙ last-again m past.moments 1 a going r.first)
+          (k.last 2 (omega arith) (omega arith) ∙ last-again m past.moments 2 a going r.second);
+      latest = k.latest ∙ latest-again m past.moments a going r.first;
+      start = k.start ∙ start-zero past.moments going
+          ∙ start-next m past.moments c.args.self.now.start_run false (free-started m.frame.mode free) k.start;
       few_start = few-next m past.moments
           (λ now last. start-again past.tables past.version (command_now past) (preempts_on past.heard (moment_seen past)) past.moments
           (colours_of past (moves_seen past)) last now);

@@ -9,11 +9,11 @@ use Rattle.sig_tables.specs.Seen.{mode_seen, moment_seen}
 use Rattle.prio_queue.specs.Places.{some_number}
 use Rattle.controller.specs.Modes.{is_free}
 use Rattle.controller.proofs.Again.{rings-turn, no-counter, no-target}
-use Rattle.controller.proofs.Controller.free_course.Goals as goal
+use Rattle.controller.proofs.ticking.free_course.Goals as goal
 
 pub returns-clause-course : goal.returns-clause-course
-returns-clause-course c = λ past k was mode e. record {
-  clock = c.clock_now.ensures.clock past k.orders;
+returns-clause-course c = λ past was mode e at. record {
+  clock = at;
   command = e;
   mode = sym mode;
   goal = λ p h. c.empty.ensures.has p ∙ sym (ap (λ (m : Mode). is_in (goal_in past.tables m) p) mode);

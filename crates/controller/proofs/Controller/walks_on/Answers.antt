@@ -1,0 +1,18 @@
+use Rattle.std.proofs.Common.{sym, ◌∙◌, ap}
+use Rattle.sig_types.specs.declared.frame.Frame.{Frame}
+use Rattle.sig_types.specs.declared.frame.Mode.{Mode}
+use Rattle.sig_types.specs.Colour.{signal_of}
+use Rattle.sig_tables.specs.Goals.{lesser_in}
+use Rattle.sig_tables.specs.Lesser.{signal_runs_within}
+use Rattle.sig_tables.specs.Seen.{frame_seen}
+use Rattle.ped_clock.proofs.Signals.{one_signal}
+use Rattle.controller.proofs.Controller.walks_on.Goals as goal
+
+pub returns-else-phase-gt16 : goal.returns-else-phase-gt16
+returns-else-phase-gt16 c = record {
+  stays = λ past k mode t h.
+      ap (λ (m : Mode). signal_runs_within (lesser_in past.tables m c.args.phase) c.args.phase past.tables past.moments (signal_of (frame_seen past) c.args.phase))
+      mode
+      ∙ sym (c.signal_within.ensures.follows past k)
+      ∙ (one_signal _ _ (sym c.eq.ensures ∙ t) ∙ ap (λ (f : Frame). signal_of f c.args.phase) k.frame);
+}

@@ -1,0 +1,116 @@
+//! Whether the phases of a cabinet that runs free stay as they are at a tick. Only those that are on in a ring are looked at.
+
+ghost use Rattle.std.specs.Prelude.{◌≡◌, ◌<◌, ◌≤◌, ◌&&◌, [], ℕ, None, true, false, not, IsTrue};
+
+use crate::Controller;
+use crate::binding::lone;
+use crate::seeing::Sight;
+use sig_types::PhaseSet;
+
+impl Controller {
+    ghost use Rattle.sig_types.specs.declared.frame.Mode.TheVariants.{Free};
+    ghost use Rattle.sig_types.specs.Phases.{is_phase, is_in};
+    ghost use Rattle.sig_types.specs.Colour.{signal_of};
+    ghost use Rattle.sig_tables.specs.Past.{Past};
+    ghost use Rattle.sig_tables.specs.Tables.{is_enabled};
+    ghost use Rattle.sig_tables.specs.Calls.{is_green};
+    ghost use Rattle.sig_tables.specs.View.{is_done, is_open};
+    ghost use Rattle.sig_tables.specs.Moves.{ring_moves};
+    ghost use Rattle.sig_tables.specs.Seen.{frame_seen, mode_seen, quiet_seen, opposed_seen, view_seen};
+    ghost use Rattle.controller.specs.Shows.{is_signalling};
+    ghost use Rattle.controller.specs.Walks.{signal_seen};
+    ghost use Rattle.controller.specs.Sees.{Sees};
+    ghost use Rattle.controller.specs.StandsFor.{Keeps, tick_count};
+
+    /// Whether a phase on which no walk begins keeps its signal. What is no phase does.
+    fn walks_on(&self, phase: u8) -> bool
+        requires few { tick_count self.now < 4294967295 }
+        ensures stays { (past : Past) → Keeps self.now past → mode_seen past ≡ Free → IsTrue result → is_phase phase ≡ true
+            → signal_seen past phase ≡ signal_of (frame_seen past) phase }
+    {
+        if phase == 0 {
+            true
+        } else if phase > 16 {
+            true
+        } else {
+            self.signal_within(phase, None) == self.frame.ped[phase as usize - 1]
+        }
+    }
+
+    /// Whether every phase that shows Walk or Flash goes on with it. Where one does that is on in no ring, this says no.
+    pub(crate) fn all_walk_on(&self) -> bool
+        requires few { tick_count self.now < 4294967295 }
+        ensures stays { (past : Past) (p : ℕ) → Keeps self.now past → mode_seen past ≡ Free → IsTrue result → is_phase p ≡ true
+            → is_signalling (frame_seen past) p ≡ true → signal_seen past p ≡ signal_of (frame_seen past) p }
+    {
+        if self.signalling.is_empty() {
+            return true;
+        }
+        let [first, second] = self.frame.on;
+        if self
+            .signalling
+            .minus(lone(first))
+            .minus(lone(second))
+            .is_empty()
+        {
+            self.walks_on(first) && self.walks_on(second)
+        } else {
+            false
+        }
+    }
+
+    /// Whether an enabled Green phase, 1 to 16, is done: it is served, and there is a reason to end it.
+    fn is_free_done(&self, phase: u8, active: bool, opposed: bool) -> bool
+        requires above { 0 < phase }
+        requires within { phase ≤ 16 }
+        requires few { tick_count self.now < 4294967295 }
+        ensures done { (past : Past) → Keeps self.now past → mode_seen past ≡ Free → is_enabled past.tables phase ≡ true
+            → is_green (frame_seen past) phase ≡ true → active ≡ not (is_in (quiet_seen past) phase)
+            → opposed ≡ is_in (opposed_seen past) phase → result ≡ is_done (view_seen past) phase }
+    {
+        if self.free_reason(phase, active, opposed) {
+            self.is_served(phase)
+        } else {
+            false
+        }
+    }
+
+    /// Whether a phase is not done. What is no phase is not.
+    fn stays(&self, sight: &Sight, phase: u8) -> bool
+        requires few { tick_count self.now < 4294967295 }
+        ensures stays { (past : Past) → Keeps self.now past → Sees sight.now past → mode_seen past ≡ Free → IsTrue result → is_phase phase ≡ true
+            → is_done (view_seen past) phase ≡ false }
+    {
+        if phase == 0 {
+            true
+        } else if phase > 16 {
+            true
+        } else if self.layout.enabled.meet(self.shown.green).has(phase) {
+            let active = sight.active.has(phase);
+            let opposed = sight.opposed.has(phase);
+            !self.is_free_done(phase, active, opposed)
+        } else {
+            true
+        }
+    }
+
+    /// Whether no phase has demand, or none is done, so that both rings stay as they are where neither is open. Where a phase
+    /// is Green that is on in no ring, this says no.
+    pub(crate) fn all_stay(&self, sight: &Sight) -> bool
+        requires few { tick_count self.now < 4294967295 }
+        ensures stay { (past : Past) → Keeps self.now past → Sees sight.now past → mode_seen past ≡ Free → IsTrue result
+            → is_open (view_seen past) 1 ≡ false → is_open (view_seen past) 2 ≡ false
+            → ring_moves (view_seen past) ≡ record { ends = []; begins = [] } }
+    {
+        if sight.demand.is_empty() {
+            return true;
+        }
+        let [first, second] = self.frame.on;
+        let green = self.shown.green;
+        if green.minus(lone(first)).minus(lone(second)).is_empty() {
+            self.stays(sight, first) && self.stays(sight, second)
+        } else {
+            false
+        }
+    }
+}
