@@ -1,5 +1,5 @@
 -- A Response that repeats the request's bindings is no longer than the request.
-use Rattle.std.proofs.Common.{◌≡◌, ℕ, ◌<◌, ◌≤◌, List, [], ◌++◌, length, ap, arith}
+use Rattle.std.proofs.Common.{◌≡◌, ℕ, ◌<◌, ◌≤◌, List, ◌++◌, length, arith}
 use Rattle.std.specs.Prelude.{ℤ, pos}
 use Rattle.std.proofs.lemmas.Bool.Decides.{nat_tests}
 use Rattle.std.proofs.lemmas.List.{length-append}
@@ -9,9 +9,7 @@ use Rattle.snmp_msg.specs.declared.message.Message.{Message}
 use Rattle.snmp_msg.specs.Shortest.{ids_text, pdu_content, message_content, shortest, binding_text}
 use Rattle.std.specs.List.{flat_map}
 use Rattle.snmp_msg.specs.Messages.{tag_of}
-use Rattle.arrayvec.specs.ArrayVec.{ArrayVec}
-use Rattle.snmp_msg.specs.declared.message.Bind.{Bind}
-use Rattle.agent.specs.Replies.{response, repeated}
+use Rattle.agent.specs.Replies.{repeated}
 
 -- a content that is no longer has a length that is no longer
 length_rises : (m n : ℕ) → m ≤ n → length (length_text m) ≤ length (length_text n)
@@ -79,8 +77,3 @@ content_fits m s i low low' =
 pub repeated_fits : (m : Message) (status index : ℕ) → status < 128 → index < 128 → length (shortest (repeated m status index)) ≤ length (shortest m)
 unfolding shortest
 repeated_fits m s i low low' = tagged_rises 48 48 (message_content (repeated m s i)) (message_content m) (content_fits m s i low low')
-
--- a Response that is given the request's bindings repeats them
-pub given_binds : (m r : Message) (status index : ℕ) (copies : ArrayVec Bind) → r ≡ response m status index [] → copies.items ≡ m.binds.items
-    → record r { binds = copies } ≡ repeated m status index
-given_binds m r status index copies same items = rw same (ap (response m status index) items)

@@ -1,14 +1,16 @@
 //! What a frame asks: a Get, a GetNext, or a Set that gives orders or goes on with a download. A Set with a fault is answered
 //! with the first one.
 
-ghost use Rattle.std.specs.Prelude.{◌≡◌, ◌↔◌, IsTrue, IfSome, IfNone, Some};
+ghost use Rattle.std.specs.Prelude.{◌≡◌, ◌↔◌, [], IsTrue, IfSome, IfNone, OnSome, Some};
+ghost use Rattle.arrayvec.specs.ArrayVec.{array_vec_len};
+ghost use Rattle.ber_code.specs.Reading.{Gives};
 ghost use Rattle.agent.specs.Asks.{wish_of, ask_of, Asks, IsAsked, CanBeCarriedOut};
 
 use crate::sets::set_wish;
 use arrayvec::ArrayVec;
 use sig_tables::{Cell, CellValue, Tables};
 use sig_types::Request;
-use snmp_msg::{Message, Pdu, read};
+use snmp_msg::{Message, Pdu, read_into};
 
 /// What a Set orders of the cabinet.
 #[derive(Clone, Copy, Debug, PartialEq, Eq)]
@@ -79,6 +81,39 @@ fn is_of(message: &Message, community: &[u8]) -> bool
     message.community.as_slice() == community
 }
 
+impl Ask {
+    /// A Get of nothing, for `decode_into`.
+    pub fn blank() -> Ask
+        ensures community { result.message.community.items ≡ [] }
+        ensures binds { result.message.binds.items ≡ [] }
+    {
+        Ask {
+            message: Message::blank(),
+            wish: Wish::Get,
+        }
+    }
+}
+
+/// Reads what a frame asks of a cabinet of this community with these tables in force into a blank ask. None exactly where the
+/// frame is no message, of another community, or a Response; what was read of it is then left there.
+pub fn decode_into(frame: &[u8], community: &[u8], tables: &Tables, ask: &mut Ask) -> Option<()>
+    requires community { array_vec_len ask.old.message.community ≡ 0 }
+    requires binds { array_vec_len ask.old.message.binds ≡ 0 }
+    ensures found { OnSome result (Asks frame.now community.now tables.now ask.new) }
+    ensures none { IfNone result ((other : Ask) → Asks frame.now community.now tables.now other → ⊥) }
+    ensures reads { Gives (λ _. ask.new) result (ask_of frame.now community.now tables.now) }
+    ensures asked { OnSome result (IsAsked ask.new) }
+    // What it wishes, the cabinet can carry out.
+    ensures fit { OnSome result (CanBeCarriedOut ask.new.wish) }
+{
+    read_into(frame, &mut ask.message)?;
+    if !is_of(&ask.message, community) {
+        return None;
+    }
+    ask.wish = wish_in(tables, &ask.message)?;
+    Some(())
+}
+
 /// What a frame asks of a cabinet of this community with these tables in force. None exactly where the frame is no message,
 /// of another community, or a Response.
 pub fn decode(frame: &[u8], community: &[u8], tables: &Tables) -> Option<Ask>
@@ -90,13 +125,7 @@ pub fn decode(frame: &[u8], community: &[u8], tables: &Tables) -> Option<Ask>
     // What it wishes, the cabinet can carry out.
     ensures fit { IfSome result (λ ask. CanBeCarriedOut ask.wish) }
 {
-    let mut ask = Ask {
-        message: read(frame)?,
-        wish: Wish::Get,
-    };
-    if !is_of(&ask.message, community) {
-        return None;
-    }
-    ask.wish = wish_in(tables, &ask.message)?;
+    let mut ask = Ask::blank();
+    decode_into(frame, community, tables, &mut ask)?;
     Some(ask)
 }

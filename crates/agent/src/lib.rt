@@ -13,7 +13,7 @@ mod reply;
 mod sets;
 mod values;
 
-pub use ask::{Ask, Order, Wish, decode};
+pub use ask::{Ask, Order, Wish, decode, decode_into};
 pub use laws::{
     frames_ask_one_thing, instances_have_values, other_frames_ask_nothing, repeated_bindings_fit,
 };

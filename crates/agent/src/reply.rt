@@ -1,6 +1,7 @@
 //! The answer to what was asked: the values, or the status and index of the first fault with the request's bindings.
 
 ghost use Rattle.std.specs.Prelude.{◌≡◌, ◌≤◌, ◌<◌, [], length, All, IfOk};
+ghost use Rattle.snmp_msg.specs.Parts.{message_in};
 ghost use Rattle.snmp_msg.specs.Shortest.{shortest, IsWritableBind, IsWritableMessage};
 ghost use Rattle.agent.specs.Asks.{IsAsked};
 ghost use Rattle.agent.specs.Bindings.{each_gives, gathered};
@@ -8,16 +9,14 @@ ghost use Rattle.agent.specs.Seen.{IsWithin, seen};
 ghost use Rattle.agent.specs.Replies.{instance_of, next_instance, given, response, repeated, with_values, stage_status, stage_index, told, HasOutcome, reply};
 
 use crate::ask::{Ask, Wish};
-use crate::bindings::{
-    BAD_VALUE, Fault, GENERAL_ERROR, NO_SUCH_NAME, TOO_BIG, copies_into, copy_of_name,
-};
+use crate::bindings::{BAD_VALUE, Fault, GENERAL_ERROR, NO_SUCH_NAME, TOO_BIG, copy_of_name};
 use crate::cabinet::Cabinet;
 use crate::values::value_named;
 use arrayvec::ArrayVec;
 use oid_map::next;
 use sig_tables::{Shown, Tables};
 use sig_types::{Octets, StageAnswer};
-use snmp_msg::{Bind, Message, Pdu, TooLong, write};
+use snmp_msg::{Bind, Message, Parts, Pdu, TooLong, write_parts};
 
 /// Which instances a request is about.
 #[derive(Clone, Copy, Debug, PartialEq, Eq)]
@@ -98,19 +97,18 @@ fn values_into(
     Ok(())
 }
 
-/// The Response with the request's community and id, without bindings so far.
-fn response(m: &Message, status: u8, index: u8) -> Message
-    ensures { result ≡ response m.now status index [] }
+/// The parts of the Response with the request's community and id.
+fn response<'a>(m: &'a Message, status: u8, index: u8, binds: &'a [Bind]) -> Parts<'a>
+    ensures message { message_in result ≡ response m.now status index binds.now }
+    ensures binds { result.binds.now ≡ binds.now }
 {
-    let mut community = ArrayVec::new();
-    let _ = community.try_extend_from_slice(m.community.as_slice());
-    Message {
-        community,
+    Parts {
+        community: &m.community,
         pdu: Pdu::Response,
         id: m.id,
         status: i32::from(status),
         index: i32::from(index),
-        binds: ArrayVec::new(),
+        binds,
     }
 }
 
@@ -122,9 +120,7 @@ fn repeated(m: &Message, status: u8, index: u8) -> Octets
     requires few_places { index < 128 }
     ensures { result.items ≡ shortest (repeated m.now status index) }
 {
-    let mut reply = response(m, status, index);
-    copies_into(m.binds.as_slice(), &mut reply.binds);
-    match write(&reply) {
+    match write_parts(&response(m, status, index, m.binds.as_slice())) {
         Ok(octets) => octets,
         Err(TooLong) => unreachable!(),
     }
@@ -138,9 +134,9 @@ fn reached(cabinet: &Cabinet, reach: Reach, m: &Message) -> Octets
     requires within { IsWithin cabinet.now.shown.now }
     ensures { result.items ≡ shortest (with_values m.now (each_gives (given reach (seen cabinet.now)) 1 m.now.binds.items)) }
 {
-    let mut reply = response(m, 0, 0);
-    match values_into(cabinet, reach, m.binds.as_slice(), &mut reply.binds) {
-        Ok(()) => match write(&reply) {
+    let mut values = ArrayVec::new();
+    match values_into(cabinet, reach, m.binds.as_slice(), &mut values) {
+        Ok(()) => match write_parts(&response(m, 0, 0, values.as_slice())) {
             Ok(octets) => octets,
             Err(TooLong) => repeated(m, TOO_BIG, 0),
         },

@@ -52,12 +52,10 @@ fn act_bind(act: PriorityAct) -> Bind
 }
 
 /// The one binding of the frame of a request or a cancel.
-fn act_binds(act: PriorityAct) -> ArrayVec<Bind, 32>
-    ensures { result.items ≡ act_bind act ∷ [] }
+fn act_binds(act: PriorityAct) -> [Bind; 1]
+    ensures { result ≡ act_bind act ∷ [] }
 {
-    let mut binds = ArrayVec::new();
-    let _ = binds.try_push(act_bind(act));
-    binds
+    [act_bind(act)]
 }
 
 /// The frame that carries a request or a cancel under an id.
@@ -66,7 +64,7 @@ fn act_text(community: &ArrayVec<u8, 32>, id: i32, act: PriorityAct) -> Octets
 {
     let binds = act_binds(act);
     prove!(community.len() <= 32);
-    write_set(community, id, binds)
+    write_set(community, id, &binds)
 }
 
 /// Appends the frame of the request at a place of the scenario's list.

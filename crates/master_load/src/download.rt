@@ -118,5 +118,5 @@ pub(crate) fn step_octets(
 {
     let binds = step_binds(number, cells, step);
     prove!(community.len() <= 32);
-    write_set(community, id, binds)
+    write_set(community, id, binds.as_slice())
 }

@@ -69,38 +69,36 @@ pub struct Command {
 }
 
 /// The one binding of a command that sets a number.
-fn setting(name: Name, number: u32) -> ArrayVec<Bind, 32>
+fn setting(name: Name, number: u32) -> [Bind; 1]
     requires name { IsName name }
     requires number { number < 2147483648 }
-    ensures bound { result.items ≡ number_at name number ∷ [] }
-    ensures writable { All IsWritableBind result.items }
+    ensures bound { result ≡ number_at name number ∷ [] }
+    ensures writable { All IsWritableBind result }
 {
-    let mut binds = ArrayVec::new();
-    binds.push(number_at(name, number));
-    binds
+    [number_at(name, number)]
 }
 
 /// What a poll asks for.
-fn polled() -> ArrayVec<Bind, 32>
-    ensures bound { result.items ≡ map asked_for polled }
-    ensures writable { All IsWritableBind result.items }
+fn polled() -> [Bind; 8]
+    ensures bound { result ≡ map asked_for polled }
+    ensures writable { All IsWritableBind result }
 {
-    let mut binds = ArrayVec::new();
-    binds.push(asked_for(Name::PatternStatus));
-    binds.push(asked_for(Name::Counter));
-    binds.push(asked_for(Name::Target));
-    binds.push(asked_for(Name::ModeCode));
-    binds.push(asked_for(Name::Txn(10)));
-    binds.push(asked_for(Name::Group {
-        column: 4,
-        group: 1,
-    }));
-    binds.push(asked_for(Name::Group {
-        column: 4,
-        group: 2,
-    }));
-    binds.push(asked_for(Name::PatternControl));
-    binds
+    [
+        asked_for(Name::PatternStatus),
+        asked_for(Name::Counter),
+        asked_for(Name::Target),
+        asked_for(Name::ModeCode),
+        asked_for(Name::Txn(10)),
+        asked_for(Name::Group {
+            column: 4,
+            group: 1,
+        }),
+        asked_for(Name::Group {
+            column: 4,
+            group: 2,
+        }),
+        asked_for(Name::PatternControl),
+    ]
 }
 
 /// The octets of what a command does, under an id: a Set, or a Get for a poll.
@@ -114,11 +112,11 @@ pub fn task_octets(community: &ArrayVec<u8, 32>, id: i32, task: Task) -> Octets
             write_set(
                 community,
                 id,
-                setting(Name::PatternControl, u32::from(pattern)),
+                &setting(Name::PatternControl, u32::from(pattern)),
             )
         }
-        Task::Clock(time) => write_set(community, id, setting(Name::Clock, time)),
-        Task::Poll => write_get(community, id, polled()),
+        Task::Clock(time) => write_set(community, id, &setting(Name::Clock, time)),
+        Task::Poll => write_get(community, id, &polled()),
     }
 }
 

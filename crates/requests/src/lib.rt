@@ -13,7 +13,7 @@ ghost use Rattle.requests.specs.Requests.{answers, messages, status_of};
 
 pub use bindings::{asked_for, cell_at, number_at};
 use sig_types::Octets;
-use snmp_msg::{Message, Pdu};
+use snmp_msg::{Message, Pdu, read_into};
 pub use writing::{write_get, write_set};
 
 /// Whether a message is the Response to what was sent under an id.
@@ -35,7 +35,8 @@ pub fn first_status(arrived: &[Octets], id: i32) -> Option<i32>
     ensures { result ≡ status_of (find (answers id) (messages (texts_of arrived.now))) }
 {
     for octets in arrived {
-        if let Some(m) = message(octets) {
+        let mut m = Message::blank();
+        if let Some(()) = read_into(octets.as_slice(), &mut m) {
             if answers(id, &m) {
                 return Some(m.status);
             }

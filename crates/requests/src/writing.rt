@@ -7,49 +7,44 @@ ghost use Rattle.requests.specs.Requests.{get_text, request, set_text};
 
 use arrayvec::ArrayVec;
 use sig_types::Octets;
-use snmp_msg::{Bind, Message, Pdu, TooLong};
+use snmp_msg::{Bind, Parts, Pdu, TooLong, write_parts};
 
 /// The octets of a request of these bindings.
-fn write_request(
-    pdu: Pdu,
-    community: &ArrayVec<u8, 32>,
-    id: i32,
-    binds: ArrayVec<Bind, 32>,
-) -> Octets
-    requires writable { IsWritableMessage (request pdu community.now.items id binds.items) }
-    requires fits { length (shortest (request pdu community.now.items id binds.items)) ≤ 1472 }
-    ensures { result.items ≡ shortest (request pdu community.now.items id binds.items) }
+fn write_request(pdu: Pdu, community: &ArrayVec<u8, 32>, id: i32, binds: &[Bind]) -> Octets
+    requires few { length binds.now ≤ 32 }
+    requires writable { IsWritableMessage (request pdu community.now.items id binds.now) }
+    requires fits { length (shortest (request pdu community.now.items id binds.now)) ≤ 1472 }
+    ensures { result.items ≡ shortest (request pdu community.now.items id binds.now) }
 {
-    let mut copy = ArrayVec::new();
-    let _ = copy.try_extend_from_slice(community.as_slice());
-    let m = Message {
-        community: copy,
+    match write_parts(&Parts {
+        community,
         pdu,
         id,
         status: 0,
         index: 0,
         binds,
-    };
-    match snmp_msg::write(&m) {
+    }) {
         Ok(octets) => octets,
         Err(TooLong) => Octets::new(),
     }
 }
 
 /// The octets of a Set of these bindings.
-pub fn write_set(community: &ArrayVec<u8, 32>, id: i32, binds: ArrayVec<Bind, 32>) -> Octets
-    requires writable { IsWritableMessage (request Set community.now.items id binds.items) }
-    requires fits { length (set_text community.now.items id binds.items) ≤ 1472 }
-    ensures { result.items ≡ set_text community.now.items id binds.items }
+pub fn write_set(community: &ArrayVec<u8, 32>, id: i32, binds: &[Bind]) -> Octets
+    requires few { length binds.now ≤ 32 }
+    requires writable { IsWritableMessage (request Set community.now.items id binds.now) }
+    requires fits { length (set_text community.now.items id binds.now) ≤ 1472 }
+    ensures { result.items ≡ set_text community.now.items id binds.now }
 {
     write_request(Pdu::Set, community, id, binds)
 }
 
 /// The octets of a Get of these bindings.
-pub fn write_get(community: &ArrayVec<u8, 32>, id: i32, binds: ArrayVec<Bind, 32>) -> Octets
-    requires writable { IsWritableMessage (request Get community.now.items id binds.items) }
-    requires fits { length (get_text community.now.items id binds.items) ≤ 1472 }
-    ensures { result.items ≡ get_text community.now.items id binds.items }
+pub fn write_get(community: &ArrayVec<u8, 32>, id: i32, binds: &[Bind]) -> Octets
+    requires few { length binds.now ≤ 32 }
+    requires writable { IsWritableMessage (request Get community.now.items id binds.now) }
+    requires fits { length (get_text community.now.items id binds.now) ≤ 1472 }
+    ensures { result.items ≡ get_text community.now.items id binds.now }
 {
     write_request(Pdu::Get, community, id, binds)
 }

@@ -3,3 +3,4 @@ pub mod BindingLaws
 pub mod MessageLaws
 pub mod WrittenLaws
 pub mod Least
+pub mod Into

@@ -2,3 +2,4 @@ pub mod Values
 pub mod Messages
 pub mod Shortest
 pub mod Reading
+pub mod Parts

@@ -8,6 +8,6 @@ mod reading;
 mod writing;
 
 pub use laws::{messages_stand_alone, shortest_text_is_least};
-pub use message::{Bind, Message, Pdu, TooLong, Value};
-pub use reading::read;
-pub use writing::write;
+pub use message::{Bind, Message, Parts, Pdu, TooLong, Value};
+pub use reading::{read, read_into};
+pub use writing::{write, write_parts};

@@ -1,6 +1,6 @@
 //! A message as its fields.
 
-ghost use Rattle.std.specs.Prelude.{◌≡◌};
+ghost use Rattle.std.specs.Prelude.{◌≡◌, []};
 ghost use Rattle.snmp_msg.specs.Messages.{tag_of};
 
 use arrayvec::ArrayVec;
@@ -55,6 +55,34 @@ pub struct Message {
     pub status: i32,
     pub index: i32,
     pub binds: ArrayVec<Bind, 32>,
+}
+
+impl Message {
+    /// A Get without community and bindings, for `read_into`.
+    pub fn blank() -> Message
+        ensures community { result.community.items ≡ [] }
+        ensures binds { result.binds.items ≡ [] }
+    {
+        Message {
+            community: ArrayVec::new(),
+            pdu: Pdu::Get,
+            id: 0,
+            status: 0,
+            index: 0,
+            binds: ArrayVec::new(),
+        }
+    }
+}
+
+/// A message to be written, whose community and bindings, at most 32, stand elsewhere.
+#[derive(Clone, Copy, Debug)]
+pub struct Parts<'a> {
+    pub community: &'a ArrayVec<u8, 32>,
+    pub pdu: Pdu,
+    pub id: i32,
+    pub status: i32,
+    pub index: i32,
+    pub binds: &'a [Bind],
 }
 
 /// The shortest text of the message has more than 1,472 octets.

@@ -2,7 +2,7 @@
 //! call that reads a part returns the octets after it; where it returns nothing, so does `read`, and
 //! what was read up to there is dropped.
 
-ghost use Rattle.std.specs.Prelude.{◌≡◌, ◌≤◌, List, [], length, IfSome, IfNone, Some};
+ghost use Rattle.std.specs.Prelude.{◌≡◌, ◌≤◌, List, [], length, IfSome, IfNone, OnSome, Some};
 ghost use Rattle.arrayvec.specs.ArrayVec.{array_vec_len};
 ghost use Rattle.ber_code.specs.Reading.{Gives, all_at};
 ghost use Rattle.snmp_msg.specs.Messages.{IsMessage};
@@ -136,20 +136,6 @@ fn pdu_into<'a>(bytes: &'a [u8], m: &mut Message) -> Option<&'a [u8]>
     }
 }
 
-/// A message without bindings, to be read into.
-fn blank() -> Message
-    ensures { (result.community.items ≡ []) × (result.binds.items ≡ []) }
-{
-    Message {
-        community: ArrayVec::new(),
-        pdu: Pdu::Get,
-        id: 0,
-        status: 0,
-        index: 0,
-        binds: ArrayVec::new(),
-    }
-}
-
 /// Reads what stands under the message's tag.
 #[tactic(auto, unfolding(crate::specs::Reading::content_of))]
 fn content_into(content: &[u8], m: &mut Message) -> Option<()>
@@ -183,6 +169,22 @@ fn message_into(bytes: &[u8], m: &mut Message) -> Option<()>
     content_into(content, m)
 }
 
+/// Reads the message that all of the octets are into a blank one. Where they are none, what was read of it is left there.
+pub fn read_into(bytes: &[u8], m: &mut Message) -> Option<()>
+    requires community { array_vec_len m.old.community ≡ 0 }
+    requires binds { array_vec_len m.old.binds ≡ 0 }
+    // What is read stood there.
+    ensures found { OnSome result (IsMessage bytes.now m.new) }
+    // Nothing is read only where no message is.
+    ensures none { IfNone result ((other : Message) → IsMessage bytes.now other → ⊥) }
+    ensures reads { Gives (λ _. m.new) result (message_of bytes.now) }
+    // What is read can be written, and `write` finds room for it.
+    ensures writable { OnSome result (IsWritableMessage m.new) }
+    ensures fits { OnSome result (length (shortest m.new) ≤ 1472) }
+{
+    message_into(bytes, m)
+}
+
 /// Reads the message that all of the octets are.
 pub fn read(bytes: &[u8]) -> Option<Message>
     // What is read stood there.
@@ -195,7 +197,7 @@ pub fn read(bytes: &[u8]) -> Option<Message>
     ensures writable { IfSome result IsWritableMessage }
     ensures fits { IfSome result (λ m. length (shortest m) ≤ 1472) }
 {
-    let mut m = blank();
+    let mut m = Message::blank();
     message_into(bytes, &mut m)?;
     Some(m)
 }

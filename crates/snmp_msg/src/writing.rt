@@ -6,13 +6,14 @@ ghost use Rattle.std.specs.List.{flat_map};
 ghost use Rattle.arrayvec.specs.ArrayVec.{array_vec_len};
 ghost use Rattle.ber_code.specs.Fields.{AreTexts};
 ghost use Rattle.ber_code.specs.Integers.{IsInteger, integer_text};
+ghost use Rattle.snmp_msg.specs.Parts.{message_in};
 ghost use Rattle.snmp_msg.specs.Values.{IsValue, IsBinding};
 ghost use Rattle.ber_code.specs.Names.{name_text};
 ghost use Rattle.ber_code.specs.Lengths.{tagged_text};
 ghost use Rattle.snmp_msg.specs.Messages.{IsPdu, IsFramed, IsMessage, tag_of};
 ghost use Rattle.snmp_msg.specs.Shortest.{value_text, binding_content, binding_text, ids_text, pdu_content, message_content, shortest, IsWritableValue, IsWritableBind, IsWritableMessage};
 
-use crate::message::{Bind, Message, SEQUENCE, TooLong, Value, tag};
+use crate::message::{Bind, Message, Parts, SEQUENCE, TooLong, Value, tag};
 use ber_code::{
     Full, int_size, oid_size, tagged_size, write_head, write_int, write_octets, write_oid,
 };
@@ -114,7 +115,7 @@ fn put_ids(id: i32, status: i32, index: i32, out: &mut Octets) -> Result<(), Ful
 }
 
 /// Puts id, status and index of the message.
-fn put_ids_of(m: &Message, out: &mut Octets) -> Result<(), Full>
+fn put_ids_of(m: &Parts, out: &mut Octets) -> Result<(), Full>
     ensures ok { OnOk result (out.new.items ≡ out.old.items ++ ids_text m.now.id m.now.status m.now.index) }
     ensures full { OnErr result (1472 < array_vec_len out.old + length (ids_text m.now.id m.now.status m.now.index)) }
 {
@@ -123,42 +124,42 @@ fn put_ids_of(m: &Message, out: &mut Octets) -> Result<(), Full>
 
 /// The size of what stands under a PDU's tag, with the size of its list of bindings.
 #[tactic(auto, unfolding(crate::specs::Shortest::pdu_content))]
-fn pdu_size(m: &Message, list: usize) -> usize
-    requires size { list ≡ length (flat_map binding_text m.now.binds.items) }
+fn pdu_size(m: &Parts, list: usize) -> usize
+    requires size { list ≡ length (flat_map binding_text m.now.binds.now) }
     requires small { list ≤ 10240 }
-    requires few { array_vec_len m.now.binds ≤ 32 }
-    requires texts { AreTexts IsBinding (flat_map binding_text m.now.binds.items) m.now.binds.items }
-    ensures size { result ≡ length (pdu_content m.now) }
+    requires few { length m.now.binds.now ≤ 32 }
+    requires texts { AreTexts IsBinding (flat_map binding_text m.now.binds.now) m.now.binds.now }
+    ensures size { result ≡ length (pdu_content (message_in m.now)) }
     ensures small { result ≤ 10264 }
-    ensures text { IsPdu (tagged_text (tag_of m.now.pdu) (pdu_content m.now)) m.now }
+    ensures text { IsPdu (tagged_text (tag_of m.now.pdu) (pdu_content (message_in m.now))) (message_in m.now) }
 {
     ids_size(m.id, m.status, m.index) + tagged_size(list)
 }
 
 /// Puts what stands under a PDU's tag, with the size of its list of bindings.
 #[tactic(auto, unfolding(crate::specs::Shortest::pdu_content))]
-fn put_pdu(m: &Message, list: usize, out: &mut Octets) -> Result<(), Full>
-    requires writable { IsWritableMessage m.now }
-    requires size { list ≡ length (flat_map binding_text m.now.binds.items) }
+fn put_pdu(m: &Parts, list: usize, out: &mut Octets) -> Result<(), Full>
+    requires writable { All IsWritableBind m.now.binds.now }
+    requires size { list ≡ length (flat_map binding_text m.now.binds.now) }
     requires small { list ≤ 10240 }
-    ensures ok { OnOk result (out.new.items ≡ out.old.items ++ pdu_content m.now) }
-    ensures full { OnErr result (1472 < array_vec_len out.old + length (pdu_content m.now)) }
+    ensures ok { OnOk result (out.new.items ≡ out.old.items ++ pdu_content (message_in m.now)) }
+    ensures full { OnErr result (1472 < array_vec_len out.old + length (pdu_content (message_in m.now))) }
 {
     put_ids_of(m, out)?;
     write_head(SEQUENCE, list, out)?;
-    put_bindings(m.binds.as_slice(), out)
+    put_bindings(m.binds, out)
 }
 
 /// Puts what stands under the message's tag, with the sizes of the PDU's content and of its list.
 #[tactic(auto, unfolding(crate::specs::Shortest::message_content))]
-fn put_content(m: &Message, pdu: usize, list: usize, out: &mut Octets) -> Result<(), Full>
-    requires writable { IsWritableMessage m.now }
-    requires pdu { pdu ≡ length (pdu_content m.now) }
+fn put_content(m: &Parts, pdu: usize, list: usize, out: &mut Octets) -> Result<(), Full>
+    requires writable { All IsWritableBind m.now.binds.now }
+    requires pdu { pdu ≡ length (pdu_content (message_in m.now)) }
     requires pdu_small { pdu ≤ 10264 }
-    requires size { list ≡ length (flat_map binding_text m.now.binds.items) }
+    requires size { list ≡ length (flat_map binding_text m.now.binds.now) }
     requires small { list ≤ 10240 }
-    ensures ok { OnOk result (out.new.items ≡ out.old.items ++ message_content m.now) }
-    ensures full { OnErr result (1472 < array_vec_len out.old + length (message_content m.now)) }
+    ensures ok { OnOk result (out.new.items ≡ out.old.items ++ message_content (message_in m.now)) }
+    ensures full { OnErr result (1472 < array_vec_len out.old + length (message_content (message_in m.now))) }
 {
     write_int(0, out)?;
     write_octets(m.community.as_slice(), out)?;
@@ -168,28 +169,48 @@ fn put_content(m: &Message, pdu: usize, list: usize, out: &mut Octets) -> Result
 
 /// The size of what stands under the message's tag, with the size of the PDU's content.
 #[tactic(auto, unfolding(crate::specs::Shortest::message_content))]
-fn content_size(m: &Message, pdu: usize) -> usize
-    requires pdu { pdu ≡ length (pdu_content m.now) }
+fn content_size(m: &Parts, pdu: usize) -> usize
+    requires pdu { pdu ≡ length (pdu_content (message_in m.now)) }
     requires small { pdu ≤ 10264 }
-    requires text { IsPdu (tagged_text (tag_of m.now.pdu) (pdu_content m.now)) m.now }
-    ensures size { result ≡ length (message_content m.now) }
+    requires text { IsPdu (tagged_text (tag_of m.now.pdu) (pdu_content (message_in m.now))) (message_in m.now) }
+    ensures size { result ≡ length (message_content (message_in m.now)) }
     ensures small { result ≤ 10320 }
-    ensures text { IsFramed (shortest m.now) m.now }
+    ensures text { IsFramed (shortest (message_in m.now)) (message_in m.now) }
 {
     int_size(0) + tagged_size(m.community.len()) + tagged_size(pdu)
 }
 
 #[tactic(auto, unfolding(crate::specs::Shortest::shortest))]
-fn put_message(m: &Message, out: &mut Octets) -> Result<(), Full>
-    requires { IsWritableMessage m.now }
-    ensures text { IsFramed (shortest m.now) m.now }
-    ensures ok { OnOk result (out.new.items ≡ out.old.items ++ shortest m.now) }
-    ensures full { OnErr result (1472 < array_vec_len out.old + length (shortest m.now)) }
+fn put_message(m: &Parts, out: &mut Octets) -> Result<(), Full>
+    requires few { length m.now.binds.now ≤ 32 }
+    requires writable { All IsWritableBind m.now.binds.now }
+    ensures text { IsFramed (shortest (message_in m.now)) (message_in m.now) }
+    ensures ok { OnOk result (out.new.items ≡ out.old.items ++ shortest (message_in m.now)) }
+    ensures full { OnErr result (1472 < array_vec_len out.old + length (shortest (message_in m.now))) }
 {
-    let list = bindings_size(m.binds.as_slice());
+    let list = bindings_size(m.binds);
     let pdu = pdu_size(m, list);
     write_head(SEQUENCE, content_size(m, pdu), out)?;
     put_content(m, pdu, list, out)
+}
+
+/// Writes a message of these parts in its shortest form.
+pub fn write_parts(m: &Parts) -> Result<Octets, TooLong>
+    requires few { length m.now.binds.now ≤ 32 }
+    requires writable { All IsWritableBind m.now.binds.now }
+    ensures variant { IsOk result ↔ (length (shortest (message_in m.now)) ≤ 1472) }
+    ensures ok { IfOk result (λ text. text.items ≡ shortest (message_in m.now)) }
+    // It is a text of the message, so `read` gives the message.
+    ensures again { IfOk result (λ text. IsMessage text.items (message_in m.now)) }
+{
+    let mut out = Octets::new();
+    match put_message(m, &mut out) {
+        Ok(()) => {
+            prove!(out.len() <= 1472);
+            Ok(out)
+        }
+        Err(Full) => Err(TooLong),
+    }
 }
 
 /// Writes the message in its shortest form.
@@ -200,12 +221,12 @@ pub fn write(m: &Message) -> Result<Octets, TooLong>
     // It is a text of the message, so `read` gives the message again.
     ensures again { IfOk result (λ text. IsMessage text.items m.now) }
 {
-    let mut out = Octets::new();
-    match put_message(m, &mut out) {
-        Ok(()) => {
-            prove!(out.len() <= 1472);
-            Ok(out)
-        }
-        Err(Full) => Err(TooLong),
-    }
+    write_parts(&Parts {
+        community: &m.community,
+        pdu: m.pdu,
+        id: m.id,
+        status: m.status,
+        index: m.index,
+        binds: m.binds.as_slice(),
+    })
 }

@@ -1,70 +1,23 @@
-use Rattle.std.proofs.Common.{◌≡◌, ◌∙◌, None, sym, ap, arith}
-use Rattle.std.proofs.lemmas.Bool.{false≢true}
+use Rattle.std.proofs.Common.{◌≡◌, ◌∙◌, None, sym, arith}
 use Rattle.std.proofs.lemmas.Grind.{common_steps}
-use Rattle.snmp_msg.specs.declared.message.Message.{Message}
-use Rattle.snmp_msg.proofs.Least.{are_octets}
-use Rattle.agent.proofs.Asked.{same_message, ask_is, asks_nothing}
-use Rattle.agent.proofs.Readings.{asked_read, none_read}
+use Rattle.agent.proofs.Readings.{asked_read}
 use Rattle.agent.proofs.ask.decode.Goals as goal
 
-pub returns-in_err-read-clause-none : goal.returns-in_err-read-clause-none
-returns-in_err-read-clause-none c =
+pub returns-in_err-decode_into-clause-none : goal.returns-in_err-decode_into-clause-none
+returns-in_err-decode_into-clause-none c =
     let nothing : c.from_residual.result ≡ None = grind (arith, common_steps) in
-    rw nothing (λ ask is. c.in_err-read.ensures.none ask.message is.message)
+    rw nothing c.in_err-decode_into.ensures.none
 
-pub returns-in_err-read-clause-each : goal.returns-in_err-read-clause-each
-returns-in_err-read-clause-each c = λ ask is. absurd (c.in_err-read.ensures.none ask.message is.message)
+pub returns-in_err-decode_into-clause-each : goal.returns-in_err-decode_into-clause-each
+returns-in_err-decode_into-clause-each c = λ ask is. absurd (c.in_err-decode_into.ensures.none ask is)
 
-pub returns-in_err-read-clause-reads : goal.returns-in_err-read-clause-reads
-returns-in_err-read-clause-reads c =
+pub returns-in_err-decode_into-clause-reads : goal.returns-in_err-decode_into-clause-reads
+returns-in_err-decode_into-clause-reads c =
     let nothing : c.from_residual.result ≡ None = grind (arith, common_steps) in
-    nothing ∙ sym (none_read c.args.frame.now c.args.community.now c.args.tables.now (λ ask is. c.in_err-read.ensures.none ask.message is.message))
-
-pub returns-then-not-is_of-clause-none : goal.returns-then-not-is_of-clause-none
-returns-then-not-is_of-clause-none c ask is =
-    let same = same_message c.args.frame.now c.args.community.now c.args.tables.now c.in_ok-read.field-0 ask c.in_ok-read.ensures.each is in
-    let ours : c.in_ok-read.field-0.community.items ≡ c.args.community.now = ap (λ (m : Message). m.community.items) same ∙ is.of_community in
-    false≢true (sym c.if-not-is_of.true ∙ c.is_of.ensures.1 ours)
-
-pub returns-then-not-is_of-clause-each : goal.returns-then-not-is_of-clause-each
-returns-then-not-is_of-clause-each c ask is = absurd (returns-then-not-is_of-clause-none c ask is)
-
-pub returns-then-not-is_of-clause-reads : goal.returns-then-not-is_of-clause-reads
-returns-then-not-is_of-clause-reads c = sym (none_read c.args.frame.now c.args.community.now c.args.tables.now (returns-then-not-is_of-clause-none c))
-
-pub returns-in_err-ask-clause-none : goal.returns-in_err-ask-clause-none
-returns-in_err-ask-clause-none c =
-    let m = c.in_ok-read.field-0 in
-    let nothing : c.from_residual-in_err-ask.result ≡ None = grind (arith, common_steps) in
-    rw nothing (λ ask is. asks_nothing c.args.frame.now c.args.community.now c.args.tables.now m ask (same_message c.args.frame.now c.args.community.now c.args.tables.now m ask c.in_ok-read.ensures.each is) c.in_err-ask.ensures.wish is)
-
-pub returns-in_err-ask-clause-each : goal.returns-in_err-ask-clause-each
-returns-in_err-ask-clause-each c ask is =
-    let m = c.in_ok-read.field-0 in
-    absurd (asks_nothing c.args.frame.now c.args.community.now c.args.tables.now m ask (same_message c.args.frame.now c.args.community.now c.args.tables.now m ask c.in_ok-read.ensures.each is) c.in_err-ask.ensures.wish is)
-
-pub returns-in_err-ask-clause-reads : goal.returns-in_err-ask-clause-reads
-returns-in_err-ask-clause-reads c =
-    let m = c.in_ok-read.field-0 in
-    let nothing : c.from_residual-in_err-ask.result ≡ None = grind (arith, common_steps) in
-    nothing ∙ sym (none_read c.args.frame.now c.args.community.now c.args.tables.now
-    (λ ask is. asks_nothing c.args.frame.now c.args.community.now c.args.tables.now m ask (same_message c.args.frame.now c.args.community.now c.args.tables.now m ask c.in_ok-read.ensures.each is) c.in_err-ask.ensures.wish is))
+    nothing ∙ sym c.in_err-decode_into.ensures.reads
 
 pub returns-clause-each : goal.returns-clause-each
-returns-clause-each c ask is =
-    let m = c.in_ok-read.field-0 in
-    ask_is c.args.frame.now c.args.community.now c.args.tables.now m c.in_ok-ask.field-0 ask (same_message c.args.frame.now c.args.community.now c.args.tables.now m ask c.in_ok-read.ensures.each is) c.in_ok-ask.ensures.wish is
+returns-clause-each c = λ ask is. sym c.in_ok-decode_into.ensures.reads ∙ asked_read c.args.frame.now c.args.community.now c.args.tables.now ask is
 
 pub returns-clause-reads : goal.returns-clause-reads
-returns-clause-reads c =
-    sym (asked_read c.args.frame.now c.args.community.now c.args.tables.now _
-    (record { message = c.in_ok-read.ensures.found; of_community = c.is_of.ensures.0 c.if-not-is_of.false; wish = sym c.in_ok-ask.ensures.wish }))
-
-pub returns-clause-asked : goal.returns-clause-asked
-returns-clause-asked c = (
-  c.args.frame.now,
-  c.args.community.now,
-  c.args.tables.now,
-  are_octets c.args.frame.now (λ i. omega (arith, c.type_inv.frame i)),
-  record { message = c.in_ok-read.ensures.found; of_community = c.is_of.ensures.0 c.if-not-is_of.false; wish = sym c.in_ok-ask.ensures.wish },
-)
+returns-clause-reads c = sym c.in_ok-decode_into.ensures.reads

@@ -8,5 +8,5 @@ use Rattle.master_load.proofs.download.step_octets.Goals as goal
 pub write_set-requires-clause-fits : goal.write_set-requires-clause-fits
 write_set-requires-clause-fits c =
     let id : to_z w32 (of_z w32 c.args.id) ≡ c.args.id = to_z-of_z w32 c.args.id c.ranges.id in
-    rw id (subst (λ binds. length (set_text c.args.community.now.items c.args.id binds) ≤ 1472) (sym c.step_binds-binds.ensures.binds)
+    rw (id, c.as_slice.ensures.value) (subst (λ binds. length (set_text c.args.community.now.items c.args.id binds) ≤ 1472) (sym c.step_binds-binds.ensures.binds)
     (step_fits c.args.community.now.items c.args.id c.args.number (map put_content c.args.cells.now) c.args.step (omega arith) c.requires.puts))

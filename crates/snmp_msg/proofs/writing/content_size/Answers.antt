@@ -5,13 +5,14 @@ use Rattle.ber_code.specs.Lengths.{length_text, tagged_text}
 use Rattle.ber_code.specs.Integers.{integer_text}
 use Rattle.snmp_msg.specs.Messages.{tag_of}
 use Rattle.snmp_msg.specs.Shortest.{message_content, pdu_content}
+use Rattle.snmp_msg.specs.Parts.{message_in}
 use Rattle.snmp_msg.proofs.WrittenLaws.{message_is}
 use Rattle.snmp_msg.proofs.writing.content_size.Goals as goal
 
-small : (c : goal.After-tagged_size-2) → length (message_content c.args.m.now) ≤ 10320
+small : (c : goal.After-tagged_size-2) → length (message_content (message_in c.args.m.now)) ≤ 10320
 unfolding message_content
 small c =
-    let m = c.args.m.now in
+    let m = message_in c.args.m.now in
     let known = m.community.items in
     let fields = pdu_content m in
     let all = length-append (integer_text (pos 0)) (tagged_text 4 known ++ tagged_text (tag_of m.pdu) fields) in
@@ -41,4 +42,4 @@ small c =
     )
 
 pub returns-clause-text : goal.returns-clause-text
-returns-clause-text c = message_is c.args.m.now c.int_size.ensures.text (omega (arith, c.len.ensures.value, c.len.ensures.fits)) c.requires.text (small c)
+returns-clause-text c = message_is (message_in c.args.m.now) c.int_size.ensures.text (omega (arith, c.len.ensures.value, c.len.ensures.fits)) c.requires.text (small c)

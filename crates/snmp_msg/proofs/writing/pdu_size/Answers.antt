@@ -6,13 +6,14 @@ use Rattle.ber_code.specs.Lengths.{length_text, tagged_text}
 use Rattle.ber_code.proofs.Texts.{integer_is}
 use Rattle.snmp_msg.specs.Shortest.{ids_text, binding_text, pdu_content}
 use Rattle.snmp_msg.proofs.Rooms.{ids_passed}
+use Rattle.snmp_msg.specs.Parts.{message_in}
 use Rattle.snmp_msg.proofs.WrittenLaws.{pdu_is}
 use Rattle.snmp_msg.proofs.writing.pdu_size.Goals as goal
 
-sizes : (c : goal.After-tagged_size) → c.ids_size.result + c.tagged_size.result ≡ length (pdu_content c.args.m.now)
+sizes : (c : goal.After-tagged_size) → c.ids_size.result + c.tagged_size.result ≡ length (pdu_content (message_in c.args.m.now))
 unfolding pdu_content
 sizes c =
-    let m = c.args.m.now in
+    let m = message_in c.args.m.now in
     let a : SFits w32 m.id = search rules in
     let b : SFits w32 m.status = search rules in
     let d : SFits w32 m.index = search rules in
@@ -28,7 +29,7 @@ returns-clause-size c = sizes c
 
 pub returns-clause-text : goal.returns-clause-text
 returns-clause-text c =
-    let m = c.args.m.now in
+    let m = message_in c.args.m.now in
     let a : SFits w32 m.id = search rules in
     let b : SFits w32 m.status = search rules in
     let d : SFits w32 m.index = search rules in

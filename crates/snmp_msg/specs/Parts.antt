@@ -1,0 +1,14 @@
+-- A message whose community and bindings stand elsewhere.
+use Rattle.snmp_msg.specs.declared.message.Parts.{Parts}
+use Rattle.snmp_msg.specs.declared.message.Message.{Message}
+
+-- the message that has these parts
+abbrev pub message_in : Parts → Message
+message_in parts = record {
+  community = record { items = parts.community.now.items };
+  pdu = parts.pdu;
+  id = parts.id;
+  status = parts.status;
+  index = parts.index;
+  binds = record { items = parts.binds.now };
+}
