@@ -25,7 +25,7 @@ use Rattle.agent.specs.Replies.{reply}
 use Rattle.cabinet_story.specs.Coming.{Coming, past_of, in_force, outcome}
 use Rattle.cabinet_story.specs.Told.{set_of, shown_at, seen_in, replied, in_frame}
 use Rattle.cab_book.specs.Stands.{IsSound}
-use Rattle.cab_book.proofs.Installing.{few-within}
+use Rattle.cabinet_story.proofs.Installing.{few-within}
 
 -- a number after it was halved so often
 abbrev halved : ℕ → ℕ → ℕ

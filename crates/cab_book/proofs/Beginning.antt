@@ -1,5 +1,5 @@
 -- A round at its start: nothing was brought, and all items are left.
-use Rattle.std.proofs.Common.{◌≡◌, ℕ, zero, suc, ◌+◌, ◌∙◌, List, [], ◌∷◌, length, get_or, replicate, refl, sym, ap, subst, arith}
+use Rattle.std.proofs.Common.{◌≡◌, ◌≤◌, ℕ, zero, suc, ◌+◌, ◌∙◌, List, [], ◌∷◌, length, get_or, replicate, refl, sym, ap, subst, arith}
 use Rattle.std.proofs.lemmas.List.{length-map, length-replicate}
 use Rattle.sig_types.specs.declared.frame.Frame.{Frame}
 use Rattle.round_streams.specs.declared.Streams.{Streams}
@@ -30,14 +30,23 @@ round-begins c streams h story journal written answered is =
       });
     }
 
+-- no stream of a round that can be taken has more items than the longest list, or its ticks
+pub taken-small : (streams : Streams) → CanBeTaken streams → streams.ticks ≤ 2147483648 → (p : ℕ) → length (get_or (items_of streams) p []) ≤ 2147483648
+taken-small streams can few zero = omega (arith, can.few_fields, length-map streams.fields.items Told)
+taken-small streams can few (suc zero) = omega (arith, can.few_polls, frames-many streams.polls.items)
+taken-small streams can few (suc (suc zero)) = omega (arith, can.few_loads, frames-many streams.loads.items)
+taken-small streams can few (suc (suc (suc zero))) = omega (arith, can.few_prios, frames-many streams.prios.items)
+taken-small streams can few (suc (suc (suc (suc zero)))) = omega (arith, few, length-replicate streams.ticks Ticked)
+taken-small streams can few (suc (suc (suc (suc (suc p))))) = omega arith
+
 -- the streams of a round that can be taken are short
-pub taken-short : (streams : Streams) → CanBeTaken streams → AreShort streams
-taken-short streams can zero = omega (arith, can.few_fields, length-map streams.fields.items Told)
-taken-short streams can (suc zero) = omega (arith, can.few_polls, frames-many streams.polls.items)
-taken-short streams can (suc (suc zero)) = omega (arith, can.few_loads, frames-many streams.loads.items)
-taken-short streams can (suc (suc (suc zero))) = omega (arith, can.few_prios, frames-many streams.prios.items)
-taken-short streams can (suc (suc (suc (suc zero)))) = omega (arith, can.few_ticks, length-replicate streams.ticks Ticked)
-taken-short streams can (suc (suc (suc (suc (suc p))))) = omega arith
+pub taken-short : (streams : Streams) → CanBeTaken streams → streams.ticks ≤ 4294967294 → AreShort streams
+taken-short streams can few zero = omega (arith, can.few_fields, length-map streams.fields.items Told)
+taken-short streams can few (suc zero) = omega (arith, can.few_polls, frames-many streams.polls.items)
+taken-short streams can few (suc (suc zero)) = omega (arith, can.few_loads, frames-many streams.loads.items)
+taken-short streams can few (suc (suc (suc zero))) = omega (arith, can.few_prios, frames-many streams.prios.items)
+taken-short streams can few (suc (suc (suc (suc zero)))) = omega (arith, few, length-replicate streams.ticks Ticked)
+taken-short streams can few (suc (suc (suc (suc (suc p))))) = omega arith
 
 -- all items are left
 pub all-left : (streams : Streams) (fields polls loads prios : ℕ) (h : Happened) → fields ≡ length streams.fields.items → polls ≡ length streams.polls.items

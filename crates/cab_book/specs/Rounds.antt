@@ -15,18 +15,17 @@ use Rattle.cab_book.specs.Happened.{IsWritten, HasRoom, journal_in}
 abbrev pub ArePlaced : Streams → Type 0
 ArePlaced streams = (k : ℕ) (field : Field) → k < length streams.fields.items → NamesPlace (get_or streams.fields.items k field)
 
--- a round that a cabinet can take: each input has its place, and the streams are short
+-- a round that a cabinet can take: each input has its place, and no list is longer than 2^31
 pub record CanBeTaken (streams : Streams) : Type 0 where
   pub placed : ArePlaced streams
-  pub few_fields : length streams.fields.items ≤ 1000000
-  pub few_polls : length streams.polls.items ≤ 1000000
-  pub few_loads : length streams.loads.items ≤ 1000000
-  pub few_prios : length streams.prios.items ≤ 1000000
-  pub few_ticks : streams.ticks ≤ 600
+  pub few_fields : length streams.fields.items ≤ 2147483648
+  pub few_polls : length streams.polls.items ≤ 2147483648
+  pub few_loads : length streams.loads.items ≤ 2147483648
+  pub few_prios : length streams.prios.items ≤ 2147483648
 
 -- no stream is longer than this
 abbrev pub AreShort : Streams → Type 0
-AreShort streams = (p : ℕ) → length (get_or (items_of streams) p []) ≤ 1000000
+AreShort streams = (p : ℕ) → length (get_or (items_of streams) p []) ≤ 4294967294
 
 -- of each stream, what is left and what the journal has brought are all its items
 abbrev pub AreTallied : Streams → List ℕ → Happened → Type 0

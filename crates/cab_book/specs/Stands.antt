@@ -9,12 +9,11 @@ use Rattle.controller.specs.declared.Controller.{Controller}
 use Rattle.stage_txn.specs.declared.Stage.{Stage}
 use Rattle.sig_types.specs.declared.notes.StageAnswer.{StageAnswer}
 use Rattle.agent.specs.declared.ask.Wish.{Wish}
-use Rattle.stage_txn.specs.declared.Standing.{Standing}
-use Rattle.stage_txn.specs.declared.Standing.TheVariants.{Rest, Open, Checked, Done}
 use Rattle.stage_txn.specs.Answers.{answered, kept, standing}
 use Rattle.sig_tables.specs.Putting.{EachFits}
 use Rattle.stage_txn.specs.Laws.{BeginInRange}
 use Rattle.stage_txn.specs.Stands.{StandsFor as StageStands}
+use Rattle.cabinet_story.specs.Installs.{FewInstalls}
 use Rattle.cabinet_story.specs.Story.{Story}
 use Rattle.cabinet_story.specs.Coming.{Coming, past_of, in_force, coming, call_of, outcome, with_call}
 use Rattle.cab_book.specs.declared.cabinet.Cabinet.{Cabinet}
@@ -24,14 +23,6 @@ pub record IsShowable (past : Past) : Type 0 where
   pub clock : clock_shown past < 864000
   pub counter : (frame_seen past).counter ≤ 2147483647
   pub target : (frame_seen past).target ≤ 2147483647
-
--- so many downloads were put in force, where the last that began has this id and stands so: each has a greater id than the one
--- before it
-abbrev pub FewInstalls : ℕ → ℕ → Standing → Type 0
-FewInstalls version id Rest = (version ≡ 0) × (id ≡ 0)
-FewInstalls version id Open = version < id
-FewInstalls version id Checked = version < id
-FewInstalls version id Done = version ≤ id
 
 -- what a story has come to can be gone on with, after so many ticks
 pub record IsSound (n : ℕ) (has : Coming) : Type 0 where

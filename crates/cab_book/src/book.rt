@@ -63,7 +63,7 @@ pub struct Book {
     happened: Happened,
     // what any next item needs: a place for an input, few ticks in all, and room for what it gives
     ghost placed: { ∥ ArePlaced streams ∥₁ },
-    ghost few: { cabinet.ticks + get_or left 4 0 < 4294967294 },
+    ghost few: { cabinet.ticks + get_or left 4 0 ≤ 4294967294 },
     ghost room: { HasRoomFor left happened },
     // what is left and what was brought are all items, and the streams are short
     ghost tallied: { AreTallied streams left happened },
@@ -78,7 +78,7 @@ impl Book {
     /// The book of a cabinet before its first round.
     pub fn new(alloc: Global, cabinet: Cabinet) -> Book
         requires some { (story : Story) × CabinetStands cabinet story }
-        requires few { cabinet.ticks < 4294967294 }
+        requires few { cabinet.ticks ≤ 4294967294 }
         ensures stands { (story : Story) → CabinetStands cabinet story → BookStands result story }
         ensures streams { streams_in result ≡ replicate 5 [] }
         ensures journal { journal_of result ≡ [] }
@@ -96,7 +96,7 @@ impl Book {
     /// Where memory is wanting the streams come back, and the book is as before.
     pub fn open_round(&mut self, alloc: Global, streams: Streams) -> Result<(), (Streams, NoMemory)>
         requires can { CanBeTaken streams }
-        requires few { ticks_by_end self.old + streams.ticks < 4294967294 }
+        requires few { ticks_by_end self.old + streams.ticks ≤ 4294967294 }
         ensures stands { OnOk result ((story : Story) → BookStands self.old story → BookStands self.new (story_now self.old story)) }
         ensures streams { OnOk result (streams_in self.new ≡ items_of streams) }
         ensures journal { OnOk result (journal_of self.new ≡ []) }

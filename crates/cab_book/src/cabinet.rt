@@ -13,7 +13,7 @@ ghost use Rattle.cabinet_story.specs.Told.{reply_to, load_end, in_frame, replied
 
 use crate::carrying::{call_stage, carry_out, end_of};
 use crate::frames::has_line;
-use agent::{Ask, answer, decode};
+use agent::{Ask, answer, decode_into};
 use arrayvec::ArrayVec;
 use cabinet_story::Load;
 use controller::Controller;
@@ -97,8 +97,10 @@ impl Cabinet {
         ensures nothing { (story : Story) → CabinetStands self.old story → ask_after story octets.now ≡ None
             → (self.new ≡ self.old) × (result ≡ record { text = None; load = None }) }
     {
-        match decode(octets, self.community.as_slice(), self.controller.tables()) {
-            Some(ask) => self.heed(&ask),
+        let mut ask = Ask::blank();
+        let community = self.community.as_slice();
+        match decode_into(octets, community, self.controller.tables(), &mut ask) {
+            Some(()) => self.heed(&ask),
             None => Told {
                 text: None,
                 load: None,

@@ -3,7 +3,6 @@
 #![tactic(auto)]
 
 mod book;
-mod book_laws;
 mod cabinet;
 mod carrying;
 mod frames;
@@ -12,7 +11,6 @@ mod journal;
 mod logged;
 
 pub use book::Book;
-pub use book_laws::fresh_books;
 pub use cabinet::{Cabinet, Told};
 pub use happened::Answered;
 pub use journal::Journal;

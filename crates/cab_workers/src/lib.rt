@@ -1,5 +1,6 @@
-//! A round of several cabinets by several workers, each in a thread of its own where one can be started: the passes are handed out, each worker goes over the
-//! cabinets and acts wherever it meets no other, and what is left then is done in one thread.
+//! A round of several cabinets by several workers, each in a thread of its own where one can be started: the
+//! passes are handed out, each worker goes over the cabinets and acts wherever it meets no other, and what is
+//! left then is done in one thread.
 #![tactic(auto)]
 
 mod finish;

@@ -4,3 +4,4 @@ pub mod Coming
 pub mod Frames
 pub mod Told
 pub mod Downloads
+pub mod Installs

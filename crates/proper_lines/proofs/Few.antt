@@ -30,7 +30,7 @@ use Rattle.cabinet_story.specs.Told.{verify_end, finish_end, wish_end, ask_end, 
 use Rattle.story_laws.specs.Judging.{verdict, IsVerdict}
 use Rattle.story_laws.proofs.Ids.{HasId, ask-id}
 use Rattle.story_laws.proofs.Steps.{IsPlain, IsMadeAt, called, happened, Any, any, story-keeps}
-use Rattle.story_laws.proofs.Installing.{Few, few-within, few-begin, few-part, few-verify, few-finish, version_after}
+use Rattle.cabinet_story.proofs.Installing.{Few, few-within, few-begin, few-part, few-verify, few-finish, version_after}
 
 -- ---- versions
 

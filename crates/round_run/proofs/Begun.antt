@@ -5,12 +5,14 @@ use Rattle.std.proofs.lemmas.List.{get_or_default, get_or-set_same, get_or-set_o
 use Rattle.sig_types.proofs.InTurn.{InTurn, InTurn-set}
 use Rattle.scenario_data.specs.Content.{ScenarioContent}
 use Rattle.round_streams.specs.declared.Streams.{Streams}
-use Rattle.round_streams.specs.Items.{items_of}
+use Rattle.round_streams.specs.Items.{Item, items_of}
+use Rattle.cabinet_story.specs.Journals.{times}
 use Rattle.run_lines.specs.Standing.{Standing, coming_streams}
 use Rattle.cab_book.specs.declared.book.Book.{Book}
-use Rattle.cab_book.specs.Books.{BookStands, ticks_by_end}
+use Rattle.cab_book.specs.Books.{BookStands, CanBeTaken, streams_in, journal_of, left_of, ticks_by_end}
+use Rattle.cab_book.proofs.Beginning.{taken-small}
 use Rattle.round_run.specs.Standings.{IsAt, AreAt, HasRun, HaveRun, no_journals, TicksWithin}
-use Rattle.round_run.specs.Joined.{AreFresh}
+use Rattle.round_run.specs.Joined.{AreFresh, HaveFewLeft}
 use Rattle.round_run.specs.Opening.{CanOpen, AreComing, TicksAtMost, Begins, BeginsSome}
 
 -- an element of a list that has one
@@ -62,11 +64,11 @@ begun-more streams old now k was new one below within begun is own begins = reco
 }
 
 pub begins-few : (streams : List Streams) (old now : List Book) (k : ℕ) (was : Book) (one : Streams) → k < length old
-    → BegunTo streams old now k → was ≡ get_or now k was → one ≡ get_or streams k one → CanOpen old streams → ticks_by_end was + one.ticks < 4294967294
+    → BegunTo streams old now k → was ≡ get_or now k was → one ≡ get_or streams k one → CanOpen old streams → ticks_by_end was + one.ticks ≤ 4294967294
 begins-few streams old now k was one below begun is own can =
     let same : was ≡ get_or old k was = is ∙ (begun.each was).rest k (omega arith) in
-    subst (λ (x : Streams). ticks_by_end was + x.ticks < 4294967294) (sym own)
-    (subst (λ (b : Book). ticks_by_end b + (get_or streams k one).ticks < 4294967294) (sym same) (can.few k was one below))
+    subst (λ (x : Streams). ticks_by_end was + x.ticks ≤ 4294967294) (sym own)
+    (subst (λ (b : Book). ticks_by_end b + (get_or streams k one).ticks ≤ 4294967294) (sym same) (can.few k was one below))
 
 -- where memory was wanting, the book is as it was
 pub begun-some : (streams : List Streams) (old now : List Book) (k : ℕ) (was new : Book) → k < length old
@@ -126,3 +128,20 @@ begun-fresh streams old now k all many begun j b below =
     let one : Streams = some_of streams j (omega (arith, below, begun.many, many)) in
     let less : j < k = omega (arith, below, all, begun.many) in
     ((begun.each b).done j less one).journal
+
+-- each book has few items left where its streams are short
+begins-small : (b new : Book) (one : Streams) → CanBeTaken one → one.ticks ≤ 2147483648 → Begins b new one → (p : ℕ) → left_of new p ≤ 2147483648
+begins-small b new one can few begins p =
+    let never : times p (journal_of new) ≡ 0 = ap (times p) begins.journal in
+    let many : length (get_or (streams_in new) p []) ≡ length (get_or (items_of one) p []) =
+    ap (λ (streams : List (List Item)). length (get_or streams p [])) begins.streams in
+    omega (arith, new.tallied p, never, many, taken-small one can few p)
+
+pub begun-small : (streams : List Streams) (old now : List Book) (k : ℕ) → length old ≤ k → CanOpen old streams → TicksAtMost 2147483648 streams
+    → BegunTo streams old now k → HaveFewLeft now
+begun-small streams old now k all can short begun j b below =
+    let within : j < length old = omega (arith, below, begun.many) in
+    let one : Streams = some_of streams j (omega (arith, within, can.many)) in
+    let less : j < k = omega (arith, within, all) in
+    begins-small (get_or old j b) (get_or now j b) (get_or streams j one) (can.taken j one within) (short j one (omega (arith, within, can.many)))
+    ((begun.each b).done j less one)

@@ -30,10 +30,6 @@ module _ {A : Type 0} (R : A → A → Type 0) where
   zip-at (x ∷ xs) (y ∷ ys) zero d below h = h.0
   zip-at (x ∷ xs) (y ∷ ys) (suc k) d below h = zip-at xs ys k d (omega (arith, below)) h.1
 
--- no stream has more items than a pass of a row may bring
-pub few-left : (b : Book) (p : ℕ) → left_of b p ≤ 2147483648
-few-left b p = omega (arith, b.tallied p, b.short p)
-
 -- five passes have brought all that came to the first book
 abbrev pub IsWholeBook : Book → Book → Type 0
 IsWholeBook first now = IsWhole journal_of left_of Replays 5 first now

@@ -12,7 +12,7 @@ use Rattle.cab_book.specs.Books.{BookStands, CanBeTaken, streams_in, journal_of,
 pub record CanOpen (books : List Book) (streams : List Streams) : Type 0 where
   pub many : length streams ≡ length books
   pub taken : (k : ℕ) (one : Streams) → k < length books → CanBeTaken (get_or streams k one)
-  pub few : (k : ℕ) (b : Book) (one : Streams) → k < length books → ticks_by_end (get_or books k b) + (get_or streams k one).ticks < 4294967294
+  pub few : (k : ℕ) (b : Book) (one : Streams) → k < length books → ticks_by_end (get_or books k b) + (get_or streams k one).ticks ≤ 4294967294
 
 -- the streams are those that come to the cabinets, which have come to this
 pub record AreComing (s : ScenarioContent) (ts : List Standing) (streams : List Streams) : Type 0 where

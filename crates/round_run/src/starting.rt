@@ -4,7 +4,7 @@ ghost use Rattle.std.specs.Prelude.{ℕ, ◌≡◌, ◌<◌, ◌+◌, List, leng
 ghost use Rattle.scenario_data.specs.Content.{ScenarioContent};
 ghost use Rattle.run_lines.specs.Standing.{Standing};
 ghost use Rattle.round_run.specs.Standings.{AreAt, HaveRun, no_journals, TicksWithin};
-ghost use Rattle.round_run.specs.Joined.{AreFresh};
+ghost use Rattle.round_run.specs.Joined.{AreFresh, HaveFewLeft};
 ghost use Rattle.round_run.specs.Opening.{CanOpen, AreComing, TicksAtMost, BeginsSome};
 
 use cab_book::Book;
@@ -13,7 +13,7 @@ use sig_types::NoMemory;
 use std::alloc::Global;
 
 /// Begins a round on each book, with the streams that come to its cabinet; what was left of the round before is dropped. All memory
-/// of the round but that of its replies' way back is taken here. Where it is wanting, some of the books have begun the round, and the
+/// that the books need in the round is taken here. Where it is wanting, some of the books have begun the round, and the
 /// others are as before.
 pub fn open_rounds(
     alloc: Global,
@@ -25,6 +25,7 @@ pub fn open_rounds(
     ensures run { OnOk result ((s : ScenarioContent) (ts : List Standing) → AreAt books.old.items ts → AreComing s ts streams.items
         → HaveRun s ts (no_journals ts) books.new.items) }
     ensures fresh { OnOk result (AreFresh books.new.items) }
+    ensures small { OnOk result (TicksAtMost 2147483648 streams.items → HaveFewLeft books.new.items) }
     ensures ticks { OnOk result ((most ticks : ℕ) → TicksWithin most books.old.items → TicksAtMost ticks streams.items
         → TicksWithin (most + ticks) books.new.items) }
     ensures no_memory { OnErr result (BeginsSome books.old.items books.new.items streams.items) }

@@ -8,4 +8,3 @@ pub mod Versions
 pub mod Judging
 pub mod Changes
 pub mod Telling
-pub mod Installing

@@ -10,7 +10,7 @@ use Rattle.agent.specs.Orders.{IsFit}
 use Rattle.cabinet_story.specs.Coming.{Coming, past_of, outcome, order_event, events_of, with_events, with_call, call_of}
 use Rattle.cab_book.specs.Carried.{is_accepted}
 use Rattle.cab_book.specs.Stands.{IsAnswered}
-use Rattle.cab_book.proofs.Installing.{few-within}
+use Rattle.cabinet_story.proofs.Installing.{few-within}
 use Rattle.cab_book.proofs.Installs.{orders-fit, orders-alone, puts-staged}
 use Rattle.cab_book.proofs.carrying.carry_out.Goals as goal
 

@@ -1,4 +1,4 @@
-use Rattle.std.proofs.Common.{◌≡◌, ℕ, List, length, slice_index_or}
+use Rattle.std.proofs.Common.{◌≡◌, ℕ, List, length}
 use Rattle.std.specs.List.{AllZip}
 use Rattle.std.proofs.lemmas.Result.{IfOk-weaker}
 use Rattle.cab_book.specs.declared.book.Book.{Book}
@@ -6,11 +6,8 @@ use Rattle.scenario_data.specs.Content.{ScenarioContent}
 use Rattle.run_lines.specs.Standing.{Standing}
 use Rattle.round_run.specs.Standings.{HaveRun, no_journals, TicksWithin}
 use Rattle.round_run.specs.Joined.{HaveMerged}
-use Rattle.round_run.proofs.Joining.{IsWholeBook, few-left, zip-length, joined-run, joined-ticks}
+use Rattle.round_run.proofs.Joining.{IsWholeBook, zip-length, joined-run, joined-ticks}
 use Rattle.round_run.proofs.joined.joined_round.Goals as goal
-
-pub joined-requires-clause-small : goal.joined-requires-clause-small
-joined-requires-clause-small g c _ _ = λ k d below p. few-left (slice_index_or c.args.books.items k d) p
 
 pub returns-clause-many : goal.returns-clause-many
 returns-clause-many g c = let old = c.args.books.items in

@@ -1,6 +1,6 @@
 use Rattle.std.proofs.Common.{◌≡◌, ◌∙◌, length, sym, arith}
 use Rattle.std.specs.Vec.Iter.{into_iter_items}
-use Rattle.round_run.proofs.Begun.{next-one, none-left, begun-more, begun-some, begins-few, begun-run, begun-fresh, begun-ticks}
+use Rattle.round_run.proofs.Begun.{next-one, none-left, begun-more, begun-some, begins-few, begun-run, begun-fresh, begun-small, begun-ticks}
 use Rattle.round_run.proofs.starting.open_rounds.Goals as goal
 
 pub open_round-requires-clause-few : goal.open_round-requires-clause-few
@@ -50,3 +50,10 @@ returns-clause-ticks c = λ most ticks few short.
     let all = none-left c.args.streams.items _ c.loop-one.k c.loop-one.invariant.left none in
     begun-ticks c.args.streams.items c.args.books.now.items c.loop-one.books.items c.loop-one.k most ticks (omega (arith, all, c.requires.many))
     c.requires.many c.loop-one.invariant.begun few short
+
+pub returns-clause-small : goal.returns-clause-small
+returns-clause-small c = λ short.
+    let none : length (into_iter_items c.loop-one.one-iterator) ≡ 0 = sym c.loop-one.one-iterator.rest.ok.0 ∙ c.in-None.ensures.steps.0 in
+    let all = none-left c.args.streams.items _ c.loop-one.k c.loop-one.invariant.left none in
+    begun-small c.args.streams.items c.args.books.now.items c.loop-one.books.items c.loop-one.k (omega (arith, all, c.requires.many))
+    c.requires short c.loop-one.invariant.begun

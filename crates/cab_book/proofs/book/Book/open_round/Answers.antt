@@ -11,7 +11,7 @@ invariant_of-self c =
     let happened = c.in-Ok.happened in
     record {
       placed = ∣ c.requires.can.placed ∣₁;
-      short = taken-short streams c.requires.can;
+      short = taken-short streams c.requires.can (omega (arith, c.requires.few));
       tallied = all-left streams c.len-fields.result c.len-polls.result c.len-loads.result c.len-prios.result happened (c.len-fields.ensures ∙ streams.fields.ok.0)
           (c.len-polls.ensures ∙ streams.polls.ok.0) (c.len-loads.ensures ∙ streams.loads.ok.0) (c.len-prios.ensures ∙ streams.prios.ok.0) c.in-Ok.ensures.journal;
       few = omega (arith, c.requires.few);

@@ -7,7 +7,7 @@ use Rattle.std.specs.Prelude.{Option}
 use Rattle.stage_txn.specs.Answers.{answered, kept, standing}
 use Rattle.cabinet_story.specs.Coming.{Coming, past_of}
 use Rattle.cab_book.specs.Stands.{Keeps}
-use Rattle.cab_book.proofs.Installing.{few-within}
+use Rattle.cabinet_story.proofs.Installing.{few-within}
 use Rattle.cab_book.proofs.Wishes.{has-outcome}
 use Rattle.cab_book.proofs.Heeding.{carried-sound}
 use Rattle.cab_book.proofs.Answering.{shown-is, seen-is, text-is, shown-within}

@@ -12,14 +12,7 @@ use Rattle.stage_txn.specs.declared.Standing.TheVariants.{Rest, Open, Checked, D
 use Rattle.stage_txn.specs.Calls.{Answered, Deed, begin_deed, part_deed, verify_deed, finish_deed, kept_by, deeds}
 use Rattle.stage_txn.specs.Calls.{Begin, Part, Verify, Finish}
 use Rattle.stage_txn.specs.Answers.{standing_by, kept, taken, staged, standing, verify_answer, finish_answer, judged, answer_to, with_answer}
-
--- so many downloads were put in force, where the last that began has this id and stands so: each has a greater id than the one
--- before it
-abbrev pub FewInstalls : ℕ → ℕ → Standing → Type 0
-FewInstalls version id Rest = (version ≡ 0) × (id ≡ 0)
-FewInstalls version id Open = version < id
-FewInstalls version id Checked = version < id
-FewInstalls version id Done = version ≤ id
+use Rattle.cabinet_story.specs.Installs.{FewInstalls}
 
 pub few-within : (v k : ℕ) (s : Standing) → FewInstalls v k s → v ≤ k
 few-within v k Rest few = omega (arith, few.0)
@@ -88,7 +81,7 @@ few-verify v id total t flashing past some few = cases (answer_to past (Verify i
     cases NotVerified less = few
     cases (Refused b) less = few
 
-accepted-checked : (s : Standing) (by_rules a : StageAnswer) → finish_answer s by_rules ≡ a → (a ≡ Repeated → ⊥) → (a ≡ NotVerified → ⊥)
+pub accepted-checked : (s : Standing) (by_rules a : StageAnswer) → finish_answer s by_rules ≡ a → (a ≡ Repeated → ⊥) → (a ≡ NotVerified → ⊥)
     → (s ≡ Checked) × (by_rules ≡ a)
 accepted-checked Rest by_rules a e again early = absurd (early (sym e))
 accepted-checked Open by_rules a e again early = absurd (early (sym e))
