@@ -5,7 +5,7 @@ use Rattle.std.proofs.lemmas.Map.Text.{is_eq-slice_cmp}
 use Rattle.std.proofs.lemmas.Slice.Eq.{bytes_eq-Decides}
 use Rattle.std.specs.Cmp.Lexicographic.{slice_cmp}
 use Rattle.std.specs.Ordering.{match_ordering}
-use Rattle.serde_json.specs.Data.{Data, array, Items, no_items, Members, no_members, member, put}
+use Rattle.serde_json.specs.Data.{Data, array, Items, Members, no_members, member, put}
 use Rattle.serde_json.specs.Find.{get_member}
 use Rattle.scenario_read.specs.Sorted.{Below, MembersSorted}
 use Rattle.scenario_file.specs.Framing.{is_list, value_in, with_lists, with_rows}
@@ -13,17 +13,17 @@ use Rattle.scenario_file.specs.Framing.{is_list, value_in, with_lists, with_rows
 equal-names : (a b : List ℕ) → slice_cmp nat_cmp a b ≡ Equal → a ≡ b
 equal-names a b is = (bytes_eq-Decides a b).0 (sym (is_eq-slice_cmp a b) ∙ ap is_eq is)
 
-apart-names : (a b : List ℕ) → (slice_cmp nat_cmp a b ≡ Equal → ⊥) → bytes_eq b a ≡ false
+pub apart-names : (a b : List ℕ) → (slice_cmp nat_cmp a b ≡ Equal → ⊥) → bytes_eq b a ≡ false
 apart-names a b other = differ (bytes_eq b a) refl
   where
     differ : (same : Bool) → bytes_eq b a ≡ same → same ≡ false
     differ true e = absurd (other (ap (slice_cmp nat_cmp a) ((bytes_eq-Decides b a).0 e) ∙ tied_itself nat_list_cmp_total a))
     differ false e = refl
 
-not-less : (o : Ordering) → o ≡ Less → o ≡ Equal → ⊥
+pub not-less : (o : Ordering) → o ≡ Less → o ≡ Equal → ⊥
 not-less o a b = cc
 
-not-greater : (o : Ordering) → o ≡ Greater → o ≡ Equal → ⊥
+pub not-greater : (o : Ordering) → o ≡ Greater → o ≡ Equal → ⊥
 not-greater o a b = cc
 
 Below-chain : (low name : List ℕ) (ms : Members) → slice_cmp nat_cmp low name ≡ Less → Below name ms → Below low ms
@@ -70,12 +70,11 @@ with-same rows l ds = ap (λ b. if b then ds else rows l) ((bytes_eq-Decides l l
 rows-but : (l : List ℕ) (rows : List ℕ → Items) (ds : Items) → SameBut l rows (with_rows rows l ds)
 rows-but l rows ds name apart d = ap (λ b. if is_list name then array (if b then ds else rows name) else d) (sym apart)
 
--- a list at its name
-pub put-list : (l : List ℕ) (rows : List ℕ → Items) (ds : Items) (ms : Members) → is_list l ≡ true → MembersSorted ms
-    → put l (array ds) (with_lists rows ms) ≡ with_lists (with_rows rows l ds) (put l (array no_items) ms)
-put-list l rows ds ms is sorted =
-    put-through l rows (with_rows rows l ds) (rows-but l rows ds) (array no_items) (array ds) ms
-    (ap (λ b. if b then array (with_rows rows l ds l) else array no_items) is ∙ ap array (with-same rows l ds)) sorted
+-- a list at its name, whatever stands there in the frame
+pub put-list : (l : List ℕ) (rows : List ℕ → Items) (ds : Items) (d : Data) (ms : Members) → is_list l ≡ true → MembersSorted ms
+    → put l (array ds) (with_lists rows ms) ≡ with_lists (with_rows rows l ds) (put l d ms)
+put-list l rows ds d ms is sorted =
+    put-through l rows (with_rows rows l ds) (rows-but l rows ds) d (array ds) ms (ap (λ b. if b then array (with_rows rows l ds l) else d) is ∙ ap array (with-same rows l ds)) sorted
 
 -- ---- what is found in the value
 

@@ -1,5 +1,5 @@
 -- One item more, and all items of a list.
-use Rattle.std.proofs.Common.{◌≡◌, ◌≤◌, ℕ, suc, codes, ◌+◌, Bool, true, false, List, [], ◌∷◌, ◌++◌, length, refl, sym, ap, ◌∙◌, subst, arith, append_assoc, append-nil}
+use Rattle.std.proofs.Common.{◌≡◌, ◌≤◌, ℕ, suc, codes, ◌+◌, Bool, true, false, List, [], ◌∷◌, ◌++◌, length, bytes_eq, refl, sym, ap, ◌∙◌, subst, arith, append_assoc, append-nil}
 use Rattle.serde_json.specs.Data.{Data, Items, no_items, item}
 use Rattle.serde_json.specs.Events.{items_len}
 use Rattle.serde_json.specs.Written.{comma_if, compact_text, items_text}
@@ -11,9 +11,9 @@ use Rattle.scenario_read.specs.Table.{round, cabinet_number, load_cabinet}
 use Rattle.scenario_read.specs.Content.{each_of, number_at, load_of}
 use Rattle.scenario_file.specs.Growing.{both, inner_text, follows}
 use Rattle.std.specs.Prelude.{string_bytes}
-use Rattle.scenario_file.specs.declared.found.Spot.{Spot}
+use Rattle.scenario_file.specs.declared.found.Reach.{Reach}
 use Rattle.scenario_file.specs.declared.listed.Listed.{Listed}
-use Rattle.scenario_file.specs.Listing.{Told, ToldLoads, Adds, AllWithin, Holds, IsSpot, Lists, any_load, list_path}
+use Rattle.scenario_file.specs.Listing.{Told, ToldLoads, Adds, AllOf, AsksWithin, Further, Within, Holds, Lists, any_load, asked_version, list_path, name_of}
 
 pub none-left : (xs ys : List Cause) → xs ++ ys ≡ [] → (xs ≡ []) × (ys ≡ [])
 none-left [] ys e = (refl, e)
@@ -93,20 +93,27 @@ text-next later d (item first ds) =
     ap (λ s. comma_if later ++ (compact_text first ++ s)) (text-next true d ds ∙ ap (λ b. (inner_text true ds ++ comma_if b) ++ compact_text d) (follows-more ds))
     ∙ regroup (comma_if later) (compact_text first) (inner_text true ds) (comma_if true) (compact_text d)
 
--- ---- rounds and cabinets
+-- ---- what the items ask for
 
-chain : (a b c : ℕ) → a ≤ b → b ≤ c → a ≤ c
+pub within-more : (P Q : Data → Type 0) (ds : Items) → ((d : Data) → P d → Q d) → AllOf P ds → AllOf Q ds
+within-more P Q no_items step all = tt
+within-more P Q (item d ds) step all = (step d all.0, within-more P Q ds step all.1)
+
+within-next : (P : Data → Type 0) (ds : Items) (d : Data) → AllOf P ds → P d → AllOf P (both ds (item d no_items))
+within-next P no_items d all here = (here, tt)
+within-next P (item first ds) d all here = (all.0, within-next P ds d all.1 here)
+
+pub chain : (a b c : ℕ) → a ≤ b → b ≤ c → a ≤ c
 chain a b c p q = omega (arith, p, q)
 
-pub within-more : (r k rounds cabinets : ℕ) (ds : Items) → r ≤ rounds → k ≤ cabinets → AllWithin r k ds → AllWithin rounds cabinets ds
-within-more r k rounds cabinets no_items e f within = tt
-within-more r k rounds cabinets (item d ds) e f within =
-    (chain (number_at (round 86400) d) r rounds within.0 e, chain (number_at (cabinet_number 64) d) k cabinets within.1 f, within-more r k rounds cabinets ds e f within.2)
+pub asks-further : (b : Bool) (old new : Reach) (d : Data) → Further old new → AsksWithin b old d → AsksWithin b new d
+asks-further true old new d far asks = chain (asked_version d) old.version new.version asks far.version
+asks-further false old new d far asks =
+    (chain (number_at (round 86400) d) old.round new.round asks.0 far.round, chain (number_at (cabinet_number 64) d) old.cabinet new.cabinet asks.1 far.cabinet)
 
-pub within-next : (rounds cabinets : ℕ) (ds : Items) (d : Data) → AllWithin rounds cabinets ds → number_at (round 86400) d ≤ rounds → number_at (cabinet_number 64) d ≤ cabinets
-    → AllWithin rounds cabinets (both ds (item d no_items))
-within-next rounds cabinets no_items d within r k = (r, k, tt)
-within-next rounds cabinets (item first ds) d within r k = (within.0, within.1, within-next rounds cabinets ds d within.2 r k)
+pub all-further : (name : List ℕ) (old new : Reach) (ds : Items) → Further old new → AllOf (Within name old) ds → AllOf (Within name new) ds
+all-further name old new ds far all =
+    within-more (Within name old) (Within name new) ds (λ d asks. asks-further (bytes_eq name (codes "cabinets")) old new d far asks) all
 
 -- the list's own text has the brackets
 pub bracketed : (later : Bool) (ds : Items) → items_text later ds ≡ inner_text later ds ++ 93 ∷ []
@@ -118,16 +125,16 @@ bracketed later (item d ds) = ap (λ s. comma_if later ++ (compact_text d ++ s))
 
 -- ---- a list with one item more
 
-at-most : (a b c : ℕ) → a ≡ b → a ≤ c → b ≤ c
-at-most a b c is le = omega (arith, is, le)
-
-pub lists-next : (old new : Listed) (ds : Items) (d : Data) (spot : Spot) → Lists old ds → Holds new.found (both ds (item d no_items))
-    → string_bytes new.text ≡ (string_bytes old.text ++ comma_if old.some) ++ compact_text d → new.some ≡ true → IsSpot spot d
-    → old.last.round ≤ new.last.round → old.last.cabinet ≤ new.last.cabinet → spot.round ≤ new.last.round → spot.cabinet ≤ new.last.cabinet → Lists new (both ds (item d no_items))
-lists-next old new ds d spot l holds text some is-spot r c sr sc = record {
-  holds = holds;
-  text = text ∙ ap (λ s. (s ++ comma_if old.some) ++ compact_text d) l.text ∙ ap (λ b. (inner_text false ds ++ comma_if b) ++ compact_text d) l.some ∙ sym (text-next false d ds);
-  some = some ∙ sym (follows-next false ds d);
-  within = within-next new.last.round new.last.cabinet ds d (within-more old.last.round old.last.cabinet new.last.round new.last.cabinet ds r c l.within)
-      (at-most spot.round (number_at (round 86400) d) new.last.round is-spot.round sr) (at-most spot.cabinet (number_at (cabinet_number 64) d) new.last.cabinet is-spot.cabinet sc);
-}
+pub lists-next : (old new : Listed) (ds : Items) (d : Data) (reach : Reach) → Lists old ds → Holds new.found (both ds (item d no_items))
+    → string_bytes new.text ≡ (string_bytes old.text ++ comma_if old.some) ++ compact_text d → new.some ≡ true → name_of new.found ≡ name_of old.found
+    → Within (name_of old.found) reach d → Further old.last new.last → Further reach new.last → Lists new (both ds (item d no_items))
+lists-next old new ds d reach l holds text some same within far there =
+    let name = name_of old.found in
+    let here : Within name new.last d = asks-further (bytes_eq name (codes "cabinets")) reach new.last d there within in
+    let all = within-next (Within name new.last) ds d (all-further name old.last new.last ds far l.within) here in
+    record {
+      holds = holds;
+      text = text ∙ ap (λ s. (s ++ comma_if old.some) ++ compact_text d) l.text ∙ ap (λ b. (inner_text false ds ++ comma_if b) ++ compact_text d) l.some ∙ sym (text-next false d ds);
+      some = some ∙ sym (follows-next false ds d);
+      within = subst (λ n. AllOf (Within n new.last) (both ds (item d no_items))) (sym same) all;
+    }

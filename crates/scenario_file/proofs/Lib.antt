@@ -3,6 +3,8 @@ pub mod Turns
 pub mod Growth
 pub mod Frames
 pub mod Standing
+pub mod Blanks
+pub mod Versions
 pub mod Texts
 pub mod Rounds
 pub mod Faultless

@@ -8,7 +8,7 @@ use Rattle.scenario_read.specs.Kinds.{Kind, Fits, Beyond, whole, fault_at, each,
 use Rattle.scenario_read.specs.Fields.{Field, Shape, either, faults_of, field_faults, fields_faults, alternative_faults, names, known_fields, unknown_faults, object_of}
 use Rattle.scenario_read.specs.Table.{round, cabinet_number, input_fields, load_cells, load_shape, load_cabinet, load, full_faults, priority_fields, priority_shape, priority_item, departure_faults, act_of, input_shape, stream, frame_hex, frame_shape, way, index, fault_kind, by, octet, fault_shape}
 use Rattle.scenario_read.specs.Content.{whole_of, number_at, each_of}
-use Rattle.scenario_file.specs.Listing.{any_input, any_load, any_priority, any_frame, any_fault, AllWithin}
+use Rattle.scenario_file.specs.Listing.{any_input, any_load, any_priority, any_frame, any_fault, AllOf, InRounds}
 use Rattle.scenario_file.proofs.Growth.{none-left, none-both}
 
 -- a number that fits one range and lies below the end of another fits that
@@ -78,21 +78,21 @@ load-within rounds cabinets earlier path d e r c =
     let parts = none-left (object_of (load_shape 86400 64) path d) full e in
     none-both (object_of (load_shape rounds cabinets) path d) full (one-within (load_cells ∷ []) [] rounds cabinets path d parts.0 r c) parts.1
 
-pub each-within : (kind now : Kind) (rounds cabinets : ℕ) → Follows kind now rounds cabinets → (path : List Step) (ds : Items) (place : ℕ) → each kind path place ds ≡ [] → AllWithin rounds cabinets ds → each now path place ds ≡ []
+pub each-within : (kind now : Kind) (rounds cabinets : ℕ) → Follows kind now rounds cabinets → (path : List Step) (ds : Items) (place : ℕ) → each kind path place ds ≡ [] → AllOf (InRounds rounds cabinets) ds → each now path place ds ≡ []
 each-within kind now rounds cabinets follows path no_items place e within = refl
 each-within kind now rounds cabinets follows path (item d ds) place e within =
     let parts = none-left (kind (then_item path place) d) (each kind path (place + 1) ds) e in
-    none-both (now (then_item path place) d) (each now path (place + 1) ds) (follows (then_item path place) d parts.0 within.0 within.1)
-    (each-within kind now rounds cabinets follows path ds (place + 1) parts.1 within.2)
+    none-both (now (then_item path place) d) (each now path (place + 1) ds) (follows (then_item path place) d parts.0 within.0.0 within.0.1)
+    (each-within kind now rounds cabinets follows path ds (place + 1) parts.1 within.1)
 
-pub loads-within : (rounds cabinets : ℕ) (path : List Step) (ds : Items) (place : ℕ) (earlier : List ℕ) → each_behind any_load (load_cabinet 64) path place earlier ds ≡ [] → AllWithin rounds cabinets ds
+pub loads-within : (rounds cabinets : ℕ) (path : List Step) (ds : Items) (place : ℕ) (earlier : List ℕ) → each_behind any_load (load_cabinet 64) path place earlier ds ≡ [] → AllOf (InRounds rounds cabinets) ds
     → each_behind (load rounds cabinets) (load_cabinet cabinets) path place earlier ds ≡ []
 loads-within rounds cabinets path no_items place earlier e within = refl
 loads-within rounds cabinets path (item d ds) place earlier e within =
     let next = earlier ++ load_cabinet 64 d ∷ [] in
     let parts = none-left (any_load earlier (then_item path place) d) (each_behind any_load (load_cabinet 64) path (place + 1) next ds) e in
     none-both (load rounds cabinets earlier (then_item path place) d) (each_behind (load rounds cabinets) (load_cabinet cabinets) path (place + 1) next ds)
-    (load-within rounds cabinets earlier (then_item path place) d parts.0 within.0 within.1) (loads-within rounds cabinets path ds (place + 1) next parts.1 within.2)
+    (load-within rounds cabinets earlier (then_item path place) d parts.0 within.0.0 within.0.1) (loads-within rounds cabinets path ds (place + 1) next parts.1 within.1)
 
 -- what an item says is the same, however many rounds and cabinets there are
 pub said-same : {A : Type 0} (says now : Data → A) → ((d : Data) → says d ≡ now d) → (ds : Items) → each_of says ds ≡ each_of now ds

@@ -1,6 +1,6 @@
 -- A list of values that grows at its end, and the text between its brackets.
-use Rattle.std.specs.Prelude.{ℕ, List, [], ◌++◌, Bool, true}
-use Rattle.serde_json.specs.Data.{Items, no_items, item}
+use Rattle.std.specs.Prelude.{ℕ, zero, suc, List, [], ◌++◌, Bool, true}
+use Rattle.serde_json.specs.Data.{Items, no_items, item, object, no_members}
 use Rattle.serde_json.specs.Written.{comma_if, compact_text}
 
 -- these items, and then those
@@ -17,3 +17,8 @@ inner_text later (item d ds) = comma_if later ++ (compact_text d ++ inner_text t
 abbrev pub follows : Bool → Items → Bool
 follows later no_items = later
 follows later (item d ds) = true
+
+-- so many empty objects
+abbrev pub blanks : ℕ → Items
+blanks zero = no_items
+blanks (suc n) = item (object no_members) (blanks n)

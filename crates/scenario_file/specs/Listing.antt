@@ -1,19 +1,20 @@
--- What is known of the items of a list while the numbers of rounds and of cabinets are not yet known.
-use Rattle.std.specs.Prelude.{◌≡◌, ◌≤◌, ℕ, false, List, [], ◌∷◌, ◌++◌, codes, length, map, string_bytes}
+-- What is known of the items of a list while the version and the numbers of rounds and of cabinets are not yet known.
+use Rattle.std.specs.Prelude.{◌≡◌, ◌≤◌, ◌||◌, ℕ, Bool, true, false, if◌then◌else◌, List, [], ◌∷◌, ◌++◌, bytes_eq, codes, is_some, length, map, string_bytes}
 use Rattle.serde_json.specs.Data.{Data, Items, no_items, item}
+use Rattle.serde_json.specs.Find.{get}
 use Rattle.scenario_data.specs.declared.scenario.Fault.{Fault}
 use Rattle.scenario_data.specs.declared.scenario.Input.{Input}
 use Rattle.scenario_data.specs.declared.scenario.PriorityItem.{PriorityItem}
-use Rattle.scenario_data.specs.Content.{LoadContent, FrameContent, load_content, frame_content}
+use Rattle.scenario_data.specs.Content.{CabinetContent, LoadContent, FrameContent, cabinet_content, load_content, frame_content}
 use Rattle.scenario_read.specs.Paths.{Step, Named, then_item}
 use Rattle.scenario_read.specs.Kinds.{Kind, each, each_behind}
 use Rattle.scenario_read.specs.Fields.{object_of}
 use Rattle.scenario_read.specs.Readers.{load_cabinets}
-use Rattle.scenario_read.specs.Table.{round, cabinet_number, input_shape, load_cabinet, load, priority_item, frame_shape, fault_shape}
-use Rattle.scenario_read.specs.Content.{number_at, each_of, input_of, load_of, priority_of, frame_of, fault_of}
+use Rattle.scenario_read.specs.Table.{cabinet, gain, lose, round, cabinet_number, input_shape, load_cabinet, load, priority_item, frame_shape, fault_shape}
+use Rattle.scenario_read.specs.Content.{number_at, each_of, cabinet_of, input_of, load_of, priority_of, frame_of, fault_of}
 use Rattle.scenario_file.specs.declared.found.Found.{Found}
-use Rattle.scenario_file.specs.declared.found.Found.TheVariants.{Inputs, Loads, Priority, Frames, Faults}
-use Rattle.scenario_file.specs.declared.found.Spot.{Spot}
+use Rattle.scenario_file.specs.declared.found.Found.TheVariants.{Cabinets, Inputs, Loads, Priority, Frames, Faults}
+use Rattle.scenario_file.specs.declared.found.Reach.{Reach}
 use Rattle.scenario_file.specs.declared.listed.Listed.{Listed}
 use Rattle.scenario_file.specs.Growing.{inner_text, follows}
 
@@ -21,7 +22,10 @@ use Rattle.scenario_file.specs.Growing.{inner_text, follows}
 abbrev pub list_path : List ℕ → List Step
 list_path name = Named name ∷ []
 
--- items of the most rounds and cabinets that a scenario has
+-- cabinets of the version that has the most names, and items of the most rounds and cabinets that a scenario has
+abbrev pub any_cabinet : Kind
+any_cabinet = cabinet 2
+
 abbrev pub any_input : Kind
 any_input = object_of (input_shape 86400 64)
 
@@ -49,6 +53,9 @@ pub record ToldLoads (found : List LoadContent) (cabinets : List ℕ) (ds : Item
   pub said : found ≡ each_of (load_of 86400 64) ds
   pub whose : cabinets ≡ each_of (load_cabinet 64) ds
 
+abbrev pub ToldCabinets : List CabinetContent → Items → Type 0
+ToldCabinets = Told (codes "cabinets") any_cabinet (cabinet_of 2) 64
+
 abbrev pub ToldInputs : List Input → Items → Type 0
 ToldInputs = Told (codes "inputs") any_input (input_of 86400 64) 1000000
 
@@ -61,8 +68,9 @@ ToldFrames = Told (codes "frames") any_frame (frame_of 86400 64) 100000
 abbrev pub ToldFaults : List Fault → Items → Type 0
 ToldFaults = Told (codes "faults") any_fault (fault_of 86400 64) 100000
 
--- what was found says what the items say, and these are without fault where there are rounds and cabinets enough
+-- what was found says what the items say, and these are without fault where the version has their names and there are rounds and cabinets enough
 abbrev pub Holds : Found → Items → Type 0
+Holds (Cabinets found) ds = ToldCabinets (map cabinet_content found.items) ds
 Holds (Inputs found) ds = ToldInputs found.items ds
 Holds (Loads found) ds = ToldLoads (map load_content found.items) (load_cabinets found.items) ds
 Holds (Priority found) ds = ToldPriority found.items ds
@@ -71,6 +79,7 @@ Holds (Faults found) ds = ToldFaults found.items ds
 
 -- the name of a list
 abbrev pub name_of : Found → List ℕ
+name_of (Cabinets found) = codes "cabinets"
 name_of (Inputs found) = codes "inputs"
 name_of (Loads found) = codes "loads"
 name_of (Priority found) = codes "priority"
@@ -83,19 +92,37 @@ pub record Adds {A : Type 0} (kind : Kind) (says : Data → A) (name : List ℕ)
   pub more : new ≡ old ++ says d ∷ []
   pub few : length new ≤ most
 
--- the round and the cabinet of an item
-pub record IsSpot (spot : Spot) (d : Data) : Type 0 where
-  pub round : spot.round ≡ number_at (round 86400) d
-  pub cabinet : spot.cabinet ≡ number_at (cabinet_number 64) d
+-- the version that a cabinet asks for: the second, where it names how its clock drifts
+abbrev pub asked_version : Data → ℕ
+asked_version d = if is_some (get gain.name d) || is_some (get lose.name d) then 2 else 1
 
--- each item is of a round and a cabinet up to these
-abbrev pub AllWithin : ℕ → ℕ → Items → Type 0
-AllWithin rounds cabinets no_items = Unit {0}
-AllWithin rounds cabinets (item d ds) = (number_at (round 86400) d ≤ rounds) × (number_at (cabinet_number 64) d ≤ cabinets) × AllWithin rounds cabinets ds
+-- an item is of a round and a cabinet up to these
+abbrev pub InRounds : ℕ → ℕ → Data → Type 0
+InRounds rounds cabinets d = (number_at (round 86400) d ≤ rounds) × (number_at (cabinet_number 64) d ≤ cabinets)
 
--- the items of a list: what they say, the text between the brackets, and how far the rounds and the cabinets go
+-- what an item asks for lies within: the version of a cabinet, the round and the cabinet of any other item
+abbrev pub AsksWithin : Bool → Reach → Data → Type 0
+AsksWithin true reach d = asked_version d ≤ reach.version
+AsksWithin false reach d = InRounds reach.round reach.cabinet d
+
+-- the same of an item of the list at a name
+abbrev pub Within : List ℕ → Reach → Data → Type 0
+Within name = AsksWithin (bytes_eq name (codes "cabinets"))
+
+-- each item is so
+abbrev pub AllOf : (Data → Type 0) → Items → Type 0
+AllOf P no_items = Unit {0}
+AllOf P (item d ds) = P d × AllOf P ds
+
+-- what is asked for goes at least as far
+pub record Further (old new : Reach) : Type 0 where
+  pub round : old.round ≤ new.round
+  pub cabinet : old.cabinet ≤ new.cabinet
+  pub version : old.version ≤ new.version
+
+-- the items of a list: what they say, the text between the brackets, and what they ask for at the most
 pub record Lists (listed : Listed) (ds : Items) : Type 0 where
   pub holds : Holds listed.found ds
   pub text : string_bytes listed.text ≡ inner_text false ds
   pub some : listed.some ≡ follows false ds
-  pub within : AllWithin listed.last.round listed.last.cabinet ds
+  pub within : AllOf (Within (name_of listed.found) listed.last) ds

@@ -1,15 +1,16 @@
 //! The compact text of a scenario: its members in order, with the lists of what happens in their places.
 
-ghost use Rattle.std.specs.Prelude.{◌≡◌, ℕ, List, [], ◌∷◌, ◌++◌, true, false, IfSome, string_bytes};
+ghost use Rattle.std.specs.Prelude.{◌≡◌, ℕ, List, [], ◌∷◌, ◌++◌, true, false, IfSome, bytes_eq, string_bytes};
 ghost use Rattle.json.specs.Print.{quoted};
 ghost use Rattle.serde_json.specs.Data.{Items, object};
 ghost use Rattle.serde_json.specs.View.{view, members_view};
 ghost use Rattle.serde_json.specs.Written.{has_float, members_have_float, comma_if, compact_text};
+ghost use Rattle.scenario_read.specs.Sorted.{MembersSorted};
 ghost use Rattle.scenario_file.specs.Growing.{inner_text};
 ghost use Rattle.scenario_file.specs.Framing.{is_list, text_named, value_in, with_lists};
 
 use crate::lists::Texts;
-use crate::pieces::{add, add_comma, add_value};
+use crate::pieces::{add, add_comma, add_value, put_before};
 use serde_json::{Map, Value};
 use std::alloc::Global;
 
@@ -25,46 +26,49 @@ fn add_name(alloc: Global, text: &mut String, name: &str, later: bool) -> Option
     add(text, ":")
 }
 
-/// Adds what stands at a name: a list that was read item by item, or another value.
+/// Adds what stands at a name: a list that was read item by item, or another value. A list's text is taken out, and what
+/// was there before goes in front of it, so that the text of a list which is most of the file stands in memory once.
 fn add_member(
     alloc: Global,
-    text: &mut String,
+    mut text: String,
     name: &str,
     value: &Value,
-    texts: &Texts,
-) -> Option<()>
-    ensures { IfSome result (λ _. (rows : List ℕ → Items) → (is_list name.now ≡ true → text_named texts.now name.now ≡ inner_text false (rows name.now)) → has_float (view value.now) ≡ false
-        → string_bytes text.new ≡ string_bytes text.old ++ compact_text (value_in rows name.now (view value.now))) }
+    texts: &mut Texts,
+) -> Option<String>
+    ensures text { IfSome result (λ grown. (rows : List ℕ → Items) → (is_list name.now ≡ true → text_named texts.old name.now ≡ inner_text false (rows name.now)) → has_float (view value.now) ≡ false
+        → string_bytes grown ≡ string_bytes text ++ compact_text (value_in rows name.now (view value.now))) }
+    ensures others { (other : List ℕ) → bytes_eq other name.now ≡ false → text_named texts.new other ≡ text_named texts.old other }
 {
-    match texts.at(name) {
-        Some(items) => {
-            add(text, "[")?;
-            add(text, items)?;
-            add(text, "]")?;
-            Some(())
+    match texts.take(alloc, name) {
+        Some(mut items) => {
+            add(&mut text, "[")?;
+            put_before(&mut items, text.as_str())?;
+            add(&mut items, "]")?;
+            Some(items)
         }
-        None => add_value(alloc, text, value),
+        None => {
+            add_value(alloc, &mut text, value)?;
+            Some(text)
+        }
     }
 }
 
-/// The compact text of an object of these members, with the lists in their places, in room for so many bytes.
+/// The compact text of an object of these members, with the lists in their places.
+#[tactic(auto, using(crate::proofs::Texts::left_all))]
 pub(crate) fn compact(
     alloc: Global,
     frame: &Map<String, Value>,
-    texts: &Texts,
-    room: usize,
+    texts: &mut Texts,
 ) -> Option<String>
-    ensures { IfSome result (λ text. (rows : List ℕ → Items) → ((name : List ℕ) → is_list name ≡ true → text_named texts.now name ≡ inner_text false (rows name)) → members_have_float (members_view frame.now.entries) ≡ false
+    ensures { IfSome result (λ text. (rows : List ℕ → Items) → MembersSorted (members_view frame.now.entries) → ((name : List ℕ) → is_list name ≡ true → text_named texts.old name ≡ inner_text false (rows name)) → members_have_float (members_view frame.now.entries) ≡ false
         → string_bytes text ≡ compact_text (object (with_lists rows (members_view frame.now.entries)))) }
 {
-    let Ok(mut text) = String::with_capacity(alloc, room) else {
-        return None;
-    };
+    let mut text = String::new(alloc);
     add(&mut text, "{")?;
     let mut later = false;
     for (name, value) in frame.iter() {
         add_name(alloc, &mut text, name.as_str(), later)?;
-        add_member(alloc, &mut text, name.as_str(), value, texts)?;
+        text = add_member(alloc, text, name.as_str(), value, texts)?;
         later = true;
     }
     add(&mut text, "}")?;

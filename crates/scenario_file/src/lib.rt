@@ -1,5 +1,6 @@
-//! The scenario file, read with little memory: the lists of what happens in the rounds, which may be most of a file, are
-//! read item by item, and only what stands beside them becomes a tree. What a scenario is, and what is refused, is as in `scenario_read`.
+//! The scenario file, read with little memory: the lists of the cabinets and of what happens in the rounds, which may be most
+//! of a file, are read item by item, and only what stands beside them becomes a tree. What a scenario is, and what is
+//! refused, is as in `scenario_read`.
 #![tactic(auto)]
 
 mod compact;

@@ -7,20 +7,20 @@ ghost use Rattle.serde_json.specs.Read.{of_json, of_items, converted};
 ghost use Rattle.scenario_file.specs.Growing.{both};
 ghost use Rattle.scenario_file.specs.Listing.{Holds, Lists, name_of};
 
-use crate::found::{Found, Spot, add_item};
+use crate::found::{Found, Reach, add_item};
 use crate::pieces::{add_comma, add_value};
 use crate::trees::tree;
 use json::Reader;
 use std::alloc::Global;
 
-/// The items of a list, the compact text between its brackets, whether there is an item, and the last round and cabinet
-/// that an item names.
+/// The items of a list, the compact text between its brackets, whether there is an item, and what the items ask for at
+/// the most.
 #[derive(Drop)]
 pub(crate) struct Listed {
     pub found: Found,
     pub text: String,
     pub some: bool,
-    pub last: Spot,
+    pub last: Reach,
 }
 
 /// Reads one more item: what it says, and its text behind those before.
@@ -31,11 +31,11 @@ fn next_item(alloc: Global, reader: &mut Reader<'_>, listed: &mut Listed) -> Opt
     ensures shorter { IfSome result (λ _. length reader.new < length reader.old) }
 {
     let object = tree(alloc, reader, 125)?;
-    let spot = add_item(alloc, &object, &mut listed.found)?;
+    let reach = add_item(alloc, &object, &mut listed.found)?;
     add_comma(&mut listed.text, listed.some)?;
     add_value(alloc, &mut listed.text, &object)?;
     listed.some = true;
-    listed.last = listed.last.farthest(spot);
+    listed.last = listed.last.farthest(reach);
     Some(())
 }
 
@@ -59,10 +59,7 @@ pub(crate) fn list_items(
         found,
         text,
         some: false,
-        last: Spot {
-            round: 0,
-            cabinet: 0,
-        },
+        last: Reach::none(),
     };
     'items: while !reader.take_end_array() {
         next_item(alloc, reader, &mut listed)?;

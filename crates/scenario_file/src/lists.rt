@@ -1,18 +1,22 @@
-//! The lists of what happens in the rounds: what their items say, and the compact text of each.
+//! The lists that are read item by item, of the cabinets and of what happens in the rounds: what their items say, and the
+//! compact text of each.
 
-ghost use Rattle.std.specs.Prelude.{◌≡◌, ℕ, List, true, false, IfSome, IfNone};
-ghost use Rattle.serde_json.specs.Data.{Items, Members, no_members, put, array, no_items};
+ghost use Rattle.std.specs.Prelude.{◌≡◌, ℕ, List, true, false, IfSome, IfNone, bytes_eq, string_bytes};
+ghost use Rattle.serde_json.specs.Data.{Items, Members, no_members, put, no_items};
 ghost use Rattle.scenario_file.specs.Listing.{name_of, Lists as ListsItems};
-ghost use Rattle.scenario_file.specs.Framing.{AllStand, is_list, text_named, with_rows};
+ghost use Rattle.scenario_file.specs.Framing.{AllStand, is_list, text_named, stand_in, with_rows};
 
-use crate::found::{Found, Spot};
+use crate::found::{Found, Reach};
 use crate::listed::Listed;
+use scenario_data::Cabinet;
 use scenario_read::Events;
 use std::alloc::Global;
+use std::mem;
 
 /// The compact text between the brackets of each list.
 #[derive(Drop)]
 pub(crate) struct Texts {
+    pub cabinets: String,
     pub inputs: String,
     pub loads: String,
     pub priority: String,
@@ -21,36 +25,41 @@ pub(crate) struct Texts {
 }
 
 impl Texts {
-    /// The text of the list of this name; none, where the name is not that of a list.
-    pub(crate) fn at(&self, name: &str) -> Option<&str>
-        ensures text { IfSome result (λ text. (is_list name.now ≡ true) × (text.now ≡ text_named self.now name.now)) }
+    /// Takes out the text of the list of this name; none, where the name is not that of a list.
+    pub(crate) fn take(&mut self, alloc: Global, name: &str) -> Option<String>
+        ensures text { IfSome result (λ text. (is_list name.now ≡ true) × (string_bytes text ≡ text_named self.old name.now)) }
         ensures none { IfNone result (is_list name.now ≡ false) }
+        ensures others { (other : List ℕ) → bytes_eq other name.now ≡ false → text_named self.new other ≡ text_named self.old other }
     {
+        if name == "cabinets" {
+            return Some(mem::replace(&mut self.cabinets, String::new(alloc)));
+        }
         if name == "inputs" {
-            return Some(self.inputs.as_str());
+            return Some(mem::replace(&mut self.inputs, String::new(alloc)));
         }
         if name == "loads" {
-            return Some(self.loads.as_str());
+            return Some(mem::replace(&mut self.loads, String::new(alloc)));
         }
         if name == "priority" {
-            return Some(self.priority.as_str());
+            return Some(mem::replace(&mut self.priority, String::new(alloc)));
         }
         if name == "frames" {
-            return Some(self.frames.as_str());
+            return Some(mem::replace(&mut self.frames, String::new(alloc)));
         }
         if name == "faults" {
-            return Some(self.faults.as_str());
+            return Some(mem::replace(&mut self.faults, String::new(alloc)));
         }
         None
     }
 }
 
-/// What happens in the rounds, the texts of its lists, and the last round and cabinet that an item names.
+/// The cabinets and what happens in the rounds, the texts of these lists, and what their items ask for at the most.
 #[derive(Drop)]
 pub(crate) struct Lists {
+    pub cabinets: Vec<Cabinet>,
     pub events: Events,
     pub texts: Texts,
-    pub last: Spot,
+    pub last: Reach,
 }
 
 /// Lists without items.
@@ -58,6 +67,7 @@ pub(crate) fn no_lists(alloc: Global) -> Lists
     ensures { AllStand result no_members (λ _. no_items) }
 {
     Lists {
+        cabinets: Vec::new(alloc),
         events: Events {
             inputs: Vec::new(alloc),
             loads: Vec::new(alloc),
@@ -66,25 +76,24 @@ pub(crate) fn no_lists(alloc: Global) -> Lists
             faults: Vec::new(alloc),
         },
         texts: Texts {
+            cabinets: String::new(alloc),
             inputs: String::new(alloc),
             loads: String::new(alloc),
             priority: String::new(alloc),
             frames: String::new(alloc),
             faults: String::new(alloc),
         },
-        last: Spot {
-            round: 0,
-            cabinet: 0,
-        },
+        last: Reach::none(),
     }
 }
 
 /// The lists, with this one in place of what was found of it before.
 pub(crate) fn with_list(lists: Lists, listed: Listed) -> Lists
     ensures { (frame : Members) → (rows : List ℕ → Items) → (ds : Items) → AllStand lists frame rows → ListsItems listed ds
-        → AllStand result (put (name_of listed.found) (array no_items) frame) (with_rows rows (name_of listed.found) ds) }
+        → AllStand result (put (name_of listed.found) (stand_in (name_of listed.found) ds) frame) (with_rows rows (name_of listed.found) ds) }
 {
     let Lists {
+        mut cabinets,
         mut events,
         mut texts,
         last,
@@ -97,10 +106,21 @@ pub(crate) fn with_list(lists: Lists, listed: Listed) -> Lists
     } = listed;
     let last = last.farthest(reached);
     match found {
+        Found::Cabinets(found) => {
+            cabinets = found;
+            texts.cabinets = text;
+            Lists {
+                cabinets,
+                events,
+                texts,
+                last,
+            }
+        }
         Found::Inputs(inputs) => {
             events.inputs = inputs;
             texts.inputs = text;
             Lists {
+                cabinets,
                 events,
                 texts,
                 last,
@@ -110,6 +130,7 @@ pub(crate) fn with_list(lists: Lists, listed: Listed) -> Lists
             events.loads = loads;
             texts.loads = text;
             Lists {
+                cabinets,
                 events,
                 texts,
                 last,
@@ -119,6 +140,7 @@ pub(crate) fn with_list(lists: Lists, listed: Listed) -> Lists
             events.priority = priority;
             texts.priority = text;
             Lists {
+                cabinets,
                 events,
                 texts,
                 last,
@@ -128,6 +150,7 @@ pub(crate) fn with_list(lists: Lists, listed: Listed) -> Lists
             events.frames = frames;
             texts.frames = text;
             Lists {
+                cabinets,
                 events,
                 texts,
                 last,
@@ -137,6 +160,7 @@ pub(crate) fn with_list(lists: Lists, listed: Listed) -> Lists
             events.faults = faults;
             texts.faults = text;
             Lists {
+                cabinets,
                 events,
                 texts,
                 last,

@@ -17,6 +17,16 @@ pub(crate) fn add(text: &mut String, piece: &str) -> Option<()>
     }
 }
 
+/// Puts a piece before the text.
+pub(crate) fn put_before(text: &mut String, piece: &str) -> Option<()>
+    ensures { IfSome result (λ _. string_bytes text.new ≡ piece.now ++ string_bytes text.old) }
+{
+    match text.insert_str(0, piece) {
+        Ok(()) => Some(()),
+        Err(_) => None,
+    }
+}
+
 /// Adds a comma, where something stands before.
 pub(crate) fn add_comma(text: &mut String, later: bool) -> Option<()>
     ensures { IfSome result (λ _. string_bytes text.new ≡ string_bytes text.old ++ comma_if later) }

@@ -6,9 +6,10 @@ ghost use Rattle.scenario_data.specs.Content.{scenario_content};
 ghost use Rattle.scenario_read.specs.Answers.{IsScenario, IsFirstFault, OnRefusal};
 
 use crate::compact::compact;
-use crate::top::whole_of;
+use crate::lists::Lists;
+use crate::top::{Whole, whole_of};
 use scenario_data::{ReadFail, Scenario};
-use scenario_read::{Parts, checked_parts, scenario_from};
+use scenario_read::{Parts, Setup, all_judged, checked_parts, scenario_from};
 use serde_json::Value;
 use std::alloc::Global;
 
@@ -18,18 +19,29 @@ pub(crate) fn scenario_of(alloc: Global, bytes: &[u8]) -> Option<Scenario>
     ensures reads_back { IfSome result (λ s. IsScenario s.compact.items (scenario_content s)) }
 {
     let whole = whole_of(alloc, bytes)?;
-    let text = compact(alloc, &whole.frame, &whole.lists.texts, bytes.len())?;
-    let Ok(parts) = checked_parts(alloc, &Value::Object(whole.frame)) else {
+    let Whole { frame, lists } = whole;
+    let Lists {
+        cabinets,
+        events,
+        mut texts,
+        last,
+    } = lists;
+    let text = compact(alloc, &frame, &mut texts)?;
+    let Ok(parts) = checked_parts(alloc, &Value::Object(frame)) else {
         return None;
     };
-    let last = whole.lists.last;
-    if last.round > parts.setup.rounds || last.cabinet as usize > parts.setup.cabinets.len() {
+    let Parts { version, setup, .. } = parts;
+    if !last.lies_within(version, setup.rounds, setup.cabinets.len()) {
         return None;
     }
+    match all_judged(&cabinets) {
+        Ok(()) => {}
+        Err(_) => return None,
+    }
     let parts = Parts {
-        version: parts.version,
-        setup: parts.setup,
-        events: whole.lists.events,
+        version,
+        setup: Setup { cabinets, ..setup },
+        events,
     };
     Some(scenario_from(parts, text.into_bytes()))
 }

@@ -94,7 +94,42 @@ fn each_list_is_read_item_by_item(rt: HostRuntime) -> Result<(), Fail> {
     Ok(())
 }
 
-const GIVES_UP: [(&str, &str); 6] = [
+const CABINETS: &str =
+    "{\"cabinets\":[{\"gain\":12000},{}],\"ticks\":1,\"cabinets\":[{\"section\":2,\"cells\":[[\"unit\",5,60],[\"preempt\",8,14,\"0102\"]]},{ },{\"lose\":12000}],\"rounds\":1,\"version\":2}";
+
+const CABINETS_COMPACT: &str =
+    "{\"cabinets\":[{\"cells\":[[\"unit\",5,60],[\"preempt\",8,14,\"0102\"]],\"section\":2},{},{\"lose\":12000}],\"rounds\":1,\"ticks\":1,\"version\":2}";
+
+#[test]
+fn cabinets_are_read_before_the_version(rt: HostRuntime) -> Result<(), Fail> {
+    let alloc = rt.alloc();
+    let Some(scenario) = scenario_of(alloc, CABINETS.as_bytes()) else {
+        return Err(Fail::from("not read in parts"));
+    };
+    assert!(rt; scenario.compact.as_slice() == CABINETS_COMPACT.as_bytes());
+    assert!(rt; scenario.cabinets.len() == 3);
+    assert!(rt; scenario.cabinets[0].cells.len() == 2 && scenario.cabinets[0].section == 2);
+    assert!(rt; scenario.cabinets[2].lose == 12_000 && scenario.cabinets[2].gain == 0);
+    Ok(())
+}
+
+const GIVES_UP: [(&str, &str); 10] = [
+    (
+        "{\"cabinets\":[{\"gain\":12000}],\"rounds\":1,\"ticks\":1,\"version\":1}",
+        "field cabinets[0].gain",
+    ),
+    (
+        "{\"cabinets\":[{},{\"cells\":[[\"phase\",2,8,29]]}],\"rounds\":1,\"ticks\":1,\"version\":1}",
+        "cabinet 2 breaks rule 10 at row 2",
+    ),
+    (
+        "{\"cabinets\":[{\"cells\":[[\"phase\",2,8,29]]}],\"rounds\":1,\"ticks\":1,\"version\":3}",
+        "limit version",
+    ),
+    (
+        "{\"cabinets\":[],\"rounds\":1,\"ticks\":1,\"version\":1}",
+        "limit cabinets",
+    ),
     (
         "{\"loads\":[{\"cabinet\":1,\"cells\":[[\"unit\",9,1]],\"round\":1}],\"cabinets\":[{}],\"rounds\":1,\"ticks\":1,\"version\":1}",
         "field loads[0].cells[0]",

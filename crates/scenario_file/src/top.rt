@@ -1,5 +1,5 @@
-//! The whole text of a scenario: an object whose lists of what happens are read item by item, and whose other members
-//! become a tree, with an empty list where such a list stands.
+//! The whole text of a scenario: an object whose lists are read item by item, and whose other members become a tree, with
+//! a list of empty objects where the cabinets stand, and an empty list where another list does.
 
 ghost use Rattle.std.specs.Prelude.{◌≡◌, ◌<◌, ℕ, List, length, Some, IfSome, IsUtf8};
 ghost use Rattle.json.specs.Json.{value, members};
@@ -10,7 +10,7 @@ ghost use Rattle.scenario_read.specs.Sorted.{MembersSorted};
 ghost use Rattle.scenario_file.specs.Listing.{Holds, Lists as ListsItems, name_of};
 ghost use Rattle.scenario_file.specs.Framing.{with_lists, AllStand};
 
-use crate::found::{Found, list_named};
+use crate::found::{Found, list_named, stand_in};
 use crate::listed::{Listed, list_items};
 use crate::lists::{Lists, no_lists, with_list};
 use crate::trees::{put_member, tree};
@@ -18,7 +18,7 @@ use json::{Reader, Scratch, Token};
 use serde_json::{Map, Value};
 use std::alloc::Global;
 
-/// A scenario's value but for its lists of what happens, and these.
+/// A scenario's value but for its lists, and these.
 #[derive(Drop)]
 pub(crate) struct Whole {
     pub frame: Map<String, Value>,
@@ -64,8 +64,9 @@ fn members_of(alloc: Global, reader: &mut Reader<'_>, room: usize) -> Option<Who
         match list_named(alloc, name) {
             Some(found) => {
                 let listed = list_at(alloc, reader, found, room)?;
+                let standing = stand_in(alloc, &listed.found)?;
                 lists = with_list(lists, listed);
-                match put_member(&mut frame, key, Value::Array(Vec::new(alloc))) {
+                match put_member(&mut frame, key, standing) {
                     Some(()) => {}
                     None => return None,
                 }

@@ -94,8 +94,8 @@ fn drift_in(alloc: Global, object: &Value, place: Place, version: u32) -> Result
     Ok(Drift { gain, lose })
 }
 
-/// One cabinet, in a scenario of this version.
-fn cabinet_in(
+/// One cabinet, at a place counted from 0, in a scenario of this version, 1 or 2: in version 2 alone it may name a drift.
+pub fn cabinet_in(
     alloc: Global,
     object: &Value,
     number: usize,

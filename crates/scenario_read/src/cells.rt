@@ -196,7 +196,9 @@ pub(crate) fn cells_in(
     ensures { Answers result (each cell (then_named (steps_of (Place.Listed list place)) (codes "cells")) 0 (items_view items.now.items))
         (λ puts. map put_content puts.items ≡ each_of cell_of (items_view items.now.items)) }
 {
-    let mut cells = Vec::new(alloc);
+    let Ok(mut cells) = Vec::with_capacity(alloc, items.len()) else {
+        return Err(ReadFail::NoMemory);
+    };
     for cell in 0..items.len() {
         match cell_in(alloc, &items[cell], Place::Cell { list, place, cell }) {
             Ok(put) => match cells.push(put) {

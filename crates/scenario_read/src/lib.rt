@@ -29,6 +29,7 @@ ghost use Rattle.scenario_data.specs.Content.{ScenarioContent};
 ghost use Rattle.scenario_read.specs.Faults.{faults, first_cause};
 ghost use Rattle.scenario_read.specs.Answers.{IsScenario, IsFirstFault, SameFault};
 
+pub use cabinets::cabinet_in;
 pub use events::Events;
 pub use faults::fault_in;
 pub use frames::frame_in;
@@ -38,6 +39,7 @@ pub use priority::priority_in;
 pub use reading::{read, text};
 pub use scenario::{Parts, checked_parts, scenario_from};
 pub use setup::Setup;
+pub use tables::all_judged;
 
 /// Small values, as the definitions see them.
 pub fn small_values()

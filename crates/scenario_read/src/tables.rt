@@ -23,8 +23,8 @@ fn judged(number: u32, cabinet: &Cabinet) -> Result<(), ReadFail>
     }
 }
 
-/// Refuses the first rule that the opening tables of the first cabinet break that breaks any.
-pub(crate) fn all_judged(cabinets: &Vec<Cabinet>) -> Result<(), ReadFail>
+/// Refuses the first rule that the opening tables of the first cabinet break that breaks any, of at most 64 cabinets.
+pub fn all_judged(cabinets: &Vec<Cabinet>) -> Result<(), ReadFail>
     requires { length cabinets.now.items ≤ 64 }
     ensures { Answers result (all_table_faults 1 (map cabinet_content cabinets.now.items)) (λ _. Unit {0}) }
 {

@@ -12,8 +12,11 @@ pub returns-clause-ok : goal.returns-clause-ok
 returns-clause-ok c =
     let d = view c.in_ok-object.object in
     let tree = converted_some of_json (value 125 c.args.reader.now) d c.tree.new.reader c.in_ok-object.ensures.ok in
-    let added = c.in_ok-spot.ensures in
+    let added = c.in_ok-reach.ensures in
     let plain : has_float d ≡ false = added.floatless (tree-sorted tree.0 d tree.2) in
     let text = c.in_ok-add_value.ensures plain ∙ ap (λ s. s ++ compact_text d) c.in_ok-add_comma.ensures in
-    let far = c.farthest-listed.ensures in
-    (d, c.in_ok-object.ensures.ok, λ ds lists. lists-next c.args.listed.now _ ds d c.in_ok-spot.spot lists (added.added ds lists.holds) text refl added.spot far.self_round far.self_cabinet far.other_round far.other_cabinet)
+    let far = c.farthest-listed.ensures in (
+      d,
+      c.in_ok-object.ensures.ok,
+      λ ds lists. lists-next c.args.listed.now _ ds d c.in_ok-reach.reach lists (added.added ds lists.holds) text refl added.list added.reach far.self_far far.other_far,
+    )

@@ -3,15 +3,14 @@ use Rattle.json.specs.Json.{value, members, read_key}
 use Rattle.json.proofs.Grammar.{read_key-shorter}
 use Rattle.serde_json.specs.Data.{array, Items, no_items, put}
 use Rattle.serde_json.specs.Read.{of_json, of_members, converted}
-use Rattle.serde_json.specs.View.{view, items_view, members_view}
-use Rattle.serde_json.specs.declared.value.Value.{Array}
-use Rattle.serde_json.proofs.Views.{view-Array}
+use Rattle.serde_json.specs.View.{view, members_view}
 use Rattle.scenario_read.specs.Sorted.{MembersSorted}
 use Rattle.scenario_read.proofs.Rising.{tree-sorted, sorted-put}
 use Rattle.scenario_file.specs.Listing.{name_of}
-use Rattle.scenario_file.specs.Framing.{is_list, with_lists, with_rows, AllStand}
+use Rattle.scenario_file.specs.Framing.{is_list, stand_in, with_lists, with_rows, AllStand}
 use Rattle.scenario_file.proofs.Turns.{converted_some, member_read, members_over}
 use Rattle.scenario_file.proofs.Frames.{put-other, put-list}
+use Rattle.scenario_file.proofs.Blanks.{stand_in-sorted}
 use Rattle.scenario_file.proofs.Standing.{all-stand-other, named-list}
 use Rattle.scenario_file.proofs.top.members_of.Goals as goal
 
@@ -65,19 +64,20 @@ members-preserved-in-Some-put_member c =
     let here : is_list k ≡ true = named-list c.in-Some.found k c.in-Some.ensures.0 in
     let named-so : name_of c.in_ok-listed-in-Some.listed.found ≡ k = done.list ∙ c.in-Some.ensures.0 in
     let copied : string_bytes c.in-Ok.key ≡ k = search rules in
-    let empty : view (Array c.new.result) ≡ array no_items = view-Array c.new.result ∙ ap (λ vs. array (items_view vs)) c.new.ensures.items in
-    let inserted : members_view c.put_member.new.members.entries ≡ put k (array no_items) frame =
-    c.in-Some-put_member.ensures ∙ ap₂ (λ name d. put name d frame) copied empty in
-    let there : put k (array es) old ≡ with_lists now (members_view c.put_member.new.members.entries) = put-list k rows es frame here l.invariant.5 ∙ ap (with_lists now) (sym inserted) in
-    let stand : AllStand c.with_list-lists.result (put k (array no_items) frame) now =
-    subst (λ name. AllStand c.with_list-lists.result (put name (array no_items) frame) (with_rows rows name es)) named-so (c.with_list-lists.ensures frame rows es l.invariant.6 done.ok.2) in (
+    let standing : view c.in_ok-standing-in-Some.standing ≡ stand_in k es = c.in_ok-standing-in-Some.ensures es done.ok.2.holds ∙ ap (λ name. stand_in name es) named-so in
+    let inserted : members_view c.put_member.new.members.entries ≡ put k (stand_in k es) frame =
+    c.in-Some-put_member.ensures ∙ ap₂ (λ name d. put name d frame) copied standing in
+    let there : put k (array es) old ≡ with_lists now (members_view c.put_member.new.members.entries) =
+    put-list k rows es (stand_in k es) frame here l.invariant.5 ∙ ap (with_lists now) (sym inserted) in
+    let stand : AllStand c.with_list-lists.result (put k (stand_in k es) frame) now =
+    subst (λ name. AllStand c.with_list-lists.result (put name (stand_in name es) frame) (with_rows rows name es)) named-so (c.with_list-lists.ensures frame rows es l.invariant.6 done.ok.2) in (
       n - 1,
       now,
       omega (arith, l.invariant.2),
       l.invariant.3 ∙ member_read p old n k l.reader s r (array es) (omega (arith, l.invariant.2)) named done.ok.1
           ∙ ap (λ found. converted (λ ms. of_members ms found) (members p (n - 1) r)) there,
       omega (arith, l.invariant.4),
-      subst MembersSorted (sym inserted) (sorted-put k (array no_items) frame tt l.invariant.5),
+      subst MembersSorted (sym inserted) (sorted-put k (stand_in k es) frame (stand_in-sorted k es) l.invariant.5),
       subst (λ ms. AllStand c.with_list-lists.result ms now) (sym inserted) stand,
     )
 
