@@ -1,0 +1,13 @@
+pub mod Longest
+pub mod Paths
+pub mod Journals
+pub mod Runs
+pub mod Faults
+pub mod Walking
+pub mod Back
+pub mod Exact
+pub mod Texts
+pub mod Unique
+pub mod Whole
+pub mod Either
+pub mod Small

@@ -1,0 +1,100 @@
+-- All runs of a scenario as one tree: which line is due, or whose journal is asked for, by which it then goes on. A text that is read
+-- against it is walked line by line, or leaves it at its first fault.
+use Rattle.std.specs.Prelude.{ℕ, zero, suc, ◌+◌, ◌≡◌, ◌≢◌, if◌then◌else◌, List, [], ◌∷◌, ◌++◌, length}
+use Rattle.trace_text.specs.declared.lines.Line.{Line}
+use Rattle.trace_text.specs.declared.lines.Line.TheVariants.{J, Z}
+use Rattle.trace_text.specs.Line.{line_text}
+use Rattle.trace_text.specs.IsLine.{IsLine}
+use Rattle.safe_trace.specs.TraceText.{lines_text}
+use Rattle.scenario_data.specs.Content.{ScenarioContent}
+use Rattle.round_streams.specs.Items.{Item}
+use Rattle.cabinet_story.specs.Journals.{IsMerge, runs_of}
+use Rattle.run_lines.specs.Standing.{Standing, opened_standings, coming_streams, round_acts, next_standing}
+use Rattle.run_lines.specs.Lines.{acts_lines, head_lines, opening_lines}
+use Rattle.trace_laws.specs.Faults.{same_head, rule_of, first_piece, IsNoLine}
+
+-- nothing more is due; or a line; or a cabinet's journal, any merge of its streams, by which it goes on
+pub data Script : Type 0 where
+  Ends : Script
+  Says : (line : Line) → (rest : Script) → Script
+  Hears : (cab : ℕ) → (streams : List (List Item)) → (next : List ℕ → Script) → Script
+
+-- these lines, and then the rest
+abbrev pub say : List Line → Script → Script
+say [] rest = rest
+say (line ∷ lines) rest = Says line (say lines rest)
+
+-- the lines lead from the first of these to the second
+abbrev pub Goes : Script → List Line → Script → Type 0
+Goes script [] end = script ≡ end
+Goes Ends (line ∷ lines) end = ⊥
+Goes (Says due rest) (line ∷ lines) end = (line ≡ due) × Goes rest lines end
+Goes (Hears cab streams next) (line ∷ lines) end =
+    (journal : List ℕ) × (line ≡ J cab (runs_of journal)) × IsMerge streams journal × Goes (next journal) lines end
+
+-- a cabinet's round: its journal, the lines of what that brings, and then what follows
+abbrev pub cabinet_script : ScenarioContent → ℕ → Standing → (List ℕ → Script) → Script
+cabinet_script s cab t next =
+    Hears cab (coming_streams s cab t) (λ journal. say (acts_lines cab t.story (round_acts s cab t journal)) (next journal))
+
+-- the rounds of the cabinets from this number on; those before it have come to what is gone, in order
+abbrev pub cabinets_script : ScenarioContent → ℕ → List Standing → List Standing → (List Standing → Script) → Script
+cabinets_script s first gone [] rest = rest gone
+cabinets_script s first gone (t ∷ ts) rest =
+    cabinet_script s first t (λ journal. cabinets_script s (first + 1) (gone ++ next_standing s first t journal ∷ []) ts rest)
+
+-- a round: its number, the master's notes, and each cabinet's
+abbrev pub round_script : ScenarioContent → ℕ → List Standing → (List Standing → Script) → Script
+round_script s round ts rest = say (head_lines s round ts) (cabinets_script s 1 [] ts rest)
+
+-- n rounds, from this number on, and the end
+abbrev pub rounds_script : ScenarioContent → ℕ → ℕ → List Standing → Script
+rounds_script s round zero ts = Says (Z s.rounds) Ends
+rounds_script s round (suc n) ts = round_script s round ts (rounds_script s (round + 1) n)
+
+-- the lines behind the first: what each cabinet shows before any tick, the rounds, and the end
+abbrev pub script_of : ScenarioContent → Script
+script_of s =
+    say (opening_lines 1 (opened_standings s s.cabinets)) (rounds_script s 1 s.rounds (opened_standings s s.cabinets))
+
+-- the rule of a line where another is due
+abbrev pub rule_for : Line → Line → ℕ
+rule_for due line = if same_head due line then rule_of line else 4
+
+-- the script does not go on with the line, and why
+abbrev pub Refuses : Script → Line → ℕ → Type 0
+Refuses Ends line rule = ⊥
+Refuses (Says due rest) line rule = (line ≢ due) × (rule ≡ rule_for due line)
+Refuses (Hears cab streams next) line rule =
+    ((journal : List ℕ) → line ≡ J cab (runs_of journal) → IsMerge streams journal → ⊥) × (rule ≡ rule_for (J cab []) line)
+
+-- the script does not go on with the bytes that are left, and why
+pub data Stops (script : Script) : List ℕ → ℕ → Type 0 where
+  Lacking : script ≢ Ends → Stops script [] 10
+  Beyond : (left : List ℕ) → script ≡ Ends → left ≢ [] → Stops script left 11
+  Unread : (left : List ℕ) → script ≢ Ends → left ≢ [] → IsNoLine (first_piece left) → Stops script left 2
+  Other : (line : Line) → (left : List ℕ) → (rule : ℕ) → IsLine line → Refuses script line rule → Stops script (line_text line ++ left) rule
+
+-- the text leaves the script after so many lines
+pub record FaultIn (script : Script) (text : List ℕ) (n rule : ℕ) : Type 0 where
+  pub before : List Line
+  pub left : List ℕ
+  pub split : text ≡ lines_text before ++ left
+  pub place : n ≡ length before
+  pub mid : Script
+  pub goes : Goes script before mid
+  pub stops : Stops mid left rule
+
+-- the text, whose first line has this number, leaves the script at the line with that number
+pub record FaultsAt (script : Script) (text : List ℕ) (line at rule : ℕ) : Type 0 where
+  pub n : ℕ
+  pub place : at ≡ line + n
+  pub fault : FaultIn script text n rule
+
+-- the text, whose first line has this number, begins with lines that lead from one place of the script to another; the rest of the text
+-- begins with the next number
+pub record Walks (from : Script) (text : List ℕ) (line : ℕ) (to : Script) (rest : List ℕ) (next : ℕ) : Type 0 where
+  pub taken : List Line
+  pub split : text ≡ lines_text taken ++ rest
+  pub place : next ≡ line + length taken
+  pub goes : Goes from taken to

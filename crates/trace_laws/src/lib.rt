@@ -1,0 +1,107 @@
+//! Which texts are traces, and which line of another text is the first at fault; the laws of both.
+//! A trace is the text of a run, for whatever journals; all runs of a scenario are one tree
+//! (`Script`), on which the laws stand. There is no code here.
+#![tactic(auto)]
+
+ghost use Rattle.std.specs.Prelude.{ℕ, List, [], ◌∷◌, ◌++◌, codes};
+ghost use Rattle.run_lines.specs.Smallest.{smallest};
+ghost use Rattle.trace_laws.specs.Traces.{IsTrace};
+ghost use Rattle.trace_laws.specs.Faults.{FaultOf};
+ghost use Rattle.trace_laws.specs.Laws.{DueIsDetermined, RoundsAreFronts, NothingFollows, JournalsAreTold, FaultsAreDetermined, TracesHaveNoFault, NothingElse, TellsOfRun, FrontsAreProper, LinesTell};
+ghost use Rattle.trace_laws.specs.Small.{ended, dark, small_lines, IsBehindFirst};
+
+use one_trace::{run_texts_are_safe, texts_have_one_list};
+use proper_lines::lines_are_proper;
+use run_lines::journals_are_told;
+use runnable_scenarios::scenarios_run;
+use scenario_read::bytes_have_one_answer;
+
+/// Behind the first lines of a run one line may follow, but for the journal of a cabinet, of which the line's kind and cabinet are
+/// determined.
+pub fn due_is_determined()
+    ensures { DueIsDetermined }
+{}
+
+/// Whatever journals the first rounds have, where they take what came in whatever order, a run begins with them.
+pub fn rounds_are_fronts()
+    ensures { RoundsAreFronts }
+{}
+
+/// Behind a whole run nothing follows.
+pub fn nothing_follows()
+    ensures { NothingFollows }
+{}
+
+/// The text of a line tells the line, and where it ends.
+pub fn lines_tell()
+    ensures { LinesTell }
+{}
+
+/// The lines with which a run begins are lines that a trace may have.
+pub fn fronts_are_proper()
+    ensures { FrontsAreProper }
+{
+    lines_are_proper();
+}
+
+/// The text of a trace tells its scenario and its journals: no other scenario and no other journals write the same.
+pub fn traces_tell_journals()
+    ensures { JournalsAreTold }
+{
+    scenarios_run();
+    bytes_have_one_answer();
+    lines_are_proper();
+    texts_have_one_list();
+    journals_are_told();
+}
+
+/// A text has one first fault at most: one line and one rule.
+pub fn faults_are_determined()
+    ensures { FaultsAreDetermined }
+{
+    scenarios_run();
+    bytes_have_one_answer();
+    lines_are_proper();
+}
+
+/// A trace that is not too long has no fault.
+pub fn traces_have_no_fault()
+    ensures { TracesHaveNoFault }
+{
+    scenarios_run();
+    bytes_have_one_answer();
+    lines_are_proper();
+}
+
+/// There is nothing between: no text is no trace and has no first fault.
+pub fn nothing_is_between()
+    ensures { NothingElse }
+{}
+
+/// A trace is the text of a run of a scenario that can be run; and by its lines the street of each cabinet is safe at every tick of
+/// 0.1 s, its versions are whole, and coordination is met (FHWA Signal Timing Manual: offset, transition).
+pub fn traces_are_safe()
+    ensures { (text : List ℕ) → IsTrace text → TellsOfRun text }
+{
+    scenarios_run();
+    bytes_have_one_answer();
+    lines_are_proper();
+    run_texts_are_safe();
+}
+
+/// What the smallest run writes behind its first line, and the faults of texts that depart from it: how many lines stand before the fault,
+/// and the rule.
+pub fn small_faults()
+    ensures whole { IsBehindFirst smallest (ended (small_lines ++ codes "Z 1" ∷ [])) }
+    ensures nothing { FaultOf smallest [] 0 10 }
+    ensures colour { FaultOf smallest (ended (codes "F 1 0 GRRRRRRRRRRRRRRR DDDDDDDDDDDDDDDD S 0 0 0" ∷ [])) 0 6 }
+    ensures kind { FaultOf smallest (ended (codes "R 1" ∷ [])) 0 4 }
+    ensures round { FaultOf smallest (ended (dark ∷ codes "R 2" ∷ [])) 1 4 }
+    ensures too_many { FaultOf smallest (ended (dark ∷ codes "R 1" ∷ codes "J 1 4*2" ∷ [])) 2 5 }
+    ensures no_such_pass { FaultOf smallest (ended (dark ∷ codes "R 1" ∷ codes "J 1 5*1" ∷ [])) 2 5 }
+    ensures other_cabinet { FaultOf smallest (ended (dark ∷ codes "R 1" ∷ codes "J 2 4*1" ∷ [])) 2 4 }
+    ensures cut_off { FaultOf smallest (ended small_lines ++ codes "Z 1") 3 2 }
+    ensures short { FaultOf smallest (ended small_lines) 3 10 }
+    ensures other_end { FaultOf smallest (ended (small_lines ++ codes "Z 2" ∷ [])) 3 4 }
+    ensures behind { FaultOf smallest (ended (small_lines ++ codes "Z 1" ∷ codes "Z 1" ∷ [])) 4 11 }
+{}
