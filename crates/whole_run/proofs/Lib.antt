@@ -1,0 +1,7 @@
+mod Texts
+mod RoundLines
+mod Books
+mod Orders
+mod WholeText
+mod Bringing
+mod Handing

@@ -1,0 +1,16 @@
+-- The texts of lines one behind another.
+use Rattle.std.proofs.Common.{◌≡◌, ◌≢◌, ◌∙◌, List, [], ◌∷◌, ◌++◌, ℕ, sym, ap, refl, append_assoc}
+use Rattle.trace_text.specs.declared.lines.Line.{Line}
+use Rattle.trace_text.specs.Line.{line_text}
+use Rattle.trace_text.proofs.Ends.{some_text}
+use Rattle.safe_trace.specs.TraceText.{lines_text}
+use Rattle.trace_out.proofs.Writing.{some_before}
+
+pub text_append : (lines more : List Line) → lines_text (lines ++ more) ≡ lines_text lines ++ lines_text more
+text_append [] more = refl
+text_append (line ∷ lines) more = ap (λ (x : List ℕ). line_text line ++ x) (text_append lines more)
+    ∙ sym (append_assoc (line_text line) (lines_text lines) (lines_text more))
+
+-- the text of some lines isn't empty
+pub text_some : (line : Line) (lines : List Line) → lines_text (line ∷ lines) ≢ []
+text_some line lines = some_before (line_text line) (lines_text lines) (some_text line)

@@ -1,0 +1,10 @@
+use Rattle.std.proofs.Common.{drop}
+use Rattle.safe_trace.specs.TraceText.{lines_text}
+use Rattle.run_lines.specs.Lines.{frame_lines}
+use Rattle.trace_out.proofs.Handed.{Left}
+use Rattle.whole_run.proofs.lines.put_frames.Given as goal
+
+-- the lines of the frames before this place were handed over
+abbrev pub invariant-loop-shown : goal.invariant-loop-shown
+invariant-loop-shown g l = Left g.K.Sink.written g.K.Sink.faults l.fn.writer l.writer l.fn.sink l.sink (lines_text (frame_lines l.cab l.frames))
+    (lines_text (frame_lines l.cab (drop l.shown-index l.frames)))

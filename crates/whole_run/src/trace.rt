@@ -1,0 +1,181 @@
+//! The trace of a run, written as it runs, round by round.
+
+ghost use Rattle.std.specs.Prelude.{◌≡◌, ◌≤◌, ℕ, List, [], length, map};
+ghost use Rattle.trace_text.specs.declared.lines.Line.{Line as LineRow};
+ghost use Rattle.safe_trace.specs.TraceText.{lines_text};
+ghost use Rattle.trace_out.specs.Handing.{HandsOver, Writes, held_by};
+ghost use Rattle.scenario_data.specs.Content.{ScenarioContent, scenario_content};
+ghost use Rattle.runnable.specs.Runnable.{Runnable};
+ghost use Rattle.run_lines.specs.Standing.{Standing};
+ghost use Rattle.run_lines.specs.Lines.{opening_lines, notes_lines, each_lines, round_lines, front_lines, rest_lines, run_text};
+ghost use Rattle.round_run.specs.Standings.{AreAt, HaveRun};
+ghost use Rattle.corridor.specs.Corridor.{Between};
+ghost use Rattle.whole_run.specs.Orders.{come_to, InSomeOrder};
+
+use crate::crew::Crew;
+use crate::lines::{put_book, put_frame, put_notes};
+use crate::rounds::run_round;
+use cab_book::Book;
+use corridor::Corridor;
+use io_edge::{Gate, Sink};
+use round_run::books_follow_runs;
+use scenario_data::Scenario;
+use sig_types::{MasterNote, NoMemory};
+use std::alloc::Global;
+use std::thread::Threads;
+use trace_out::{Stop, Writer};
+use trace_text::Line;
+
+/// Hands over what each cabinet shows before any tick.
+fn put_openings<K: Sink>(writer: &mut Writer, sink: &mut K, books: &Vec<Book>) -> Result<(), Stop>
+    requires few { length books.now.items ≤ 64 }
+    ensures { (ts : List Standing) → AreAt books.now.items ts
+        → HandsOver K.written K.faults result writer.old writer.new sink.old sink.new (lines_text (opening_lines 1 ts)) }
+{
+    for i in 0..books.len() {
+        let frame = books[i].frame();
+        match put_frame(writer, sink, i as u32 + 1, 0, &frame) {
+            Ok(()) => {}
+            Err(stop) => return Err(stop),
+        }
+    }
+    Ok(())
+}
+
+/// Hands over the lines of the round that the books have run, cabinet after cabinet.
+fn put_books<K: Sink>(writer: &mut Writer, sink: &mut K, books: &Vec<Book>) -> Result<(), Stop>
+    requires few { length books.now.items ≤ 64 }
+    requires run { (s : ScenarioContent) × (ts : List Standing) × (journals : List (List ℕ)) × HaveRun s ts journals books.now.items }
+    ensures { (s : ScenarioContent) (ts : List Standing) (journals : List (List ℕ)) → HaveRun s ts journals books.now.items
+        → HandsOver K.written K.faults result writer.old writer.new sink.old sink.new (lines_text (each_lines s 1 ts journals)) }
+{
+    books_follow_runs();
+    for i in 0..books.len() {
+        match put_book(writer, sink, i as u32 + 1, &books[i]) {
+            Ok(()) => {}
+            Err(stop) => return Err(stop),
+        }
+    }
+    Ok(())
+}
+
+/// Hands over the lines of the round with this number: what the master noted at its start, and what the books have run.
+fn put_round<K: Sink>(
+    writer: &mut Writer,
+    sink: &mut K,
+    round: u32,
+    notes: &[MasterNote],
+    books: &Vec<Book>,
+) -> Result<(), Stop>
+    requires few { length books.now.items ≤ 64 }
+    requires run { (s : ScenarioContent) × (ts : List Standing) × (journals : List (List ℕ)) × HaveRun s ts journals books.now.items }
+    ensures { (s : ScenarioContent) (ts : List Standing) (journals : List (List ℕ)) → map LineRow.M notes.now ≡ notes_lines s 1 ts
+        → HaveRun s ts journals books.now.items
+        → HandsOver K.written K.faults result writer.old writer.new sink.old sink.new (lines_text (round_lines s round ts journals)) }
+{
+    match writer.put_line(sink, &Line::R { round }) {
+        Ok(()) => {}
+        Err(stop) => return Err(stop),
+    }
+    match put_notes(writer, sink, notes) {
+        Ok(()) => {}
+        Err(stop) => return Err(stop),
+    }
+    put_books(writer, sink, books)
+}
+
+/// Hands over what each cabinet shows before any tick; then runs all rounds, and hands over the lines of each when it is run.
+fn put_front<R: Threads + Sync, K: Sink, G: Gate + Sync>(
+    crew: &Crew<R, G>,
+    alloc: Global,
+    writer: &mut Writer,
+    sink: &mut K,
+    corridor: &mut Corridor,
+    s: &Scenario,
+) -> Result<(), Stop>
+    requires runnable { Runnable (scenario_content s.now) }
+    requires ready { Between (scenario_content s.now) 0 (come_to (scenario_content s.now) []) corridor.old }
+    ensures { InSomeOrder crew.now.workers (scenario_content s.now) (λ journals.
+        HandsOver K.written K.faults result writer.old writer.new sink.old sink.new (lines_text (front_lines (scenario_content s.now) journals))) }
+{
+    match put_openings(writer, sink, &corridor.books) {
+        Ok(()) => {}
+        Err(stop) => return Err(stop),
+    }
+    for done in 0..s.rounds {
+        let notes = match run_round(crew, alloc, corridor, done, s) {
+            Ok(notes) => notes,
+            Err(NoMemory) => return Err(Stop::NoMemory),
+        };
+        match put_round(writer, sink, done + 1, notes.as_slice(), &corridor.books) {
+            Ok(()) => {}
+            Err(stop) => return Err(stop),
+        }
+    }
+    Ok(())
+}
+
+/// Hands over what comes behind the line of the scenario.
+fn put_rest<R: Threads + Sync, K: Sink, G: Gate + Sync>(
+    crew: &Crew<R, G>,
+    alloc: Global,
+    writer: &mut Writer,
+    sink: &mut K,
+    s: &Scenario,
+) -> Result<(), Stop>
+    requires { Runnable (scenario_content s.now) }
+    ensures { InSomeOrder crew.now.workers (scenario_content s.now) (λ journals.
+        HandsOver K.written K.faults result writer.old writer.new sink.old sink.new (lines_text (rest_lines (scenario_content s.now) journals))) }
+{
+    let mut corridor = match Corridor::open(alloc, s) {
+        Ok(corridor) => corridor,
+        Err(NoMemory) => return Err(Stop::NoMemory),
+    };
+    match put_front(crew, alloc, writer, sink, &mut corridor, s) {
+        Ok(()) => {}
+        Err(stop) => return Err(stop),
+    }
+    writer.put_line(sink, &Line::Z { rounds: s.rounds })
+}
+
+/// Hands over the whole trace of a scenario.
+fn put_trace<R: Threads + Sync, K: Sink, G: Gate + Sync>(
+    crew: &Crew<R, G>,
+    alloc: Global,
+    writer: &mut Writer,
+    sink: &mut K,
+    s: &Scenario,
+) -> Result<(), Stop>
+    requires { Runnable (scenario_content s.now) }
+    ensures { InSomeOrder crew.now.workers (scenario_content s.now) (λ journals.
+        HandsOver K.written K.faults result writer.old writer.new sink.old sink.new (run_text (scenario_content s.now) journals)) }
+{
+    match writer.put_scenario(sink, s.compact.as_slice()) {
+        Ok(()) => {}
+        Err(stop) => return Err(stop),
+    }
+    put_rest(crew, alloc, writer, sink, s)
+}
+
+/// Writes the whole trace of a scenario, with the journals of some order in which its items come to the cabinets; where it stops short,
+/// a front of such a trace, and not all of it. With no worker the order is the serial one; else the workers' threads settle it.
+pub fn write_trace<R: Threads + Sync, K: Sink, G: Gate + Sync>(
+    crew: &Crew<R, G>,
+    alloc: Global,
+    sink: &mut K,
+    s: &Scenario,
+) -> Result<(), Stop>
+    requires { Runnable (scenario_content s.now) }
+    ensures { InSomeOrder crew.now.workers (scenario_content s.now) (λ journals.
+        Writes K.written K.faults result sink.old sink.new (run_text (scenario_content s.now) journals)) }
+{
+    let mut writer = match Writer::new(alloc) {
+        Ok(writer) => writer,
+        Err(NoMemory) => return Err(Stop::NoMemory),
+    };
+    match put_trace(crew, alloc, &mut writer, sink, s) {
+        Ok(()) => {}
+        Err(stop) => return Err(stop),
+    }
+    writer.finish(sink)
+}
