@@ -1,0 +1,133 @@
+-- A cabinet's round: its journal's line, and the lines that come of it.
+use Rattle.std.proofs.Common.{◌≡◌, ◌<◌, ◌≤◌, ◌+◌, ◌∙◌, ℕ, List, [], ◌∷◌, ◌++◌, Result, Ok, Err, length, drop, get_or, append-nil, refl, sym, ap, subst, arith}
+use Rattle.std.proofs.lemmas.List.{at_drop_more}
+use Rattle.sig_types.specs.declared.frame.Frame.{Frame}
+use Rattle.trace_text.specs.declared.lines.Line.{Line}
+use Rattle.trace_text.specs.declared.lines.Line.TheVariants.{J, A}
+use Rattle.trace_text.specs.IsLine.{AreLongest}
+use Rattle.trace_text.specs.Line.{line_text}
+use Rattle.scenario_data.specs.Content.{ScenarioContent}
+use Rattle.round_streams.specs.Items.{Item}
+use Rattle.cabinet_story.specs.declared.Reply.{Reply}
+use Rattle.cabinet_story.specs.Story.{Story}
+use Rattle.cabinet_story.specs.Journals.{times, passes_of, runs_of, IsMerge}
+use Rattle.cab_book.specs.declared.book.Book.{Book}
+use Rattle.cab_book.specs.declared.happened.Answered.{Answered}
+use Rattle.cab_book.specs.Books.{BookStands, streams_in, journal_of, left_of, written_in, answered_in}
+use Rattle.cab_book.specs.Happenings.{AreInOrder}
+use Rattle.run_lines.specs.Standing.{Standing, coming_streams, round_acts}
+use Rattle.run_lines.specs.Lines.{shown_line, frame_lines, load_lines, acts_lines, cabinet_lines}
+use Rattle.round_run.specs.Lines.{frames_between, answer_lines, told_lines, book_lines}
+use Rattle.round_run.specs.Standings.{HasRun}
+use Rattle.trace_laws.specs.Runs.{events_in}
+use Rattle.trace_laws.specs.Script.{Script, Says, Hears, say, cabinet_script}
+use Rattle.trace_laws.proofs.Journals.{added, journal-goes}
+use Rattle.trace_check.specs.declared.faults.CheckFail.{CheckFail}
+use Rattle.trace_check.specs.declared.places.Place.{Place}
+use Rattle.trace_check.specs.Reading.{Fails, Leads, ReadsOn}
+use Rattle.trace_check.specs.Cabinets.{AreLeft, ReadsCabinet, CabinetRead}
+use Rattle.trace_check.proofs.Walking.{leads-on, fails-on}
+
+-- lines and then others
+pub say-append : (xs ys : List Line) (rest : Script) → say (xs ++ ys) rest ≡ say xs (say ys rest)
+say-append [] ys rest = refl
+say-append (x ∷ xs) ys rest = ap (λ (more : Script). Says x more) (say-append xs ys rest)
+
+-- the line of the next frame, and those behind it
+pub next-frame : (cab : ℕ) (frames : List (ℕ × Frame)) (i : ℕ) (d : ℕ × Frame) (rest : Script) → i < length frames
+    → say (frame_lines cab (drop i frames)) rest ≡ Says (shown_line cab (get_or frames i d).0 (get_or frames i d).1) (say (frame_lines cab (drop (i + 1) frames)) rest)
+next-frame cab frames i d rest below = at_drop_more (λ (xs : List (ℕ × Frame)). say (frame_lines cab xs) rest) frames i d below
+
+-- the lines of a reply
+pub reply-said : (cab : ℕ) (r : Reply) (rest : Script) → say (answer_lines cab r) rest ≡ say (load_lines cab r.load) (Says (A cab r.pass r.text) rest)
+reply-said cab r rest = say-append (load_lines cab r.load) (A cab r.pass r.text ∷ []) rest
+
+-- the frames before the next reply, the reply, and what is behind it
+pub next-reply : (cab first : ℕ) (frames : List (ℕ × Frame)) (replies : List Answered) (i : ℕ) (a : Answered) (rest : Script) → i < length replies → a ≡ get_or replies i a
+    → say (told_lines cab first frames (drop i replies)) rest
+    ≡ say (frame_lines cab (frames_between first a.behind frames)) (say (answer_lines cab a.reply) (say (told_lines cab a.behind frames (drop (i + 1) replies)) rest))
+next-reply cab first frames replies i a rest below is =
+    at_drop_more (λ (xs : List Answered). say (told_lines cab first frames xs) rest) replies i a below
+    ∙ ap (λ (x : Answered). say (told_lines cab first frames (x ∷ drop (i + 1) replies)) rest) (sym is)
+    ∙ say-append (frame_lines cab (frames_between first a.behind frames)) (answer_lines cab a.reply ++ told_lines cab a.behind frames (drop (i + 1) replies)) rest
+    ∙ ap (λ (more : Script). say (frame_lines cab (frames_between first a.behind frames)) more)
+    (say-append (answer_lines cab a.reply) (told_lines cab a.behind frames (drop (i + 1) replies)) rest)
+
+-- replies in order stand behind no more frames than there are
+pub in-order-most : (before most : ℕ) (answered : List Answered) → AreInOrder before answered most → before ≤ most
+in-order-most before most [] order = order
+in-order-most before most (a ∷ answered) order =
+    let more : a.behind ≤ most = in-order-most a.behind most answered order.1 in
+    omega (arith, more, order.0)
+
+pub order-next : (first most : ℕ) (replies : List Answered) (i : ℕ) (a : Answered) → i < length replies → a ≡ get_or replies i a
+    → AreInOrder first (drop i replies) most → (first ≤ a.behind) × AreInOrder a.behind (drop (i + 1) replies) most
+order-next first most replies i a below is order =
+    let next : drop i replies ≡ a ∷ drop (i + 1) replies =
+    at_drop_more (λ (xs : List Answered). xs) replies i a below ∙ ap (λ (x : Answered). x ∷ drop (i + 1) replies) (sym is) in
+    rw next at order
+
+-- all items of a round that has just begun are left
+pub all-left : (s : ScenarioContent) (cab : ℕ) (t : Standing) (b : Book) → HasRun s cab t [] b → AreLeft b (coming_streams s cab t)
+all-left s cab t b run = λ p.
+    let none : times p (journal_of b) ≡ 0 = ap (times p) run.journal_is in
+    let same : length (get_or (streams_in b) p []) ≡ length (get_or (coming_streams s cab t) p []) =
+    ap (λ (streams : List (List Item)). length (get_or streams p [])) run.streams in
+    omega (arith, b.tallied p, none, same)
+
+-- the book has run the journal of some runs
+pub has-brought : (s : ScenarioContent) (cab : ℕ) (t : Standing) (runs : List (ℕ × ℕ)) (old new : Book) → HasRun s cab t [] old
+    → ((story : Story) → BookStands old story → BookStands new story) → streams_in new ≡ streams_in old → journal_of new ≡ journal_of old ++ passes_of runs
+    → HasRun s cab t (passes_of runs) new
+has-brought s cab t runs old new run stands streams journal = record {
+  stands = stands t.story run.stands;
+  streams = streams ∙ run.streams;
+  journal_is = journal ∙ ap (λ (x : List ℕ). x ++ passes_of runs) run.journal_is;
+}
+
+-- the passes of its runs are a merge of the streams
+pub is-merge : (s : ScenarioContent) (cab : ℕ) (t : Standing) (runs : List (ℕ × ℕ)) (b : Book) → HasRun s cab t [] b → ((p : ℕ) → events_in p runs ≡ left_of b p)
+    → IsMerge (coming_streams s cab t) (passes_of runs)
+is-merge s cab t runs b run all = λ p. added p runs ∙ all p ∙ all-left s cab t b run p
+
+-- the journal's line leads on by the passes of its runs
+pub journal-leads : (cab : ℕ) (streams : List (List Item)) (next : List ℕ → Script) (runs : List (ℕ × ℕ)) (at then : Place) → AreLongest runs
+    → ((p : ℕ) → events_in p runs ≡ length (get_or streams p [])) → at.left.now ≡ line_text (J cab runs) ++ then.left.now → then.line ≡ at.line + 1
+    → Leads (Hears cab streams next) at (next (passes_of runs)) then
+journal-leads cab streams next runs at then longest all is number = record {
+  taken = J cab runs ∷ [];
+  split = is ∙ ap (λ (x : List ℕ). x ++ then.left.now) (sym (append-nil (line_text (J cab runs))));
+  place = number;
+  goes = journal-goes cab streams next runs longest all;
+}
+
+-- what the book has written is due behind it
+pub book-said : (s : ScenarioContent) (cab : ℕ) (t : Standing) (runs : List (ℕ × ℕ)) (b : Book) (rest : Script) → HasRun s cab t (passes_of runs) b
+    → ((journal : List ℕ) (x : Book) → HasRun s cab t journal x → cabinet_lines s cab t journal ≡ book_lines cab x)
+    → say (acts_lines cab t.story (round_acts s cab t (passes_of runs))) rest ≡ say (told_lines cab 0 (written_in b) (answered_in b)) rest
+book-said s cab t runs b rest run lines =
+    let same : cabinet_lines s cab t (passes_of runs) ≡ book_lines cab b = lines (passes_of runs) b run in
+    let behind : acts_lines cab t.story (round_acts s cab t (passes_of runs)) ≡ told_lines cab 0 (written_in b) (answered_in b) = cc same in
+    ap (λ (xs : List Line). say xs rest) behind
+
+-- the cabinet's round is read
+module _ (s : ScenarioContent) (cab : ℕ) (t : Standing) (runs : List (ℕ × ℕ)) (old new : Book) (at then : Place) (begun : HasRun s cab t [] old) (longest : AreLongest runs)
+    (all : (p : ℕ) → events_in p runs ≡ left_of old p) (is : at.left.now ≡ line_text (J cab runs) ++ then.left.now) (number : then.line ≡ at.line + 1)
+    (run : HasRun s cab t (passes_of runs) new)
+    (lines : (journal : List ℕ) (x : Book) → HasRun s cab t journal x → cabinet_lines s cab t journal ≡ book_lines cab x) where
+  first-leads : (rest : List ℕ → Script) → Leads (cabinet_script s cab t rest) at (say (told_lines cab 0 (written_in new) (answered_in new)) (rest (passes_of runs))) then
+  first-leads rest =
+      subst (λ (due : Script). Leads (cabinet_script s cab t rest) at due then) (book-said s cab t runs new (rest (passes_of runs)) run lines)
+      (journal-leads cab (coming_streams s cab t) (λ journal. say (acts_lines cab t.story (round_acts s cab t journal)) (rest journal)) runs at then longest
+      (λ p. all p ∙ all-left s cab t old begun p) is number)
+
+  pub cabinet-reads : (result : Result Place CheckFail)
+      → ((rest : Script) → ReadsOn (say (told_lines cab 0 (written_in new) (answered_in new)) rest) then rest result)
+      → ReadsCabinet s cab t at new result
+  cabinet-reads (Ok next) reads = record {
+    journal = passes_of runs;
+    merge = is-merge s cab t runs old begun all;
+    run = run;
+    leads = λ rest. leads-on _ _ _ at then next (first-leads rest) (reads (rest (passes_of runs)));
+  }
+  cabinet-reads (Err fail) reads = λ rest. fails-on _ _ at then fail (first-leads rest) (reads (rest (passes_of runs)))

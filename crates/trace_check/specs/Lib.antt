@@ -1,0 +1,4 @@
+pub mod Reading
+pub mod Cabinets
+pub mod Rounds
+pub mod Checked

@@ -1,0 +1,202 @@
+//! The whole text: its scenario, what each cabinet shows at first, the rounds, and the end.
+
+ghost use Rattle.std.specs.Prelude.{◌≡◌, ◌≢◌, ◌≤◌, ◌⊎◌, ◌↔◌, IsTrue, ℕ, List, [], Ok, Err, length, IfOk, IfErr, OnOk};
+ghost use Rattle.trace_text.specs.declared.lines.Line.{Line as LineRow};
+ghost use Rattle.scenario_data.specs.Content.{scenario_content};
+ghost use Rattle.runnable.specs.Runnable.{Runnable};
+ghost use Rattle.run_lines.specs.Standing.{Standing, opened_standings};
+ghost use Rattle.run_lines.specs.Lines.{opening_lines};
+ghost use Rattle.round_run.specs.Standings.{AreAt};
+ghost use Rattle.corridor.specs.Corridor.{Between};
+ghost use Rattle.trace_laws.specs.Traces.{Opens, IsTrace, IsCheckable};
+ghost use Rattle.trace_laws.specs.Faults.{FirstFault};
+ghost use Rattle.trace_laws.specs.Laws.{TellsOfRun};
+ghost use Rattle.trace_laws.specs.Script.{Script, say, rounds_script, script_of};
+ghost use Rattle.trace_laws.specs.Script.Script.{Ends};
+ghost use Rattle.trace_check.specs.Reading.{ReadsOn, ReadsWhole};
+ghost use Rattle.trace_check.specs.Checked.{TellsNone, Tells};
+
+use crate::cabinets::expect_frame;
+use crate::expect::expect;
+use crate::faults::{CheckFail, TraceFault};
+use crate::pieces::{cut, fault_at};
+use crate::places::Place;
+use crate::rounds::check_round;
+use cab_book::Book;
+use corridor::Corridor;
+use runnable_scenarios::scenarios_run;
+use scenario_data::{ReadFail, Scenario};
+use scenario_file::read;
+use sig_types::NoMemory;
+use std::alloc::Global;
+use trace_laws::{faults_are_determined, traces_are_safe, traces_have_no_fault};
+use trace_text::{Line, read_line};
+
+/// What each cabinet shows before any tick.
+fn expect_openings<'a>(
+    alloc: Global,
+    start: Place<'a>,
+    books: &Vec<Book>,
+) -> Result<Place<'a>, CheckFail>
+    requires few { length books.now.items ≤ 64 }
+    ensures { (ts : List Standing) → AreAt books.now.items ts → (rest : Script) → ReadsOn (say (opening_lines 1 ts) rest) start.entry rest result }
+{
+    let mut at = start;
+    for k in 0..books.len() {
+        let frame = books[k].frame();
+        match expect_frame(alloc, at, k as u32 + 1, 0, &frame) {
+            Ok(next) => at = next,
+            Err(fail) => return Err(fail),
+        }
+    }
+    Ok(at)
+}
+
+/// All rounds, one after another.
+fn check_rounds<'a>(
+    alloc: Global,
+    start: Place<'a>,
+    s: &Scenario,
+    corridor: &mut Corridor,
+) -> Result<Place<'a>, CheckFail>
+    requires runnable { Runnable (scenario_content s.now) }
+    requires between { Between (scenario_content s.now) 0 (opened_standings (scenario_content s.now) (scenario_content s.now).cabinets) corridor.old }
+    ensures { ReadsOn (rounds_script (scenario_content s.now) 1 s.now.rounds (opened_standings (scenario_content s.now) (scenario_content s.now).cabinets))
+        start.entry (Script.Says (LineRow.Z s.now.rounds) Ends) result }
+{
+    let mut at = start;
+    for done in 0..s.rounds {
+        match check_round(alloc, at, done, s, corridor) {
+            Ok(next) => at = next,
+            Err(fail) => return Err(fail),
+        }
+    }
+    Ok(at)
+}
+
+/// Nothing is left behind the end.
+fn expect_nothing(at: Place) -> Result<(), CheckFail>
+    ensures { ReadsWhole Ends at.entry result }
+{
+    if at.left.is_empty() {
+        Ok(())
+    } else {
+        Err(fault_at(at, 11))
+    }
+}
+
+/// What comes behind the line of the scenario.
+fn check_rest(alloc: Global, start: Place, s: &Scenario) -> Result<(), CheckFail>
+    requires { Runnable (scenario_content s.now) }
+    ensures { ReadsWhole (script_of (scenario_content s.now)) start.entry result }
+{
+    let mut corridor = match Corridor::open(alloc, s) {
+        Ok(corridor) => corridor,
+        Err(NoMemory) => return Err(CheckFail::NoMemory),
+    };
+    let rounds = match expect_openings(alloc, start, &corridor.books) {
+        Ok(rounds) => rounds,
+        Err(fail) => return Err(fail),
+    };
+    let end = match check_rounds(alloc, rounds, s, &mut corridor) {
+        Ok(end) => end,
+        Err(fail) => return Err(fail),
+    };
+    match expect(alloc, end, &Line::Z { rounds: s.rounds }) {
+        Ok(behind) => expect_nothing(behind),
+        Err(fail) => Err(fail),
+    }
+}
+
+/// The fault of a text by its first line.
+fn first_fault(rule: u8) -> CheckFail
+    ensures { result ≡ CheckFail.NotATrace (record { line = 1; rule = rule }) }
+{
+    CheckFail::NotATrace(TraceFault { line: 1, rule })
+}
+
+/// Whether the bytes are the same.
+fn are_same(bytes: &[u8], others: &[u8]) -> bool
+    ensures { IsTrue result ↔ (bytes.now ≡ others.now) }
+{
+    bytes == others
+}
+
+/// The scenario that a text tells by its compact text.
+fn scenario_told(alloc: Global, json: &[u8]) -> Result<Scenario, CheckFail>
+    ensures told { IfOk result (λ s. Opens (LineRow.S json.now) (scenario_content s)) }
+    ensures runnable { IfOk result (λ s. Runnable (scenario_content s)) }
+    ensures none { IfErr result (TellsNone (LineRow.S json.now)) }
+{
+    scenarios_run();
+    match read(alloc, json) {
+        Ok(scenario) => {
+            if are_same(scenario.compact.as_slice(), json) {
+                Ok(scenario)
+            } else {
+                Err(first_fault(3))
+            }
+        }
+        Err(ReadFail::Refused(_)) => Err(first_fault(3)),
+        Err(ReadFail::NoMemory) => Err(CheckFail::NoMemory),
+    }
+}
+
+/// The scenario that a first line tells.
+fn scenario_of(alloc: Global, line: &Line) -> Result<Scenario, CheckFail>
+    ensures told { IfOk result (λ s. Opens line.now (scenario_content s)) }
+    ensures runnable { IfOk result (λ s. Runnable (scenario_content s)) }
+    ensures none { IfErr result (TellsNone line.now) }
+{
+    match line {
+        Line::S { json } => scenario_told(alloc, json.as_slice()),
+        _ => Err(first_fault(3)),
+    }
+}
+
+/// A text that is not empty and not too long.
+fn check_text(alloc: Global, text: &[u8]) -> Result<(), CheckFail>
+    requires some { text.now ≢ [] }
+    requires short { IsCheckable text.now }
+    ensures { Tells text.now result }
+{
+    let (piece, left) = cut(text);
+    let line = match read_line(alloc, piece) {
+        Ok(Some(line)) => line,
+        Ok(None) => return Err(first_fault(2)),
+        Err(NoMemory) => return Err(CheckFail::NoMemory),
+    };
+    match scenario_of(alloc, &line) {
+        Ok(scenario) => check_rest(alloc, Place { left, line: 2 }, &scenario),
+        Err(fail) => Err(fail),
+    }
+}
+
+/// What is to be said of a text.
+fn answer(alloc: Global, text: &[u8]) -> Result<(), CheckFail>
+    ensures { Tells text.now result }
+{
+    if text.len() > 67_108_864 {
+        return Err(CheckFail::NotATrace(TraceFault { line: 0, rule: 1 }));
+    }
+    if text.is_empty() {
+        return Err(first_fault(10));
+    }
+    check_text(alloc, text)
+}
+
+/// Whether a text is a trace: that of a run of the scenario in its first line, in whatever order its journals tell that all came. A text
+/// has at most 67,108,864 bytes. It is read line by line beside the run, which goes at most one round further; the fault is the first line
+/// that no trace continues with. Where memory is wanting it cannot be told. By a trace the street of each cabinet is safe at every tick
+/// of 0.1 s, its versions are whole, and coordination is met (FHWA Signal Timing Manual: offset, transition).
+pub fn check(alloc: Global, text: &[u8]) -> Result<(), CheckFail>
+    ensures tells { Tells text.now result }
+    ensures trace { IsTrace text.now → IsCheckable text.now → (result ≡ Ok tt) ⊎ (result ≡ Err CheckFail.NoMemory) }
+    ensures fault { (f : TraceFault) → FirstFault text.now f.line f.rule → (result ≡ Err (CheckFail.NotATrace f)) ⊎ (result ≡ Err CheckFail.NoMemory) }
+    ensures kept { OnOk result (TellsOfRun text.now) }
+{
+    traces_have_no_fault();
+    faults_are_determined();
+    traces_are_safe();
+    answer(alloc, text)
+}
