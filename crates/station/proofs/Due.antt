@@ -41,13 +41,13 @@ due_refused refusal input ends unwritten (inr (other, has)) =
       done = λ few s is put. absurd (no-fault-beside input s refusal is first);
     }
 
-pub due : (status : Status) (left ends : Option (List ℕ)) (unread : Type 0) (old new : Option (List ℕ)) (unwritten : Type 0)
-    → Ran status left ends unread old new unwritten → ¬ unread → IfSome left (λ input. IsDue status input unwritten ⊎ (status ≡ NoMemory))
-due status None ends unread old new unwritten ran sound = tt
-due Done (Some input) ends unread old new unwritten ran sound = inl (due_run Done input ran.scenario unwritten ran.input (λ put. refl))
-due Usage (Some input) ends unread old new unwritten ran sound = absurd ran
-due (Scenario refusal) (Some input) ends unread old new unwritten ran sound = inl (due_refused refusal input ends unwritten ran.0)
-due (NotATrace fault) (Some input) ends unread old new unwritten ran sound = absurd ran
-due ReadFault (Some input) ends unread old new unwritten ran sound = absurd (sound ran.0)
-due WriteFault (Some input) ends unread old new unwritten ran sound = inl (due_run WriteFault input ran.1.scenario unwritten ran.1.input (λ put. absurd (put ran.0)))
-due NoMemory (Some input) ends unread old new unwritten ran sound = inr refl
+pub due : (workers : ℕ) (status : Status) (left ends : Option (List ℕ)) (unread : Type 0) (old new : Option (List ℕ)) (unwritten : Type 0)
+    → Ran workers status left ends unread old new unwritten → ¬ unread → IfSome left (λ input. IsDue status input unwritten ⊎ (status ≡ NoMemory))
+due workers status None ends unread old new unwritten ran sound = tt
+due workers Done (Some input) ends unread old new unwritten ran sound = inl (due_run Done input ran.scenario unwritten ran.input (λ put. refl))
+due workers Usage (Some input) ends unread old new unwritten ran sound = absurd ran
+due workers (Scenario refusal) (Some input) ends unread old new unwritten ran sound = inl (due_refused refusal input ends unwritten ran.0)
+due workers (NotATrace fault) (Some input) ends unread old new unwritten ran sound = absurd ran
+due workers ReadFault (Some input) ends unread old new unwritten ran sound = absurd (sound ran.0)
+due workers WriteFault (Some input) ends unread old new unwritten ran sound = inl (due_run WriteFault input ran.1.scenario unwritten ran.1.input (λ put. absurd (put ran.0)))
+due workers NoMemory (Some input) ends unread old new unwritten ran sound = inr refl

@@ -1,12 +1,7 @@
 mod Reading
-mod Words
-mod Places
-mod Texts
-mod RoundLines
-mod Serial
-mod Streams
-mod Opening
-mod Rounds
-mod WholeText
+mod FewItems
+mod Workers
 mod Refusals
 mod Due
+mod CheckDue
+mod Telling

@@ -5,8 +5,8 @@ use Rattle.scenario_data.specs.declared.refusal.Refusal.TheVariants.{Syntax, Fie
 use Rattle.scenario_data.specs.Content.{ScenarioContent}
 use Rattle.scenario_read.specs.Answers.{IsScenario, IsFirstFault}
 use Rattle.scenario_read.proofs.LimitNames.{limit-elsewhere}
-use Rattle.station.specs.Bytes.{nothing_left}
-use Rattle.station.specs.Answers.{AreInput, IsRead, IsLengthLimit, IsRefused}
+use Rattle.station.specs.Bytes.{AreInput, nothing_left}
+use Rattle.station.specs.Answers.{IsRead, IsLengthLimit, IsRefused}
 
 -- a first fault is never that of the whole input's length
 fault_elsewhere : (bytes : List ℕ) (refusal : Refusal) → IsFirstFault bytes refusal → IsLengthLimit refusal → ⊥

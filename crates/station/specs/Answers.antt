@@ -6,26 +6,12 @@ use Rattle.scenario_data.specs.declared.refusal.Refusal.TheVariants.{Syntax, Fie
 use Rattle.scenario_data.specs.Content.{ScenarioContent}
 use Rattle.scenario_read.specs.Answers.{IsScenario, IsFirstFault}
 use Rattle.station.specs.declared.status.Status.{Status}
-use Rattle.station.specs.declared.status.Status.TheVariants.{Done, Scenario, NotATrace, ReadFault, WriteFault, NoMemory}
+use Rattle.station.specs.declared.status.Status.TheVariants.{Done, Scenario, ReadFault, WriteFault, NoMemory}
 use Rattle.trace_out.specs.Bytes.{AppendsFront}
-use Rattle.station.specs.Bytes.{nothing_left}
-use Rattle.station.specs.Serial.{trace_of, KeepsStreets}
-
--- the words are those of `run`
-abbrev pub IsRun : List (List ℕ) → Type 0
-IsRun words = words ≡ codes "run" ∷ []
-
--- they are those of the help
-abbrev pub IsHelp : List (List ℕ) → Type 0
-IsHelp words = words ≡ codes "--help" ∷ []
-
--- they are those of the version
-abbrev pub IsVersion : List (List ℕ) → Type 0
-IsVersion words = words ≡ codes "--version" ∷ []
-
--- they are a command
-abbrev pub IsCommand : List (List ℕ) → Type 0
-IsCommand words = IsRun words ⊎ (IsHelp words ⊎ IsVersion words)
+use Rattle.station.specs.Bytes.{AreInput, nothing_left}
+use Rattle.run_lines.specs.Lines.{run_text}
+use Rattle.one_trace.specs.Text.{TellsAllKept}
+use Rattle.whole_run.specs.Orders.{AreBroughtBy}
 
 -- a text was written whole, or a write failed, and a front of the text was written and not all of it
 abbrev pub WritesText : Status → List ℕ → Type 0 → Option (List ℕ) → Option (List ℕ) → Type 0
@@ -37,10 +23,6 @@ WritesText _ text unwritten old new = ⊥
 abbrev pub IsShort : List ℕ → Type 0
 IsShort input = length input ≤ 16777216
 
--- these bytes are the whole input, where the source tells what it has left
-abbrev pub AreInput : Option (List ℕ) → List ℕ → Type 0
-AreInput left bytes = IfSome left (λ input. bytes ≡ input)
-
 -- the input is a scenario with this content, within the limit
 abbrev pub IsRead : Option (List ℕ) → ScenarioContent → Type 0
 IsRead left s = (bytes : List ℕ) × AreInput left bytes × IsShort bytes × IsScenario bytes s
@@ -49,23 +31,28 @@ IsRead left s = (bytes : List ℕ) × AreInput left bytes × IsShort bytes × Is
 abbrev pub IsNoScenario : List ℕ → Type 0
 IsNoScenario input = (s : ScenarioContent) → IsScenario input s → ⊥
 
--- `run` is done: the source, which had this left, was read to its end; its bytes are a scenario; the whole trace of the scenario was
--- appended to the sink; and by the lines of the trace every street is safe, versions are whole, the tables in force are those of whole
--- accepted downloads, and coordination is met
-pub record RunsWhole (left ends old new : Option (List ℕ)) : Type 0 where
+-- a run by so many workers is done: the source, which had this left, was read to its end; its bytes are a scenario; with journals that
+-- such workers may bring about, which without workers are the serial ones, the whole text of the run was appended to the sink; and by the
+-- lines of this text every street is safe, versions are whole, the tables in force are those of whole accepted downloads, and
+-- coordination is met
+pub record RunsWhole (workers : ℕ) (left ends old new : Option (List ℕ)) : Type 0 where
   pub scenario : ScenarioContent
+  pub journals : List (List (List ℕ))
+  pub brought : AreBroughtBy workers scenario journals
   pub input : IsRead left scenario
   pub ended : ends ≡ nothing_left left
-  pub written : Appends old new (trace_of scenario)
-  pub kept : KeepsStreets scenario
+  pub written : Appends old new (run_text scenario journals)
+  pub kept : TellsAllKept scenario journals (run_text scenario journals)
 
--- `run` stopped short while it wrote: the source was read to its end, its bytes are a scenario, and a front of the trace was appended,
--- and not all of it
-pub record StopsShort (left ends old new : Option (List ℕ)) : Type 0 where
+-- it stopped short while it wrote: the source was read to its end, its bytes are a scenario, and a front of such a text was appended, and
+-- not all of it
+pub record StopsShort (workers : ℕ) (left ends old new : Option (List ℕ)) : Type 0 where
   pub scenario : ScenarioContent
+  pub journals : List (List (List ℕ))
+  pub brought : AreBroughtBy workers scenario journals
   pub input : IsRead left scenario
   pub ended : ends ≡ nothing_left left
-  pub front : AppendsFront old new (trace_of scenario)
+  pub front : AppendsFront old new (run_text scenario journals)
 
 -- the refusal is that of the whole input, for its length
 abbrev pub IsLengthLimit : Refusal → Type 0
@@ -91,19 +78,15 @@ abbrev pub IsRefused : Refusal → Option (List ℕ) → Option (List ℕ) → T
 IsRefused refusal left ends =
     (IsLengthLimit refusal × IsTooLong left ends) ⊎ ((IsLengthLimit refusal → ⊥) × HasFault refusal left ends)
 
--- what an answer to `run` tells of the input, with the faults of reading, and of the output, with the faults of writing
-abbrev pub Ran : Status → Option (List ℕ) → Option (List ℕ) → Type 0 → Option (List ℕ) → Option (List ℕ) → Type 0 → Type 0
-Ran Done left ends unread old new unwritten = RunsWhole left ends old new
-Ran (Scenario refusal) left ends unread old new unwritten = IsRefused refusal left ends × (new ≡ old)
-Ran ReadFault left ends unread old new unwritten = unread × (new ≡ old)
-Ran WriteFault left ends unread old new unwritten = unwritten × StopsShort left ends old new
-Ran NoMemory left ends unread old new unwritten = (new ≡ old) ⊎ StopsShort left ends old new
-Ran _ left ends unread old new unwritten = ⊥
-
--- an answer that the program has: it reads no traces yet
-abbrev pub IsAnswer : Status → Type 0
-IsAnswer (NotATrace fault) = ⊥
-IsAnswer _ = Unit {0}
+-- what an answer to a run by so many workers tells of the input, with the faults of reading, and of the output, with the faults of
+-- writing
+abbrev pub Ran : ℕ → Status → Option (List ℕ) → Option (List ℕ) → Type 0 → Option (List ℕ) → Option (List ℕ) → Type 0 → Type 0
+Ran workers Done left ends unread old new unwritten = RunsWhole workers left ends old new
+Ran workers (Scenario refusal) left ends unread old new unwritten = IsRefused refusal left ends × (new ≡ old)
+Ran workers ReadFault left ends unread old new unwritten = unread × (new ≡ old)
+Ran workers WriteFault left ends unread old new unwritten = unwritten × StopsShort workers left ends old new
+Ran workers NoMemory left ends unread old new unwritten = (new ≡ old) ⊎ StopsShort workers left ends old new
+Ran workers _ left ends unread old new unwritten = ⊥
 
 -- the answer is the refusal of the whole input for its length
 abbrev pub IsLengthRefusal : Status → Type 0

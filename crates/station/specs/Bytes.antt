@@ -1,5 +1,5 @@
 -- What a source has left.
-use Rattle.std.specs.Prelude.{◌≡◌, List, [], ℕ, ◌++◌, Option, Some, None}
+use Rattle.std.specs.Prelude.{◌≡◌, List, [], ℕ, ◌++◌, Option, Some, None, IfSome}
 
 -- the bytes were taken from the front of those left
 abbrev pub LeavesAfter : Option (List ℕ) → Option (List ℕ) → List ℕ → Type 0
@@ -10,3 +10,7 @@ LeavesAfter (Some bytes) new taken = (rest : List ℕ) × (new ≡ Some rest) ×
 abbrev pub nothing_left : Option (List ℕ) → Option (List ℕ)
 nothing_left None = None
 nothing_left (Some bytes) = Some []
+
+-- these bytes are the whole input, where the source tells what it has left
+abbrev pub AreInput : Option (List ℕ) → List ℕ → Type 0
+AreInput left bytes = IfSome left (λ input. bytes ≡ input)

@@ -1,4 +1,4 @@
 pub mod Bytes
-pub mod Serial
-pub mod Corridor
+pub mod Words
+pub mod Checked
 pub mod Answers

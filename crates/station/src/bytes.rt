@@ -1,6 +1,6 @@
-//! All bytes of a source, up to the limit of an input.
+//! All bytes of a source, up to a limit.
 
-ghost use Rattle.std.specs.Prelude.{◌≡◌, ◌<◌, ◌≤◌, Some, Err, take, drop, length, IfOk, IfSome, OnOk, OnErr};
+ghost use Rattle.std.specs.Prelude.{◌≡◌, ◌<◌, ◌≤◌, ◌+◌, Some, Err, take, drop, length, IfOk, IfSome, OnOk, OnErr};
 ghost use Rattle.io_edge.specs.Edge.{Rises, Reads};
 ghost use Rattle.station.specs.Bytes.{nothing_left};
 
@@ -14,9 +14,6 @@ pub enum ReadEnd {
     TooLong,
     NoMemory,
 }
-
-/// The most bytes that an input has.
-pub const LIMIT: usize = 16_777_216;
 
 /// How many bytes are asked for at a time.
 const PIECE: usize = 4096;
@@ -36,20 +33,21 @@ fn read_most<S: Source>(source: &mut S, buf: &mut [u8], most: usize) -> Result<u
     source.read(&mut buf[..room])
 }
 
-/// All bytes that the source has left; no more than one past the limit is read.
-pub fn read_all<S: Source>(alloc: Global, source: &mut S) -> Result<Vec<u8>, ReadEnd>
+/// All bytes that the source has left, `limit` at the most; no more than one past the limit is read.
+pub fn read_all<S: Source>(alloc: Global, source: &mut S, limit: usize) -> Result<Vec<u8>, ReadEnd>
+    requires { limit < 4294967296 }
     ensures whole { IfOk result (λ v. IfSome (S.left source.old) (λ bytes. v.items ≡ bytes)) }
     ensures ended { OnOk result (S.left source.new ≡ nothing_left (S.left source.old)) }
-    ensures short { IfOk result (λ v. length v.items ≤ LIMIT) }
+    ensures short { IfOk result (λ v. length v.items ≤ limit) }
     ensures fault { result ≡ Err ReadEnd.Fault → Rises (S.faults source.old) (S.faults source.new) }
-    ensures long { result ≡ Err ReadEnd.TooLong → IfSome (S.left source.old) (λ bytes. LIMIT < length bytes) }
-    ensures stopped { result ≡ Err ReadEnd.TooLong → IfSome (S.left source.old) (λ bytes. S.left source.new ≡ Some (drop 16777217 bytes)) }
+    ensures long { result ≡ Err ReadEnd.TooLong → IfSome (S.left source.old) (λ bytes. limit < length bytes) }
+    ensures stopped { result ≡ Err ReadEnd.TooLong → IfSome (S.left source.old) (λ bytes. S.left source.new ≡ Some (drop (limit + 1) bytes)) }
     ensures kept { S.faults source.old ≤ S.faults source.new }
 {
     let mut bytes = Vec::new(alloc);
     let mut buf = [0u8; PIECE];
     loop {
-        let count = match read_most(source, &mut buf, LIMIT + 1 - bytes.len()) {
+        let count = match read_most(source, &mut buf, limit + 1 - bytes.len()) {
             Ok(count) => count,
             Err(Failed) => return Err(ReadEnd::Fault),
         };
@@ -59,7 +57,7 @@ pub fn read_all<S: Source>(alloc: Global, source: &mut S) -> Result<Vec<u8>, Rea
         if bytes.extend_from_slice(&buf[..count]).is_err() {
             return Err(ReadEnd::NoMemory);
         }
-        if bytes.len() > LIMIT {
+        if bytes.len() > limit {
             return Err(ReadEnd::TooLong);
         }
     }

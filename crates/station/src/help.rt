@@ -5,13 +5,23 @@ pub const HELP: &str = "\
 arterial: a bench for traffic-signal timing plans. It simulates signal cabinets,
 and its trace is proved to be the one that is due.
 
-  arterial run < SCENARIO > TRACE
+  arterial run [--workers N] < SCENARIO > TRACE
       Reads a scenario (JSON, at most 16,777,216 bytes) from standard input and
       writes its trace to standard output: every change of indication of every
       phase of every cabinet, with its tick (a tenth of a second), what each
       cabinet replies to each message, and what the master notes. A scenario
       with a mistake is refused before anything is written; one line on standard
       error says where the first mistake stands.
+      With N from 1 to 8, so many workers bring what comes in a round, each in a
+      thread of its own, in an order that they settle among themselves; the
+      trace tells it. With 0, as without N, the order is always the same: what
+      comes from the street, the messages, the ticks.
+  arterial check < TRACE
+      Reads a text (at most 67,108,864 bytes) from standard input and tells
+      whether it is a trace: that of some scenario, in any order in which what
+      comes in a round can come. Nothing is written; where it is no trace, one
+      line on standard error names the first line with which no trace goes on,
+      and the rule that it breaks.
   arterial --help
       Writes this text. Nothing is read.
   arterial --version
@@ -19,8 +29,8 @@ and its trace is proved to be the one that is due.
 
 Exit status: 0 done, 1 the words are no command, 2 the scenario is refused,
 3 standard input could not be read, 4 standard output could not be written,
-6 out of memory. After 4 and 6 what was written is a front of the whole, and
-not all of it.
+5 the text is no trace, 6 out of memory. After 4, and 6 of a run, what was
+written is a front of the whole, and not all of it.
 
 docs/SCENARIO.md says how a scenario is written, which rules its tables must
 keep, and what each refusal means; docs/TRACE.md how a trace is read;
@@ -28,4 +38,4 @@ scenarios/ has examples to run; README.md says what is proved.
 ";
 
 /// Which program this is.
-pub const VERSION: &str = "arterial 0.4\n";
+pub const VERSION: &str = "arterial 0.5\n";

@@ -1,19 +1,15 @@
-//! All that the program does, from its words and its input to the lines of a trace.
-//! `station` is the top call: each of its answers has its cause in its contract.
+//! All that the program does: it tells its words apart, reads its input, has the work done, and
+//! answers. `station` is the top call: each of its answers has its cause in its contract.
 #![tactic(auto)]
 
 mod bytes;
-mod corridor;
+mod checking;
 mod help;
-mod lines;
-#[cfg(test)]
-mod run_tests;
 mod status;
-#[cfg(test)]
-mod tests;
 mod top;
-mod trace;
+mod words;
 
 pub use scenario_data::Refusal;
-pub use status::{Status, TraceFault};
+pub use status::Status;
 pub use top::station;
+pub use trace_check::TraceFault;

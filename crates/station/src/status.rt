@@ -1,13 +1,7 @@
 //! What the program answers.
 
 use scenario_data::Refusal;
-
-/// The first line of a text that no trace continues with, numbered from 1, and the rule that it breaks.
-#[derive(Clone, Copy, Debug, PartialEq, Eq)]
-pub struct TraceFault {
-    pub line: u32,
-    pub rule: u8,
-}
+use trace_check::TraceFault;
 
 /// What the program answers.
 #[derive(Debug, Drop)]
@@ -18,7 +12,7 @@ pub enum Status {
     Usage,
     /// The input is too long, or is no scenario: the first fault, and nothing was written.
     Scenario(Refusal),
-    /// The input is no trace.
+    /// The input is no trace: the first line with which no trace goes on, and the rule that it breaks; line 0 where it is too long.
     NotATrace(TraceFault),
     /// A read failed, and nothing was written.
     ReadFault,

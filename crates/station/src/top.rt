@@ -1,34 +1,30 @@
 //! All that the program does.
 
-ghost use Rattle.std.specs.Prelude.{◌≡◌, ◌≤◌, ◌⊎◌, ◌↔◌, ◌∷◌, [], Err, IfOk, IfSome, OnOk, IsTrue, map, string_bytes};
+ghost use Rattle.std.specs.Prelude.{◌≡◌, ◌≤◌, ◌⊎◌, ◌↔◌, ◌∷◌, ℕ, [], Err, IfOk, IfSome, OnOk, IsTrue, map, string_bytes};
 ghost use Rattle.io_edge.specs.Edge.{Rises};
 ghost use Rattle.scenario_data.specs.Content.{scenario_content};
 ghost use Rattle.scenario_data.specs.declared.refusal.Refusal.{Refusal};
 ghost use Rattle.runnable.specs.Runnable.{Runnable};
 ghost use Rattle.station.specs.Bytes.{nothing_left};
-ghost use Rattle.station.specs.Answers.{IsRun, IsHelp, IsVersion, IsCommand, IsAnswer, WritesText, IsRead, IsLengthLimit, IsRefused};
+ghost use Rattle.station.specs.Words.{IsRun, IsCheck, IsHelp, IsVersion, IsCommand};
+ghost use Rattle.station.specs.Answers.{WritesText, IsRead, IsLengthLimit, IsRefused};
 ghost use Rattle.station.specs.Answers.{RunsWhole, StopsShort, Ran, IsDue};
+ghost use Rattle.station.specs.Checked.{Checked, IsCheckDue};
+ghost use Rattle.trace_check.specs.declared.faults.TraceFault.{TraceFault};
 
 use crate::bytes::{ReadEnd, read_all};
+use crate::checking::check_input;
 use crate::help::{HELP, VERSION};
 use crate::status::Status;
-use crate::trace::{traces_keep_streets, write_trace};
+use crate::words::{is_lone, run_workers};
 use io_edge::{Failed, Gate, Sink, Source};
+use one_trace::run_texts_are_safe;
 use scenario_data::{ReadFail, Refusal, Scenario};
 use scenario_file::read;
 use std::alloc::Global;
 use std::thread::Threads;
 use trace_out::{Stop, put_all};
-
-/// Whether there is one word, and it is this one.
-fn is_lone(words: &Vec<String>, name: &str) -> bool
-    ensures { IsTrue result ↔ (map string_bytes words.now.items ≡ name.now ∷ []) }
-{
-    match words.as_slice() {
-        [word] => word.as_str() == name,
-        _ => false,
-    }
-}
+use whole_run::{Crew, write_trace};
 
 /// Writes a text that the program says of itself.
 fn tell<K: Sink>(sink: &mut K, text: &str) -> Status
@@ -40,6 +36,9 @@ fn tell<K: Sink>(sink: &mut K, text: &str) -> Status
         Err(Failed) => Status::WriteFault,
     }
 }
+
+/// The most bytes that a scenario has.
+const SCENARIO_LIMIT: usize = 16_777_216;
 
 /// Why there is no scenario to run.
 enum Unread {
@@ -68,7 +67,7 @@ fn read_scenario<S: Source>(alloc: Global, source: &mut S) -> Result<Scenario, U
     ensures refused { (r : Refusal) → result ≡ Err (Unread.Refused r) → IsRefused r (S.left source.old) (S.left source.new) }
     ensures kept { S.faults source.old ≤ S.faults source.new }
 {
-    let input = match read_all(alloc, source) {
+    let input = match read_all(alloc, source, SCENARIO_LIMIT) {
         Ok(input) => input,
         Err(ReadEnd::Fault) => return Err(Unread::Fault),
         Err(ReadEnd::TooLong) => return Err(too_long(alloc)),
@@ -82,8 +81,13 @@ fn read_scenario<S: Source>(alloc: Global, source: &mut S) -> Result<Scenario, U
 }
 
 /// Reads a scenario, and writes its trace.
-fn run<S: Source, K: Sink>(alloc: Global, source: &mut S, sink: &mut K) -> Status
-    ensures ran { Ran result (S.left source.old) (S.left source.new) (Rises (S.faults source.old) (S.faults source.new))
+fn run<R: Threads + Sync, S: Source, K: Sink, G: Gate + Sync>(
+    crew: &Crew<R, G>,
+    alloc: Global,
+    source: &mut S,
+    sink: &mut K,
+) -> Status
+    ensures ran { Ran crew.now.workers result (S.left source.old) (S.left source.new) (Rises (S.faults source.old) (S.faults source.new))
         (K.written sink.old) (K.written sink.new) (Rises (K.faults sink.old) (K.faults sink.new)) }
     ensures kept { (S.faults source.old ≤ S.faults source.new) × (K.faults sink.old ≤ K.faults sink.new) }
 {
@@ -93,29 +97,30 @@ fn run<S: Source, K: Sink>(alloc: Global, source: &mut S, sink: &mut K) -> Statu
         Err(Unread::Refused(refusal)) => return Status::Scenario(refusal),
         Err(Unread::NoMemory) => return Status::NoMemory,
     };
-    traces_keep_streets();
-    match write_trace(alloc, sink, &scenario) {
+    run_texts_are_safe();
+    match write_trace(crew, alloc, sink, &scenario) {
         Ok(()) => Status::Done,
         Err(Stop::WriteFault) => Status::WriteFault,
         Err(Stop::NoMemory) => Status::NoMemory,
     }
 }
 
-/// All that the program does: `run` reads a scenario from the source and writes its trace to the sink; `--help` and
-/// `--version` write a text, and read nothing.
+/// All that the program does: `run` reads a scenario from the source and writes its trace to the sink; `check` reads a text and tells
+/// whether it is a trace; `--help` and `--version` write a text, and read nothing.
 ///
-/// The words are those after the program's name. An input has at most 16,777,216 bytes. `NoMemory` may come
-/// wherever memory is taken; of every other answer the clauses say what it tells of the input and the faults.
+/// The words are those after the program's name. `run --workers N`, N 0 to 8, has so many workers bring the items of each round to the
+/// cabinets, each worker in a thread of its own where one can be started; with none, as without a number, they come in the serial order.
+/// Each worker calls the gate before each act. A scenario has at most 16,777,216 bytes, a trace at most 67,108,864.
+/// `NoMemory` may come wherever memory is taken; of every other answer the clauses say what it tells of the input and the faults.
 pub fn station<R: Threads + Sync, S: Source, K: Sink, G: Gate + Sync>(
-    _rt: &R,
+    rt: &R,
     alloc: Global,
     words: &Vec<String>,
     source: &mut S,
     sink: &mut K,
-    _gate: &G,
+    gate: &G,
 ) -> Status
-    // Which answers there are. No count of faults falls.
-    ensures answers { IsAnswer result }
+    // No count of faults falls.
     ensures kept { (S.faults source.old ≤ S.faults source.new) × (K.faults sink.old ≤ K.faults sink.new) }
 
     // Usage comes exactly where the words are no command; nothing is read or written then.
@@ -128,17 +133,20 @@ pub fn station<R: Threads + Sync, S: Source, K: Sink, G: Gate + Sync>(
     ensures version { IsVersion (map string_bytes words.now.items) → (source.new ≡ source.old)
         × WritesText result VERSION.now (Rises (K.faults sink.old) (K.faults sink.new)) (K.written sink.old) (K.written sink.new) }
 
-    // Done after `run`: the source was read to its end, its bytes are a scenario, and the whole trace was appended to the sink: the text
-    // of the run in its serial order. By the lines of this text every street is safe at every tick, with the tables of each version;
-    // versions are whole; these tables are those of whole accepted downloads; and each cabinet's history meets what coordination promises.
-    ensures done { IsRun (map string_bytes words.now.items) → result ≡ Status.Done
-        → RunsWhole (S.left source.old) (S.left source.new) (K.written sink.old) (K.written sink.new) }
+    // Done after a run by so many workers: the source was read to its end, its bytes are a scenario, and the whole trace was appended to the
+    // sink: the text of the run in the order in which the items came to its cabinets, which with no worker is the serial one. By the lines
+    // of this text every street is safe at every tick, with the tables of each version; versions are whole; these tables are those of
+    // whole accepted downloads; and each cabinet's history meets what coordination promises.
+    ensures done { (workers : ℕ) → IsRun (map string_bytes words.now.items) workers → result ≡ Status.Done
+        → RunsWhole workers (S.left source.old) (S.left source.new) (K.written sink.old) (K.written sink.new) }
 
-    // Where writing stops short, the bytes written are a front of the trace, and not all of it.
-    ensures write_fault { IsRun (map string_bytes words.now.items) → result ≡ Status.WriteFault → Rises (K.faults sink.old) (K.faults sink.new)
-        × StopsShort (S.left source.old) (S.left source.new) (K.written sink.old) (K.written sink.new) }
+    // Where writing stops short, the bytes written are a front of such a trace, and not all of it.
+    ensures write_fault { (workers : ℕ) → IsRun (map string_bytes words.now.items) workers → result ≡ Status.WriteFault
+        → Rises (K.faults sink.old) (K.faults sink.new)
+        × StopsShort workers (S.left source.old) (S.left source.new) (K.written sink.old) (K.written sink.new) }
     ensures no_memory { result ≡ Status.NoMemory → (K.written sink.new ≡ K.written sink.old)
-        ⊎ StopsShort (S.left source.old) (S.left source.new) (K.written sink.old) (K.written sink.new) }
+        ⊎ ((workers : ℕ) × IsRun (map string_bytes words.now.items) workers
+        × StopsShort workers (S.left source.old) (S.left source.new) (K.written sink.old) (K.written sink.new)) }
 
     // Why a failed read and each refusal come, and that nothing was written then. A refusal names the first fault of the input; the path
     // `.` with `Limit` is the input's length alone: no other fault has it.
@@ -147,11 +155,25 @@ pub fn station<R: Threads + Sync, S: Source, K: Sink, G: Gate + Sync>(
         → IsRefused r (S.left source.old) (S.left source.new) × (K.written sink.new ≡ K.written sink.old) }
 
     // Which answer comes where no read fails: for too long an input, one that is no scenario, and any scenario.
-    ensures due { IsRun (map string_bytes words.now.items) → ¬ Rises (S.faults source.old) (S.faults source.new)
+    ensures due { (workers : ℕ) → IsRun (map string_bytes words.now.items) workers → ¬ Rises (S.faults source.old) (S.faults source.new)
         → IfSome (S.left source.old) (λ input. IsDue result input (Rises (K.faults sink.old) (K.faults sink.new)) ⊎ (result ≡ Status.NoMemory)) }
+
+    // `check` writes nothing. Done: the source was read to its end, its bytes are a trace, and what a trace tells holds: every street is
+    // safe, versions are whole, and coordination is met. NotATrace: the input is too long, or this is its first fault.
+    ensures checked { IsCheck (map string_bytes words.now.items) → (sink.new ≡ sink.old)
+        × Checked result (S.left source.old) (S.left source.new) (Rises (S.faults source.old) (S.faults source.new)) }
+    ensures not_a_trace { (fault : TraceFault) → result ≡ Status.NotATrace fault → IsCheck (map string_bytes words.now.items) }
+
+    // Which answer comes where no read fails: for a trace that is not too long, and for every other text.
+    ensures check_due { IsCheck (map string_bytes words.now.items) → ¬ Rises (S.faults source.old) (S.faults source.new)
+        → IfSome (S.left source.old) (λ input. IsCheckDue result input ⊎ (result ≡ Status.NoMemory)) }
 {
-    if is_lone(words, "run") {
-        run(alloc, source, sink)
+    match run_workers(words) {
+        Some(workers) => return run(&Crew { rt, workers, gate }, alloc, source, sink),
+        None => {}
+    }
+    if is_lone(words, "check") {
+        check_input(alloc, source)
     } else if is_lone(words, "--help") {
         tell(sink, HELP)
     } else if is_lone(words, "--version") {
