@@ -1,13 +1,17 @@
-"""The built program, for the scripts beside."""
+"""The built program and the libraries that stand before it, for the scripts beside."""
 
 import os
 import pathlib
+import shutil
 import subprocess
 import sys
 
 HERE = pathlib.Path(__file__).resolve().parent
 SECONDS = 60
 """How long one run may take."""
+
+ALLOWED_SECONDS, ALLOWED_KILOBYTES = 10, 1 << 20
+"""What a run on a small scenario may take, however damaged that is."""
 
 sys.dont_write_bytecode = True
 
@@ -27,3 +31,38 @@ def built():
     if ran.returncode == 125:
         sys.exit(ran.stderr.decode(errors="replace"))
     return HERE.parent / "crates/arterial/out/arterial"
+
+
+def library(folder, name):
+    """Returns the library that stands before the C library's calls, compiled into the folder; None where it can't be had on this
+    machine."""
+    if shutil.which("cc") is None:
+        return None
+    made = pathlib.Path(folder) / f"{name}.so"
+    ran = subprocess.run(["cc", "-O2", "-shared", "-fPIC", "-o", made, HERE / f"{name}.c", "-ldl"], capture_output=True)
+    return made if ran.returncode == 0 else None
+
+
+def run_behind(made, program, given, names, words=()):
+    """Runs the program once behind such a library, which reads the names; with these words behind `run`. Returns whether it told of
+    anything, the exit status, and both outputs."""
+    told, telling = os.pipe()
+    with open(told, "rb") as reader:
+        try:
+            names = {"LD_PRELOAD": str(made), "TOLD": str(telling), **names}
+            ran = subprocess.run(
+                [program, "run", *words], input=given, capture_output=True, timeout=SECONDS, pass_fds=(telling,), env={**os.environ, **names}
+            )
+        finally:
+            os.close(telling)
+        return reader.read() != b"", ran.returncode, ran.stdout, ran.stderr
+
+
+def ended(program, given):
+    """Returns what a run answered, which may take 10 seconds and 1 GB: its status and both outputs; in words where it didn't end."""
+    words = ["sh", "-c", f'ulimit -v {ALLOWED_KILOBYTES}; exec "$0" run', program]
+    try:
+        ran = subprocess.run(words, input=given, capture_output=True, timeout=ALLOWED_SECONDS)
+    except subprocess.TimeoutExpired:
+        return f"not ended after {ALLOWED_SECONDS} seconds"
+    return ran.returncode, ran.stdout, ran.stderr
