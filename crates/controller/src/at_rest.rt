@@ -15,7 +15,7 @@ use sig_types::{Frame, Mode, PhaseSet};
 const FLASH_COMMAND: u8 = 255;
 
 /// Whether a cabinet in this mode runs free.
-fn is_free(mode: Mode) -> bool
+pub(crate) fn is_free(mode: Mode) -> bool
     ensures { result ≡ is_free mode }
 {
     match mode {
@@ -32,7 +32,7 @@ fn are_on(on: [u8; 2], first: u8, second: u8) -> bool
 }
 
 /// Whether something is on in both rings.
-fn are_both_on(on: [u8; 2]) -> bool
+pub(crate) fn are_both_on(on: [u8; 2]) -> bool
     ensures first { IsTrue result → get_or on 0 0 ≢ 0 }
     ensures second { IsTrue result → get_or on 1 0 ≢ 0 }
 {
@@ -40,7 +40,7 @@ fn are_both_on(on: [u8; 2]) -> bool
 }
 
 /// Any frame shows sixteen phases.
-fn shows_sixteen(frame: Frame)
+pub(crate) fn shows_sixteen(frame: Frame)
     ensures veh { length frame.veh ≡ 16 }
     ensures ped { length frame.ped ≡ 16 }
 {}
@@ -59,6 +59,7 @@ impl Controller {
     ghost use Rattle.sig_tables.specs.Walking.{has_walk};
     ghost use Rattle.sig_tables.specs.Decide.{with_moment, next_moment};
     ghost use Rattle.sig_tables.specs.Seen.{frame_seen, mode_seen, pedestrian_seen, demand_with, quiet_seen, opposed_seen};
+    ghost use Rattle.preempt_run.specs.Stands.{preempts_seen};
     ghost use Rattle.controller.specs.Shows.{is_clearing, is_signalling};
     ghost use Rattle.controller.specs.Rests.{IsCurrent, Repeats};
     ghost use Rattle.controller.specs.Course.{Runs};
@@ -70,6 +71,7 @@ impl Controller {
     pub(crate) fn stays_free(&self, command: u8) -> bool
         ensures was { (past : Past) → Keeps self.now past → IsTrue result → (frame_seen past).mode ≡ Free }
         ensures free { (past : Past) → Keeps self.now past → command ≡ command_now past → IsTrue result → mode_seen past ≡ Free }
+        ensures beside { (past : Past) → Keeps self.now past → IsTrue result → preempts_seen past ≡ [] }
     {
         if !is_free(self.frame.mode) {
             false
@@ -84,7 +86,7 @@ impl Controller {
 
     /// Whether no walk begins on a phase that stays Green: of those that show steady don't walk and are not opposed none is
     /// called to.
-    fn is_uncalled(&self, opposed: PhaseSet) -> bool
+    pub(crate) fn is_uncalled(&self, opposed: PhaseSet) -> bool
         ensures walks { (past : Past) (p : ℕ) → Keeps self.now past → Has opposed (is_in (opposed_seen past)) → IsTrue result → is_phase p ≡ true
             → ((has_walk past.tables p && is_in (pedestrian_seen past) p)
             && ((same_colour (colour_of (frame_seen past) p) Green && not (is_signalling (frame_seen past) p))
@@ -96,7 +98,7 @@ impl Controller {
     }
 
     /// Whether nothing runs out: no phase is in Yellow or red clearance, and none shows Walk or Flash.
-    fn is_settled(&self) -> bool
+    pub(crate) fn is_settled(&self) -> bool
         ensures colours { (past : Past) (p : ℕ) → Keeps self.now past → IsTrue result → is_phase p ≡ true
             → is_clearing (frame_seen past).veh p ≡ false }
         ensures signals { (past : Past) (p : ℕ) → Keeps self.now past → IsTrue result → is_phase p ≡ true
@@ -111,7 +113,7 @@ impl Controller {
 
     /// Whether the last frame has what a frame of Free has by the tables in force: their version, what is on by their rings,
     /// and no counter and no target.
-    fn is_current(&self) -> bool
+    pub(crate) fn is_current(&self) -> bool
         ensures { (past : Past) → Keeps self.now past → IsTrue result → IsCurrent past }
     {
         let red = self.shown.red;
@@ -154,8 +156,8 @@ impl Controller {
     pub(crate) fn rest(&mut self, command: u8) -> Frame
         requires few { tick_count self.old < 4294967295 }
         ensures again { result ≡ self.old.frame }
-        ensures keeps { (past : Past) → Keeps self.old past → command ≡ command_now past → demand_with None past ≡ [] → Repeats past
-            → Keeps self.new (with_moment past (next_moment past)) }
+        ensures keeps { (past : Past) → Keeps self.old past → preempts_seen past ≡ [] → command ≡ command_now past → demand_with None past ≡ []
+            → Repeats past → Keeps self.new (with_moment past (next_moment past)) }
         ensures ticks { tick_count self.new ≡ tick_count self.old + 1 }
         ensures installs { install_count self.new ≡ install_count self.old }
     {
@@ -219,7 +221,7 @@ impl Controller {
         requires few { tick_count self.old < 4294967295 }
         requires of_day { clock < 864000 }
         ensures again { result ≡ self.old.frame }
-        ensures keeps { (past : Past) → Keeps self.old past → command ≡ command_now past → clock ≡ clock_now past
+        ensures keeps { (past : Past) → Keeps self.old past → preempts_seen past ≡ [] → command ≡ command_now past → clock ≡ clock_now past
             → ((p : ℕ) → is_phase p ≡ true → is_in (quiet_seen past) p ≡ (is_green (frame_seen past) p && not (has active p)))
             → Has opposed (is_in (opposed_seen past)) → Repeats past → Keeps self.new (with_moment past (next_moment past)) }
         ensures ticks { tick_count self.new ≡ tick_count self.old + 1 }
@@ -229,7 +231,7 @@ impl Controller {
         self.clocks
             .step(&self.frame, true, active, opposed, &self.tables);
         self.signals.step(&self.frame, true, &self.tables);
-        self.preempts.step(&self.frame);
+        self.preempts.stay();
         self.requests.step(None);
         self.orders.step(command, clock);
         self.frame

@@ -23,9 +23,12 @@ mod course;
 mod keeping;
 mod moving;
 mod orders;
+mod passing;
 mod reasons;
 mod seeing;
 mod staying;
+mod stride;
+mod telling;
 mod ticking;
 mod walking;
 
@@ -34,6 +37,7 @@ use by_colour::ByColour;
 use colouring::first_frame;
 use course::is_flash;
 use orders::Orders;
+pub use telling::has_line;
 
 /// What a controller keeps between ticks.
 #[derive(Drop)]

@@ -43,6 +43,7 @@ impl Orders {
     ghost use Rattle.sig_tables.specs.Showing.{command_shown, clock_shown};
     ghost use Rattle.sig_tables.specs.Decide.{past_of, opening_orders, with_event, with_moment};
     ghost use Rattle.controller.specs.Orders.{OrdersStand, SawOrders, order_ticks};
+    ghost use Rattle.controller.specs.Even.{IsEven, OrdersPassed};
 
     /// The orders that a cabinet is opened with.
     pub fn of(command: u8, clock: u32) -> Orders
@@ -151,5 +152,34 @@ impl Orders {
         self.clock = clock;
         self.since = self.since.saturating_add(1);
         self.ticks += 1;
+    }
+
+    /// For how many ticks that come, of at most so many, the same pattern stays in command and the clock rises by one at each
+    /// within the day; 0 where the clock drifts.
+    pub fn even(&self, tables: &Tables, most: u32) -> u32
+        ensures within { result ≤ most }
+        ensures even { 0 < result → IsEven self.now tables.now result }
+    {
+        if self.gain != 0 || self.lose != 0 {
+            return 0;
+        }
+        let in_day = most.min(DAY - 1 - self.clock);
+        let backup = u32::from(tables.unit().backup);
+        if self.command == 0 || backup == 0 {
+            in_day
+        } else {
+            in_day.min((10 * backup - 1).saturating_sub(self.since))
+        }
+    }
+
+    /// Passes over so many such ticks.
+    pub fn pass(&mut self, ticks: u32, tables: &Tables)
+        requires few { order_ticks self.old + ticks ≤ 4294967295 }
+        requires even { IsEven self.old tables.now ticks }
+        ensures passed { OrdersPassed ticks self.old self.new }
+    {
+        self.since = self.since.saturating_add(ticks);
+        self.clock += ticks;
+        self.ticks += ticks;
     }
 }

@@ -1,7 +1,7 @@
 //! A tick as a whole, once the pattern in command is known. Most of what a tick is about is plain where the cabinet runs free
 //! and goes on to, and is then not looked for.
 
-ghost use Rattle.std.specs.Prelude.{◌≡◌, ◌<◌, ◌+◌};
+ghost use Rattle.std.specs.Prelude.{◌≡◌, ◌<◌, ◌+◌, []};
 
 use crate::Controller;
 use crate::course::Course;
@@ -41,6 +41,7 @@ impl Controller {
     ghost use Rattle.sig_tables.specs.Command.{command_now};
     ghost use Rattle.sig_tables.specs.Decide.{with_moment, next_moment};
     ghost use Rattle.sig_tables.specs.Seen.{frame_seen, mode_seen};
+    ghost use Rattle.preempt_run.specs.Stands.{preempts_seen};
     ghost use Rattle.controller.specs.Course.{Runs};
     ghost use Rattle.controller.specs.Sees.{Sees};
     ghost use Rattle.controller.specs.StandsFor.{Keeps, tick_count, install_count};
@@ -64,7 +65,7 @@ impl Controller {
         requires few { tick_count self.old < 4294967295 }
         ensures given { (past : Past) → Keeps self.old past → (frame_seen past).mode ≡ Free → mode_seen past ≡ Free
             → command ≡ command_now past → result ≡ (next_moment past).frame }
-        ensures keeps { (past : Past) → Keeps self.old past → (frame_seen past).mode ≡ Free → mode_seen past ≡ Free
+        ensures keeps { (past : Past) → Keeps self.old past → (frame_seen past).mode ≡ Free → mode_seen past ≡ Free → preempts_seen past ≡ []
             → command ≡ command_now past → Keeps self.new (with_moment past (next_moment past)) }
         ensures ticks { tick_count self.new ≡ tick_count self.old + 1 }
         ensures installs { install_count self.new ≡ install_count self.old }

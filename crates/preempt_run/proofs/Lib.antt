@@ -10,3 +10,4 @@ pub mod Runs
 pub mod Listed
 pub mod Others
 pub mod OnPhases
+pub mod Passed

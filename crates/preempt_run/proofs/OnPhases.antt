@@ -1,5 +1,5 @@
 -- The frames of a controller name phases, or nothing.
-use Rattle.std.proofs.Common.{◌≡◌, ◌≤◌, inl, inr, ℕ, Bool, true, not, ◌&&◌, ◌==◌, List, [], ◌∷◌, arith}
+use Rattle.std.proofs.Common.{◌≡◌, ◌≤◌, inl, inr, ℕ, Bool, true, not, ◌&&◌, ◌==◌, List, [], ◌∷◌, length, refl, arith}
 use Rattle.std.proofs.lemmas.Bool.{cases_Bool}
 use Rattle.sig_types.specs.declared.frame.Colour.{Colour}
 use Rattle.sig_types.specs.declared.frame.Colour.TheVariants.{Red}
@@ -12,7 +12,9 @@ use Rattle.sig_tables.specs.declared.tables.Tables.{Tables}
 use Rattle.sig_tables.specs.Tables.{ring_of, is_enabled}
 use Rattle.sig_tables.specs.Ticking.{on_of}
 use Rattle.sig_tables.proofs.Below.{is-within}
-use Rattle.preempt_run.specs.Dwelling.{NamesPhases}
+use Rattle.sig_tables.specs.Past.{Moment}
+use Rattle.sig_tables.specs.Looking.{last_frame}
+use Rattle.preempt_run.specs.Dwelling.{NamesPhases, EachFits}
 
 first-within : (test : ℕ → Bool) (xs : List ℕ) → ((q : ℕ) → is_in xs q ≡ true → q ≤ 16) → only (first test xs) ≤ 16
 first-within test [] h = omega arith
@@ -29,3 +31,8 @@ names-phases f t veh e = record {
   first = rw e (on-within t veh 1);
   second = rw e (on-within t veh 2);
 }
+
+-- the last frame shows sixteen phases
+pub last-wide : (past : List Moment) → EachFits past → length (last_frame past).veh ≡ 16
+last-wide [] fits = refl
+last-wide (m ∷ past) fits = fits.0

@@ -1,5 +1,5 @@
 -- What is kept of preemption is what looking back over the inputs and the moments gives.
-use Rattle.std.specs.Prelude.{ℕ, ◌≡◌, ◌<◌, ◌≤◌, ◌+◌, ◌==◌, List, length}
+use Rattle.std.specs.Prelude.{ℕ, ◌≡◌, ◌<◌, ◌≤◌, ◌+◌, ◌==◌, false, List, length}
 use Rattle.sig_types.specs.Phases.{is_in}
 use Rattle.sig_types.specs.PhaseSet.{has}
 use Rattle.sig_tables.specs.declared.tables.Tables.{Tables}
@@ -7,10 +7,10 @@ use Rattle.sig_tables.specs.Modes.{same_mode, stage_of}
 use Rattle.sig_tables.specs.Past.{Heard, Moment, Past}
 use Rattle.sig_tables.specs.Looking.{in_a_row, last_frame, last_moment}
 use Rattle.sig_tables.specs.Preempts.{preempt_on, preempts_on}
-use Rattle.sig_tables.specs.Seen.{moment_seen}
+use Rattle.sig_tables.specs.Seen.{moment_seen, frame_seen}
 use Rattle.preempt_run.specs.declared.Preempts.{Preempts}
 use Rattle.preempt_run.specs.Tally.{TallyStands}
-use Rattle.preempt_run.specs.Dwelling.{dwells_green, dwells_off, EachFits}
+use Rattle.preempt_run.specs.Dwelling.{dwells_green, dwells_off, is_dwell, NamesPhases, EachFits}
 
 -- how many frames have come
 abbrev pub step_count : Preempts → ℕ
@@ -38,3 +38,13 @@ pub record Keeps (c : Preempts) (heard : List Heard) (past : List Moment) : Type
 -- command, a clock set or a priority request leaves them as they stand
 abbrev pub PreemptsStand : Preempts → Past → Type 0
 PreemptsStand c past = Keeps c past.heard past.moments
+
+-- a moment goes on with the last one beside all preempts: no input is on at it, and its frame has the mode of the last, which is no
+-- dwell; what its rings have on are phases, or nothing
+pub record StaysBeside (past : Past) (m : Moment) : Type 0 where
+  pub saw : m.preempts ≡ preempts_seen past
+  pub none : (i : ℕ) → 0 < i → i ≤ 8 → is_in (preempts_seen past) i ≡ false
+  pub mode : m.frame.mode ≡ (frame_seen past).mode
+  pub beside : is_dwell m.frame.mode ≡ false
+  pub wide : length m.frame.veh ≡ 16
+  pub names : NamesPhases m.frame

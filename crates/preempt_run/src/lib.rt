@@ -9,6 +9,7 @@ use sig_tables::{PhaseList, Tables};
 use sig_types::{Frame, Mode, PhaseSet};
 
 mod goals;
+mod passing;
 mod reached;
 mod stages;
 mod tally;
@@ -54,7 +55,7 @@ impl Preempts {
     ghost use Rattle.sig_tables.specs.Decide.{opened, with_event, with_moment};
     ghost use Rattle.sig_tables.specs.Preempts.{all_preempts, is_preempt_called, preempt_called, has_reached, is_track_over, is_dwell_over, stage_after, stage_now};
     ghost use Rattle.preempt_run.specs.Dwelling.{NamesPhases, is_dwell, dwells, each_green, each_off};
-    ghost use Rattle.preempt_run.specs.Stands.{PreemptsStand, step_count, preempts_seen};
+    ghost use Rattle.preempt_run.specs.Stands.{PreemptsStand, StaysBeside, step_count, preempts_seen};
 
     /// No input on, and the moment before any tick.
     pub fn new() -> Preempts
@@ -118,10 +119,7 @@ impl Preempts {
     {
         shows_sixteen(given.veh);
         if self.is_beside(given.mode) {
-            self.inputs.clear();
-            self.green.clear();
-            self.off.clear();
-            self.steps += 1;
+            self.stay();
             return;
         }
         self.inputs.step(self.on, self.steps);
@@ -133,6 +131,19 @@ impl Preempts {
         let goes_on = same_mode(self.mode, given.mode);
         self.mode_since = began(self.mode_since, goes_on, self.steps);
         self.mode = given.mode;
+    }
+
+    /// A frame that goes on with the last one beside all preempts.
+    pub fn stay(&mut self)
+        requires few { step_count self.old < 4294967295 }
+        ensures stands { (past : Past) (m : Moment) → PreemptsStand self.old past → StaysBeside past m
+            → PreemptsStand self.new (with_moment past m) }
+        ensures steps { step_count self.new ≡ step_count self.old + 1 }
+    {
+        self.inputs.clear();
+        self.green.clear();
+        self.off.clear();
+        self.steps += 1;
     }
 
     /// Whether a frame of this mode goes on with the last one beside all preempts: no input is on, no preempt dwells, and the

@@ -1,7 +1,7 @@
 //! For how many steps in a row each of sixteen numbers has been in a set that is given at each step. What comes in is
 //! stamped with the step, so that a step at which nothing comes in does little.
 
-ghost use Rattle.std.specs.Prelude.{◌≡◌, ◌<◌, ◌≤◌, ◌+◌, ◌-◌, not, nat_le, ℕ, Bool, List, get_or, if◌then◌else◌, length, [], true, false, ◌∷◌};
+ghost use Rattle.std.specs.Prelude.{◌≡◌, ◌<◌, ◌≤◌, ◌+◌, ◌-◌, not, nat_le, ℕ, Bool, List, get_or, if◌then◌else◌, length, [], true, false, ◌∷◌, IsTrue};
 
 use sig_types::PhaseSet;
 
@@ -13,7 +13,7 @@ pub struct Tally {
 }
 
 impl Tally {
-    ghost use Rattle.sig_types.specs.PhaseSet.{has};
+    ghost use Rattle.sig_types.specs.PhaseSet.{has, phases_of};
     ghost use Rattle.sig_tables.specs.Past.{Moment};
     ghost use Rattle.preempt_run.specs.Tally.{count_of, TallySteps, TallyStands, HasNone};
 
@@ -44,6 +44,13 @@ impl Tally {
             → TallyStands self.new last p test (m ∷ past) }
     {
         self.members = PhaseSet::empty();
+    }
+
+    /// Whether no number was in the set at the last step.
+    pub fn is_clear(&self) -> bool
+        ensures { IsTrue result → phases_of self.now.members ≡ [] }
+    {
+        self.members.is_empty()
     }
 
     /// How many steps in a row, up to step `last`, a number, 1 to 16, has been in the set.

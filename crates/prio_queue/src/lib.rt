@@ -8,6 +8,7 @@ ghost use Rattle.std.specs.Prelude.{◌≡◌, ◌≤◌, ◌<◌, ℕ};
 use sig_types::{PhaseSet, Request};
 
 mod kept;
+mod passing;
 mod place;
 
 use kept::{cancelled_at, is_number, leader_by, state_of, unless_number};

@@ -1,9 +1,10 @@
-use Rattle.std.proofs.Common.{◌≡◌, ◌+◌, ◌&&◌, ◌∷◌, Bool, false, refl, sym, ◌∙◌, ap, arith, subst}
+use Rattle.std.proofs.Common.{◌≡◌, ◌+◌, ◌&&◌, ◌∷◌, ℕ, List, length, Bool, false, refl, sym, ◌∙◌, ap, arith, subst}
 use Rattle.std.proofs.lemmas.Bool.{false≢true}
 use Rattle.sig_types.specs.declared.frame.Frame.{Frame}
 use Rattle.sig_types.specs.declared.frame.Mode.{Mode}
 use Rattle.sig_types.specs.declared.frame.Mode.TheVariants.{Free}
 use Rattle.sig_types.specs.Colour.{is_start}
+use Rattle.sig_types.specs.Phases.{is_in}
 use Rattle.sig_tables.specs.Looking.{last_on}
 use Rattle.sig_tables.specs.Past.{Moment}
 use Rattle.sig_tables.specs.Calls.{is_green}
@@ -14,8 +15,9 @@ use Rattle.sig_tables.specs.Decide.{next_moment, colours_of}
 use Rattle.sig_tables.specs.Priority.{active_in}
 use Rattle.sig_tables.specs.Seen.{frame_seen, moment_seen, moves_seen}
 use Rattle.call_store.specs.Stands.{is_walking}
-use Rattle.preempt_run.specs.Dwelling.{NamesPhases}
+use Rattle.preempt_run.specs.Dwelling.{NamesPhases, is_dwell}
 use Rattle.preempt_run.proofs.Called.{seen-is}
+use Rattle.preempt_run.proofs.OnPhases.{last-wide}
 use Rattle.prio_queue.specs.Places.{some_number}
 use Rattle.controller.specs.Shows.{ShowsColours, is_signalling}
 use Rattle.controller.proofs.Rings.{each-ring, last-again, latest-again}
@@ -26,7 +28,7 @@ use Rattle.controller.proofs.Again.{free-apart, free-started}
 use Rattle.controller.proofs.Controller.repeat.Goals as goal
 
 pub returns-clause-keeps : goal.returns-clause-keeps
-returns-clause-keeps c = λ past k e at quiet opposed r.
+returns-clause-keeps c = λ past k beside e at quiet opposed r.
     let m : Moment = next_moment past in
     let old : Frame = c.args.self.now.frame in
     let a : m.frame ≡ frame_seen past = r.again in
@@ -50,10 +52,17 @@ returns-clause-keeps c = λ past k e at quiet opposed r.
           quiet
           (λ p h. opposed-green past p h ∙ ap (λ (b : Bool). is_green (frame_seen past) p && b) (sym (opposed p h)));
       signals = c.step-3.ensures.stands past.moments m k.signals g (sym k.tables) (λ t. ap (λ (x : Frame). x.ped) a);
-      preempts = c.step-4.ensures.stands past m k.preempts g (sym (seen-is past)) (subst (λ (x : Frame). NamesPhases x) (sym k.frame) k.names);
-      requests = c.step-5.ensures.stands past m k.requests (one-more (moment_seen past).number)
+      preempts = c.stay.ensures.stands past m k.preempts (record {
+        saw = sym (seen-is past);
+        none = λ i above within. ap (λ (xs : List ℕ). is_in xs i) beside;
+        mode = ap (λ (x : Frame). x.mode) a;
+        beside = ap is_dwell free;
+        wide = ap (λ (x : Frame). length x.veh) a ∙ last-wide past.moments k.preempts.fits;
+        names = names;
+      });
+      requests = c.step-4.ensures.stands past m k.requests (one-more (moment_seen past).number)
           (sym (ap (λ (x : Mode). some_number (active_in past.tables x ((moment_seen past).number + 1) past.asked)) r.mode));
-      orders = c.step-6.ensures.stands past m k.orders (record { number = refl; command = refl; is_commanded = refl; clock = refl })
+      orders = c.step-5.ensures.stands past m k.orders (record { number = refl; command = refl; is_commanded = refl; clock = refl })
           e at;
       shown = shown;
       walking = walking;

@@ -7,7 +7,7 @@ use Rattle.controller.proofs.Again.{unopposed}
 use Rattle.controller.proofs.Controller.rest.Goals as goal
 
 pub returns-clause-keeps : goal.returns-clause-keeps
-returns-clause-keeps c = λ past k e none r.
+returns-clause-keeps c = λ past k beside e none r.
     let free : demand_with (bound (mode_seen past)) past ≡ [] = ap (λ (x : Mode). demand_with (bound x) past) r.mode ∙ none in
     c.repeat.ensures.keeps past (record {
       tables = k.tables;
@@ -39,7 +39,7 @@ returns-clause-keeps c = λ past k e none r.
       binding = k.binding;
       counts = k.counts;
       old_frame = k.old_frame;
-    }) e (c.clock_now-clock.ensures.clock past k.orders)
+    }) beside e (c.clock_now-clock.ensures.clock past k.orders)
     (λ p h. ap (λ (x : Mode). is_in (quiet_with (bound x) past) p) r.mode ∙ c.active-active.ensures.quiet None past k.calls k.layout tt p h)
     (λ p h. c.empty.ensures.has p ∙ sym (unopposed past.tables (frame_seen past) _ p h free))
     r

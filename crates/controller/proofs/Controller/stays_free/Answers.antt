@@ -23,4 +23,5 @@ returns-else-command-eq-FLASH_COMMAND c = record {
       let undefined : is_defined past.tables (command_now past) ≡ false =
       ap (λ (n : ℕ). is_defined past.tables n) (sym e) ∙ (ap (λ (x : Tables). is_defined x c.args.command) (sym k.tables) ∙ (sym c.is_defined.ensures ∙ denied _ t)) in
       free-on past.tables past.version (command_now past) _ past.moments was (sym (seen-is past) ∙ none) other undefined;
+  beside = λ past k t. sym (c.on.ensures.preempts past k.preempts) ∙ no-preempts c.on.result (c.is_empty.ensures.empty.0 c.if-not-is_empty.false);
 }

@@ -14,7 +14,7 @@ returns-then-stays_free-clause-stands c = λ h k.
     let past : Past = past_at h in
     let command = c.commanded-command.ensures.command past k in
     c.tick_free.ensures.keeps past k (c.stays_free.ensures.was past k c.if-stays_free.true)
-    (c.stays_free.ensures.free past k command c.if-stays_free.true) command
+    (c.stays_free.ensures.free past k command c.if-stays_free.true) (c.stays_free.ensures.beside past k c.if-stays_free.true) command
 
 pub returns-else-stays_free-clause-decided : goal.returns-else-stays_free-clause-decided
 returns-else-stays_free-clause-decided c = λ h k.

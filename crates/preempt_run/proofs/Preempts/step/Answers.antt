@@ -1,16 +1,12 @@
-use Rattle.std.proofs.Common.{◌≡◌, ◌≤◌, ◌&&◌, ℕ, Bool, true, false, List, [], length, refl, sym, ◌∙◌, ap, arith}
-use Rattle.std.proofs.lemmas.Bool.Decides.{Decides-eqb}
+use Rattle.std.proofs.Common.{◌≡◌, ◌≤◌, ℕ, true, false, List, [], length, sym, ◌∙◌, ap, arith}
 use Rattle.sig_types.specs.declared.frame.Frame.{Frame}
-use Rattle.sig_types.specs.declared.frame.Mode.{Mode}
 use Rattle.sig_types.specs.declared.phase_set.PhaseSet.{PhaseSet}
 use Rattle.sig_types.specs.PhaseSet.{has, phases_of}
 use Rattle.sig_types.specs.Phases.{is_phase, is_in}
 use Rattle.sig_types.proofs.Sets.{in-phases}
-use Rattle.sig_tables.specs.Modes.{stage_of}
-use Rattle.sig_tables.specs.Calls.{is_green}
 use Rattle.sig_tables.proofs.Below.{phase-is}
-use Rattle.preempt_run.specs.Dwelling.{is_dwell, is_off, dwells_green, dwells_off}
-use Rattle.preempt_run.proofs.Goes.{same_mode-itself, one-mode}
+use Rattle.preempt_run.specs.Dwelling.{is_dwell, dwells_green, dwells_off}
+use Rattle.preempt_run.proofs.Goes.{one-mode}
 use Rattle.preempt_run.proofs.Called.{seen-on}
 use Rattle.preempt_run.proofs.Runs.{mode-steps, stage-steps}
 use Rattle.preempt_run.proofs.Preempts.step.Goals as goal
@@ -21,28 +17,19 @@ empty-has s p is e = sym (in-phases (has s) p is) ∙ ap (λ (xs : List ℕ). is
 pub returns-then-is_beside-clause-stands : goal.returns-then-is_beside-clause-stands
 returns-then-is_beside-clause-stands c = λ past m stands frame saw names.
     let wide : length c.args.given.now.veh ≡ 16 = c.shows_sixteen.ensures.sixteen in
-    let old : Mode = c.args.self.now.mode in
-    let one : old ≡ c.args.given.now.mode = one-mode _ _ (c.is_beside.ensures.same c.if-is_beside.true) in
+    let one : c.args.self.now.mode ≡ c.args.given.now.mode = one-mode _ _ (c.is_beside.ensures.same c.if-is_beside.true) in
     let mode : m.frame.mode ≡ c.args.given.now.mode = ap (λ (f : Frame). f.mode) frame in
-    let goes : m.frame.mode ≡ old = mode ∙ sym one in
-    let beside : is_dwell m.frame.mode ≡ false = ap is_dwell mode ∙ c.is_beside.ensures.dwell c.if-is_beside.true in
-    record {
-      steps = omega (arith, stands.steps);
-      on = λ t i above within. sym (ap (λ (xs : List ℕ). is_in xs i) saw ∙ seen-on c.args.self.now past stands i above within);
-      inputs = λ i above within.
+    c.stay.ensures.stands past m stands (record {
+      saw = saw;
+      none = λ i above within.
           let few : i ≤ 16 = omega arith in
-          c.clear.ensures (λ m. is_in m.preempts i) past.moments m i _
-          (ap (λ (xs : List ℕ). is_in xs i) saw ∙ seen-on c.args.self.now past stands i above within
-          ∙ empty-has c.args.self.now.on i (phase-is i above few) (c.is_beside.ensures.none c.if-is_beside.true));
-      mode = sym goes;
-      mode_run = mode-steps c.args.self.now.mode_since c.args.self.now.steps old old m past.moments true (sym (same_mode-itself old))
-          stands.mode goes stands.mode_run;
-      stage_run = stage-steps c.args.self.now.stage_since c.args.self.now.steps old old m past.moments true
-          (sym ((Decides-eqb (stage_of old) (stage_of old)).1 refl)) stands.mode goes stands.stage_run;
-      green = λ p above within. c.clear-then-is_beside.ensures (dwells_green p) past.moments m p _ (ap (λ (b : Bool). b && is_green m.frame p) beside);
-      off = λ p above within. c.clear-then-is_beside-2.ensures (dwells_off p) past.moments m p _ (ap (λ (b : Bool). b && is_off m.frame p) beside);
-      fits = (rw frame wide, rw frame names, stands.fits);
-    }
+          seen-on c.args.self.now past stands i above within
+          ∙ empty-has c.args.self.now.on i (phase-is i above few) (c.is_beside.ensures.none c.if-is_beside.true);
+      mode = mode ∙ sym one ∙ stands.mode;
+      beside = ap is_dwell mode ∙ c.is_beside.ensures.dwell c.if-is_beside.true;
+      wide = rw frame wide;
+      names = rw frame names;
+    })
 
 pub returns-clause-stands : goal.returns-clause-stands
 returns-clause-stands c = λ past m stands frame saw names.
