@@ -3,7 +3,7 @@ use Rattle.std.proofs.Common.{◌≡◌, ℕ, ◌+◌, ◌<◌, ◌≤◌, List,
 use Rattle.std.specs.Prelude.{IfErr}
 use Rattle.snmp_msg.specs.declared.message.Bind.{Bind}
 use Rattle.agent.specs.declared.bindings.Fault.{Fault}
-use Rattle.std.proofs.Common.{Option, Some, None, subst}
+use Rattle.std.proofs.Common.{Option, Some, None}
 use Rattle.snmp_msg.specs.declared.message.Value.{Value}
 use Rattle.oid_map.specs.Objects.{next_of}
 use Rattle.agent.specs.declared.reply.Reach.{Reach}
@@ -11,7 +11,7 @@ use Rattle.agent.specs.declared.reply.Reach.TheVariants.{Named, Following}
 use Rattle.agent.specs.Seen.{Seen}
 use Rattle.agent.specs.Values.{value_named}
 use Rattle.agent.specs.Replies.{with_value, instance_at, given}
-use Rattle.agent.specs.Bindings.{before, each_gives, gathered, after, IsSmall}
+use Rattle.agent.specs.Bindings.{before, each_gives, after, IsSmall}
 
 -- one more is gathered
 pub gathers : {A : Type 0} (xs : List A) (x : A) (place : ℕ) (others : Result (List A) Fault) → after xs (before (Ok x) place others) ≡ after (xs ++ x ∷ []) others
@@ -31,10 +31,6 @@ fault_is_small give low (bind ∷ binds) place few =
     small (Ok x) low place (Err fault) few is = is
     small (Err status) low place others few is = (low, few)
 
-gathered_small : {A : Type 0} (r : Result (Unit {0}) Fault) (added : List A) (given : Result (List A) Fault) → gathered r added ≡ given → IfErr given IsSmall → IfErr r IsSmall
-gathered_small {A = A} (Ok done) added given same small = tt
-gathered_small {A = A} (Err fault) added given same small = subst (λ (g : Result (List A) Fault). IfErr g IsSmall) (sym same) small
-
 with_value_low : (arcs : List ℕ) (value : Option Value) → IfErr (with_value arcs value) (λ status. status < 128)
 with_value_low arcs (Some value) = tt
 with_value_low arcs None = omega arith
@@ -48,6 +44,5 @@ given_low Named s bind = with_value_low bind.name.items (value_named s bind.name
 given_low Following s bind = instance_low s (next_of bind.name.items)
 
 -- the fault of a Get or a GetNext
-pub given_small : (reach : Reach) (s : Seen) (binds added : List Bind) (r : Result (Unit {0}) Fault) → length binds ≤ 32 → gathered r added ≡ each_gives (given reach s) 1 binds → IfErr r IsSmall
-given_small reach s binds added r few same =
-    gathered_small r added (each_gives (given reach s) 1 binds) same (fault_is_small (given reach s) (given_low reach s) binds 1 (omega (arith, few)))
+pub given_small : (reach : Reach) (s : Seen) (binds : List Bind) → length binds ≤ 32 → IfErr (each_gives (given reach s) 1 binds) IsSmall
+given_small reach s binds few = fault_is_small (given reach s) (given_low reach s) binds 1 (omega (arith, few))

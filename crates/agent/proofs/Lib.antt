@@ -1,4 +1,5 @@
 pub mod Gathered
+pub mod Written
 pub mod Rooms
 pub mod Instances
 pub mod Octets

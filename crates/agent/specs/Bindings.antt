@@ -20,11 +20,6 @@ abbrev pub listed : {A : Type 0} → Result (ArrayVec A) Fault → Result (List 
 listed (Ok gathered) = Ok gathered.items
 listed (Err fault) = Err fault
 
--- what a call added to nothing, where it met no fault
-abbrev pub gathered : {A : Type 0} → Result (Unit {0}) Fault → List A → Result (List A) Fault
-gathered (Ok added) given = Ok given
-gathered (Err fault) given = Err fault
-
 -- what is gathered so far, before what the others give
 abbrev pub after : {A : Type 0} → List A → Result (List A) Fault → Result (List A) Fault
 after gathered (Ok others) = Ok (gathered ++ others)

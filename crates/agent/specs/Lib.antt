@@ -6,3 +6,4 @@ pub mod Orders
 pub mod Downloads
 pub mod Asks
 pub mod Replies
+pub mod Written

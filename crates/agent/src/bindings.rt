@@ -1,8 +1,4 @@
-//! Why the bindings of a request aren't answered, and copies of their names.
-
-ghost use Rattle.std.specs.Prelude.{◌≡◌};
-
-use ber_code::Oid;
+//! Why the bindings of a request aren't answered.
 
 /// The status (RFC 1157, 4.1.1) and the place, from 1, of the first binding with a fault.
 #[derive(Clone, Copy, Debug, PartialEq, Eq)]
@@ -22,12 +18,3 @@ pub const BAD_VALUE: u8 = 3;
 
 /// RFC 1157, 4.1.1: it can't be done, for a reason that no other status tells.
 pub const GENERAL_ERROR: u8 = 5;
-
-/// The same name.
-pub fn copy_of_name(name: &Oid) -> Oid
-    ensures { result ≡ name.now }
-{
-    let mut copy = Oid::new();
-    let _ = copy.try_extend_from_slice(name.as_slice());
-    copy
-}

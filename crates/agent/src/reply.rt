@@ -1,22 +1,24 @@
 //! The answer to what was asked: the values, or the status and index of the first fault with the request's bindings.
 
-ghost use Rattle.std.specs.Prelude.{◌≡◌, ◌≤◌, ◌<◌, [], length, All, IfOk};
+ghost use Rattle.std.specs.Prelude.{◌≡◌, ◌≤◌, ◌<◌, ◌&&◌, [], length, All, IfSome};
+ghost use Rattle.ber_code.specs.Names.{IsWritable};
 ghost use Rattle.snmp_msg.specs.Parts.{message_in};
-ghost use Rattle.snmp_msg.specs.Shortest.{shortest, IsWritableBind, IsWritableMessage};
+ghost use Rattle.snmp_msg.specs.Shortest.{shortest, IsWritableBind, IsWritableMessage, IsWritableValue};
 ghost use Rattle.agent.specs.Asks.{IsAsked};
-ghost use Rattle.agent.specs.Bindings.{each_gives, gathered};
+ghost use Rattle.agent.specs.Bindings.{each_gives};
+ghost use Rattle.agent.specs.Written.{Puts, Written};
 ghost use Rattle.agent.specs.Seen.{IsWithin, seen};
-ghost use Rattle.agent.specs.Replies.{instance_of, next_instance, given, response, repeated, with_values, stage_status, stage_index, told, HasOutcome, reply};
+ghost use Rattle.agent.specs.Replies.{with_value, given, response, repeated, with_values, stage_status, stage_index, told, HasOutcome, reply};
 
 use crate::ask::{Ask, Wish};
-use crate::bindings::{BAD_VALUE, Fault, GENERAL_ERROR, NO_SUCH_NAME, TOO_BIG, copy_of_name};
+use crate::bindings::{BAD_VALUE, Fault, GENERAL_ERROR, NO_SUCH_NAME, TOO_BIG};
 use crate::cabinet::Cabinet;
 use crate::values::value_named;
-use arrayvec::ArrayVec;
+use ber_code::Oid;
 use oid_map::next;
 use sig_tables::{Shown, Tables};
 use sig_types::{Octets, StageAnswer};
-use snmp_msg::{Bind, Message, Parts, Pdu, TooLong, write_parts};
+use snmp_msg::{Bind, Message, Parts, Pdu, TooLong, Value, write_around, write_bind, write_parts};
 
 /// Which instances a request is about.
 #[derive(Clone, Copy, Debug, PartialEq, Eq)]
@@ -27,74 +29,64 @@ pub enum Reach {
     Following,
 }
 
-/// The instance that a binding names, with its value, or the status of its fault.
-fn instance_of(cabinet: &Cabinet, bind: &Bind) -> Result<Bind, u8>
-    requires writable { IsWritableBind bind.now }
-    requires within { IsWithin cabinet.now.shown.now }
-    ensures gives { result ≡ instance_of (seen cabinet.now) bind.now }
-    ensures writable { IfOk result IsWritableBind }
+/// Appends the text of the instance of a name with its value, if it has one, and says whether that found room; else the status of
+/// the fault.
+fn put_valued(name: &Oid, value: Option<Value>, list: &mut Octets) -> Result<bool, u8>
+    requires name { IsWritable name.now.items }
+    requires value { IfSome value IsWritableValue }
+    ensures puts { Puts result list.old.items list.new.items (with_value name.now.items value) }
 {
-    match value_named(cabinet, &bind.name) {
-        Some(value) => {
-            let name = copy_of_name(&bind.name);
-            Ok(Bind { name, value })
-        }
+    match value {
+        Some(value) => Ok(write_bind(name, &value, list).is_ok()),
         None => Err(NO_SUCH_NAME),
     }
 }
 
-/// The instance that comes next after a binding's name, with its value, or the status of its fault.
-fn next_instance(cabinet: &Cabinet, bind: &Bind) -> Result<Bind, u8>
-    requires within { IsWithin cabinet.now.shown.now }
-    ensures gives { result ≡ next_instance (seen cabinet.now) bind.now }
-    ensures writable { IfOk result IsWritableBind }
-{
-    match next(&bind.name) {
-        Some(name) => match value_named(cabinet, &name) {
-            Some(value) => Ok(Bind { name, value }),
-            None => Err(NO_SUCH_NAME),
-        },
-        None => Err(NO_SUCH_NAME),
-    }
-}
-
-/// The instance that a binding asks for, with its value, or the status of its fault.
-fn given(cabinet: &Cabinet, reach: Reach, bind: &Bind) -> Result<Bind, u8>
+/// Appends the text of the instance that a binding asks for, with its value.
+fn put_given(cabinet: &Cabinet, reach: Reach, bind: &Bind, list: &mut Octets) -> Result<bool, u8>
     requires writable { IsWritableBind bind.now }
     requires within { IsWithin cabinet.now.shown.now }
-    ensures gives { result ≡ given reach (seen cabinet.now) bind.now }
-    ensures writable { IfOk result IsWritableBind }
+    ensures puts { Puts result list.old.items list.new.items (given reach (seen cabinet.now) bind.now) }
 {
     match reach {
-        Reach::Named => instance_of(cabinet, bind),
-        Reach::Following => next_instance(cabinet, bind),
+        Reach::Named => put_valued(&bind.name, value_named(cabinet, &bind.name), list),
+        Reach::Following => match next(&bind.name) {
+            Some(name) => put_valued(&name, value_named(cabinet, &name), list),
+            None => Err(NO_SUCH_NAME),
+        },
     }
 }
 
-/// Adds the instances that the bindings ask for, with their values, up to the first fault.
+/// Whether all so far found room, and one more.
+fn both(fits: bool, found: bool) -> bool
+    ensures { result ≡ (fits && found) }
+{
+    fits && found
+}
+
+/// Writes the texts of the instances that the bindings ask for, with their values, up to the first fault; says whether they found room.
 fn values_into(
     cabinet: &Cabinet,
     reach: Reach,
     binds: &[Bind],
-    values: &mut ArrayVec<Bind, 32>,
-) -> Result<(), Fault>
+    list: &mut Octets,
+) -> Result<bool, Fault>
     requires few { length binds.now ≤ 32 }
-    requires empty { values.old.items ≡ [] }
+    requires empty { list.old.items ≡ [] }
     requires writable { All IsWritableBind binds.now }
     requires within { IsWithin cabinet.now.shown.now }
-    ensures gives { gathered result values.new.items ≡ each_gives (given reach (seen cabinet.now)) 1 binds.now }
-    ensures writable { All IsWritableBind values.new.items }
+    ensures written { Written result list.new.items (each_gives (given reach (seen cabinet.now)) 1 binds.now) }
 {
+    let mut fits = true;
+    let mut index = 0;
     for bind in binds {
-        match given(cabinet, reach, bind) {
-            Ok(value) => values.push(value),
-            Err(status) => {
-                let index = values.len() as u8 + 1;
-                return Err(Fault { status, index });
-            }
+        index += 1;
+        match put_given(cabinet, reach, bind, list) {
+            Ok(found) => fits = both(fits, found),
+            Err(status) => return Err(Fault { status, index }),
         }
     }
-    Ok(())
+    Ok(fits)
 }
 
 /// The parts of the Response with the request's community and id.
@@ -134,12 +126,13 @@ fn reached(cabinet: &Cabinet, reach: Reach, m: &Message) -> Octets
     requires within { IsWithin cabinet.now.shown.now }
     ensures { result.items ≡ shortest (with_values m.now (each_gives (given reach (seen cabinet.now)) 1 m.now.binds.items)) }
 {
-    let mut values = ArrayVec::new();
-    match values_into(cabinet, reach, m.binds.as_slice(), &mut values) {
-        Ok(()) => match write_parts(&response(m, 0, 0, values.as_slice())) {
+    let mut list = Octets::new();
+    match values_into(cabinet, reach, m.binds.as_slice(), &mut list) {
+        Ok(true) => match write_around(&response(m, 0, 0, &[]), &list) {
             Ok(octets) => octets,
             Err(TooLong) => repeated(m, TOO_BIG, 0),
         },
+        Ok(false) => repeated(m, TOO_BIG, 0),
         Err(Fault { status, index }) => repeated(m, status, index),
     }
 }

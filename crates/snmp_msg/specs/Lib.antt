@@ -3,3 +3,4 @@ pub mod Messages
 pub mod Shortest
 pub mod Reading
 pub mod Parts
+pub mod Around

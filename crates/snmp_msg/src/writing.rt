@@ -20,7 +20,7 @@ use ber_code::{
 use sig_types::Octets;
 
 #[tactic(auto, unfolding(crate::specs::Shortest::value_text))]
-fn value_size(value: &Value) -> usize
+pub(crate) fn value_size(value: &Value) -> usize
     requires { IsWritableValue value.now }
     ensures size { result ≡ length (value_text value.now) }
     ensures small { result ≤ 157 }
@@ -35,7 +35,7 @@ fn value_size(value: &Value) -> usize
 }
 
 #[tactic(auto, unfolding(crate::specs::Shortest::value_text))]
-fn put_value(value: &Value, out: &mut Octets) -> Result<(), Full>
+pub(crate) fn put_value(value: &Value, out: &mut Octets) -> Result<(), Full>
     requires { IsWritableValue value.now }
     ensures ok { OnOk result (out.new.items ≡ out.old.items ++ value_text value.now) }
     ensures full { OnErr result (1472 < array_vec_len out.old + length (value_text value.now)) }
@@ -97,7 +97,7 @@ fn put_bindings(binds: &[Bind], out: &mut Octets) -> Result<(), Full>
 }
 
 #[tactic(auto, unfolding(crate::specs::Shortest::ids_text))]
-fn ids_size(id: i32, status: i32, index: i32) -> usize
+pub(crate) fn ids_size(id: i32, status: i32, index: i32) -> usize
     ensures size { result ≡ length (ids_text id status index) }
     ensures small { result ≤ 18 }
 {
@@ -115,7 +115,7 @@ fn put_ids(id: i32, status: i32, index: i32, out: &mut Octets) -> Result<(), Ful
 }
 
 /// Puts id, status and index of the message.
-fn put_ids_of(m: &Parts, out: &mut Octets) -> Result<(), Full>
+pub(crate) fn put_ids_of(m: &Parts, out: &mut Octets) -> Result<(), Full>
     ensures ok { OnOk result (out.new.items ≡ out.old.items ++ ids_text m.now.id m.now.status m.now.index) }
     ensures full { OnErr result (1472 < array_vec_len out.old + length (ids_text m.now.id m.now.status m.now.index)) }
 {
