@@ -1,6 +1,8 @@
 -- Copies that are due, of lists of copies.
-use Rattle.std.proofs.Common.{◌≡◌, ℕ, ◌+◌, ◌<◌, ◌≤◌, ◌&&◌, Bool, true, false, ◌==◌, nat_lt, nat_le, if◌then◌else◌, List, [], ◌∷◌, ◌++◌, refl, ◌∙◌, ap, arith}
-use Rattle.std.specs.List.{filter}
+use Rattle.std.proofs.Common.{◌≡◌, ℕ, zero, suc, length, ◌+◌, ◌<◌, ◌≤◌, ◌&&◌, Bool, true, false, ◌==◌, nat_lt, nat_le, if◌then◌else◌, List, [], ◌∷◌, ◌++◌, refl, ◌∙◌, ap, arith}
+use Rattle.std.specs.List.{filter, AllByRecursion}
+use Rattle.std.specs.Prelude.{get_or}
+use Rattle.link_sim.specs.Shelves.{DropsPast}
 use Rattle.std.proofs.lemmas.Grind.{common_steps}
 use Rattle.scenario_data.specs.declared.scenario.FaultKind.TheVariants.{Late as LateFault}
 use Rattle.link_sim.specs.Faults.{copy_after}
@@ -55,3 +57,24 @@ kept_next round due h (x ∷ late) = split (kept_next round due h late) (is_kept
         let same : (nat_lt x.sent (round + 1) && (x.due == due)) ≡ (nat_lt x.sent round && (x.due == due)) = grind (arith, e, h, common_steps) in
         rw same (ap (λ texts. if nat_lt x.sent round && (x.due == due) then x.octets.items ∷ texts else texts) ih)
     split ih false e = let other : (nat_lt x.sent round && (x.due == due)) ≡ false = grind (arith, e, h, common_steps) in rw other ih
+
+-- none of those that are kept was sent in the round or later
+kept_sent : (round : ℕ) (late : List Late) → AllByRecursion (λ copy. copy.sent ≤ round) (filter (is_kept round) late)
+kept_sent round [] = tt
+kept_sent round (x ∷ late) = split (kept_sent round late) (is_kept round x) refl
+  where
+    split : AllByRecursion (λ copy. copy.sent ≤ round) (filter (is_kept round) late) → (b : Bool) → is_kept round x ≡ b → AllByRecursion (λ copy. copy.sent ≤ round) (if b then x ∷ filter (is_kept round) late else filter (is_kept round) late)
+    split ih true e = (grind (arith, e, common_steps), ih)
+    split ih false e = ih
+
+all_at : (round : ℕ) (late : List Late) → AllByRecursion (λ copy. copy.sent ≤ round) late → (i : ℕ) (d : Late) → i < length late → (get_or late i d).sent ≤ round
+all_at round [] is i d below = absurd (omega (arith, below))
+all_at round (x ∷ late) is zero d below = is.0
+all_at round (x ∷ late) is (suc i) d below = all_at round late is.1 i d (omega (arith, below))
+
+pub drops_kept : (round : ℕ) (late : List Late) → DropsPast round late (filter (is_kept round) late)
+drops_kept round late = record {
+  now = λ due h. kept_due round due h late;
+  next = λ due h. kept_next round due h late;
+  sent = all_at round (filter (is_kept round) late) (kept_sent round late);
+}

@@ -1,6 +1,7 @@
 mod Sorting
 mod Order
 mod Dues
+pub mod Shelves
 mod Dates
 pub mod Fits
 mod Lookups

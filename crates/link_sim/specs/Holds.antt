@@ -4,7 +4,7 @@ use Rattle.scenario_data.specs.declared.scenario.Fault.{Fault}
 use Rattle.link_sim.specs.declared.Line.{Line}
 use Rattle.link_sim.specs.declared.wire.Wire.{Wire}
 use Rattle.link_sim.specs.Carried.{late_copies}
-use Rattle.link_sim.specs.Due.{due_texts}
+use Rattle.link_sim.specs.Shelves.{shelved}
 
 abbrev pub line_of : Wire → Line
 line_of w = w.line
@@ -14,4 +14,4 @@ line_of w = w.line
 abbrev pub Holds : Wire → List Fault → List (List (List ℕ)) → Type 0
 Holds w faults past =
     (rounds : ℕ) → 1 ≤ rounds
-    → due_texts (length past + 1) (length past + rounds) w.late.items ≡ late_copies faults w.line rounds past
+    → shelved (length past + 1) (length past + rounds) w.late ≡ late_copies faults w.line rounds past

@@ -3,6 +3,7 @@ pub mod Order
 pub mod Kept
 pub mod Carried
 pub mod Due
+pub mod Shelves
 pub mod Agenda
 pub mod Priority
 pub mod Made

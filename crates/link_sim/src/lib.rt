@@ -20,7 +20,7 @@ pub use link::Link;
 pub use lists::{Arrivals, Lists};
 use scenario_data::Direction;
 use sig_types::Way;
-pub use wire::{Late, Wire};
+pub use wire::{Late, Shelf, Wire};
 
 /// One stream of a cabinet, towards it or from it.
 #[derive(Clone, Copy, Debug, PartialEq, Eq)]

@@ -1,10 +1,11 @@
 //! A line with the copies on it that come later.
 
-ghost use Rattle.std.specs.Prelude.{ℕ, ◌≡◌, ◌≤◌, ◌<◌, ◌+◌, ◌++◌, ◌∷◌, List, [], length, OnOk, OnErr, IfOk};
+ghost use Rattle.std.specs.Prelude.{ℕ, ◌≡◌, ◌≢◌, ◌≤◌, ◌<◌, ◌+◌, ◌%◌, ◌++◌, ◌∷◌, List, [], length, All, OnOk, OnErr, IfOk};
 ghost use Rattle.round_streams.specs.Items.{texts_of};
 ghost use Rattle.link_sim.specs.Faults.{copied};
 ghost use Rattle.link_sim.specs.Carried.{arriving_from, copies_from};
 ghost use Rattle.link_sim.specs.Due.{due_texts};
+ghost use Rattle.link_sim.specs.Shelves.{on_shelf, shelved, NoneAfter, DropsPast, IsOwnShelf};
 ghost use Rattle.link_sim.specs.Kept.{faults_in};
 
 use crate::faults::{arrive, copied};
@@ -12,6 +13,7 @@ use crate::{FaultList, Line};
 use scenario_data::{Fault, FaultKind};
 use sig_types::{NoMemory, Octets};
 use std::alloc::{AllocError, Global};
+use std::array;
 
 /// A copy of what was sent in a round that comes in a later one.
 #[derive(Debug, PartialEq, Drop)]
@@ -21,11 +23,20 @@ pub struct Late {
     octets: Octets,
 }
 
-/// A line, with the copies that are still to come, in the order of their sending.
+/// The copies that come in rounds of one rest by 32, in the order of their sending.
+#[derive(Debug, Drop)]
+pub struct Shelf {
+    copies: Vec<Late>,
+}
+
+/// A line, with the copies that are still to come, and the last round that it carried. A copy stands on the shelf of its round's
+/// rest by 32, so that a round looks through few others than its own.
 #[derive(Debug, Drop)]
 pub struct Wire {
     line: Line,
-    late: Vec<Late>,
+    late: [Shelf; 32],
+    last: u32,
+    ghost sent: { NoneAfter last late },
 }
 
 /// Keeps the copy of a frame that meets a late fault. Those of the rounds before are as they were.
@@ -37,6 +48,7 @@ fn keep(
 ) -> Result<(), AllocError>
     ensures later { OnOk result ((rounds : ℕ) → 1 ≤ rounds → due_texts (round + 1) (round + rounds) late.new.items ≡ due_texts (round + 1) (round + rounds) late.old.items ++ copied fault rounds octets.now.items) }
     ensures now { (due : ℕ) → due_texts round due late.new.items ≡ due_texts round due late.old.items }
+    ensures sent { All (λ copy. copy.sent ≤ round) late.old.items → All (λ copy. copy.sent ≤ round) late.new.items }
 {
     if let Some(
         Fault {
@@ -57,31 +69,81 @@ fn keep(
     Ok(())
 }
 
+/// The shelf of the copy of a frame that meets a late fault.
+fn shelf_of(round: u32, fault: Option<Fault>) -> usize
+    ensures small { result < 32 }
+    ensures own { (rounds : ℕ) (text : List ℕ) → IsOwnShelf result round fault rounds text }
+{
+    match fault {
+        Some(
+            Fault {
+                kind: FaultKind::Late,
+                by,
+                ..
+            },
+        ) => ((u64::from(round) + u64::from(by)) % 32) as usize,
+        _ => 0,
+    }
+}
+
+/// Keeps the copy on a shelf.
+fn keep_in(
+    shelf: &mut Shelf,
+    round: u32,
+    fault: Option<Fault>,
+    octets: &Octets,
+) -> Result<(), AllocError>
+    ensures later { OnOk result ((rounds : ℕ) → 1 ≤ rounds → due_texts (round + 1) (round + rounds) shelf.new.copies.items ≡ due_texts (round + 1) (round + rounds) shelf.old.copies.items ++ copied fault rounds octets.now.items) }
+    ensures now { (due : ℕ) → due_texts round due shelf.new.copies.items ≡ due_texts round due shelf.old.copies.items }
+    ensures sent { All (λ copy. copy.sent ≤ round) shelf.old.copies.items → All (λ copy. copy.sent ≤ round) shelf.new.copies.items }
+{
+    keep(&mut shelf.copies, round, fault, octets)
+}
+
+/// Keeps the copy of a frame that meets a late fault on its shelf.
+fn keep_on(
+    late: &mut [Shelf; 32],
+    round: u32,
+    fault: Option<Fault>,
+    octets: &Octets,
+) -> Result<(), AllocError>
+    requires sent { NoneAfter round late.old }
+    ensures later { OnOk result ((rounds : ℕ) → 1 ≤ rounds → shelved (round + 1) (round + rounds) late.new ≡ shelved (round + 1) (round + rounds) late.old ++ copied fault rounds octets.now.items) }
+    ensures now { (due : ℕ) → shelved round due late.new ≡ shelved round due late.old }
+    ensures sent { NoneAfter round late.new }
+{
+    let place = shelf_of(round, fault);
+    keep_in(&mut late[place], round, fault, octets)?;
+    Ok(())
+}
+
 /// Appends what arrives at once of the frames of a round, and keeps the copies that come later.
 fn send(
-    late: &mut Vec<Late>,
+    late: &mut [Shelf; 32],
     out: &mut Vec<Octets>,
     faults: &FaultList,
     line: Line,
     round: u32,
     sent: &[Octets],
 ) -> Result<(), AllocError>
+    requires sent { NoneAfter round late.old }
     ensures out { OnOk result (texts_of out.new.items ≡ texts_of out.old.items ++ arriving_from (faults_in faults.now) line round 0 (texts_of sent.now)) }
-    ensures later { OnOk result ((rounds : ℕ) → 1 ≤ rounds → due_texts (round + 1) (round + rounds) late.new.items ≡ due_texts (round + 1) (round + rounds) late.old.items ++ copies_from (faults_in faults.now) line round rounds 0 (texts_of sent.now)) }
-    ensures now { (due : ℕ) → due_texts round due late.new.items ≡ due_texts round due late.old.items }
+    ensures later { OnOk result ((rounds : ℕ) → 1 ≤ rounds → shelved (round + 1) (round + rounds) late.new ≡ shelved (round + 1) (round + rounds) late.old ++ copies_from (faults_in faults.now) line round rounds 0 (texts_of sent.now)) }
+    ensures now { (due : ℕ) → shelved round due late.new ≡ shelved round due late.old }
+    ensures sent { NoneAfter round late.new }
 {
     let mut place = 0;
     for octets in sent {
         let fault = faults.met(line, round, place);
         arrive(out, fault, octets)?;
-        keep(late, round, fault, octets)?;
+        keep_on(late, round, fault, octets)?;
         place += 1;
     }
     Ok(())
 }
 
 /// Appends the copies of what was sent before a round that are due in it.
-fn push_due(late: &Vec<Late>, round: u32, out: &mut Vec<Octets>) -> Result<(), AllocError>
+fn push_all_due(late: &Vec<Late>, round: u32, out: &mut Vec<Octets>) -> Result<(), AllocError>
     ensures { OnOk result (texts_of out.new.items ≡ texts_of out.old.items ++ due_texts round round late.now.items) }
 {
     for copy in late {
@@ -92,12 +154,56 @@ fn push_due(late: &Vec<Late>, round: u32, out: &mut Vec<Octets>) -> Result<(), A
     Ok(())
 }
 
+/// Appends the copies of what was sent before a round that are due in it, from its shelf.
+fn push_due(late: &[Shelf; 32], round: u32, out: &mut Vec<Octets>) -> Result<(), AllocError>
+    ensures { OnOk result (texts_of out.new.items ≡ texts_of out.old.items ++ shelved round round late.now) }
+{
+    push_all_due(&late[(round % 32) as usize].copies, round, out)
+}
+
 /// Drops the copies that were due before a round, and those that were kept when it was tried before.
 fn drop_past(late: &mut Vec<Late>, round: u32)
-    ensures now { (due : ℕ) → round ≤ due → due_texts round due late.new.items ≡ due_texts round due late.old.items }
-    ensures next { (due : ℕ) → round ≤ due → due_texts (round + 1) due late.new.items ≡ due_texts round due late.old.items }
+    ensures drops { DropsPast round late.old.items late.new.items }
 {
     late.retain(|copy| copy.sent < round && u64::from(round) <= copy.due);
+}
+
+/// The same on a shelf.
+fn drop_in(shelf: &mut Shelf, round: u32)
+    ensures drops { DropsPast round shelf.old.copies.items shelf.new.copies.items }
+{
+    drop_past(&mut shelf.copies, round);
+}
+
+/// The same on the shelf of the round: those on it were due 32 rounds ago.
+fn drop_one(late: &mut [Shelf; 32], round: u32)
+    ensures own { DropsPast round (on_shelf late.old (round % 32)) (on_shelf late.new (round % 32)) }
+    ensures others { (k : ℕ) → k ≢ round % 32 → on_shelf late.new k ≡ on_shelf late.old k }
+{
+    drop_in(&mut late[(round % 32) as usize], round);
+}
+
+/// The same on all shelves.
+fn drop_all(late: &mut [Shelf; 32], round: u32)
+    ensures drops { (k : ℕ) → DropsPast round (on_shelf late.old k) (on_shelf late.new k) }
+{
+    for k in 0..32 {
+        drop_in(&mut late[k], round);
+    }
+}
+
+/// Drops what was due before a round; where the round comes again, also what was kept when it was tried before.
+fn make_ready(late: &mut [Shelf; 32], last: u32, round: u32)
+    requires sent { NoneAfter last late.old }
+    ensures now { (due : ℕ) → round ≤ due → shelved round due late.new ≡ shelved round due late.old }
+    ensures next { (due : ℕ) → round ≤ due → shelved (round + 1) due late.new ≡ shelved round due late.old }
+    ensures sent { NoneAfter round late.new }
+{
+    if round <= last {
+        drop_all(late, round);
+    } else {
+        drop_one(late, round);
+    }
 }
 
 impl Wire {
@@ -111,7 +217,10 @@ impl Wire {
     {
         Wire {
             line,
-            late: Vec::new(alloc),
+            late: array::from_fn(|_| Shelf {
+                copies: Vec::new(alloc),
+            }),
+            last: 0,
         }
     }
 
@@ -130,7 +239,8 @@ impl Wire {
         ensures line { line_of self.new ≡ line_of self.old }
     {
         let line = self.line;
-        drop_past(&mut self.late, round);
+        make_ready(&mut self.late, self.last, round);
+        self.last = round;
         let mut out = Vec::new(alloc);
         if send(&mut self.late, &mut out, faults, line, round, sent).is_err() {
             return Err(NoMemory);

@@ -1,6 +1,6 @@
 use Rattle.std.proofs.Common.{◌≡◌, ℕ, ◌≤◌, ◌+◌, ◌++◌, drop}
 use Rattle.round_streams.specs.Items.{texts_of}
-use Rattle.link_sim.specs.Due.{due_texts}
+use Rattle.link_sim.specs.Shelves.{shelved, NoneAfter}
 use Rattle.link_sim.specs.Kept.{faults_in}
 use Rattle.link_sim.specs.Carried.{arriving_from, copies_from}
 use Rattle.link_sim.proofs.wire.send.Given as goal
@@ -11,6 +11,7 @@ invariant-loop-octets l =
     (l.place ≡ l.octets-index)
     × (texts_of l.out.items ++ arriving_from (faults_in l.faults) l.line l.round l.place (texts_of (drop l.octets-index l.sent))
     ≡ texts_of l.fn.out.items ++ arriving_from (faults_in l.faults) l.line l.round 0 (texts_of l.sent))
-    × ((rounds : ℕ) → 1 ≤ rounds → due_texts (l.round + 1) (l.round + rounds) l.late.items ++ copies_from (faults_in l.faults) l.line l.round rounds l.place (texts_of (drop l.octets-index l.sent))
-    ≡ due_texts (l.round + 1) (l.round + rounds) l.fn.late.items ++ copies_from (faults_in l.faults) l.line l.round rounds 0 (texts_of l.sent))
-    × ((due : ℕ) → due_texts l.round due l.late.items ≡ due_texts l.round due l.fn.late.items)
+    × ((rounds : ℕ) → 1 ≤ rounds → shelved (l.round + 1) (l.round + rounds) l.late ++ copies_from (faults_in l.faults) l.line l.round rounds l.place (texts_of (drop l.octets-index l.sent))
+    ≡ shelved (l.round + 1) (l.round + rounds) l.fn.late ++ copies_from (faults_in l.faults) l.line l.round rounds 0 (texts_of l.sent))
+    × ((due : ℕ) → shelved l.round due l.late ≡ shelved l.round due l.fn.late)
+    × NoneAfter l.round l.late

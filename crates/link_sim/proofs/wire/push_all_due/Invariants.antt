@@ -1,7 +1,7 @@
 use Rattle.std.proofs.Common.{◌≡◌, ◌++◌, drop}
 use Rattle.round_streams.specs.Items.{texts_of}
 use Rattle.link_sim.specs.Due.{due_texts}
-use Rattle.link_sim.proofs.wire.push_due.Given as goal
+use Rattle.link_sim.proofs.wire.push_all_due.Given as goal
 
 -- what was appended so far, with the due ones to come, is all of it
 abbrev pub invariant-loop-copy : goal.invariant-loop-copy

@@ -1,0 +1,14 @@
+use Rattle.std.proofs.Common.{◌≡◌, ◌%◌, ◌++◌, List, sym, subst, arith}
+use Rattle.std.specs.Prelude.{OnOk}
+use Rattle.round_streams.specs.Items.{texts_of}
+use Rattle.link_sim.specs.declared.wire.Late.{Late}
+use Rattle.link_sim.specs.Due.{due_texts}
+use Rattle.link_sim.proofs.Shelves.{on_shelf-get}
+use Rattle.link_sim.proofs.wire.push_due.Goals as goal
+
+pub returns : goal.returns
+returns c =
+    subst
+    (λ (copies : List Late). OnOk c.push_all_due.result (texts_of c.push_all_due.new.out.items ≡ texts_of c.args.out.now.items ++ due_texts c.args.round c.args.round copies))
+    (sym (on_shelf-get c.args.late.now (c.args.round % 32) c.index-late-round.result (omega arith)))
+    c.push_all_due.ensures
