@@ -9,8 +9,7 @@ use Rattle.scenario_read.specs.Paths.{Step, then_item}
 use Rattle.scenario_read.specs.Kinds.{Kind, each, each_behind}
 use Rattle.scenario_read.specs.Table.{round, cabinet_number, load_cabinet}
 use Rattle.scenario_read.specs.Content.{each_of, number_at, load_of}
-use Rattle.scenario_file.specs.Growing.{both, inner_text, follows}
-use Rattle.std.specs.Prelude.{string_bytes}
+use Rattle.scenario_file.specs.Growing.{written, both, inner_text, follows}
 use Rattle.scenario_file.specs.declared.found.Reach.{Reach}
 use Rattle.scenario_file.specs.declared.listed.Listed.{Listed}
 use Rattle.scenario_file.specs.Listing.{Told, ToldLoads, Adds, AllOf, AsksWithin, Further, Within, Holds, Lists, any_load, asked_version, list_path, name_of}
@@ -126,7 +125,7 @@ bracketed later (item d ds) = ap (λ s. comma_if later ++ (compact_text d ++ s))
 -- ---- a list with one item more
 
 pub lists-next : (old new : Listed) (ds : Items) (d : Data) (reach : Reach) → Lists old ds → Holds new.found (both ds (item d no_items))
-    → string_bytes new.text ≡ (string_bytes old.text ++ comma_if old.some) ++ compact_text d → new.some ≡ true → name_of new.found ≡ name_of old.found
+    → written new.text ≡ (written old.text ++ comma_if old.some) ++ compact_text d → new.some ≡ true → name_of new.found ≡ name_of old.found
     → Within (name_of old.found) reach d → Further old.last new.last → Further reach new.last → Lists new (both ds (item d no_items))
 lists-next old new ds d reach l holds text some same within far there =
     let name = name_of old.found in

@@ -1,7 +1,5 @@
 -- The lists that were found stand where they did when another member is put into the frame.
 use Rattle.std.proofs.Common.{◌≡◌, ℕ, List, true, false, Bool, ◌||◌, bytes_eq, codes, refl, sym, ap, ◌∙◌, subst, arith}
-use Rattle.std.specs.Prelude.{String, string_bytes}
-use Rattle.std.specs.declared.alloc.Global.{Global}
 use Rattle.std.proofs.lemmas.Bool.{or_parts}
 use Rattle.std.proofs.lemmas.Slice.Eq.{bytes_eq-Decides}
 use Rattle.serde_json.specs.Data.{Data, Items, Members, put}
@@ -10,7 +8,8 @@ use Rattle.scenario_file.specs.declared.found.Found.{Found}
 use Rattle.scenario_file.specs.declared.found.Found.TheVariants.{Cabinets, Inputs, Loads, Priority, Frames, Faults}
 use Rattle.scenario_file.specs.declared.found.Reach.{Reach}
 use Rattle.scenario_file.specs.declared.lists.Lists.{Lists}
-use Rattle.scenario_file.specs.Growing.{inner_text}
+use Rattle.scenario_file.specs.declared.written.Written.{Written}
+use Rattle.scenario_file.specs.Growing.{written, inner_text}
 use Rattle.scenario_file.specs.Listing.{Holds, name_of, AllOf, Further, Within}
 use Rattle.scenario_file.specs.Framing.{is_list, text_named, stand_in, with_rows, IsHeld, Stands, AllStand}
 use Rattle.scenario_file.proofs.Growth.{all-further}
@@ -22,7 +21,7 @@ apart k l other same =
     absurd (cc)
 
 -- another member, and items that ask for more
-pub stand-other : (found : Found) (text : String Global) (last now : Reach) (frame : Members) (ds : Items) (k : List ℕ) (d : Data)
+pub stand-other : (found : Found) (text : Written) (last now : Reach) (frame : Members) (ds : Items) (k : List ℕ) (d : Data)
     → bytes_eq k (name_of found) ≡ false → Further last now → Stands found text last frame ds → Stands found text now (put k d frame) ds
 stand-other found text last now frame ds k d other far stands = record {
   holds = stands.holds;
@@ -32,7 +31,7 @@ stand-other found text last now frame ds k d other far stands = record {
 }
 
 -- the list itself
-pub stand-here : (found : Found) (text : String Global) (last now : Reach) (frame : Members) (ds : Items) → Holds found ds → string_bytes text ≡ inner_text false ds
+pub stand-here : (found : Found) (text : Written) (last now : Reach) (frame : Members) (ds : Items) → Holds found ds → written text ≡ inner_text false ds
     → AllOf (Within (name_of found) last) ds → Further last now → Stands found text now (put (name_of found) (stand_in (name_of found) ds) frame) ds
 stand-here found text last now frame ds holds is within far = record {
   holds = holds;

@@ -1,15 +1,11 @@
 -- The compact text grows member by member.
-use Rattle.std.proofs.Common.{◌≡◌, ℕ, List, [], ◌∷◌, ◌++◌, Bool, true, false, bytes_eq, nat_cmp, sym, ap, ◌∙◌, append_assoc}
+use Rattle.std.proofs.Common.{◌≡◌, ℕ, List, [], ◌∷◌, ◌++◌, Bool, true, false, sym, ap, ◌∙◌, append_assoc}
 use Rattle.std.proofs.lemmas.Bool.{or_parts}
-use Rattle.std.specs.Cmp.Lexicographic.{slice_cmp}
 use Rattle.json.specs.Print.{quoted}
-use Rattle.serde_json.specs.Data.{Data, array, Items, Members, no_members, member}
+use Rattle.serde_json.specs.Data.{Data, array, Items, Members, member}
 use Rattle.serde_json.specs.Written.{has_float, members_have_float, comma_if, compact_text, members_text}
 use Rattle.scenario_file.specs.Growing.{inner_text}
-use Rattle.scenario_read.specs.Sorted.{Below}
-use Rattle.scenario_file.specs.declared.lists.Texts.{Texts}
-use Rattle.scenario_file.specs.Framing.{is_list, text_named, value_in, with_lists}
-use Rattle.scenario_file.proofs.Frames.{apart-names, not-less}
+use Rattle.scenario_file.specs.Framing.{value_in, with_lists}
 use Rattle.scenario_file.proofs.Growth.{bracketed}
 
 regroup : (before inner : List ℕ) → ((before ++ 91 ∷ []) ++ inner) ++ 93 ∷ [] ≡ before ++ (91 ∷ (inner ++ 93 ∷ []))
@@ -35,21 +31,3 @@ one-member rows name d rest ms later before named after whole first plain is nam
       ap (λ s. s ++ more) (value-is parts.0 ∙ ap (λ s. s ++ compact_text there) name-is) ∙ member-first before (comma_if later) (quoted name) (compact_text there) more
           ∙ ap (λ xs. before ++ members_text later (with_lists rows xs)) (sym first) ∙ is,
     )
-
--- ---- the texts that are still to be taken
-
--- each list among these members has its text
-abbrev pub Left : Texts → (List ℕ → Items) → Members → Type 0
-Left texts rows no_members = Unit {0}
-Left texts rows (member name d ms) = (is_list name ≡ true → text_named texts name ≡ inner_text false (rows name)) × Left texts rows ms
-
-pub left_all : (texts : Texts) (rows : List ℕ → Items) (ms : Members) → ((name : List ℕ) → is_list name ≡ true → text_named texts name ≡ inner_text false (rows name)) → Left texts rows ms
-left_all texts rows no_members all = tt
-left_all texts rows (member name d ms) all = (all name, left_all texts rows ms all)
-
--- the text at a name below them is taken
-pub left-next : (taken : List ℕ) (old new : Texts) (rows : List ℕ → Items) (ms : Members) → Below taken ms
-    → ((other : List ℕ) → bytes_eq other taken ≡ false → text_named new other ≡ text_named old other) → Left old rows ms → Left new rows ms
-left-next taken old new rows no_members below same left = tt
-left-next taken old new rows (member name d ms) below same left =
-    (λ is. same name (apart-names taken name (not-less (slice_cmp nat_cmp taken name) below.0)) ∙ left.0 is, left-next taken old new rows ms below.1 same left.1)

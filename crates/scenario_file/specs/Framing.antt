@@ -1,18 +1,17 @@
 -- The value of a scenario, from its frame: the same members, with the items of its lists where a list of empty objects, or an
 -- empty one, stands.
-use Rattle.std.specs.Prelude.{ℕ, List, [], ◌≡◌, ◌||◌, Bool, false, codes, if◌then◌else◌, bytes_eq, Option, Some, None, string_bytes}
-use Rattle.std.specs.declared.alloc.Global.{Global}
-use Rattle.std.specs.Prelude.{String}
+use Rattle.std.specs.Prelude.{ℕ, List, [], ◌≡◌, ◌||◌, Bool, false, codes, if◌then◌else◌, bytes_eq, Option, Some, None}
 use Rattle.serde_json.specs.Events.{items_len}
 use Rattle.serde_json.specs.Data.{Data, array, Items, no_items, Members, no_members, member}
 use Rattle.serde_json.specs.Find.{get_member}
-use Rattle.scenario_file.specs.Growing.{inner_text, blanks}
+use Rattle.scenario_file.specs.Growing.{written, inner_text, blanks}
 use Rattle.scenario_file.specs.Listing.{Holds, name_of, AllOf, Within}
 use Rattle.scenario_file.specs.declared.found.Found.{Found}
 use Rattle.scenario_file.specs.declared.found.Found.TheVariants.{Cabinets, Inputs, Loads, Priority, Frames, Faults}
 use Rattle.scenario_file.specs.declared.found.Reach.{Reach}
 use Rattle.scenario_file.specs.declared.lists.Lists.{Lists}
 use Rattle.scenario_file.specs.declared.lists.Texts.{Texts}
+use Rattle.scenario_file.specs.declared.written.Written.{Written}
 
 -- the name is that of a list which is read item by item
 abbrev pub is_list : List ℕ → Bool
@@ -41,12 +40,12 @@ with_rows rows name ds other = if bytes_eq other name then ds else rows other
 -- the text between the brackets of the list at a name; none at any other name
 abbrev pub text_named : Texts → List ℕ → List ℕ
 text_named texts name =
-    if bytes_eq name (codes "cabinets") then string_bytes texts.cabinets else
-    if bytes_eq name (codes "inputs") then string_bytes texts.inputs else
-    if bytes_eq name (codes "loads") then string_bytes texts.loads else
-    if bytes_eq name (codes "priority") then string_bytes texts.priority else
-    if bytes_eq name (codes "frames") then string_bytes texts.frames else
-    if bytes_eq name (codes "faults") then string_bytes texts.faults else []
+    if bytes_eq name (codes "cabinets") then written texts.cabinets else
+    if bytes_eq name (codes "inputs") then written texts.inputs else
+    if bytes_eq name (codes "loads") then written texts.loads else
+    if bytes_eq name (codes "priority") then written texts.priority else
+    if bytes_eq name (codes "frames") then written texts.frames else
+    if bytes_eq name (codes "faults") then written texts.faults else []
 
 -- what stands in the frame for a list of these items: for the cabinets as many empty objects, else no items
 abbrev pub stand_in : List ℕ → Items → Data
@@ -58,9 +57,9 @@ IsHeld name None ds = ds ≡ no_items
 IsHeld name (Some d) ds = d ≡ stand_in name ds
 
 -- this was found for the list that may stand in the frame
-pub record Stands (found : Found) (text : String Global) (last : Reach) (frame : Members) (ds : Items) : Type 0 where
+pub record Stands (found : Found) (text : Written) (last : Reach) (frame : Members) (ds : Items) : Type 0 where
   pub holds : Holds found ds
-  pub text_is : string_bytes text ≡ inner_text false ds
+  pub text_is : written text ≡ inner_text false ds
   pub within : AllOf (Within (name_of found) last) ds
   pub held : IsHeld (name_of found) (get_member (name_of found) frame) ds
 

@@ -1,7 +1,12 @@
 -- A list of values that grows at its end, and the text between its brackets.
-use Rattle.std.specs.Prelude.{ℕ, zero, suc, List, [], ◌++◌, Bool, true}
+use Rattle.std.specs.Prelude.{ℕ, zero, suc, List, [], ◌++◌, Bool, true, take, string_bytes}
 use Rattle.serde_json.specs.Data.{Items, no_items, item, object, no_members}
 use Rattle.serde_json.specs.Written.{comma_if, compact_text}
+use Rattle.scenario_file.specs.declared.written.Written.{Written}
+
+-- a text: the first bytes of a part of the file, and what follows them
+abbrev pub written : Written → List ℕ
+written text = take text.len text.part.now ++ string_bytes text.further
 
 -- these items, and then those
 abbrev pub both : Items → Items → Items

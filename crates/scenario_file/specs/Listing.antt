@@ -1,5 +1,5 @@
 -- What is known of the items of a list while the version and the numbers of rounds and of cabinets are not yet known.
-use Rattle.std.specs.Prelude.{◌≡◌, ◌≤◌, ◌||◌, ℕ, Bool, true, false, if◌then◌else◌, List, [], ◌∷◌, ◌++◌, bytes_eq, codes, is_some, length, map, string_bytes}
+use Rattle.std.specs.Prelude.{◌≡◌, ◌≤◌, ◌||◌, ℕ, Bool, true, false, if◌then◌else◌, List, [], ◌∷◌, ◌++◌, bytes_eq, codes, is_some, length, map}
 use Rattle.serde_json.specs.Data.{Data, Items, no_items, item}
 use Rattle.serde_json.specs.Find.{get}
 use Rattle.scenario_data.specs.declared.scenario.Fault.{Fault}
@@ -16,7 +16,7 @@ use Rattle.scenario_file.specs.declared.found.Found.{Found}
 use Rattle.scenario_file.specs.declared.found.Found.TheVariants.{Cabinets, Inputs, Loads, Priority, Frames, Faults}
 use Rattle.scenario_file.specs.declared.found.Reach.{Reach}
 use Rattle.scenario_file.specs.declared.listed.Listed.{Listed}
-use Rattle.scenario_file.specs.Growing.{inner_text, follows}
+use Rattle.scenario_file.specs.Growing.{written, inner_text, follows}
 
 -- where a list stands
 abbrev pub list_path : List ℕ → List Step
@@ -123,6 +123,6 @@ pub record Further (old new : Reach) : Type 0 where
 -- the items of a list: what they say, the text between the brackets, and what they ask for at the most
 pub record Lists (listed : Listed) (ds : Items) : Type 0 where
   pub holds : Holds listed.found ds
-  pub text : string_bytes listed.text ≡ inner_text false ds
+  pub text : written listed.text ≡ inner_text false ds
   pub some : listed.some ≡ follows false ds
   pub within : AllOf (Within (name_of listed.found) listed.last) ds

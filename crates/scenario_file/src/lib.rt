@@ -11,6 +11,7 @@ mod pieces;
 mod reading;
 mod top;
 mod trees;
+mod written;
 
 pub use reading::read;
 

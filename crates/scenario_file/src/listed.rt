@@ -8,53 +8,53 @@ ghost use Rattle.scenario_file.specs.Growing.{both};
 ghost use Rattle.scenario_file.specs.Listing.{Holds, Lists, name_of};
 
 use crate::found::{Found, Reach, add_item};
-use crate::pieces::{add_comma, add_value};
-use crate::trees::tree;
+use crate::pieces::{comma, piece_of};
+use crate::trees::{ITEM, tree};
+use crate::written::Written;
 use json::Reader;
 use std::alloc::Global;
 
 /// The items of a list, the compact text between its brackets, whether there is an item, and what the items ask for at
 /// the most.
 #[derive(Drop)]
-pub(crate) struct Listed {
+pub(crate) struct Listed<'a> {
     pub found: Found,
-    pub text: String,
+    pub text: Written<'a>,
     pub some: bool,
     pub last: Reach,
 }
 
 /// Reads one more item: what it says, and its text behind those before.
-fn next_item(alloc: Global, reader: &mut Reader<'_>, listed: &mut Listed) -> Option<()>
+fn next_item(alloc: Global, reader: &mut Reader<'_>, listed: &mut Listed<'_>) -> Option<()>
     ensures ok { IfSome result (λ _. (d : Data) × (converted of_json (value 125 reader.old) ≡ Some (d, reader.new))
         × ((ds : Items) → Lists listed.old ds → Lists listed.new (both ds (item d no_items)))) }
     ensures list { name_of listed.new.found ≡ name_of listed.old.found }
     ensures shorter { IfSome result (λ _. length reader.new < length reader.old) }
 {
-    let object = tree(alloc, reader, 125)?;
+    let object = tree(alloc, reader, 125, &ITEM)?;
     let reach = add_item(alloc, &object, &mut listed.found)?;
-    add_comma(&mut listed.text, listed.some)?;
-    add_value(alloc, &mut listed.text, &object)?;
+    let piece = piece_of(alloc, &object)?;
+    listed.text.add(comma(listed.some))?;
+    listed.text.add(piece.as_str())?;
     listed.some = true;
     listed.last = listed.last.farthest(reach);
     Some(())
 }
 
-/// The items up to the bracket that closes their list, with room for so many bytes of text.
-pub(crate) fn list_items(
+/// The items up to the bracket that closes their list, in this file.
+pub(crate) fn list_items<'a>(
     alloc: Global,
     reader: &mut Reader<'_>,
     found: Found,
-    room: usize,
-) -> Option<Listed>
+    file: &'a [u8],
+) -> Option<Listed<'a>>
     requires begins { Holds found no_items }
     ensures ok { IfSome result (λ listed. (ds : Items) × (converted of_items (items (value 125) (length reader.old) reader.old) ≡ Some (ds, reader.new))
         × Lists listed ds) }
     ensures list { IfSome result (λ listed. name_of listed.found ≡ name_of found) }
     ensures shorter { IfSome result (λ _. length reader.new < length reader.old) }
 {
-    let Ok(text) = String::with_capacity(alloc, room) else {
-        return None;
-    };
+    let text = Written::nothing(alloc, file, reader.offset())?;
     let mut listed = Listed {
         found,
         text,

@@ -17,29 +17,27 @@ pub(crate) fn add(text: &mut String, piece: &str) -> Option<()>
     }
 }
 
-/// Puts a piece before the text.
-pub(crate) fn put_before(text: &mut String, piece: &str) -> Option<()>
-    ensures { IfSome result (λ _. string_bytes text.new ≡ piece.now ++ string_bytes text.old) }
+/// The comma between what stands before and what follows; nothing, where nothing stands before.
+pub(crate) fn comma<'a>(later: bool) -> &'a str
+    ensures { result.now ≡ comma_if later }
 {
-    match text.insert_str(0, piece) {
-        Ok(()) => Some(()),
-        Err(_) => None,
-    }
+    if later { "," } else { "" }
 }
 
-/// Adds a comma, where something stands before.
-pub(crate) fn add_comma(text: &mut String, later: bool) -> Option<()>
-    ensures { IfSome result (λ _. string_bytes text.new ≡ string_bytes text.old ++ comma_if later) }
+/// The compact text of a value.
+pub(crate) fn piece_of(alloc: Global, value: &Value) -> Option<String>
+    ensures { IfSome result (λ text. has_float (view value.now) ≡ false → string_bytes text ≡ compact_text (view value.now)) }
 {
-    if later { add(text, ",") } else { Some(()) }
+    match value.to_string(alloc) {
+        Ok(piece) => Some(piece),
+        Err(_) => None,
+    }
 }
 
 /// Adds the compact text of a value.
 pub(crate) fn add_value(alloc: Global, text: &mut String, value: &Value) -> Option<()>
     ensures { IfSome result (λ _. has_float (view value.now) ≡ false → string_bytes text.new ≡ string_bytes text.old ++ compact_text (view value.now)) }
 {
-    match value.to_string(alloc) {
-        Ok(piece) => add(text, piece.as_str()),
-        Err(_) => None,
-    }
+    let piece = piece_of(alloc, value)?;
+    add(text, piece.as_str())
 }

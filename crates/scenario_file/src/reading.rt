@@ -1,5 +1,6 @@
-//! The scenario file: bytes in, a scenario or the first fault out. A right scenario is read with little memory;
-//! all else is given to the reader of the whole value, which names the first fault.
+//! The scenario file: bytes in, a scenario or the first fault out. A right scenario is read with little memory; of any other text that
+//! is kept on which its first fault may hang. The reader of the whole value is left what neither decides: a right scenario in
+//! which an earlier of equal names holds what none may hold.
 
 ghost use Rattle.std.specs.Prelude.{IfOk, IfErr, IfSome};
 ghost use Rattle.scenario_data.specs.Content.{scenario_content};
@@ -8,6 +9,7 @@ ghost use Rattle.scenario_read.specs.Answers.{IsScenario, IsFirstFault, OnRefusa
 use crate::compact::compact;
 use crate::lists::Lists;
 use crate::top::{Whole, whole_of};
+use scenario_cut::first_fault;
 use scenario_data::{ReadFail, Scenario};
 use scenario_read::{Parts, Setup, all_judged, checked_parts, scenario_from};
 use serde_json::Value;
@@ -23,10 +25,10 @@ pub(crate) fn scenario_of(alloc: Global, bytes: &[u8]) -> Option<Scenario>
     let Lists {
         cabinets,
         events,
-        mut texts,
+        texts,
         last,
     } = lists;
-    let text = compact(alloc, &frame, &mut texts)?;
+    let text = compact(alloc, &frame, &texts, bytes.len())?;
     let Ok(parts) = checked_parts(alloc, &Value::Object(frame)) else {
         return None;
     };
@@ -56,6 +58,9 @@ pub fn read(alloc: Global, bytes: &[u8]) -> Result<Scenario, ReadFail>
 {
     match scenario_of(alloc, bytes) {
         Some(scenario) => Ok(scenario),
-        None => scenario_read::read(alloc, bytes),
+        None => match first_fault(alloc, bytes) {
+            Some(fail) => Err(fail),
+            None => scenario_read::read(alloc, bytes),
+        },
     }
 }

@@ -12,21 +12,26 @@ ghost use Rattle.scenario_file.specs.Framing.{with_lists, AllStand};
 
 use crate::found::{Found, list_named, stand_in};
 use crate::listed::{Listed, list_items};
-use crate::lists::{Lists, no_lists, with_list};
-use crate::trees::{put_member, tree};
+use crate::lists::{Lists, no_lists, put_list};
+use crate::trees::{BESIDE, put_member, tree};
 use json::{Reader, Scratch, Token};
 use serde_json::{Map, Value};
 use std::alloc::Global;
 
 /// A scenario's value but for its lists, and these.
 #[derive(Drop)]
-pub(crate) struct Whole {
+pub(crate) struct Whole<'a> {
     pub frame: Map<String, Value>,
-    pub lists: Lists,
+    pub lists: Lists<'a>,
 }
 
 /// The list, where one is the reader's next value.
-fn list_at(alloc: Global, reader: &mut Reader<'_>, found: Found, room: usize) -> Option<Listed>
+fn list_at<'a>(
+    alloc: Global,
+    reader: &mut Reader<'_>,
+    found: Found,
+    file: &'a [u8],
+) -> Option<Listed<'a>>
     requires begins { Holds found no_items }
     ensures ok { IfSome result (λ listed. (ds : Items) × (converted of_json (value 126 reader.old) ≡ Some (array ds, reader.new))
         × ListsItems listed ds) }
@@ -34,7 +39,7 @@ fn list_at(alloc: Global, reader: &mut Reader<'_>, found: Found, room: usize) ->
     ensures shorter { IfSome result (λ _. length reader.new < length reader.old) }
 {
     match reader.next() {
-        Some(Token::BeginArray) => match list_items(alloc, reader, found, room) {
+        Some(Token::BeginArray) => match list_items(alloc, reader, found, file) {
             Some(listed) => Some(listed),
             None => None,
         },
@@ -43,7 +48,7 @@ fn list_at(alloc: Global, reader: &mut Reader<'_>, found: Found, room: usize) ->
 }
 
 /// The members up to the brace that closes the whole object. Of equal names the last counts.
-fn members_of(alloc: Global, reader: &mut Reader<'_>, room: usize) -> Option<Whole>
+fn members_of<'a>(alloc: Global, reader: &mut Reader<'_>, file: &'a [u8]) -> Option<Whole<'a>>
     ensures ok { IfSome result (λ whole. (rows : List ℕ → Items)
         × (converted (λ ms. of_members ms no_members) (members (value 126) (length reader.old) reader.old) ≡ Some (with_lists rows (members_view whole.frame.entries), reader.new))
         × AllStand whole.lists (members_view whole.frame.entries) rows) }
@@ -63,16 +68,16 @@ fn members_of(alloc: Global, reader: &mut Reader<'_>, room: usize) -> Option<Who
         };
         match list_named(alloc, name) {
             Some(found) => {
-                let listed = list_at(alloc, reader, found, room)?;
+                let listed = list_at(alloc, reader, found, file)?;
                 let standing = stand_in(alloc, &listed.found)?;
-                lists = with_list(lists, listed);
+                put_list(&mut lists, listed);
                 match put_member(&mut frame, key, standing) {
                     Some(()) => {}
                     None => return None,
                 }
             }
             None => {
-                let value = tree(alloc, reader, 126)?;
+                let value = tree(alloc, reader, 126, &BESIDE)?;
                 put_member(&mut frame, key, value)?;
             }
         }
@@ -80,7 +85,7 @@ fn members_of(alloc: Global, reader: &mut Reader<'_>, room: usize) -> Option<Who
 }
 
 /// The parts of a text that is one object.
-pub(crate) fn whole_of(alloc: Global, bytes: &[u8]) -> Option<Whole>
+pub(crate) fn whole_of<'a>(alloc: Global, bytes: &'a [u8]) -> Option<Whole<'a>>
     ensures utf8 { IfSome result (λ _. IsUtf8 bytes.now) }
     ensures ok { IfSome result (λ whole. (rows : List ℕ → Items)
         × (read bytes.now ≡ Some (object (with_lists rows (members_view whole.frame.entries))))
@@ -98,7 +103,7 @@ pub(crate) fn whole_of(alloc: Global, bytes: &[u8]) -> Option<Whole>
         Some(Token::BeginObject) => {}
         _ => return None,
     }
-    let whole = members_of(alloc, &mut reader, bytes.len())?;
+    let whole = members_of(alloc, &mut reader, bytes)?;
     match reader.next() {
         Some(_) => None,
         None => Some(whole),

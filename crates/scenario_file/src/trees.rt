@@ -12,6 +12,35 @@ use json::{Reader, Token};
 use serde_json::{Map, Number, Value};
 use std::alloc::Global;
 
+/// What may open at a level of a tree: an object, or an array of at most so many items.
+#[derive(Clone, Copy)]
+pub(crate) enum Level {
+    Members,
+    Items(usize),
+}
+
+/// An item of a list: an object, in which the cells of a cabinet or a load are lists of a list.
+pub(crate) const ITEM: [Level; 3] = [Level::Members, Level::Items(4096), Level::Items(8)];
+
+/// What stands beside the lists: the master is an object, with a list of objects for a schedule.
+pub(crate) const BESIDE: [Level; 3] = [Level::Members, Level::Items(1000), Level::Members];
+
+/// How many items an array may have at the first level, and the levels below; none, where no array may open.
+fn items_below(levels: &[Level]) -> Option<(usize, &[Level])> {
+    match levels {
+        [Level::Items(most), inner @ ..] => Some((*most, inner)),
+        _ => None,
+    }
+}
+
+/// The levels below the first, where an object may open there.
+fn members_below(levels: &[Level]) -> Option<&[Level]> {
+    match levels {
+        [Level::Members, inner @ ..] => Some(inner),
+        _ => None,
+    }
+}
+
 /// The number that a token writes, where it is whole, not below 0, and has 64 bits.
 fn whole_number(text: &str) -> Option<Number>
     ensures { IfSome result (λ n. number_of text.now ≡ Some (number_view n)) }
@@ -42,9 +71,14 @@ pub(crate) fn put_member(members: &mut Map<String, Value>, name: String, value: 
     }
 }
 
-/// The next value of the reader, with arrays and objects nested at most so deep.
+/// The next value of the reader, with arrays and objects nested at most so deep, and only as the levels allow them. Gives up at any other.
 #[cycle(tree)]
-pub(crate) fn tree(alloc: Global, reader: &mut Reader<'_>, depth: usize) -> Option<Value>
+pub(crate) fn tree(
+    alloc: Global,
+    reader: &mut Reader<'_>,
+    depth: usize,
+    levels: &[Level],
+) -> Option<Value>
     ensures ok { IfSome result (λ v. converted of_json (value depth reader.old) ≡ Some (view v, reader.new)) }
     ensures shorter { IfSome result (λ _. length reader.new < length reader.old) }
 {
@@ -65,7 +99,8 @@ pub(crate) fn tree(alloc: Global, reader: &mut Reader<'_>, depth: usize) -> Opti
             if depth == 0 {
                 return None;
             }
-            match tree_items(alloc, reader, depth - 1) {
+            let (most, inner) = items_below(levels)?;
+            match tree_items(alloc, reader, depth - 1, most, inner) {
                 Some(items) => Some(Value::Array(items)),
                 None => None,
             }
@@ -74,7 +109,8 @@ pub(crate) fn tree(alloc: Global, reader: &mut Reader<'_>, depth: usize) -> Opti
             if depth == 0 {
                 return None;
             }
-            match tree_members(alloc, reader, depth - 1) {
+            let inner = members_below(levels)?;
+            match tree_members(alloc, reader, depth - 1, inner) {
                 Some(members) => Some(Value::Object(members)),
                 None => None,
             }
@@ -82,15 +118,24 @@ pub(crate) fn tree(alloc: Global, reader: &mut Reader<'_>, depth: usize) -> Opti
     }
 }
 
-/// The items up to the bracket that closes an array.
+/// The items up to the bracket that closes an array, at most so many.
 #[cycle(tree)]
-fn tree_items(alloc: Global, reader: &mut Reader<'_>, depth: usize) -> Option<Vec<Value>>
+fn tree_items(
+    alloc: Global,
+    reader: &mut Reader<'_>,
+    depth: usize,
+    most: usize,
+    levels: &[Level],
+) -> Option<Vec<Value>>
     ensures ok { IfSome result (λ v. converted of_items (items (value depth) (length reader.old) reader.old) ≡ Some (items_view v.items, reader.new)) }
     ensures shorter { IfSome result (λ _. length reader.new < length reader.old) }
 {
     let mut found = Vec::new(alloc);
     'items: while !reader.take_end_array() {
-        let item = tree(alloc, reader, depth)?;
+        if found.len() >= most {
+            return None;
+        }
+        let item = tree(alloc, reader, depth, levels)?;
         match found.push(item) {
             Ok(()) => {}
             Err(_) => return None,
@@ -101,7 +146,12 @@ fn tree_items(alloc: Global, reader: &mut Reader<'_>, depth: usize) -> Option<Ve
 
 /// The members up to the brace that closes an object. Of equal names the last counts.
 #[cycle(tree)]
-fn tree_members(alloc: Global, reader: &mut Reader<'_>, depth: usize) -> Option<Map<String, Value>>
+fn tree_members(
+    alloc: Global,
+    reader: &mut Reader<'_>,
+    depth: usize,
+    levels: &[Level],
+) -> Option<Map<String, Value>>
     ensures ok { IfSome result (λ m. converted (λ ms. of_members ms no_members) (members (value depth) (length reader.old) reader.old) ≡ Some (members_view m.entries, reader.new)) }
     ensures shorter { IfSome result (λ _. length reader.new < length reader.old) }
 {
@@ -116,7 +166,7 @@ fn tree_members(alloc: Global, reader: &mut Reader<'_>, depth: usize) -> Option<
             Ok(key) => key,
             Err(_) => return None,
         };
-        let member = tree(alloc, reader, depth)?;
+        let member = tree(alloc, reader, depth, levels)?;
         put_member(&mut found, key, member)?;
     }
 }

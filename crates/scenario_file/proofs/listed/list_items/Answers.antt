@@ -9,7 +9,7 @@ use Rattle.scenario_file.proofs.listed.list_items.Goals as goal
 pub items-init : goal.items-init
 items-init c =
     let all = converted of_items (items (value 125) (length c.args.reader.now) c.args.reader.now) in
-    (length c.args.reader.now, no_items, omega arith, none_before all, omega arith, record { holds = c.requires.begins; text = c.in-Ok.ensures.bytes; some = refl; within = tt }, refl)
+    (length c.args.reader.now, no_items, omega arith, none_before all, omega arith, record { holds = c.requires.begins; text = c.in_ok-text.ensures; some = refl; within = tt }, refl)
 
 pub items-preserved : goal.items-preserved
 items-preserved c =

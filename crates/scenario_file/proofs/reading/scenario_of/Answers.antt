@@ -38,7 +38,7 @@ returns-clause-scenario c =
     let round : lists.last.round ≤ parts.setup.rounds = c.lies_within.ensures.round inside in
     let cabinet : lists.last.cabinet ≤ length parts.setup.cabinets.items = subst (λ n. lists.last.cabinet ≤ n) counted (c.lies_within.ensures.cabinet inside) in
     let judged : all_table_faults 1 (map cabinet_content lists.cabinets.items) ≡ [] = c.in-Ok-all_judged.ensures.0 in
-    let text-is : members_have_float ms ≡ false → text ≡ compact_text (object (with_lists rows ms)) = λ plain. c.in_ok-text.ensures rows seen.sorted (texts-stand lists ms rows seen.ok.2) plain in
+    let text-is : members_have_float ms ≡ false → text ≡ compact_text (object (with_lists rows ms)) = λ plain. c.in_ok-text.ensures rows (texts-stand lists ms rows seen.ok.2) plain in
     let content-is : scenario_content c.scenario_from.result ≡ content_from (with_found parts lists) text =
     c.scenario_from.ensures.content ∙ ap (λ v. content_from (with_found parts lists) v.items) c.into_bytes.ensures.value in
     (both-read c.args.bytes.now text parts lists ms rows (scenario_content c.scenario_from.result) seen.utf8 seen.ok.1 seen.sorted seen.ok.2 none says (c.lies_within.ensures.version inside) round cabinet judged
@@ -61,7 +61,7 @@ returns-clause-reads_back c =
     let round : lists.last.round ≤ parts.setup.rounds = c.lies_within.ensures.round inside in
     let cabinet : lists.last.cabinet ≤ length parts.setup.cabinets.items = subst (λ n. lists.last.cabinet ≤ n) counted (c.lies_within.ensures.cabinet inside) in
     let judged : all_table_faults 1 (map cabinet_content lists.cabinets.items) ≡ [] = c.in-Ok-all_judged.ensures.0 in
-    let text-is : members_have_float ms ≡ false → text ≡ compact_text (object (with_lists rows ms)) = λ plain. c.in_ok-text.ensures rows seen.sorted (texts-stand lists ms rows seen.ok.2) plain in
+    let text-is : members_have_float ms ≡ false → text ≡ compact_text (object (with_lists rows ms)) = λ plain. c.in_ok-text.ensures rows (texts-stand lists ms rows seen.ok.2) plain in
     let content-is : scenario_content c.scenario_from.result ≡ content_from (with_found parts lists) text =
     c.scenario_from.ensures.content ∙ ap (λ v. content_from (with_found parts lists) v.items) c.into_bytes.ensures.value in
     let both = both-read c.args.bytes.now text parts lists ms rows (scenario_content c.scenario_from.result) seen.utf8 seen.ok.1 seen.sorted seen.ok.2 none says (c.lies_within.ensures.version inside) round cabinet judged

@@ -69,8 +69,8 @@ members-preserved-in-Some-put_member c =
     c.in-Some-put_member.ensures ∙ ap₂ (λ name d. put name d frame) copied standing in
     let there : put k (array es) old ≡ with_lists now (members_view c.put_member.new.members.entries) =
     put-list k rows es (stand_in k es) frame here l.invariant.5 ∙ ap (with_lists now) (sym inserted) in
-    let stand : AllStand c.with_list-lists.result (put k (stand_in k es) frame) now =
-    subst (λ name. AllStand c.with_list-lists.result (put name (stand_in name es) frame) (with_rows rows name es)) named-so (c.with_list-lists.ensures frame rows es l.invariant.6 done.ok.2) in (
+    let stand : AllStand c.put_list.new.lists (put k (stand_in k es) frame) now =
+    subst (λ name. AllStand c.put_list.new.lists (put name (stand_in name es) frame) (with_rows rows name es)) named-so (c.put_list.ensures frame rows es l.invariant.6 done.ok.2) in (
       n - 1,
       now,
       omega (arith, l.invariant.2),
@@ -78,7 +78,7 @@ members-preserved-in-Some-put_member c =
           ∙ ap (λ found. converted (λ ms. of_members ms found) (members p (n - 1) r)) there,
       omega (arith, l.invariant.4),
       subst MembersSorted (sym inserted) (sorted-put k (stand_in k es) frame (stand_in-sorted k es) l.invariant.5),
-      subst (λ ms. AllStand c.with_list-lists.result ms now) (sym inserted) stand,
+      subst (λ ms. AllStand c.put_list.new.lists ms now) (sym inserted) stand,
     )
 
 pub members-preserved : goal.members-preserved

@@ -1,0 +1,224 @@
+-- What is kept of a scenario's value has its first fault.
+use Rattle.std.proofs.Common.{◌≡◌, ◌≤◌, ℕ, suc, ◌+◌, ◌*◌, ◌==◌, ◌&&◌, nat_le, Bool, true, false, if◌then◌else◌, List, [], ◌∷◌, ◌++◌, length, codes, Option, Some, None, option_map, unwrap_or, refl, sym, ap, ap₂, ◌∙◌, subst}
+use Rattle.serde_json.specs.Data.{Data, null, boolean, number, string, array, object, Items, no_items, item, Members}
+use Rattle.serde_json.specs.Events.{items_len}
+use Rattle.serde_json.specs.Find.{get}
+use Rattle.scenario_data.specs.declared.refusal.ReadFail.{ReadFail}
+use Rattle.scenario_data.specs.declared.refusal.ReadFail.TheVariants.{Refused, NoMemory}
+use Rattle.scenario_read.specs.Readers.{Refuses}
+use Rattle.scenario_data.specs.Causes.{Cause, Names}
+use Rattle.scenario_data.specs.declared.scenario.Base.{Base}
+use Rattle.scenario_data.specs.Content.{CabinetContent}
+use Rattle.scenario_read.specs.Paths.{Step, then_named}
+use Rattle.scenario_read.specs.Kinds.{Fit, Fits, Wrong, Beyond, Kind, fault_at, within, list_fits, list_of, list_behind, items_in, each}
+use Rattle.scenario_read.specs.Fields.{Field, held, either, value_of, faults_of, field_faults, fields_faults, object_of, unknown_faults, names, known_fields}
+use Rattle.scenario_read.specs.CellLists.{cell_of, whole_of}
+use Rattle.scenario_read.specs.Table
+use Rattle.scenario_read.specs.Table.{number_at, load, load_cabinet}
+use Rattle.scenario_read.specs.Content.{each_of, list_in, base_of, cabinet_of, drift_at, version_number, round_count, tick_count, cabinets_of, cabinet_count}
+use Rattle.scenario_read.specs.Faults.{named_faults, product_faults, all_table_faults, faults, first_cause}
+use Rattle.scenario_cut.specs.Cutting.{Form, Whole, Cabinets, Cabinet, Events, Event, Rows, Row, Bare, cut, cut_items, member_form}
+use Rattle.scenario_cut.proofs.Same.{Same, Faulty, same-both, same-ended}
+use Rattle.scenario_cut.proofs.Members.{IsObject, Keeps, AllKeep, object-same, held-cut, get-cut}
+use Rattle.scenario_cut.proofs.Items.{KeepsItem, Stops, items-len, kept, list-same, each-counted, each-event, each-behind-event, behind-same, says-kept, says-counted}
+use Rattle.scenario_cut.proofs.Bare.{bare-says, cell-said}
+use Rattle.scenario_cut.proofs.Kept.{whole-same, text-same, bare-number, is-cabinet, cabinet-same, master-same, input-same, load-same, load-cabinet-same, priority-same, frame-same, fault-same, object-stops, load-stops, priority-stops, le-of}
+
+is-whole : IsObject Whole
+is-whole = record { opens = refl; closed = refl }
+
+-- ---- the lists
+
+cabinets-same : (version : ℕ) → KeepsItem Cabinets (list_of 1 64 (Table.cabinet version))
+cabinets-same version path d =
+    list-same Cabinets (record { opens = refl; closed = refl }) 1 64 (Table.cabinet version) path d (λ ds few. each-counted Cabinet (Table.cabinet version) (cabinet-same version) (λ n d. refl) path 64 0 ds (le-of (items_len ds) 64 few))
+
+events-same : (most : ℕ) (kind : Kind) → KeepsItem Event kind → Stops kind → KeepsItem Events (list_of 0 most kind)
+events-same most kind keeps stops path d = list-same Events (record { opens = refl; closed = refl }) 0 most kind path d (λ ds few. each-event kind keeps stops path 0 0 ds)
+
+loads-same : (rounds cabinets : ℕ) → KeepsItem Events (list_behind (load rounds cabinets) (load_cabinet cabinets))
+loads-same rounds cabinets path d =
+    behind-same (load rounds cabinets) (load_cabinet cabinets) path d
+    (λ ds. each-behind-event (load rounds cabinets) (load_cabinet cabinets) (load-same rounds cabinets) (load-stops rounds cabinets) (load-cabinet-same cabinets) path 0 0 [] ds)
+
+all-keep : (version rounds cabinets : ℕ) → AllKeep Whole (Table.version ∷ (Table.setup_fields version ++ Table.event_fields rounds cabinets))
+all-keep version rounds cabinets = (
+  whole-same 1 2,
+  (
+    whole-same 1 86400,
+    (
+      whole-same 1 600,
+      (
+        text-same 1 32,
+        (
+          cabinets-same version,
+          (
+            master-same,
+            (
+              events-same 1000000 (object_of (Table.input_shape rounds cabinets)) (input-same rounds cabinets) (object-stops rounds cabinets [] Table.input_fields),
+              (
+                loads-same rounds cabinets,
+                (
+                  events-same 100000 (Table.priority_item rounds cabinets) (priority-same rounds cabinets) (priority-stops rounds cabinets),
+                  (
+                    events-same 100000 (object_of (Table.frame_shape rounds cabinets)) (frame-same rounds cabinets) (object-stops rounds cabinets (Table.stream ∷ Table.frame_hex ∷ []) []),
+                    (
+                      events-same 100000 (object_of (Table.fault_shape rounds cabinets)) (fault-same rounds cabinets)
+                          (object-stops rounds cabinets (Table.stream ∷ Table.way ∷ Table.index ∷ Table.fault_kind ∷ Table.by ∷ Table.octet ∷ []) []),
+                      tt,
+                    ),
+                  ),
+                ),
+              ),
+            ),
+          ),
+        ),
+      ),
+    ),
+  ),
+)
+
+-- ---- the numbers of the whole
+
+version-same : (d : Data) → version_number (cut Whole d) ≡ version_number d
+version-same = held-cut Whole is-whole Table.version whole_of bare-number
+
+rounds-same : (d : Data) → round_count (cut Whole d) ≡ round_count d
+rounds-same = held-cut Whole is-whole Table.rounds whole_of bare-number
+
+ticks-same : (d : Data) → tick_count (cut Whole d) ≡ tick_count d
+ticks-same = held-cut Whole is-whole Table.ticks whole_of bare-number
+
+count-kept : (d : Data) → items_len (items_in (cut Cabinets d)) ≡ items_len (items_in d)
+count-kept null = refl
+count-kept (boolean b) = refl
+count-kept (number n) = refl
+count-kept (string s) = refl
+count-kept (array ds) = items-len Cabinet 64 ds
+count-kept (object ms) = refl
+
+each_of-len : {A : Type 0} (says : Data → A) (ds : Items) → length (each_of says ds) ≡ items_len ds
+each_of-len says no_items = refl
+each_of-len says (item d ds) = ap suc (each_of-len says ds)
+
+-- the number of cabinets, however they are read
+counted : (version : ℕ) (d : Data) → length (list_in (cabinet_of version) (held (Table.cabinets version) d)) ≡ items_len (items_in (held (Table.cabinets 1) d))
+counted version d = each_of-len (cabinet_of version) (items_in (held (Table.cabinets version) d))
+
+count-same : (d : Data) → cabinet_count (cut Whole d) ≡ cabinet_count d
+count-same d =
+    counted (version_number (cut Whole d)) (cut Whole d) ∙ held-cut Whole is-whole (Table.cabinets 1) (λ v. items_len (items_in v)) count-kept d ∙ sym (counted (version_number d) d)
+
+named-same : (d : Data) → Same (named_faults (cut Whole d)) (named_faults d)
+named-same d =
+    ap (λ v. first_cause (object_of (Table.scenario_shape v (round_count (cut Whole d)) (cabinet_count (cut Whole d))) [] (cut Whole d))) (version-same d)
+    ∙ ap (λ r. first_cause (object_of (Table.scenario_shape (version_number d) r (cabinet_count (cut Whole d))) [] (cut Whole d))) (rounds-same d)
+    ∙ ap (λ c. first_cause (object_of (Table.scenario_shape (version_number d) (round_count d) c) [] (cut Whole d))) (count-same d)
+    ∙ object-same Whole is-whole (Table.scenario_shape (version_number d) (round_count d) (cabinet_count d)) [] d (all-keep (version_number d) (round_count d) (cabinet_count d)) tt
+
+-- ---- the tables
+
+cells-said : (d : Data) → list_in cell_of (cut Rows d) ≡ list_in cell_of d
+cells-said null = refl
+cells-said (boolean b) = refl
+cells-said (number n) = refl
+cells-said (string s) = refl
+cells-said (array ds) = says-kept Row cell_of cell-said (λ n d. refl) 0 ds
+cells-said (object ms) = refl
+
+drift-said : (version : ℕ) (field : Field) → member_form Cabinet field.name ≡ Bare → (d : Data) → drift_at version field (cut Cabinet d) ≡ drift_at version field d
+drift-said version field bare d = ap (λ n. if version == 2 then n else 0) (held-cut Cabinet is-cabinet field whole_of (λ v. ap (λ f. whole_of (cut f v)) bare ∙ bare-number v) d)
+
+cabinet-said : (version : ℕ) (d : Data) → cabinet_of version (cut Cabinet d) ≡ cabinet_of version d
+cabinet-said version d =
+    rw (
+      held-cut Cabinet is-cabinet Table.base base_of (bare-says base_of (λ (ds : Items). refl) (λ (ms : Members). refl)) d,
+      held-cut Cabinet is-cabinet Table.cells (list_in cell_of) cells-said d,
+      held-cut Cabinet is-cabinet Table.pattern whole_of bare-number d,
+      held-cut Cabinet is-cabinet Table.clock whole_of bare-number d,
+      held-cut Cabinet is-cabinet Table.section whole_of bare-number d,
+      drift-said version Table.gain refl d,
+      drift-said version Table.lose refl d,
+    ) refl
+
+-- where there are no more cabinets than there may be
+cabinets-said : (version : ℕ) (d : Data) → list_fits 1 64 d ≡ Fits → list_in (cabinet_of version) (cut Cabinets d) ≡ list_in (cabinet_of version) d
+cabinets-said version null fits = refl
+cabinets-said version (boolean b) fits = refl
+cabinets-said version (number n) fits = refl
+cabinets-said version (string s) fits = refl
+cabinets-said version (array ds) fits = says-counted Cabinet (cabinet_of version) (cabinet-said version) (λ n d. refl) 64 ds (le-of (items_len ds) 64 (few (nat_le 1 (items_len ds)) (nat_le (items_len ds) 64) refl fits))
+  where
+    few : (a b : Bool) → nat_le (items_len ds) 64 ≡ b → (if a && b then Fits else Beyond) ≡ Fits → nat_le (items_len ds) 64 ≡ true
+    few true true is fits = is
+    few true false is fits = absurd (cc)
+    few false true is fits = absurd (cc)
+    few false false is fits = absurd (cc)
+cabinets-said version (object ms) fits = refl
+
+none-first : (xs ys : List Cause) → xs ++ ys ≡ [] → xs ≡ []
+none-first [] ys e = refl
+none-first (x ∷ xs) ys e = absurd (cc)
+
+none-later : (xs ys : List Cause) → xs ++ ys ≡ [] → ys ≡ []
+none-later [] ys e = e
+none-later (x ∷ xs) ys e = absurd (cc)
+
+fits-of : (path : List Step) (fit : Fit) → fault_at path fit ≡ [] → fit ≡ Fits
+fits-of path Fits e = refl
+fits-of path Wrong e = absurd (cc)
+fits-of path Beyond e = absurd (cc)
+
+cabinets-fit : (d w : Data) → named_faults d ≡ [] → get (codes "cabinets") d ≡ Some w → list_fits 1 64 w ≡ Fits
+cabinets-fit null w none is = absurd (cc)
+cabinets-fit (boolean b) w none is = absurd (cc)
+cabinets-fit (number n) w none is = absurd (cc)
+cabinets-fit (string s) w none is = absurd (cc)
+cabinets-fit (array ds) w none is = absurd (cc)
+cabinets-fit (object ms) w none is =
+    let d = object ms in
+    let version = version_number d in
+    let events = Table.event_fields (round_count d) (cabinet_count d) in
+    let shape = Table.scenario_shape version (round_count d) (cabinet_count d) in
+    let path = then_named [] (codes "cabinets") in
+    let fields = none-first (fields_faults [] d shape.fields) [] (none-later (unknown_faults (names (known_fields shape d)) [] ms) (fields_faults [] d shape.fields ++ []) none) in
+    let at-rounds = none-later (field_faults [] d Table.version) (fields_faults [] d (Table.setup_fields version ++ events)) fields in
+    let at-ticks = none-later (field_faults [] d Table.rounds) (fields_faults [] d (Table.ticks ∷ Table.community ∷ Table.cabinets version ∷ Table.master ∷ events)) at-rounds in
+    let at-community = none-later (field_faults [] d Table.ticks) (fields_faults [] d (Table.community ∷ Table.cabinets version ∷ Table.master ∷ events)) at-ticks in
+    let at-cabinets = none-later (field_faults [] d Table.community) (fields_faults [] d (Table.cabinets version ∷ Table.master ∷ events)) at-community in
+    let here = none-first (field_faults [] d (Table.cabinets version)) (fields_faults [] d (Table.master ∷ events)) at-cabinets in
+    let there = subst (λ o. faults_of (list_of 1 64 (Table.cabinet version)) path (either o None) ≡ []) is here in
+    fits-of path (list_fits 1 64 w) (none-first (fault_at path (list_fits 1 64 w)) (each (Table.cabinet version) path 0 (items_in w)) there)
+
+tables-said : (d : Data) → named_faults d ≡ [] → cabinets_of (cut Whole d) ≡ cabinets_of d
+tables-said d none =
+    ap (λ v. list_in (cabinet_of v) (held (Table.cabinets v) (cut Whole d))) (version-same d)
+    ∙ ap (λ o. list_in (cabinet_of version) (unwrap_or (either o None) null)) (get-cut Whole is-whole (codes "cabinets") d) ∙ at (get (codes "cabinets") d) refl
+  where
+    version : ℕ
+    version = version_number d
+
+    at : (o : Option Data) → get (codes "cabinets") d ≡ o → list_in (cabinet_of version) (unwrap_or (either (option_map (cut Cabinets) o) None) null) ≡ list_in (cabinet_of version) (unwrap_or (either o None) null)
+    at None is = refl
+    at (Some w) is = cabinets-said version w (cabinets-fit d w none is)
+
+pub first-kept : (d : Data) → Same (faults (cut Whole d)) (faults d)
+first-kept d = at (named_faults d) refl
+  where
+    here : List Cause
+    here = product_faults (cabinet_count d * round_count d * tick_count d) ++ all_table_faults 1 (cabinets_of d)
+
+    there : List Cause
+    there = product_faults (cabinet_count (cut Whole d) * round_count (cut Whole d) * tick_count (cut Whole d)) ++ all_table_faults 1 (cabinets_of (cut Whole d))
+
+    same-product : cabinet_count (cut Whole d) * round_count (cut Whole d) * tick_count (cut Whole d) ≡ cabinet_count d * round_count d * tick_count d
+    same-product = ap₂ (λ (a b : ℕ). a * b) (ap₂ (λ (a b : ℕ). a * b) (count-same d) (rounds-same d)) (ticks-same d)
+
+    at : (xs : List Cause) → named_faults d ≡ xs → Same (named_faults (cut Whole d) ++ there) (named_faults d ++ here)
+    at [] none = same-both (named_faults (cut Whole d)) (named_faults d) there here (named-same d) (ap₂ (λ n (cs : List CabinetContent). first_cause (product_faults n ++ all_table_faults 1 cs)) same-product (tables-said d none))
+    at (x ∷ xs) some = same-ended (named_faults (cut Whole d)) (named_faults d) there here (named-same d) (subst Faulty (sym some) tt)
+
+-- a refusal of what is kept is one of the value
+pub refuses-kept : (fail : ReadFail) (d : Data) → Refuses fail (faults (cut Whole d)) → Refuses fail (faults d)
+refuses-kept (Refused refusal) d h = subst (λ o. Names refusal o) (first-kept d) h
+refuses-kept NoMemory d h = tt

@@ -1,0 +1,83 @@
+-- What is kept of a scenario's value whose first fault is asked, in little memory. null stands for an array or an object where only a
+-- number, a text or a word may stand, since it is at fault there whatever it holds; for an item behind one that is at fault; and for an item past
+-- the most that a list may have.
+use Rattle.std.specs.Prelude.{ℕ, zero, suc, ◌&&◌, ◌||◌, Bool, true, false, if◌then◌else◌, List, codes, bytes_eq, is_some}
+use Rattle.serde_json.specs.Data.{Data, null, boolean, number, string, array, object, Items, no_items, item, Members, no_members, member}
+use Rattle.serde_json.specs.Find.{get}
+pub use Rattle.scenario_cut.specs.declared.form.Form.{Form}
+pub use Rattle.scenario_cut.specs.declared.form.Form.TheVariants.{Whole, Cabinets, Cabinet, Events, Event, Master, Entries, Entry, Rows, Row, Bare}
+
+-- an array may stand there
+abbrev pub opens_array : Form → Bool
+opens_array Cabinets = true
+opens_array Events = true
+opens_array Entries = true
+opens_array Rows = true
+opens_array Row = true
+opens_array _ = false
+
+-- an object may stand there
+abbrev pub opens_object : Form → Bool
+opens_object Whole = true
+opens_object Cabinet = true
+opens_object Event = true
+opens_object Master = true
+opens_object Entry = true
+opens_object _ = false
+
+-- the place of each item
+abbrev pub item_form : Form → Form
+item_form Cabinets = Cabinet
+item_form Events = Event
+item_form Entries = Entry
+item_form Rows = Row
+item_form _ = Bare
+
+-- the name of a list of what happens
+abbrev pub is_event_list : List ℕ → Bool
+is_event_list name = bytes_eq name (codes "inputs") || (bytes_eq name (codes "loads") || (bytes_eq name (codes "priority") || (bytes_eq name (codes "frames") || bytes_eq name (codes "faults"))))
+
+-- the place of the member of this name
+abbrev pub member_form : Form → List ℕ → Form
+member_form Whole name =
+    if bytes_eq name (codes "cabinets") then Cabinets else
+    if bytes_eq name (codes "master") then Master else
+    if is_event_list name then Events else Bare
+member_form Cabinet name = if bytes_eq name (codes "cells") then Rows else Bare
+member_form Event name = if bytes_eq name (codes "cells") then Rows else Bare
+member_form Master name = if bytes_eq name (codes "schedule") then Entries else Bare
+member_form _ name = Bare
+
+-- what happens is of a round and a cabinet, or is at fault
+abbrev pub is_of_a_round : Data → Bool
+is_of_a_round d = is_some (get (codes "round") d) && is_some (get (codes "cabinet") d)
+
+-- how many items of this kind may still be kept: at the beginning, and behind an item; 1 stands for any number
+abbrev pub room : Form → ℕ
+room Cabinet = 64
+room Entry = 1000
+room _ = 1
+
+abbrev pub room_behind : Form → ℕ → Data → ℕ
+room_behind Cabinet n d = n
+room_behind Entry n d = n
+room_behind Event n d = if is_of_a_round d then suc n else 0
+room_behind _ n d = suc n
+
+abbrev mutual
+  pub cut : Form → Data → Data
+  cut f null = null
+  cut f (boolean b) = boolean b
+  cut f (number n) = number n
+  cut f (string s) = string s
+  cut f (array ds) = if opens_array f then array (cut_items (item_form f) (room (item_form f)) ds) else null
+  cut f (object ms) = if opens_object f then object (cut_members f ms) else null
+
+  pub cut_items : Form → ℕ → Items → Items
+  cut_items f n no_items = no_items
+  cut_items f zero (item d ds) = item null (cut_items f zero ds)
+  cut_items f (suc n) (item d ds) = item (cut f d) (cut_items f (room_behind f n d) ds)
+
+  pub cut_members : Form → Members → Members
+  cut_members f no_members = no_members
+  cut_members f (member name d ms) = member name (cut (member_form f name) d) (cut_members f ms)

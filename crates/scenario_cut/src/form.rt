@@ -1,0 +1,128 @@
+//! The places of a scenario's value, by what may open there and how much of it is kept.
+
+ghost use Rattle.std.specs.Prelude.{◌≡◌, ◌<◌, ◌≤◌, ◌+◌};
+ghost use Rattle.serde_json.specs.View.{view};
+ghost use Rattle.scenario_cut.specs.Cutting.{opens_array, opens_object, item_form, member_form, is_of_a_round, is_event_list, room, room_behind};
+
+use serde_json::Value;
+
+/// A place: the whole; its lists of cabinets and of what happens, with their items; the master with its entries; cells, one
+/// of them, and any other place, where only a number, a text or a word may stand.
+#[derive(Clone, Copy)]
+pub(crate) enum Form {
+    Whole,
+    Cabinets,
+    Cabinet,
+    Events,
+    Event,
+    Master,
+    Entries,
+    Entry,
+    Rows,
+    Row,
+    Bare,
+}
+
+/// Whether an array may stand there.
+pub(crate) fn opens_array(form: Form) -> bool
+    ensures { result ≡ opens_array form }
+{
+    matches!(
+        form,
+        Form::Cabinets | Form::Events | Form::Entries | Form::Rows | Form::Row
+    )
+}
+
+/// Whether an object may stand there.
+pub(crate) fn opens_object(form: Form) -> bool
+    ensures { result ≡ opens_object form }
+{
+    matches!(
+        form,
+        Form::Whole | Form::Cabinet | Form::Event | Form::Master | Form::Entry
+    )
+}
+
+/// The place of each item of an array.
+pub(crate) fn item_form(form: Form) -> Form
+    ensures { result ≡ item_form form }
+{
+    match form {
+        Form::Cabinets => Form::Cabinet,
+        Form::Events => Form::Event,
+        Form::Entries => Form::Entry,
+        Form::Rows => Form::Row,
+        _ => Form::Bare,
+    }
+}
+
+/// Whether a name is that of a list of what happens.
+fn is_event_list(name: &str) -> bool
+    ensures { result ≡ is_event_list name.now }
+{
+    name == "inputs"
+        || name == "loads"
+        || name == "priority"
+        || name == "frames"
+        || name == "faults"
+}
+
+/// The place of the member of this name.
+pub(crate) fn member_form(form: Form, name: &str) -> Form
+    ensures { result ≡ member_form form name.now }
+{
+    match form {
+        Form::Whole => if name == "cabinets" {
+            Form::Cabinets
+        } else if name == "master" {
+            Form::Master
+        } else if is_event_list(name) {
+            Form::Events
+        } else {
+            Form::Bare
+        },
+        Form::Cabinet | Form::Event => if name == "cells" {
+            Form::Rows
+        } else {
+            Form::Bare
+        },
+        Form::Master => if name == "schedule" {
+            Form::Entries
+        } else {
+            Form::Bare
+        },
+        _ => Form::Bare,
+    }
+}
+
+/// Whether an object is of a round and a cabinet.
+fn is_of_a_round(object: &Value) -> bool
+    ensures { result ≡ is_of_a_round (view object.now) }
+{
+    object.get("round").is_some() && object.get("cabinet").is_some()
+}
+
+/// How many items of this kind are kept at the most; 1 stands for any number.
+pub(crate) fn room(form: Form) -> usize
+    ensures room { result ≡ room form }
+    ensures few { result ≤ 1000 }
+{
+    match form {
+        Form::Cabinet => 64,
+        Form::Entry => 1000,
+        _ => 1,
+    }
+}
+
+/// How many more may be kept behind an item, where there is room for one and so many more.
+pub(crate) fn room_behind(form: Form, more: usize, item: &Value) -> usize
+    requires { more < 1000 }
+    ensures behind { result ≡ room_behind form more (view item.now) }
+    ensures few { result ≤ more + 1 }
+{
+    match form {
+        Form::Cabinet | Form::Entry => more,
+        Form::Event => if is_of_a_round(item) { more + 1 } else { 0 },
+        _ => more + 1,
+    }
+}

@@ -1,0 +1,169 @@
+//! A value of the text, of which that is kept on which its first fault may hang.
+
+ghost use Rattle.std.specs.Prelude.{◌≡◌, ◌<◌, ◌≤◌, length, Some, IfSome, string_bytes};
+ghost use Rattle.json.specs.Json.{value, items, members};
+ghost use Rattle.serde_json.specs.Data.{Data, Items, item, Members, no_members, put};
+ghost use Rattle.serde_json.specs.Read.{of_json, of_items, of_members, converted};
+ghost use Rattle.serde_json.specs.View.{view, items_view, members_view};
+ghost use Rattle.scenario_cut.specs.Cutting.{room, cut, cut_items, cut_members};
+
+use crate::form::{Form, item_form, member_form, opens_array, opens_object, room, room_behind};
+use crate::numbers::number_of;
+use crate::passing::{pass, pass_items, pass_members};
+use json::{Reader, Token};
+use serde_json::{Map, Value};
+use std::alloc::Global;
+
+/// Puts a value at a name, in place of what stood there.
+fn put_member(members: &mut Map<String, Value>, name: String, value: Value) -> Option<()>
+    ensures { IfSome result (λ _. members_view members.new.entries ≡ put (string_bytes name) (view value) (members_view members.old.entries)) }
+{
+    match members.insert(name, value) {
+        Ok(old) => {
+            drop(old);
+            Some(())
+        }
+        Err(_) => None,
+    }
+}
+
+/// What is kept of the next value of the reader, at a place of this form, with arrays and objects nested at most so deep.
+#[cycle(keep)]
+pub(crate) fn keep(
+    alloc: Global,
+    reader: &mut Reader<'_>,
+    depth: usize,
+    form: Form,
+) -> Option<Value>
+    ensures ok { IfSome result (λ v. (d : Data) × (converted of_json (value depth reader.old) ≡ Some (d, reader.new)) × (view v ≡ cut form d)) }
+    ensures shorter { IfSome result (λ _. length reader.new < length reader.old) }
+{
+    let token = reader.next()?;
+    match token {
+        Token::String(text) => match String::from_str(alloc, text) {
+            Ok(copy) => Some(Value::String(copy)),
+            Err(_) => None,
+        },
+        Token::Number(text) => match number_of(text) {
+            Some(number) => Some(Value::Number(number)),
+            None => None,
+        },
+        Token::Bool(b) => Some(Value::Bool(b)),
+        Token::Null => Some(Value::Null),
+        Token::EndObject | Token::EndArray | Token::Key(_) | Token::Bad => None,
+        Token::BeginArray => {
+            if depth == 0 {
+                return None;
+            }
+            if !opens_array(form) {
+                if pass_items(reader, depth - 1) {
+                    return Some(Value::Null);
+                }
+                return None;
+            }
+            match keep_items(alloc, reader, depth - 1, item_form(form)) {
+                Some(items) => Some(Value::Array(items)),
+                None => None,
+            }
+        }
+        Token::BeginObject => {
+            if depth == 0 {
+                return None;
+            }
+            if !opens_object(form) {
+                if pass_members(reader, depth - 1) {
+                    return Some(Value::Null);
+                }
+                return None;
+            }
+            match keep_members(alloc, reader, depth - 1, form) {
+                Some(members) => Some(Value::Object(members)),
+                None => None,
+            }
+        }
+    }
+}
+
+/// What is kept of the next item of a list that has room for so many; and the room behind it.
+#[cycle(keep)]
+fn keep_item(
+    alloc: Global,
+    reader: &mut Reader<'_>,
+    depth: usize,
+    form: Form,
+    left: usize,
+) -> Option<(Value, usize)>
+    requires { left ≤ 1000 }
+    ensures ok { IfSome result (λ kept. (d : Data) × (converted of_json (value depth reader.old) ≡ Some (d, reader.new))
+        × ((rest : Items) → cut_items form left (item d rest) ≡ item (view kept.0) (cut_items form kept.1 rest))) }
+    ensures few { IfSome result (λ kept. kept.1 ≤ 1000) }
+    ensures shorter { IfSome result (λ _. length reader.new < length reader.old) }
+{
+    if left == 0 {
+        if pass(reader, depth) {
+            return Some((Value::Null, 0));
+        }
+        return None;
+    }
+    match keep(alloc, reader, depth, form) {
+        Some(item) => {
+            let behind = room_behind(form, left - 1, &item);
+            Some((item, behind))
+        }
+        None => None,
+    }
+}
+
+/// What is kept of the items up to the bracket that closes an array.
+#[cycle(keep)]
+fn keep_items(
+    alloc: Global,
+    reader: &mut Reader<'_>,
+    depth: usize,
+    form: Form,
+) -> Option<Vec<Value>>
+    ensures ok { IfSome result (λ kept. (ds : Items) × (converted of_items (items (value depth) (length reader.old) reader.old) ≡ Some (ds, reader.new))
+        × (items_view kept.items ≡ cut_items form (room form) ds)) }
+    ensures shorter { IfSome result (λ _. length reader.new < length reader.old) }
+{
+    let mut found = Vec::new(alloc);
+    let mut left = room(form);
+    'items: while !reader.take_end_array() {
+        let next = keep_item(alloc, reader, depth, form, left)?;
+        let (item, behind) = next;
+        match found.push(item) {
+            Ok(()) => {}
+            Err(_) => return None,
+        }
+        left = behind;
+    }
+    Some(found)
+}
+
+/// What is kept of the members up to the brace that closes an object. Of equal names the last counts.
+#[cycle(keep)]
+fn keep_members(
+    alloc: Global,
+    reader: &mut Reader<'_>,
+    depth: usize,
+    form: Form,
+) -> Option<Map<String, Value>>
+    ensures ok { IfSome result (λ kept. (ms : Members) × (converted (λ js. of_members js no_members) (members (value depth) (length reader.old) reader.old) ≡ Some (ms, reader.new))
+        × (members_view kept.entries ≡ cut_members form ms)) }
+    ensures shorter { IfSome result (λ _. length reader.new < length reader.old) }
+{
+    let mut found = Map::new(alloc);
+    'members: loop {
+        let name = match reader.next_key() {
+            Ok(Some(name)) => name,
+            Ok(None) => return Some(found),
+            Err(_) => return None,
+        };
+        let key = match String::from_str(alloc, name) {
+            Ok(key) => key,
+            Err(_) => return None,
+        };
+        let member = keep(alloc, reader, depth, member_form(form, name))?;
+        put_member(&mut found, key, member)?;
+    }
+}

@@ -1,0 +1,79 @@
+//! The compact text of a list as it grows. A file that is compact already has this text in itself, so that none of it stands in memory
+//! a second time: each piece is compared with what comes next in the file, and copied only from the first that differs.
+
+ghost use Rattle.std.specs.Prelude.{◌≤◌, length};
+
+use crate::pieces::add;
+use std::alloc::Global;
+
+/// A text: the first `len` bytes of a part of the file, and what follows them.
+#[derive(Drop)]
+pub(crate) struct Written<'a> {
+    part: &'a [u8],
+    len: usize,
+    further: String,
+    ghost within: { len ≤ length part.now },
+}
+
+impl<'a> Written<'a> {
+    ghost use Rattle.std.specs.Prelude.{◌≡◌, ◌+◌, ◌++◌, [], take, drop, IsTrue, IfSome, string_bytes};
+    ghost use Rattle.scenario_file.specs.Growing.{written};
+
+    /// No text yet, in a file that may have it from this place on.
+    pub(crate) fn nothing(alloc: Global, file: &'a [u8], place: usize) -> Option<Written<'a>>
+        ensures { IfSome result (λ text. written text ≡ []) }
+    {
+        let Ok(further) = String::with_capacity(alloc, file.len()) else {
+            return None;
+        };
+        let part = match file.get(place..) {
+            Some(part) => part,
+            None => file,
+        };
+        Some(Written {
+            part,
+            len: 0,
+            further,
+        })
+    }
+
+    /// No text.
+    pub(crate) fn empty(alloc: Global) -> Written<'a>
+        ensures { written result ≡ [] }
+    {
+        Written {
+            part: &[],
+            len: 0,
+            further: String::new(alloc),
+        }
+    }
+
+    /// Whether the file goes on with this piece behind the text so far.
+    fn goes_on(&self, piece: &[u8]) -> bool
+        ensures { IsTrue result → (string_bytes self.now.further ≡ []) × (take (length piece.now) (drop self.now.len self.now.part.now) ≡ piece.now) × (self.now.len + length piece.now ≤ length self.now.part.now) }
+    {
+        self.further.as_bytes().is_empty() && self.part[self.len..].starts_with(piece)
+    }
+
+    /// Adds a piece.
+    pub(crate) fn add(&mut self, piece: &str) -> Option<()>
+        ensures { IfSome result (λ _. written self.new ≡ written self.old ++ piece.now) }
+    {
+        if self.goes_on(piece.as_bytes()) {
+            self.len += piece.len();
+            return Some(());
+        }
+        add(&mut self.further, piece)
+    }
+
+    /// Adds the text to another.
+    pub(crate) fn add_to(&self, text: &mut String) -> Option<()>
+        ensures { IfSome result (λ _. string_bytes text.new ≡ string_bytes text.old ++ written self.now) }
+    {
+        let Ok(front) = std::str::from_utf8(&self.part[..self.len]) else {
+            return None;
+        };
+        add(text, front)?;
+        add(text, self.further.as_str())
+    }
+}
