@@ -1,6 +1,4 @@
 mod Reading
-mod FewItems
-mod Workers
 mod Refusals
 mod Due
 mod CheckDue

@@ -1,65 +1,101 @@
--- What an answer to a run tells, by the words that asked for it.
-use Rattle.std.proofs.Common.{◌≡◌, ◌⊎◌, inl, inr, ◌↔◌, ◌∙◌, ℕ, Bool, true, false, List, [], ◌∷◌, Option, Some, None, get_or, sym, ap, subst, arith}
+-- What an answer tells, by the words that asked for it.
+use Rattle.std.proofs.Common.{◌≡◌, ◌⊎◌, inl, inr, ◌↔◌, ℕ, List, Option, Some, None, sym, subst}
+use Rattle.scenario_data.specs.declared.refusal.Refusal.{Refusal}
+use Rattle.trace_check.specs.declared.faults.TraceFault.{TraceFault}
+use Rattle.command_words.specs.declared.command.Command.{Command}
+use Rattle.command_words.specs.declared.command.Command.TheVariants.{Run, Check, Generate, Survey, Help, Version}
+use Rattle.command_words.specs.Words.{IsRun, IsCheck, AskFor, IsCommand}
 use Rattle.station.specs.declared.status.Status.{Status}
-use Rattle.station.specs.declared.status.Status.TheVariants.{Done, Usage, WriteFault, NoMemory}
-use Rattle.station.specs.Words.{IsRun, IsCheck, IsHelp, IsVersion, IsCommand}
-use Rattle.station.specs.Answers.{RunsWhole, StopsShort, Ran}
+use Rattle.station.specs.declared.status.Status.TheVariants.{Done, Usage, Scenario, NotATrace, ReadFault, WriteFault, NoMemory}
+use Rattle.station.specs.Answers.{RunsWhole, StopsShort, IsRefused}
+use Rattle.station.specs.Commands.{Answered, ReadsNothing}
 
--- the words give one number of workers
-pub same_workers : (found : Option ℕ) (m n : ℕ) → found ≡ Some m → found ≡ Some n → m ≡ n
-same_workers found m n e f = cc
+-- the words ask for one command, or for none
+pub one_command : (found : Option Command) (c d : Command) → found ≡ Some c → found ≡ Some d → c ≡ d
+one_command found c d e f = cc
 
-first_letter : (words : List (List ℕ)) (n : ℕ) → IsRun words n → get_or (get_or words 0 []) 0 0 ≡ 114
-first_letter words n (inl alone) = ap (λ (ws : List (List ℕ)). get_or (get_or ws 0 []) 0 0) alone.0
-first_letter words n (inr more) = ap (λ (ws : List (List ℕ)). get_or (get_or ws 0 []) 0 0) more.0
+pub none_found : (found : Option Command) (c : Command) → found ≡ None → found ≡ Some c → ⊥
+none_found found c none some = cc
 
--- a run is no check, not the help, nor the version
-pub not_check : (words : List (List ℕ)) (n : ℕ) → IsRun words n → IsCheck words → ⊥
-not_check words n run is =
-    let other : get_or (get_or words 0 []) 0 0 ≡ 99 = ap (λ (ws : List (List ℕ)). get_or (get_or ws 0 []) 0 0) is in
-    omega (arith, other, first_letter words n run)
+pub no_command : (words : List (List ℕ)) (found : Option Command) → found ≡ None → ((c : Command) → (found ≡ Some c) ↔ AskFor words c) → IsCommand words → ⊥
+no_command words found none is (c, asked) = none_found found c none ((is c).1 asked)
 
-pub not_help : (words : List (List ℕ)) (n : ℕ) → IsRun words n → IsHelp words → ⊥
-not_help words n run is =
-    let dash : get_or (get_or words 0 []) 0 0 ≡ 45 = ap (λ (ws : List (List ℕ)). get_or (get_or ws 0 []) 0 0) is in
-    omega (arith, dash, first_letter words n run)
+-- what reads nothing by another name
+pub reads_nothing : (c d : Command) → c ≡ d → ReadsNothing d → ReadsNothing c
+reads_nothing c d same none = subst (λ (x : Command). ReadsNothing x) (sym same) none
 
-pub not_version : (words : List (List ℕ)) (n : ℕ) → IsRun words n → IsVersion words → ⊥
-not_version words n run is =
-    let dash : get_or (get_or words 0 []) 0 0 ≡ 45 = ap (λ (ws : List (List ℕ)). get_or (get_or ws 0 []) 0 0) is in
-    omega (arith, dash, first_letter words n run)
+module _ (status : Status) (left ends : Option (List ℕ)) (unread : Type 0) (old new : Option (List ℕ)) (unwritten : Type 0) where
+  abbrev Tells : Command → Status → Type 0
+  Tells c answer = Answered c answer left ends unread old new unwritten
 
-module _ (m : ℕ) (status : Status) (left ends : Option (List ℕ)) (unread : Type 0) (old new : Option (List ℕ)) (unwritten : Type 0)
-    (ran : Ran m status left ends unread old new unwritten) where
-  pub never_usage : status ≡ Usage → ⊥
-  never_usage e = subst (λ (answer : Status). Ran m answer left ends unread old new unwritten) e ran
+  -- an answer to a command is one to the same command by another name
+  pub to_same : (c d : Command) → c ≡ d → Tells c status → Tells d status
+  to_same c d same tells = subst (λ (x : Command). Tells x status) same tells
 
-  pub told_done : (n : ℕ) → m ≡ n → status ≡ Done → RunsWhole n left ends old new
-  told_done n same e =
-      subst (λ (k : ℕ). RunsWhole k left ends old new) same (subst (λ (answer : Status). Ran m answer left ends unread old new unwritten) e ran)
-
-  pub told_write_fault : (n : ℕ) → m ≡ n → status ≡ WriteFault → unwritten × StopsShort n left ends old new
-  told_write_fault n same e =
-      subst (λ (k : ℕ). unwritten × StopsShort k left ends old new) same (subst (λ (answer : Status). Ran m answer left ends unread old new unwritten) e ran)
-
-  pub told_no_memory : (words : List (List ℕ)) → IsRun words m → status ≡ NoMemory
-      → (new ≡ old) ⊎ ((workers : ℕ) × IsRun words workers × StopsShort workers left ends old new)
-  told_no_memory words is e = from (subst (λ (answer : Status). Ran m answer left ends unread old new unwritten) e ran)
+  -- no command is answered with Usage
+  pub never_usage : (c : Command) → Tells c status → status ≡ Usage → ⊥
+  never_usage c tells e = none c (subst (λ (x : Status). Tells c x) e tells)
     where
-      from : (new ≡ old) ⊎ StopsShort m left ends old new → (new ≡ old) ⊎ ((workers : ℕ) × IsRun words workers × StopsShort workers left ends old new)
-      from (inl same) = inl same
-      from (inr short) = inr (m, is, short)
+      none : (d : Command) → Tells d Usage → ⊥
+      none (Run workers) is = is
+      none Check is = is.1
+      none (Generate from) is = is
+      none (Survey from) is = is
+      none Help is = is
+      none Version is = is
 
--- the words are none of the commands
-pub no_run : (found : Option ℕ) (n : ℕ) → found ≡ None → found ≡ Some n → ⊥
-no_run found n none some = let same : None ≡ Some n = sym none ∙ some in cc
+  pub told_done : (workers : ℕ) → Tells (Run workers) status → status ≡ Done → RunsWhole workers left ends old new
+  told_done workers tells e = subst (λ (x : Status). Tells (Run workers) x) e tells
 
-pub not_lone : (words : List (List ℕ)) (name : List ℕ) (found : Bool) → ((found ≡ true) ↔ (words ≡ name ∷ [])) → found ≡ false → words ≡ name ∷ [] → ⊥
-not_lone words name found is other e = let same : true ≡ false = sym (is.1 e) ∙ other in cc
+  pub told_write_fault : (workers : ℕ) → Tells (Run workers) status → status ≡ WriteFault → unwritten × StopsShort workers left ends old new
+  told_write_fault workers tells e = subst (λ (x : Status). Tells (Run workers) x) e tells
 
-pub no_command : (words : List (List ℕ)) (found : Option ℕ) → found ≡ None → ((n : ℕ) → (found ≡ Some n) ↔ IsRun words n) → (IsCheck words → ⊥) → (IsHelp words → ⊥)
-    → (IsVersion words → ⊥) → IsCommand words → ⊥
-no_command words found none is not_this not_one not_other (inl (n, run)) = no_run found n none ((is n).1 run)
-no_command words found none is not_this not_one not_other (inr (inl check)) = not_this check
-no_command words found none is not_this not_one not_other (inr (inr (inl help))) = not_one help
-no_command words found none is not_this not_one not_other (inr (inr (inr version))) = not_other version
+  pub told_no_memory : (words : List (List ℕ)) (c : Command) → AskFor words c → Tells c status → status ≡ NoMemory
+      → (new ≡ old) ⊎ ((workers : ℕ) × IsRun words workers × StopsShort workers left ends old new)
+  told_no_memory words c asked tells e = from c asked (subst (λ (x : Status). Tells c x) e tells)
+    where
+      run : (workers : ℕ) → IsRun words workers → (new ≡ old) ⊎ StopsShort workers left ends old new
+          → (new ≡ old) ⊎ ((workers : ℕ) × IsRun words workers × StopsShort workers left ends old new)
+      run workers is (inl same) = inl same
+      run workers is (inr short) = inr (workers, is, short)
+
+      from : (d : Command) → AskFor words d → Tells d NoMemory → (new ≡ old) ⊎ ((workers : ℕ) × IsRun words workers × StopsShort workers left ends old new)
+      from (Run workers) is so = run workers is so
+      from Check is so = inl so.0
+      from (Generate seeding) is so = inl so
+      from (Survey seeding) is so = inl so
+      from Help is so = absurd so
+      from Version is so = absurd so
+
+  pub told_read_fault : (c : Command) → Tells c status → status ≡ ReadFault → unread × (new ≡ old)
+  told_read_fault c tells e = from c (subst (λ (x : Status). Tells c x) e tells)
+    where
+      from : (d : Command) → Tells d ReadFault → unread × (new ≡ old)
+      from (Run workers) so = so
+      from Check so = (so.1, so.0)
+      from (Generate seeding) so = absurd so
+      from (Survey seeding) so = absurd so
+      from Help so = absurd so
+      from Version so = absurd so
+
+  pub told_refused : (c : Command) (r : Refusal) → Tells c status → status ≡ Scenario r → IsRefused r left ends × (new ≡ old)
+  told_refused c r tells e = from c (subst (λ (x : Status). Tells c x) e tells)
+    where
+      from : (d : Command) → Tells d (Scenario r) → IsRefused r left ends × (new ≡ old)
+      from (Run workers) so = so
+      from Check so = absurd so.1
+      from (Generate seeding) so = absurd so
+      from (Survey seeding) so = absurd so
+      from Help so = absurd so
+      from Version so = absurd so
+
+  pub told_no_trace : (words : List (List ℕ)) (c : Command) (fault : TraceFault) → AskFor words c → Tells c status → status ≡ NotATrace fault → IsCheck words
+  told_no_trace words c fault asked tells e = from c asked (subst (λ (x : Status). Tells c x) e tells)
+    where
+      from : (d : Command) → AskFor words d → Tells d (NotATrace fault) → IsCheck words
+      from (Run workers) is so = absurd so
+      from Check is so = is
+      from (Generate seeding) is so = absurd so
+      from (Survey seeding) is so = absurd so
+      from Help is so = absurd so
+      from Version is so = absurd so

@@ -1,4 +1,4 @@
 pub mod Bytes
-pub mod Words
 pub mod Checked
 pub mod Answers
+pub mod Commands

@@ -22,6 +22,15 @@ and its trace is proved to be the one that is due.
       comes in a round can come. Nothing is written; where it is no trace, one
       line on standard error names the first line with which no trace goes on,
       and the rule that it breaks.
+  arterial generate --seed N --cabinets K --rounds M > SCENARIO
+      Writes a scenario of K cabinets (1 to 64) and M rounds of 10 seconds (1 to
+      86,400; K times M at most 100,000): traffic, polls, lost messages and a
+      download to each cabinet, by chance, but the same for the same seed N (0 to
+      4,294,967,295), on every machine. Nothing is read.
+  arterial survey --seed N --cabinets K --rounds M
+      Runs that scenario, and writes what it comes to: cabinets, rounds, ticks of
+      all cabinets, frames, replies, downloads put in force and refused. These are
+      numbers of lines of its trace. Nothing is read.
   arterial --help
       Writes this text. Nothing is read.
   arterial --version
@@ -38,4 +47,4 @@ scenarios/ has examples to run; README.md says what is proved.
 ";
 
 /// Which program this is.
-pub const VERSION: &str = "arterial 0.5\n";
+pub const VERSION: &str = "arterial 0.6\n";

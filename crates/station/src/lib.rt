@@ -6,8 +6,8 @@ mod bytes;
 mod checking;
 mod help;
 mod status;
+mod texts;
 mod top;
-mod words;
 
 pub use scenario_data::Refusal;
 pub use status::Status;

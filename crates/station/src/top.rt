@@ -1,41 +1,36 @@
 //! All that the program does.
 
-ghost use Rattle.std.specs.Prelude.{◌≡◌, ◌≤◌, ◌⊎◌, ◌↔◌, ◌∷◌, ℕ, [], Err, IfOk, IfSome, OnOk, IsTrue, map, string_bytes};
+ghost use Rattle.std.specs.Prelude.{◌≡◌, ◌≤◌, ◌⊎◌, ◌↔◌, ◌∷◌, ℕ, List, [], Err, IfOk, IfSome, OnOk, IsTrue, map, string_bytes};
 ghost use Rattle.io_edge.specs.Edge.{Rises};
 ghost use Rattle.scenario_data.specs.Content.{scenario_content};
 ghost use Rattle.scenario_data.specs.declared.refusal.Refusal.{Refusal};
 ghost use Rattle.runnable.specs.Runnable.{Runnable};
 ghost use Rattle.station.specs.Bytes.{nothing_left};
-ghost use Rattle.station.specs.Words.{IsRun, IsCheck, IsHelp, IsVersion, IsCommand};
+ghost use Rattle.command_words.specs.Words.{IsRun, IsCheck, IsGenerate, IsSurvey, IsHelp, IsVersion, IsCommand, AskFor};
+ghost use Rattle.command_words.specs.declared.command.Seeding.{Seeding as SeedingRow};
+ghost use Rattle.command_words.specs.declared.command.Command.{Command as CommandRow};
+ghost use Rattle.gen_arterial.specs.Written.{generated, generated_text};
+ghost use Rattle.run_survey.specs.Counting.{surveyed_text};
 ghost use Rattle.station.specs.Answers.{WritesText, IsRead, IsLengthLimit, IsRefused};
 ghost use Rattle.station.specs.Answers.{RunsWhole, StopsShort, Ran, IsDue};
 ghost use Rattle.station.specs.Checked.{Checked, IsCheckDue};
+ghost use Rattle.station.specs.Commands.{MakesText, Answered, ReadsNothing};
 ghost use Rattle.trace_check.specs.declared.faults.TraceFault.{TraceFault};
 
 use crate::bytes::{ReadEnd, read_all};
 use crate::checking::check_input;
 use crate::help::{HELP, VERSION};
 use crate::status::Status;
-use crate::words::{is_lone, run_workers};
-use io_edge::{Failed, Gate, Sink, Source};
+use crate::texts::{generate, survey, tell};
+use command_words::{Command, command_of};
+use io_edge::{Gate, Sink, Source};
 use one_trace::run_texts_are_safe;
 use scenario_data::{ReadFail, Refusal, Scenario};
 use scenario_file::read;
 use std::alloc::Global;
 use std::thread::Threads;
-use trace_out::{Stop, put_all};
+use trace_out::Stop;
 use whole_run::{Crew, write_trace};
-
-/// Writes a text that the program says of itself.
-fn tell<K: Sink>(sink: &mut K, text: &str) -> Status
-    ensures tells { WritesText result text.now (Rises (K.faults sink.old) (K.faults sink.new)) (K.written sink.old) (K.written sink.new) }
-    ensures kept { K.faults sink.old ≤ K.faults sink.new }
-{
-    match put_all(sink, text.as_bytes()) {
-        Ok(()) => Status::Done,
-        Err(Failed) => Status::WriteFault,
-    }
-}
 
 /// The most bytes that a scenario has.
 const SCENARIO_LIMIT: usize = 16_777_216;
@@ -105,8 +100,36 @@ fn run<R: Threads + Sync, S: Source, K: Sink, G: Gate + Sync>(
     }
 }
 
+/// Has a command carried out.
+fn answer<R: Threads + Sync, S: Source, K: Sink, G: Gate + Sync>(
+    rt: &R,
+    alloc: Global,
+    command: Command,
+    source: &mut S,
+    sink: &mut K,
+    gate: &G,
+) -> Status
+    requires asked { (words : List (List ℕ)) × AskFor words command }
+    ensures kept { (S.faults source.old ≤ S.faults source.new) × (K.faults sink.old ≤ K.faults sink.new) }
+    ensures answered { Answered command result (S.left source.old) (S.left source.new) (Rises (S.faults source.old) (S.faults source.new))
+        (K.written sink.old) (K.written sink.new) (Rises (K.faults sink.old) (K.faults sink.new)) }
+    ensures unread { ReadsNothing command → source.new ≡ source.old }
+    ensures unwritten { command ≡ Command.Check → sink.new ≡ sink.old }
+    ensures check_due { command ≡ Command.Check → ¬ Rises (S.faults source.old) (S.faults source.new)
+        → IfSome (S.left source.old) (λ input. IsCheckDue result input ⊎ (result ≡ Status.NoMemory)) }
+{
+    match command {
+        Command::Run(workers) => run(&Crew { rt, workers, gate }, alloc, source, sink),
+        Command::Check => check_input(alloc, source),
+        Command::Generate(from) => generate(alloc, from, sink),
+        Command::Survey(from) => survey(alloc, from, sink),
+        Command::Help => tell(sink, HELP.as_bytes()),
+        Command::Version => tell(sink, VERSION.as_bytes()),
+    }
+}
+
 /// All that the program does: `run` reads a scenario from the source and writes its trace to the sink; `check` reads a text and tells
-/// whether it is a trace; `--help` and `--version` write a text, and read nothing.
+/// whether it is a trace; `generate` writes a scenario, `survey` what a run of one comes to, `--help` and `--version` a text, and they read nothing.
 ///
 /// The words are those after the program's name. `run --workers N`, N 0 to 8, has so many workers bring the items of each round to the
 /// cabinets, each worker in a thread of its own where one can be started; with none, as without a number, they come in the serial order.
@@ -132,6 +155,17 @@ pub fn station<R: Threads + Sync, S: Source, K: Sink, G: Gate + Sync>(
         × WritesText result HELP.now (Rises (K.faults sink.old) (K.faults sink.new)) (K.written sink.old) (K.written sink.new) }
     ensures version { IsVersion (map string_bytes words.now.items) → (source.new ≡ source.old)
         × WritesText result VERSION.now (Rises (K.faults sink.old) (K.faults sink.new)) (K.written sink.old) (K.written sink.new) }
+
+    // Generate: the text of the scenario that these numbers give was written whole, or a write failed and a front of it was; or there was not
+    // memory enough to make it. Nothing is read.
+    ensures generate { (from : SeedingRow) → IsGenerate (map string_bytes words.now.items) from → (source.new ≡ source.old)
+        × MakesText result (generated_text from.seed from.cabinets from.rounds) (Rises (K.faults sink.old) (K.faults sink.new))
+        (K.written sink.old) (K.written sink.new) }
+
+    // Survey: the text of what a run of that scenario comes to, counted in the lines of its trace in the serial order, was written in the same way.
+    ensures survey { (from : SeedingRow) → IsSurvey (map string_bytes words.now.items) from → (source.new ≡ source.old)
+        × MakesText result (surveyed_text (generated from.seed from.cabinets from.rounds)) (Rises (K.faults sink.old) (K.faults sink.new))
+        (K.written sink.old) (K.written sink.new) }
 
     // Done after a run by so many workers: the source was read to its end, its bytes are a scenario, and the whole trace was appended to the
     // sink: the text of the run in the order in which the items came to its cabinets, which with no worker is the serial one. By the lines
@@ -168,17 +202,8 @@ pub fn station<R: Threads + Sync, S: Source, K: Sink, G: Gate + Sync>(
     ensures check_due { IsCheck (map string_bytes words.now.items) → ¬ Rises (S.faults source.old) (S.faults source.new)
         → IfSome (S.left source.old) (λ input. IsCheckDue result input ⊎ (result ≡ Status.NoMemory)) }
 {
-    match run_workers(words) {
-        Some(workers) => return run(&Crew { rt, workers, gate }, alloc, source, sink),
-        None => {}
-    }
-    if is_lone(words, "check") {
-        check_input(alloc, source)
-    } else if is_lone(words, "--help") {
-        tell(sink, HELP)
-    } else if is_lone(words, "--version") {
-        tell(sink, VERSION)
-    } else {
-        Status::Usage
+    match command_of(words) {
+        Some(command) => answer(rt, alloc, command, source, sink, gate),
+        None => Status::Usage,
     }
 }

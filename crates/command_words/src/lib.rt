@@ -1,0 +1,10 @@
+//! The words of a command line, told apart: which command they are, and its numbers. Nothing is
+//! read or done; the words stand apart so that each command is one definition and one reader.
+#![tactic(auto)]
+
+mod command;
+mod numbers;
+mod telling;
+
+pub use command::{Command, Seeding};
+pub use telling::command_of;

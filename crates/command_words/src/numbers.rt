@@ -1,0 +1,64 @@
+//! Words one after another, and the numbers among them.
+
+ghost use Rattle.std.specs.Prelude.{◌≡◌, ◌≤◌, ◌∷◌, ◌↔◌, ℕ, List, IfSome, decimal, map, string_bytes};
+
+use itoa::Buffer;
+
+/// The number of 32 bits that a word is, in decimal digits: no sign, and no zero before the first.
+pub fn number_of(word: &str) -> Option<u32>
+    ensures { (n : ℕ) → (result ≡ Some n) ↔ ((word.now ≡ decimal n) × (n ≤ 4294967295)) }
+{
+    match word.parse::<u32>() {
+        Ok(n) => {
+            if Buffer::new().format(n) == word {
+                Some(n)
+            } else {
+                None
+            }
+        }
+        Err(_) => None,
+    }
+}
+
+/// The words behind the first, where that is this one.
+pub fn behind<'a>(words: &'a [String], name: &str) -> Option<&'a [String]>
+    ensures some { IfSome result (λ rest. map string_bytes words.now ≡ name.now ∷ map string_bytes rest.now) }
+    ensures none { result ≡ None → (rest : List (List ℕ)) → map string_bytes words.now ≡ name.now ∷ rest → ⊥ }
+{
+    match words {
+        [word, rest @ ..] => {
+            if word.as_str() == name {
+                Some(rest)
+            } else {
+                None
+            }
+        }
+        [] => None,
+    }
+}
+
+/// The number that the first word is, and the words behind it.
+fn first_number(words: &[String]) -> Option<(u32, &[String])>
+    ensures some { IfSome result (λ found. (map string_bytes words.now ≡ decimal found.0 ∷ map string_bytes found.1.now) × (found.0 ≤ 4294967295)) }
+    ensures none { result ≡ None → (n : ℕ) (rest : List (List ℕ)) → n ≤ 4294967295 → map string_bytes words.now ≡ decimal n ∷ rest → ⊥ }
+{
+    match words {
+        [word, rest @ ..] => match number_of(word.as_str()) {
+            Some(n) => Some((n, rest)),
+            None => None,
+        },
+        [] => None,
+    }
+}
+
+/// The number that stands behind an option, where the first word is this one, and the words behind it.
+pub fn option_number<'a>(words: &'a [String], option: &str) -> Option<(u32, &'a [String])>
+    ensures some { IfSome result (λ found. (map string_bytes words.now ≡ option.now ∷ decimal found.0 ∷ map string_bytes found.1.now) × (found.0 ≤ 4294967295)) }
+    ensures none { result ≡ None → (n : ℕ) (rest : List (List ℕ)) → n ≤ 4294967295
+        → map string_bytes words.now ≡ option.now ∷ decimal n ∷ rest → ⊥ }
+{
+    match behind(words, option) {
+        Some(rest) => first_number(rest),
+        None => None,
+    }
+}

@@ -1,0 +1,6 @@
+mod Totals
+mod Acts
+mod Tallying
+mod Cabinets
+mod Constant
+mod Whole
