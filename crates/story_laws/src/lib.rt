@@ -10,6 +10,7 @@ ghost use Rattle.sig_tables.specs.Putting.{EachFits, with_cells};
 ghost use Rattle.sig_tables.specs.Standard.{std8};
 ghost use Rattle.rule_book.specs.Rules.{Consistent};
 ghost use Rattle.rule_facts.specs.Admitted.{Admitted};
+ghost use Rattle.laws.specs.InStep.{EachCoordinated};
 ghost use Rattle.trace_text.specs.declared.lines.Line.{Line};
 ghost use Rattle.safe_trace.specs.Safe.{Safe, intersection_of};
 ghost use Rattle.safe_trace.specs.Whole.{Whole};
@@ -34,6 +35,7 @@ ghost use Rattle.story_laws.specs.Telling.{acts_told, story_told};
 
 use agent::other_frames_ask_nothing;
 use coordination_met::coordination_is_met;
+use laws::keeps_to_plan;
 use rule_book::standard_consistent;
 use safe_streets::admitted_streets_are_safe;
 use stage_txn::{installs_what_keeps_the_rules, parts_come_in_order};
@@ -65,6 +67,15 @@ pub fn stories_meet_coordination()
 {
     installs_what_keeps_the_rules();
     coordination_is_met();
+}
+
+/// In every story each frame of a pattern keeps to its plan, by the tables in force at its tick: before its force point a coordinated phase is
+/// green, so a vehicle that comes while the counter is there meets green; at each local zero both are.
+pub fn stories_keep_to_plan()
+    ensures { (story : Story) (t : Tables) (d : Drift) → IsOpening t d story.opening → Consistent t → EachCoordinated (past_at (history_of story)).moments }
+{
+    installs_what_keeps_the_rules();
+    keeps_to_plan();
 }
 
 /// The premises can be met: coordination is met in every story of a cabinet that opens with the standard tables, whose clock drifts slowly

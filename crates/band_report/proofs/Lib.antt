@@ -1,0 +1,6 @@
+pub mod Turning
+pub mod Leaving
+pub mod Reading
+pub mod Driving
+pub mod Reports
+pub mod Windows

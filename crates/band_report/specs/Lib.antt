@@ -1,0 +1,3 @@
+pub mod Street
+pub mod Bands
+pub mod Arcs

@@ -1,0 +1,23 @@
+//! Through bands of a section: the widest stretch of the cycle in which a vehicle meets green at each cabinet, both ways
+//! along the street (FHWA Signal Timing Manual: bandwidth). Bands are found from the windows of the cabinets, each an arc of
+//! the cycle; no time of the cycle is tried one by one.
+#![tactic(auto)]
+
+mod arcs;
+mod band;
+mod misfit;
+mod signals;
+
+ghost use Rattle.std.specs.Prelude.{◌<◌, ◌↔◌, ℕ, IsTrue};
+ghost use Rattle.sig_tables.specs.declared.tables.Tables.{Tables};
+ghost use Rattle.sig_tables.specs.Slots.{cycle_time};
+ghost use Rattle.band_report.specs.Bands.{in_window, InWindow};
+
+pub use band::{Band, greatest};
+pub use misfit::{Misfit, misfit_of};
+
+/// A law: a window is the set of times that lie fewer ticks than its force point behind the offset less the shift, round the
+/// cycle.
+pub fn windows_are_times()
+    ensures { (t : Tables) (n r time : ℕ) → 0 < cycle_time t n → IsTrue (in_window t n r time) ↔ InWindow t n r time }
+{}
