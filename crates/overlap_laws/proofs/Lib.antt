@@ -1,0 +1,5 @@
+mod Clearing
+mod Overlapping
+mod Judged
+mod Texts
+mod Frames

@@ -1,0 +1,5 @@
+pub mod Overlap
+pub mod Text
+pub mod Parents
+pub mod StandsFor
+pub mod Rows

@@ -1,0 +1,30 @@
+-- What the registers of an overlap stand for: which ticks so far saw some parent Green, the newest first.
+use Rattle.std.specs.Prelude.{ℕ, ◌+◌, ◌-◌, ◌≡◌, ◌≢◌, ◌≤◌, nat_le, Bool, List, [], ◌∷◌}
+use Rattle.sig_types.specs.declared.frame.Colour.{Colour}
+use Rattle.sig_types.specs.declared.frame.Colour.TheVariants.{Green, Yellow, Clear, Red}
+use Rattle.overlap_run.specs.declared.overlap.Timing.{Timing}
+use Rattle.overlap_run.specs.declared.overlap.Overlap.{Overlap}
+use Rattle.overlap_run.specs.Overlap.{has_trail, run, last_colour, colours}
+
+-- so many ticks are left of the trail: some parent was Green as many ticks ago as it is short of the whole
+pub record TrailLeft (trail left : ℕ) (greens : List Bool) : Type 0 where
+  pub within : left ≤ trail
+  pub last : (n : ℕ) → has_trail n greens ≡ nat_le (trail - left) n
+
+-- how many ticks are left, by the colour that is shown
+abbrev pub IsLeft : ℕ → Timing → List Bool → List Colour → Colour → Type 0
+IsLeft left t greens past Green = TrailLeft t.trail left greens
+IsLeft left t greens past Yellow = left + run Yellow past ≡ t.yellow
+IsLeft left t greens past Clear = left + run Clear past ≡ t.red
+IsLeft left t greens past Red = Unit {0}
+
+-- the overlap shows what these times give at the newest of these ticks, and counts down from there
+pub record StandsFor (o : Overlap) (t : Timing) (greens : List Bool) : Type 0 where
+  pub some : greens ≢ []
+  pub times : o.times ≡ t
+  pub shown : o.shown ≡ last_colour (colours t greens)
+  pub left : IsLeft o.left t greens (colours t greens) o.shown
+
+-- the overlap stands at tick 0, whatever its parents show there
+abbrev pub IsOpened : Overlap → Timing → Type 0
+IsOpened o t = (green : Bool) → StandsFor o t (green ∷ [])

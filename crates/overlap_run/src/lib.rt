@@ -1,0 +1,29 @@
+//! An overlap: an arrow that shows green with any of several parent phases, as the right turn beside two through movements
+//! (NEMA TS 2, overlaps). It is timed from what a controller did: `Overlap` counts down tick by tick, and `text`
+//! writes its changes over all ticks of a cabinet.
+#![tactic(auto)]
+
+ghost use Rattle.std.specs.Prelude.{◌≡◌};
+ghost use Rattle.sig_types.specs.declared.frame.Colour.{Colour};
+ghost use Rattle.overlap_run.specs.Rows.{by_hand, at_once};
+
+mod changes;
+mod overlap;
+
+pub use changes::text;
+pub use overlap::{Overlap, Timing};
+
+/// The overlap of one green of a parent, at the ticks at which it changes and just before: Green with the parent, five ticks longer, then
+/// yellow change and red clearance of their length. The check computes the definition.
+pub fn one_green()
+    ensures before { by_hand 59 ≡ Colour.Red }
+    ensures begins { by_hand 60 ≡ Colour.Green }
+    ensures holds { by_hand 464 ≡ Colour.Green }
+    ensures changes { by_hand 465 ≡ Colour.Yellow }
+    ensures yellow { by_hand 499 ≡ Colour.Yellow }
+    ensures clears { by_hand 500 ≡ Colour.Clear }
+    ensures clear { by_hand 509 ≡ Colour.Clear }
+    ensures over { by_hand 510 ≡ Colour.Red }
+    ensures no_trail { at_once 460 ≡ Colour.Yellow }
+    ensures no_clearance { at_once 490 ≡ Colour.Red }
+{}
