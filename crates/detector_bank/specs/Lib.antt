@@ -1,0 +1,4 @@
+pub mod Pulses
+pub mod Bank
+pub mod Lists
+pub mod Watching

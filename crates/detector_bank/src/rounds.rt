@@ -1,0 +1,74 @@
+//! The rounds of a bank, each taken once: the calls and the edges that it gives.
+
+ghost use Rattle.std.specs.Prelude.{◌≡◌, ◌≤◌, length, IfOk};
+ghost use Rattle.detector_bank.specs.Lists.{EachStands, calls_until, in_order, edges_until};
+
+use crate::bank::{Call, Detector, Edge, Pulse};
+use crate::changes::{called_in, none_called, push_changes};
+use crate::order::{in_order, push_edges};
+use crate::walk::{start, take_round};
+use sig_types::NoMemory;
+use std::alloc::Global;
+
+/// The calls of a bank in so many rounds: one for each round, cabinet and phase at which the phase is called and was not in
+/// the round before, or the other way round, by round, cabinet and phase. A pulse whose detector is not in the bank counts
+/// for none. The time grows with rounds times detectors, and with pulses times detectors.
+pub fn bank_calls(
+    alloc: Global,
+    bank: &Vec<Detector>,
+    pulses: &Vec<Pulse>,
+    rounds: u32,
+) -> Result<Vec<Call>, NoMemory>
+    requires stands { EachStands bank.now.items }
+    requires few { length pulses.now.items ≤ 1000000 }
+    requires short { rounds ≤ 86400 }
+    ensures { IfOk result (λ calls. calls.items ≡ calls_until bank.now.items pulses.now.items rounds) }
+{
+    let mut walk = match start(alloc, bank, pulses) {
+        Ok(walk) => walk,
+        Err(NoMemory) => return Err(NoMemory),
+    };
+    let mut before = none_called();
+    let mut calls = Vec::new(alloc);
+    for done in 0..rounds {
+        take_round(&mut walk, bank, done + 1);
+        let now = called_in(bank, &walk.watches, done + 1);
+        match push_changes(&mut calls, done + 1, &now, &before) {
+            Ok(()) => {}
+            Err(NoMemory) => return Err(NoMemory),
+        }
+        before = now;
+    }
+    Ok(calls)
+}
+
+/// How often each detector went on in each of so many rounds in which it had not failed, where it did, by round, cabinet and
+/// number.
+pub fn edges(
+    alloc: Global,
+    bank: &Vec<Detector>,
+    pulses: &Vec<Pulse>,
+    rounds: u32,
+) -> Result<Vec<Edge>, NoMemory>
+    requires few { length pulses.now.items ≤ 1000000 }
+    requires short { rounds ≤ 86400 }
+    ensures { IfOk result (λ edges. edges.items ≡ edges_until (in_order bank.now.items) pulses.now.items rounds) }
+{
+    let ordered = match in_order(alloc, bank) {
+        Ok(ordered) => ordered,
+        Err(NoMemory) => return Err(NoMemory),
+    };
+    let mut walk = match start(alloc, &ordered, pulses) {
+        Ok(walk) => walk,
+        Err(NoMemory) => return Err(NoMemory),
+    };
+    let mut edges = Vec::new(alloc);
+    for done in 0..rounds {
+        take_round(&mut walk, &ordered, done + 1);
+        match push_edges(&mut edges, &ordered, &walk.watches, done + 1) {
+            Ok(()) => {}
+            Err(NoMemory) => return Err(NoMemory),
+        }
+    }
+    Ok(edges)
+}
