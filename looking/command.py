@@ -84,6 +84,7 @@ def parser():
     street = command("coordination", "the coordinated greens of several cabinets over time, with through bands (to: 3000 ticks on)")
     street.add_argument("--cabinets", type=numbers, metavar="N,N,..", help="the cabinets in the order of the street (all)")
     street.add_argument("--travel", type=travel, metavar="S,S,..", help="seconds from each cabinet to the next, for the bands")
+    street.add_argument("--planned", metavar="FILE", help="what `arterial band` wrote: the plan's greatest bands, as dashed outlines")
     street.add_argument("--phases", type=phases, metavar="P,P", help="the phases to show instead of the coordinated ones")
     offset = command("offset", "how a cabinet brings its offset about, and what disturbs it (to: the end)")
     offset.add_argument("--cabinet", type=int, default=1, metavar="N", help="the cabinet (1)")
@@ -148,16 +149,22 @@ def rings(words, course):
 
 def coordination(words, course):
     """Draws a street."""
-    from . import coordination
+    from . import coordination, planned
 
     cabinets = [cabinet_of(course, it) for it in words.cabinets or range(1, course.cabinets + 1)]
     if len(set(cabinets)) < len(cabinets):
         raise Fault("a cabinet is named twice")
     if words.travel and len(words.travel) != len(cabinets) - 1:
         raise Fault(f"{len(cabinets)} cabinets have {len(cabinets) - 1} times of travel between them")
-    corners = coordination.collect(course, cabinets, words.phases, *span(words, course, 3000), sum(words.travel or ()))
-    finish(course)
-    coordination.draw(corners, words.travel, words.out)
+    if words.planned and not words.travel:
+        raise Fault("--planned goes with --travel")
+    try:
+        plan = planned.read(words.planned) if words.planned else None
+        corners = coordination.collect(course, cabinets, words.phases, *span(words, course, 3000), sum(words.travel or ()))
+        finish(course)
+        coordination.draw(corners, words.travel, words.out, plan)
+    except planned.NoBands as fault:
+        raise Fault(str(fault)) from None
 
 
 def offset(words, course):

@@ -1,13 +1,14 @@
 """The time-space diagram of a street: the coordinated greens of several cabinets, and the bands through them.
 
-Outbound goes with ring 1's coordinated phases from the first cabinet to the last, inbound with ring 2's back again.
+Outbound goes with ring 1's coordinated phases from the first cabinet to the last, inbound with ring 2's back again. The bands are those of the
+greens that were shown; beside them those of a plan can be drawn.
 """
 
 from itertools import accumulate
 
 from matplotlib.patches import Patch, Polygon
 
-from . import pictures
+from . import pictures, planned
 from .cabinet import mode_of, opened
 from .course import Ended, RoundEnd
 from .lines import Frame
@@ -29,7 +30,7 @@ class Corner:
         chosen = [self.cabinet.opening, *tables.patterns()]
         pairs = (coordinated(tables, it) for it in chosen if it in tables.patterns())
         self.pair = phases or next((it for it in pairs if it), None) or (2, 6)
-        self.used = [self.pair]
+        self.used, self.beat = [self.pair], None
         self.now = [("R", 0), ("R", 0)]
         self.spans = [{"G": [], "Y": []}, {"G": [], "Y": []}]
 
@@ -43,10 +44,12 @@ class Corner:
                 self.show(way, happening.vehicles[phase - 1], happening.tick)
 
     def follow(self, frame):
-        """Takes over the coordinated phases of the pattern that runs."""
+        """Takes over the coordinated phases of the pattern that runs, and how its cycle runs."""
         mode = mode_of(frame.mode)
-        plan = self.cabinet.plan(mode.number) if mode.letter in "CK" and not self.fixed else None
-        if plan and plan.coordinated != self.pair:
+        plan = self.cabinet.plan(mode.number) if mode.letter in "CK" else None
+        if plan and frame.tick <= self.end:
+            self.beat = planned.beat(plan, frame)
+        if plan and not self.fixed and plan.coordinated != self.pair:
             self.pair = plan.coordinated
             if frame.tick >= self.start:
                 self.used.append(self.pair)
@@ -154,8 +157,27 @@ def draw_bands(axes, found, heights, start, end):
                 axes.text(x, (heights[place] + heights[place + 1]) / 2, text, ha="center", va="center", fontsize=8, color=pictures.INK)
 
 
-def draw(corners, travel, path):
-    """Draws the time-space diagram and writes it; `travel` has the ticks from each cabinet to the next, or is None."""
+def draw_planned(axes, found, delays, heights, corner):
+    """Draws dashed outlines of a plan's bands, outbound and inbound, cycle by cycle, by the clock of a cabinet. Returns what explains them."""
+    keys = []
+    for band, colour, name, away in zip(found, (OUTBOUND, INBOUND), ("outbound", "inbound"), delays):
+        look = {"facecolor": "none", "edgecolor": colour, "linewidth": 1.2, "linestyle": (0, (4, 2))}
+        text = f"{name} by the plan, {band.width / 10:g} s" if band else f"none {name} by the plan"
+        keys.append(Patch(label=text, **look if band else {"color": colour, "alpha": 0}))
+        if not band:
+            continue
+        if corner.beat is None:
+            raise planned.NoBands(f"cabinet {corner.cabinet.number} is in no pattern in what is shown, so the times of its cycle aren't told")
+        for low, high in planned.spans(band, corner.beat, corner.start - max(away), corner.end):
+            left = [((low + it) / 10, height) for it, height in zip(away, heights)]
+            right = [((high + it) / 10, height) for it, height in zip(away, heights)]
+            axes.add_patch(Polygon(left + right[::-1], closed=True, zorder=4, gid=f"{name}-planned-{low}", **look))
+    return keys
+
+
+def draw(corners, travel, path, plan=None):
+    """Draws the time-space diagram and writes it; `travel` has the ticks from each cabinet to the next, or is None, and `plan` a plan's greatest
+    bands, outbound and inbound."""
     start, end = corners[0].start, corners[0].end
     tall = 1.5 + 0.85 * len(corners)
     title = f"Coordinated greens, ticks {start} to {end}: above each line outbound (ring 1), below it inbound (ring 2)"
@@ -175,6 +197,8 @@ def draw(corners, travel, path):
         draw_bands(axes, found, heights, start, end)
         for (spans, _), colour, name in zip(found, (OUTBOUND, INBOUND), ("outbound", "inbound")):
             keys.append(Patch(color=colour, alpha=0.25 if spans else 0, label=f"{name} band" if spans else f"no {name} band"))
+        if plan:
+            keys += draw_planned(axes, plan, [delays for _, delays in found], heights, corners[0])
     axes.set_ylim(heights[0] - 0.35 * spacing, heights[-1] + 0.35 * spacing)
     axes.set_yticks(list(names), list(names.values()))
     axes.tick_params(axis="y", length=0)

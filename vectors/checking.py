@@ -71,3 +71,10 @@ def checked(program, trace):
     if (ran.returncode, ran.stdout, ran.stderr) == (0, b"", b""):
         return None
     return f"its check ends with status {ran.returncode}, it said {ran.stderr.decode(errors='replace')[:90]!r}"
+
+
+def ends_early(program, text):
+    """Returns whether the program says of a text that its first fault is its end: that some trace goes on behind it."""
+    line, rule = text.count(b"\n") + 1, 10 if text == b"" or text.endswith(b"\n") else 2
+    ran = subprocess.run([program, "check"], input=text, capture_output=True, timeout=SECONDS)
+    return (ran.returncode, ran.stdout, ran.stderr) == (5, b"", f"trace: line {line} breaks rule {rule}\n".encode())

@@ -43,24 +43,24 @@ def library(folder, name):
     return made if ran.returncode == 0 else None
 
 
-def run_behind(made, program, given, names, words=()):
-    """Runs the program once behind such a library, which reads the names; with these words behind `run`. Returns whether it told of
-    anything, the exit status, and both outputs."""
+def run_behind(made, program, given, names, words=("run",)):
+    """Runs the program once behind such a library, which reads the names; with these words. Returns whether it told of anything, the exit
+    status, and both outputs."""
     told, telling = os.pipe()
     with open(told, "rb") as reader:
         try:
             names = {"LD_PRELOAD": str(made), "TOLD": str(telling), **names}
             ran = subprocess.run(
-                [program, "run", *words], input=given, capture_output=True, timeout=SECONDS, pass_fds=(telling,), env={**os.environ, **names}
+                [program, *words], input=given, capture_output=True, timeout=SECONDS, pass_fds=(telling,), env={**os.environ, **names}
             )
         finally:
             os.close(telling)
         return reader.read() != b"", ran.returncode, ran.stdout, ran.stderr
 
 
-def ended(program, given):
-    """Returns what a run answered, which may take 10 seconds and 1 GB: its status and both outputs; in words where it didn't end."""
-    words = ["sh", "-c", f'ulimit -v {ALLOWED_KILOBYTES}; exec "$0" run', program]
+def ended(program, given, word="run"):
+    """Returns what a command answered, which may take 10 seconds and 1 GB: its status and both outputs; in words where it didn't end."""
+    words = ["sh", "-c", f'ulimit -v {ALLOWED_KILOBYTES}; exec "$0" "$1"', program, word]
     try:
         ran = subprocess.run(words, input=given, capture_output=True, timeout=ALLOWED_SECONDS)
     except subprocess.TimeoutExpired:

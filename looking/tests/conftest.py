@@ -46,6 +46,32 @@ Z 7
 """
 """The first example of docs/SCENARIO.md: a car on the side street."""
 
+PAIR = """\
+S {"cabinets":[{"clock":840,"pattern":1},{"cells":[["pattern",1,3,10]],"clock":840,"pattern":1}],"rounds":4,"ticks":600,"version":1}
+F 1 0 RRRRRRRRRRRRRRRR DDDDDDDDDDDDDDDD S 0 0 0
+F 2 0 RRRRRRRRRRRRRRRR DDDDDDDDDDDDDDDD S 0 0 0
+R 1
+J 1 4*600
+F 1 60 RGRRRGRRRRRRRRRR DDDDDDDDDDDDDDDD C1 0 0 0
+J 2 4*600
+F 2 60 RGRRRGRRRRRRRRRR DDDDDDDDDDDDDDDD C1 0 800 0
+R 2
+J 1 4*600
+F 1 960 RGRRRGRRRRRRRRRR DDDDDDDDDDDDDDDD C1 0 0 0
+J 2 4*600
+F 2 1060 RGRRRGRRRRRRRRRR DDDDDDDDDDDDDDDD C1 0 0 0
+R 3
+J 1 4*600
+J 2 4*600
+R 4
+J 1 4*600
+F 1 1860 RGRRRGRRRRRRRRRR DDDDDDDDDDDDDDDD C1 0 0 0
+J 2 4*600
+F 2 1960 RGRRRGRRRRRRRRRR DDDDDDDDDDDDDDDD C1 0 0 0
+Z 4
+"""
+"""Two cabinets in step with pattern 1 and no traffic, the second with an offset of 10 s, which it brings about in its first cycle."""
+
 
 def run(*words, given=None):
     """Runs ./look and returns what it answered."""

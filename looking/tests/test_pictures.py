@@ -4,7 +4,7 @@ from collections import Counter
 from xml.etree import ElementTree
 
 import pytest
-from conftest import SMALL, STREET, VECTORS
+from conftest import PAIR, SMALL, STREET, VECTORS, run
 
 SVG = "{http://www.w3.org/2000/svg}"
 
@@ -62,6 +62,52 @@ def test_bands_through_a_street(drawn):
     assert sum(name.startswith("outbound-band") for name in found.groups if name) == 4
     assert found.texts["24.5 s"] == 3 and found.texts["no inbound band"] == 1
     assert [found.groups[f"cabinet-{number}-outbound-green"] for number in (1, 2, 3, 4)] == [4, 4, 5, 4]
+
+
+def named(found, start):
+    """Returns the ends of the names of groups that begin so, as numbers."""
+    return sorted(int(name.removeprefix(start)) for name in found.groups if name and name.startswith(start))
+
+
+@pytest.fixture
+def bands(tmp_path):
+    """Writes the two lines of `arterial band` to a file."""
+
+    def done(*lines):
+        file = tmp_path / "bands"
+        file.write_text("".join(f"{line}\n" for line in lines))
+        return file
+
+    return done
+
+
+def test_bands_of_a_plan_by_the_clock_of_the_street(drawn, bands):
+    """The clocks show 840 at tick 0, so that time 0 of a cycle of 900 is at ticks 60, 960 and 1860, and time 100 a hundred later."""
+    found = drawn("coordination", "--to", "2400", "--travel", "10", "--planned", bands("outbound 0 245 1 1", "inbound 100 45 2 1"), given=PAIR)
+    assert named(found, "outbound-planned-") == [60, 960, 1860] and named(found, "inbound-planned-") == [160, 1060, 1960]
+    assert found.texts["outbound by the plan, 24.5 s"] == 1 and found.texts["inbound by the plan, 4.5 s"] == 1
+
+
+def test_a_street_on_its_offsets_has_the_bands_of_its_plan(drawn, bands):
+    words = ("coordination", "--from", "6000", "--to", "9000", "--travel", "20,20,20", STREET)
+    found = drawn(*words, "--planned", bands("outbound 0 245 1 1", "inbound none"))
+    assert named(found, "outbound-planned-") == named(found, "outbound-band-") == [5460, 6360, 7260, 8160]
+    assert named(found, "inbound-planned-") == [] and found.texts["none inbound by the plan"] == 1
+
+
+@pytest.mark.parametrize(
+    "lines, words",
+    [
+        (["outbound 0 245 1 1"], "not the two lines that `arterial band` writes"),
+        (["outbound 0 245 1 1", "inbound none", ""], "not the two lines that `arterial band` writes"),
+        (["outbound 0 900 1 1", "inbound none"], "a band of 90 s from 0 s on is none of a cycle of 90 s"),
+    ],
+)
+def test_other_bands_are_refused(bands, tmp_path, lines, words):
+    path = tmp_path / "picture.svg"
+    ran = run("coordination", "--travel", "20,20,20", "--planned", bands(*lines), "-o", path, STREET)
+    assert (ran.returncode, ran.stdout, path.exists()) == (2, "", False)
+    assert ran.stderr.startswith("look: ") and ran.stderr.endswith(f"{words}\n")
 
 
 def test_the_offset_of_the_fourth_cabinet(drawn):

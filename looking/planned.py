@@ -1,0 +1,53 @@
+"""The greatest bands of a plan, as `arterial band` writes them, and at which ticks of a trace they come.
+
+A time of the cycle is the cabinets' clock modulo the cycle. Where the clock stands is told by the target of a frame, which is the clock less the
+offset; where offsets refer to the end of green, the window is added.
+"""
+
+import re
+from typing import NamedTuple
+
+NUMBER = "(0|[1-9][0-9]{0,8})"
+FORM = re.compile("outbound (none|{0} {0} {0} {0})\ninbound (none|{0} {0} {0} {0})\n".format(NUMBER))
+
+
+class NoBands(Exception):
+    """A text isn't what `arterial band` writes, or not for this street."""
+
+
+class Band(NamedTuple):
+    """A band: when it begins at the first cabinet that is passed, as a time of the cycle, and its width, both in ticks."""
+
+    start: int
+    width: int
+
+
+class Beat(NamedTuple):
+    """How a cycle runs beside the ticks of a trace: its length, and the time of the cycle at tick 0."""
+
+    cycle: int
+    ahead: int
+
+
+def read(path):
+    """Returns the bands that a file holds, outbound and inbound, each None where there is none."""
+    with open(path, encoding="ascii", errors="replace") as file:
+        found = FORM.fullmatch(file.read(1000))
+    if not found:
+        raise NoBands(f"{path}: not the two lines that `arterial band` writes")
+    return [None if found[at] == "none" else Band(int(found[at + 1]), int(found[at + 2])) for at in (1, 6)]
+
+
+def beat(plan, frame):
+    """Returns how the cycle of a plan runs, by the target of a frame of its pattern."""
+    return Beat(plan.cycle, (frame.target + plan.offset - plan.shift - frame.tick) % plan.cycle)
+
+
+def spans(band, beat, start, end):
+    """Returns the ticks at which a vehicle may start in the band, cycle by cycle, that reach into those from start to end."""
+    if band.start >= beat.cycle or band.width >= beat.cycle:
+        raise NoBands(f"a band of {band.width / 10:g} s from {band.start / 10:g} s on is none of a cycle of {beat.cycle / 10:g} s")
+    first = (band.start - beat.ahead) % beat.cycle
+    turns = range(-((first + band.width - start) // beat.cycle), (end - first) // beat.cycle + 1)
+    shown = [(first + turn * beat.cycle, first + turn * beat.cycle + band.width) for turn in turns]
+    return [(low, high) for low, high in shown if low < end and high > start]
