@@ -1,7 +1,7 @@
 //! Which frames have a line in a trace: those that show something else than the one before, and local zeros.
 
-ghost use Rattle.std.specs.Prelude.{◌≡◌};
-ghost use Rattle.sig_types.specs.Colour.{shows_same, same_colours, same_signals};
+ghost use Rattle.std.specs.Prelude.{◌≡◌, ◌==◌, ◌&&◌};
+ghost use Rattle.sig_types.specs.Colour.{shows_same, same_mode, same_colours, same_signals};
 ghost use Rattle.sig_tables.specs.Walking.{is_local_zero};
 ghost use Rattle.cabinet_story.specs.Frames.{has_line};
 
@@ -21,14 +21,21 @@ fn same_signals(last: &[Ped; 16], next: &[Ped; 16]) -> bool
     last == next
 }
 
-/// Whether a frame shows what the one before showed: colours, signals, mode and version.
+/// Whether a frame has the mode and the version of the one before.
+fn is_as_before(last: &Frame, next: &Frame) -> bool
+    ensures { result ≡ (same_mode last.now.mode next.now.mode && (last.now.version == next.now.version)) }
+{
+    last.mode == next.mode && last.version == next.version
+}
+
+/// Whether a frame shows what the one before showed: colours, signals, mode and version. What is told soonest is looked at first.
 fn shows_same(last: &Frame, next: &Frame) -> bool
     ensures { result ≡ shows_same last.now next.now }
 {
-    same_colours(&last.veh, &next.veh)
-        && same_signals(&last.ped, &next.ped)
-        && last.mode == next.mode
-        && last.version == next.version
+    if !is_as_before(last, next) {
+        return false;
+    }
+    same_colours(&last.veh, &next.veh) && same_signals(&last.ped, &next.ped)
 }
 
 /// Whether a frame in step with a pattern has the counter 0, where the one before hadn't or wasn't in step with it.

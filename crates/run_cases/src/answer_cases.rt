@@ -92,7 +92,7 @@ fn bytes_of(alloc: Global, text: &str) -> Result<Vec<u8>, Fail> {
 #[test]
 fn other_words_are_usage(rt: HostRuntime) -> Result<(), Fail> {
     let alloc = rt.alloc();
-    let cases: [&[&str]; 16] = [
+    let cases: [&[&str]; 32] = [
         &[],
         &["walk"],
         &["Run"],
@@ -109,6 +109,120 @@ fn other_words_are_usage(rt: HostRuntime) -> Result<(), Fail> {
         &["run", "--workers", "2", "2"],
         &["--workers", "2", "run"],
         &["check", "check"],
+        &["generate"],
+        &["generate", "--seed", "0", "--cabinets", "1"],
+        &[
+            "generate",
+            "--seed",
+            "0",
+            "--cabinets",
+            "1",
+            "--rounds",
+            "1",
+            "1",
+        ],
+        &[
+            "generate",
+            "--seed",
+            "0",
+            "--rounds",
+            "1",
+            "--cabinets",
+            "1",
+        ],
+        &[
+            "generate",
+            "--seed",
+            "00",
+            "--cabinets",
+            "1",
+            "--rounds",
+            "1",
+        ],
+        &[
+            "generate",
+            "--seed",
+            "+1",
+            "--cabinets",
+            "1",
+            "--rounds",
+            "1",
+        ],
+        &[
+            "generate",
+            "--seed",
+            "4294967296",
+            "--cabinets",
+            "1",
+            "--rounds",
+            "1",
+        ],
+        &[
+            "generate",
+            "--seed",
+            "0",
+            "--cabinets",
+            "0",
+            "--rounds",
+            "1",
+        ],
+        &[
+            "generate",
+            "--seed",
+            "0",
+            "--cabinets",
+            "65",
+            "--rounds",
+            "1",
+        ],
+        &[
+            "generate",
+            "--seed",
+            "0",
+            "--cabinets",
+            "1",
+            "--rounds",
+            "0",
+        ],
+        &[
+            "generate",
+            "--seed",
+            "0",
+            "--cabinets",
+            "1",
+            "--rounds",
+            "86401",
+        ],
+        &[
+            "generate",
+            "--seed",
+            "0",
+            "--cabinets",
+            "64",
+            "--rounds",
+            "1563",
+        ],
+        &["survey"],
+        &["survey", "--seed", "0", "--cabinets", "01", "--rounds", "1"],
+        &[
+            "survey",
+            "--seed",
+            "0",
+            "--cabinets",
+            "64",
+            "--rounds",
+            "1563",
+        ],
+        &[
+            "survey",
+            "--seed",
+            "0",
+            "--cabinets",
+            "1",
+            "--rounds",
+            "1",
+            "",
+        ],
     ];
     for words in cases {
         // The first read would fail.
@@ -266,7 +380,7 @@ fn help_and_version_write_their_text_and_read_nothing(rt: HostRuntime) -> Result
     let alloc = rt.alloc();
     for (word, text) in [
         ("--help", "arterial: a bench for"),
-        ("--version", "arterial 0.5\n"),
+        ("--version", "arterial 0.6\n"),
     ] {
         // The first read would fail.
         let (said, written) = answer(&rt, alloc, &[word], Vec::new(alloc), (1, 0), 10_000)?;
@@ -276,6 +390,53 @@ fn help_and_version_write_their_text_and_read_nothing(rt: HostRuntime) -> Result
         let (said, written) = answer(&rt, alloc, &[word], Vec::new(alloc), (0, 1), 10_000)?;
         assert_eq!(rt; said.as_str(), "write fault");
         assert!(rt; written.is_empty());
+    }
+    Ok(())
+}
+
+/// The scenario that seed 0 gives for one cabinet and one round.
+const SMALLEST: &str =
+    "{\"cabinets\":[{\"base\":\"std8\",\"cells\":[[\"pattern\",1,3,0],[\"unit\",1,2]],\"pattern\":1}],\"faults\":[],\"inputs\":[{\"cabinet\":1,\"on\":true,\"round\":1,\"veh\":3}],\"loads\":[{\"cabinet\":1,\"cells\":[[\"phase\",2,6,37]],\"round\":1}],\"master\":{\"pattern_every\":60,\"poll_every\":1,\"retries\":3,\"schedule\":[{\"pattern\":1,\"second\":0,\"section\":1}]},\"rounds\":1,\"ticks\":100,\"version\":1}\n";
+
+#[test]
+fn the_smallest_scenario_is_generated_and_nothing_is_read(rt: HostRuntime) -> Result<(), Fail> {
+    let alloc = rt.alloc();
+    let words = [
+        "generate",
+        "--seed",
+        "0",
+        "--cabinets",
+        "1",
+        "--rounds",
+        "1",
+    ];
+    // The first read would fail; a write fails, or there is little room.
+    for (fails, room, due) in [
+        (0, 10_000, "done"),
+        (1, 10_000, "write fault"),
+        (0, 100, "write fault"),
+    ] {
+        let (said, written) = answer(&rt, alloc, &words, Vec::new(alloc), (1, fails), room)?;
+        assert_eq!(rt; said.as_str(), due);
+        assert!(rt; SMALLEST.as_bytes().starts_with(written.as_slice()));
+        assert_eq!(rt; written.len() == SMALLEST.len(), due == "done");
+    }
+    Ok(())
+}
+
+#[test]
+fn the_smallest_scenario_is_surveyed_and_nothing_is_read(rt: HostRuntime) -> Result<(), Fail> {
+    let alloc = rt.alloc();
+    let words = ["survey", "--seed", "0", "--cabinets", "1", "--rounds", "1"];
+    let due = "cabinets 1\nrounds 1\nticks 100\nframes 2\nreplies 2\naccepted 0\nrefused 0\n";
+    // The first read would fail; a write fails.
+    for (fails, told) in [(0, "done"), (1, "write fault")] {
+        let (said, written) = answer(&rt, alloc, &words, Vec::new(alloc), (1, fails), 10_000)?;
+        assert_eq!(rt; said.as_str(), told);
+        assert_eq!(rt;
+            written.as_slice(),
+            if fails == 0 { due.as_bytes() } else { b"" }
+        );
     }
     Ok(())
 }

@@ -1,6 +1,8 @@
 -- What the lines of a run tell of each cabinet, whatever its journals: the street is safe, versions are whole, coordination is met, and
 -- the tables in force are those of whole downloads that were accepted.
 use Rattle.std.specs.Prelude.{ℕ, ◌≡◌, ◌+◌, List, ◌∷◌, ◌++◌, drop, length, IfSome}
+use Rattle.sig_tables.specs.Decide.{past_at}
+use Rattle.laws.specs.InStep.{EachCoordinated}
 use Rattle.trace_text.specs.declared.lines.Line.{Line}
 use Rattle.safe_trace.specs.Safe.{Safe, intersection_of}
 use Rattle.safe_trace.specs.Whole.{Whole}
@@ -35,7 +37,8 @@ EndAsJudged story = (later earlier : List Item) (octets : List ℕ) → story.it
 
 -- what a cabinet has come to by the end of a run with these journals, and what is promised of it where these lines are read: by those
 -- of the cabinet alone its street is safe with the tables of each version of its history, and its versions are whole; these tables are
--- those of whole downloads, accepted or refused by the rules; and its history meets coordination
+-- those of whole downloads, accepted or refused by the rules; its history meets coordination; and in each frame of a pattern its phases
+-- keep to the plan, so that a coordinated one is Green where the counter is below its force point
 pub record Kept (s : ScenarioContent) (journals : List (List (List ℕ))) (lines : List Line) (cab : ℕ) (c : CabinetContent) : Type 0 where
   pub end : Standing
   pub own : end.cabinet ≡ c
@@ -45,6 +48,7 @@ pub record Kept (s : ScenarioContent) (journals : List (List (List ℕ))) (lines
   pub tables : AreMadeOfDownloads c end.story
   pub judged : EndAsJudged end.story
   pub meets : Meets (history_of end.story)
+  pub greens : EachCoordinated (past_at (history_of end.story)).moments
 
 -- this is so of each cabinet
 abbrev pub AllKept : ScenarioContent → List (List (List ℕ)) → List Line → Type 0

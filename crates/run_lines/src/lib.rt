@@ -13,7 +13,8 @@ ghost use Rattle.run_lines.specs.Safe.{AllKept};
 ghost use Rattle.run_lines.specs.Smallest.{smallest, one_tick, smallest_lines};
 
 use story_laws::{
-    downloads_are_whole, downloads_end_as_judged, stories_are_safe, stories_meet_coordination,
+    downloads_are_whole, downloads_end_as_judged, stories_are_safe, stories_keep_to_plan,
+    stories_meet_coordination,
 };
 
 /// The smallest run: one cabinet with the standard tables, to which one tick comes, shows all red throughout.
@@ -29,7 +30,8 @@ pub fn serial_is_an_order()
 /// In whatever order the items of a run come to its cabinets: where these open with consistent tables and slow drifts, the lines of each
 /// cabinet alone tell that its street is safe at every tick of 0.1 s and in every mode, with the tables of each version, and that its
 /// versions are whole. These tables are the opening ones with the whole content of each download that the rules accepted; and the
-/// cabinet's history meets what coordination promises (FHWA Signal Timing Manual: offset, transition).
+/// cabinet's history meets what coordination promises (FHWA Signal Timing Manual: offset, transition), and each frame of a pattern keeps to its
+/// plan: a coordinated phase is green wherever the counter is below its force point.
 pub fn any_order_is_safe()
     ensures { (s : ScenarioContent) → AllOpen s.cabinets → (journals : List (List (List ℕ))) → AreJournals s journals
         → AllKept s journals (run_lines s journals) }
@@ -38,6 +40,7 @@ pub fn any_order_is_safe()
     downloads_are_whole();
     downloads_end_as_judged();
     stories_meet_coordination();
+    stories_keep_to_plan();
 }
 
 /// The lines of fewer rounds begin those of more: later rounds only add theirs. And whatever journals the first rounds had, they are

@@ -35,11 +35,14 @@ pub use faults::fault_in;
 pub use frames::frame_in;
 pub use inputs::input_in;
 pub use loads::load_in;
+pub use members::{known_names, whole_at};
+pub use place::{Place, refuse_member};
 pub use priority::priority_in;
 pub use reading::{read, text};
 pub use scenario::{Parts, checked_parts, scenario_from};
 pub use setup::Setup;
 pub use tables::all_judged;
+pub use values::{Unfit, items_of, whole_of};
 
 /// Small values, as the definitions see them.
 pub fn small_values()

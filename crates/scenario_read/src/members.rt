@@ -36,7 +36,7 @@ fn known_members(
 }
 
 /// Refuses what is no object, and the least name, by bytes, that is not known.
-pub(crate) fn known_names(
+pub fn known_names(
     alloc: Global,
     value: &Value,
     place: Place,
@@ -51,7 +51,7 @@ pub(crate) fn known_names(
 }
 
 /// A whole number that must stand at a name.
-pub(crate) fn whole_at(
+pub fn whole_at(
     alloc: Global,
     object: &Value,
     place: Place,

@@ -102,7 +102,7 @@ fn named(path: String, unfit: Unfit) -> ReadFail
 }
 
 /// The refusal of the value at a place.
-pub(crate) fn refuse(alloc: Global, place: Place, unfit: Unfit) -> ReadFail
+pub fn refuse(alloc: Global, place: Place, unfit: Unfit) -> ReadFail
     ensures { Refuses result (fault_at (steps_of place) (fit_of unfit)) }
 {
     match path_of(alloc, place) {
@@ -112,7 +112,7 @@ pub(crate) fn refuse(alloc: Global, place: Place, unfit: Unfit) -> ReadFail
 }
 
 /// The refusal of a member of an object.
-pub(crate) fn refuse_member(alloc: Global, place: Place, name: &str, unfit: Unfit) -> ReadFail
+pub fn refuse_member(alloc: Global, place: Place, name: &str, unfit: Unfit) -> ReadFail
     ensures { Refuses result (fault_at (then_named (steps_of place) name.now) (fit_of unfit)) }
 {
     match path_of_member(alloc, place, name) {

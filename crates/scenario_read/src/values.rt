@@ -26,7 +26,7 @@ pub(crate) fn is_among(names: &[&str], name: &str) -> bool
 }
 
 /// A whole number of a range.
-pub(crate) fn whole_of(value: &Value, least: u32, most: u32) -> Result<u32, Unfit>
+pub fn whole_of(value: &Value, least: u32, most: u32) -> Result<u32, Unfit>
     ensures read { ReadAs result (whole_fits least most (view value.now)) (λ n. n ≡ whole_of (view value.now)) }
     ensures few { IfOk result (λ n. n ≤ most) }
 {
@@ -173,7 +173,7 @@ pub(crate) fn list_of(value: &Value, least: usize, most: usize) -> Result<&Vec<V
 
 /// The items of a list of any length.
 #[tactic(auto, using(crate::proofs::Lists::array_items, crate::proofs::Lists::any_array_fits))]
-pub(crate) fn items_of(value: &Value) -> Result<&Vec<Value>, Unfit>
+pub fn items_of(value: &Value) -> Result<&Vec<Value>, Unfit>
     ensures { ReadAs result (array_fits (view value.now)) (λ items. items_view items.now.items ≡ items_in (view value.now)) }
 {
     match value {

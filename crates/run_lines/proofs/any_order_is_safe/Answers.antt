@@ -19,4 +19,5 @@ returns c = λ s open_all journals are cab d is.
       tables = λ version later counted. c.downloads_are_whole.ensures.versions e.end.story (opening_tables d) (drift_in d) version later e.opens counted;
       judged = λ later earlier octets came. c.downloads_end_as_judged.ensures (as_far_as e.end.story earlier) octets;
       meets = c.stories_meet_coordination.ensures.drifting e.end.story (opening_tables d) (drift_in d) e.opens can.consistent (opening-fits d) can.slow;
+      greens = c.stories_keep_to_plan.ensures e.end.story (opening_tables d) (drift_in d) e.opens can.consistent;
     }
