@@ -2,7 +2,7 @@
 //! come to so far. Any pass may bring the next item of its stream at any time; only the start of a round takes memory.
 
 ghost use Rattle.std.specs.Prelude.{◌≡◌, ◌≢◌, ◌<◌, ◌≤◌, ◌+◌, ◌-◌, ◌++◌, ◌∷◌, [], ℕ, OnOk, IfErr, length, replicate, map, get_or};
-ghost use Rattle.sig_tables.specs.Decide.{last_frame_of};
+ghost use Rattle.sig_tables.specs.Decide.{last_frame_of, past_at};
 ghost use Rattle.round_streams.specs.Items.{Came, items_of, texts_of};
 ghost use Rattle.cabinet_story.specs.Story.{Story};
 ghost use Rattle.cabinet_story.specs.Coming.{history_of};
@@ -14,6 +14,7 @@ use crate::cabinet::{Cabinet, Told};
 use crate::happened::{Answered, Happened};
 use cabinet_story::Reply;
 use round_streams::Streams;
+use sig_tables::Tables;
 use sig_types::{Frame, NoMemory, Octets};
 use std::alloc::Global;
 
@@ -194,6 +195,13 @@ impl Book {
         ensures { (story : Story) → BookStands self.now story → result ≡ last_frame_of (history_of (story_now self.now story)) }
     {
         self.cabinet.frame()
+    }
+
+    /// The cabinet's tables in force.
+    pub fn tables(&self) -> &Tables
+        ensures { (story : Story) → BookStands self.now story → result.now ≡ (past_at (history_of (story_now self.now story))).tables }
+    {
+        self.cabinet.tables()
     }
 
     /// The journal of the round so far, in its longest runs of one pass.

@@ -2,7 +2,7 @@
 
 ghost use Rattle.std.specs.Prelude.{◌≡◌, ◌<◌, ◌≤◌, ◌+◌, option_to_list, Some};
 ghost use Rattle.sig_tables.specs.Past.{History};
-ghost use Rattle.sig_tables.specs.Decide.{last_frame_of};
+ghost use Rattle.sig_tables.specs.Decide.{last_frame_of, past_at};
 ghost use Rattle.controller.specs.StandsFor.{StandsFor, NamesPlace};
 ghost use Rattle.agent.specs.Asks.{IsAsked, CanBeCarriedOut};
 ghost use Rattle.round_streams.specs.Items.{Told as ToldItem, Came, Ticked};
@@ -17,6 +17,7 @@ use agent::{Ask, answer, decode_into};
 use arrayvec::ArrayVec;
 use cabinet_story::Load;
 use controller::Controller;
+use sig_tables::Tables;
 use sig_types::{Field, Frame, Octets};
 use stage_txn::Stage;
 
@@ -57,6 +58,13 @@ impl Cabinet {
         ensures { (story : Story) → CabinetStands self.now story → result ≡ last_frame_of (history_of story) }
     {
         self.controller.frame()
+    }
+
+    /// The tables in force.
+    pub fn tables(&self) -> &Tables
+        ensures { (story : Story) → CabinetStands self.now story → result.now ≡ (past_at (history_of story)).tables }
+    {
+        self.controller.tables()
     }
 
     /// It hears an input from the street.
