@@ -4,8 +4,8 @@ use Rattle.std.specs.Str.{bytes_eq}
 use Rattle.std.proofs.lemmas.Slice.Eq.{bytes_eq-Decides}
 use Rattle.command_words.specs.declared.command.Seeding.{Seeding}
 use Rattle.command_words.specs.declared.command.Command.{Command}
-use Rattle.command_words.specs.declared.command.Command.TheVariants.{Run, Check, Generate, Survey, Help, Version}
-use Rattle.command_words.specs.Words.{IsRun, IsCheck, IsGenerate, IsSurvey, IsHelp, IsVersion, seeding_words, CanSeed, AskFor}
+use Rattle.command_words.specs.declared.command.Command.TheVariants.{Run, Check, Generate, Survey, Band, Help, Version}
+use Rattle.command_words.specs.Words.{IsRun, IsCheck, IsGenerate, IsSurvey, IsBand, IsHelp, IsVersion, seeding_words, CanSeed, AskFor}
 use Rattle.command_words.proofs.Decimals.{same_number}
 
 -- the numbers behind options, read one after another, are those from which a scenario is generated
@@ -58,6 +58,7 @@ name_of (Run workers) = codes "run"
 name_of Check = codes "check"
 name_of (Generate from) = codes "generate"
 name_of (Survey from) = codes "survey"
+name_of Band = codes "band"
 name_of Help = codes "--help"
 name_of Version = codes "--version"
 
@@ -68,6 +69,7 @@ has_name words (Run workers) (inr more) = ap (λ (ws : List (List ℕ)). get_or 
 has_name words Check is = ap (λ (ws : List (List ℕ)). get_or ws 0 []) is
 has_name words (Generate from) is = ap (λ (ws : List (List ℕ)). get_or ws 0 []) is.0
 has_name words (Survey from) is = ap (λ (ws : List (List ℕ)). get_or ws 0 []) is.0
+has_name words Band is = ap (λ (ws : List (List ℕ)). get_or ws 0 []) is
 has_name words Help is = ap (λ (ws : List (List ℕ)). get_or ws 0 []) is
 has_name words Version is = ap (λ (ws : List (List ℕ)). get_or ws 0 []) is
 
@@ -88,6 +90,8 @@ one_command words (Generate a) d is are = absurd (differ words (Generate a) d is
 one_command words (Survey a) (Survey b) is are =
     ap Survey (one_seeding (drop 1 words) a b (ap (λ (ws : List (List ℕ)). drop 1 ws) is.0) is.1 (ap (λ (ws : List (List ℕ)). drop 1 ws) are.0) are.1)
 one_command words (Survey a) d is are = absurd (differ words (Survey a) d is are refl)
+one_command words Band Band is are = refl
+one_command words Band d is are = absurd (differ words Band d is are refl)
 one_command words Help Help is are = refl
 one_command words Help d is are = absurd (differ words Help d is are refl)
 one_command words Version Version is are = refl
@@ -101,14 +105,15 @@ its_command words c is d = (
 )
 
 -- they ask for none
-pub no_command : (words : List (List ℕ)) → ((n : ℕ) → IsRun words n → ⊥) → (IsCheck words → ⊥) → ((from : Seeding) → IsGenerate words from → ⊥) → ((from : Seeding) → IsSurvey words from → ⊥) → (IsHelp words → ⊥) → (IsVersion words → ⊥) → (d : Command) → (None ≡ Some d) ↔ AskFor words d
-no_command words run check generate survey help version d = (λ e. absurd (cc), λ is. absurd (none d is))
+pub no_command : (words : List (List ℕ)) → ((n : ℕ) → IsRun words n → ⊥) → (IsCheck words → ⊥) → ((from : Seeding) → IsGenerate words from → ⊥) → ((from : Seeding) → IsSurvey words from → ⊥) → (IsBand words → ⊥) → (IsHelp words → ⊥) → (IsVersion words → ⊥) → (d : Command) → (None ≡ Some d) ↔ AskFor words d
+no_command words run check generate survey band help version d = (λ e. absurd (cc), λ is. absurd (none d is))
   where
     none : (c : Command) → AskFor words c → ⊥
     none (Run workers) is = run workers is
     none Check is = check is
     none (Generate from) is = generate from is
     none (Survey from) is = survey from is
+    none Band is = band is
     none Help is = help is
     none Version is = version is
 

@@ -3,7 +3,7 @@ use Rattle.std.specs.Prelude.{◌≡◌, ◌≤◌, ◌⊎◌, ℕ, List, [], �
 use Rattle.gen_arterial.specs.Written.{CanMake}
 use Rattle.command_words.specs.declared.command.Seeding.{Seeding}
 use Rattle.command_words.specs.declared.command.Command.{Command}
-use Rattle.command_words.specs.declared.command.Command.TheVariants.{Run, Check, Generate, Survey, Help, Version}
+use Rattle.command_words.specs.declared.command.Command.TheVariants.{Run, Check, Generate, Survey, Band, Help, Version}
 
 -- to run a scenario by so many workers, 0 to 8; with no number it is by none
 abbrev pub IsRun : List (List ℕ) → ℕ → Type 0
@@ -31,6 +31,10 @@ IsGenerate words from = (words ≡ codes "generate" ∷ seeding_words from) × C
 abbrev pub IsSurvey : List (List ℕ) → Seeding → Type 0
 IsSurvey words from = (words ≡ codes "survey" ∷ seeding_words from) × CanSeed from
 
+-- to tell the greatest bands of a street
+abbrev pub IsBand : List (List ℕ) → Type 0
+IsBand words = words ≡ codes "band" ∷ []
+
 -- to write the help
 abbrev pub IsHelp : List (List ℕ) → Type 0
 IsHelp words = words ≡ codes "--help" ∷ []
@@ -45,6 +49,7 @@ AskFor words (Run workers) = IsRun words workers
 AskFor words Check = IsCheck words
 AskFor words (Generate from) = IsGenerate words from
 AskFor words (Survey from) = IsSurvey words from
+AskFor words Band = IsBand words
 AskFor words Help = IsHelp words
 AskFor words Version = IsVersion words
 

@@ -19,6 +19,8 @@ pub enum Command {
     Generate(Seeding),
     /// To count what a run of one comes to.
     Survey(Seeding),
+    /// To tell the greatest bands of a street.
+    Band,
     /// To write how the program is used.
     Help,
     /// To write which program this is.

@@ -117,6 +117,8 @@ pub fn command_of(words: &Vec<String>) -> Option<Command>
     }
     if is_lone(words, "check") {
         Some(Command::Check)
+    } else if is_lone(words, "band") {
+        Some(Command::Band)
     } else if is_lone(words, "--help") {
         Some(Command::Help)
     } else if is_lone(words, "--version") {

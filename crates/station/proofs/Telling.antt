@@ -3,12 +3,12 @@ use Rattle.std.proofs.Common.{◌≡◌, ◌⊎◌, inl, inr, ◌↔◌, ℕ, Li
 use Rattle.scenario_data.specs.declared.refusal.Refusal.{Refusal}
 use Rattle.trace_check.specs.declared.faults.TraceFault.{TraceFault}
 use Rattle.command_words.specs.declared.command.Command.{Command}
-use Rattle.command_words.specs.declared.command.Command.TheVariants.{Run, Check, Generate, Survey, Help, Version}
+use Rattle.command_words.specs.declared.command.Command.TheVariants.{Run, Check, Generate, Survey, Band, Help, Version}
 use Rattle.command_words.specs.Words.{IsRun, IsCheck, AskFor, IsCommand}
 use Rattle.station.specs.declared.status.Status.{Status}
 use Rattle.station.specs.declared.status.Status.TheVariants.{Done, Usage, Scenario, NotATrace, ReadFault, WriteFault, NoMemory}
-use Rattle.station.specs.Answers.{RunsWhole, StopsShort, IsRefused}
-use Rattle.station.specs.Commands.{Answered, ReadsNothing}
+use Rattle.station.specs.Answers.{RunsWhole, StopsShort}
+use Rattle.station.specs.Commands.{Answered, ReadsNothing, IsRefusedFor}
 
 -- the words ask for one command, or for none
 pub one_command : (found : Option Command) (c d : Command) → found ≡ Some c → found ≡ Some d → c ≡ d
@@ -41,6 +41,7 @@ module _ (status : Status) (left ends : Option (List ℕ)) (unread : Type 0) (ol
       none Check is = is.1
       none (Generate from) is = is
       none (Survey from) is = is
+      none Band is = is
       none Help is = is
       none Version is = is
 
@@ -64,6 +65,7 @@ module _ (status : Status) (left ends : Option (List ℕ)) (unread : Type 0) (ol
       from Check is so = inl so.0
       from (Generate seeding) is so = inl so
       from (Survey seeding) is so = inl so
+      from Band is so = inl so
       from Help is so = absurd so
       from Version is so = absurd so
 
@@ -75,19 +77,22 @@ module _ (status : Status) (left ends : Option (List ℕ)) (unread : Type 0) (ol
       from Check so = (so.1, so.0)
       from (Generate seeding) so = absurd so
       from (Survey seeding) so = absurd so
+      from Band so = so
       from Help so = absurd so
       from Version so = absurd so
 
-  pub told_refused : (c : Command) (r : Refusal) → Tells c status → status ≡ Scenario r → IsRefused r left ends × (new ≡ old)
-  told_refused c r tells e = from c (subst (λ (x : Status). Tells c x) e tells)
+  pub told_refused : (words : List (List ℕ)) (c : Command) (r : Refusal) → AskFor words c → Tells c status → status ≡ Scenario r
+      → IsRefusedFor words r left ends × (new ≡ old)
+  told_refused words c r asked tells e = from c asked (subst (λ (x : Status). Tells c x) e tells)
     where
-      from : (d : Command) → Tells d (Scenario r) → IsRefused r left ends × (new ≡ old)
-      from (Run workers) so = so
-      from Check so = absurd so.1
-      from (Generate seeding) so = absurd so
-      from (Survey seeding) so = absurd so
-      from Help so = absurd so
-      from Version so = absurd so
+      from : (d : Command) → AskFor words d → Tells d (Scenario r) → IsRefusedFor words r left ends × (new ≡ old)
+      from (Run workers) is so = (inl ((workers, is), so.0), so.1)
+      from Check is so = absurd so.1
+      from (Generate seeding) is so = absurd so
+      from (Survey seeding) is so = absurd so
+      from Band is so = (inr (is, so.0), so.1)
+      from Help is so = absurd so
+      from Version is so = absurd so
 
   pub told_no_trace : (words : List (List ℕ)) (c : Command) (fault : TraceFault) → AskFor words c → Tells c status → status ≡ NotATrace fault → IsCheck words
   told_no_trace words c fault asked tells e = from c asked (subst (λ (x : Status). Tells c x) e tells)
@@ -97,5 +102,6 @@ module _ (status : Status) (left ends : Option (List ℕ)) (unread : Type 0) (ol
       from Check is so = is
       from (Generate seeding) is so = absurd so
       from (Survey seeding) is so = absurd so
+      from Band is so = absurd so
       from Help is so = absurd so
       from Version is so = absurd so

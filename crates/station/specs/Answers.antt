@@ -65,24 +65,24 @@ IsLengthLimit (Broken cabinet rule row) = ⊥
 abbrev pub IsTooLong : Option (List ℕ) → Option (List ℕ) → Type 0
 IsTooLong left ends = IfSome left (λ input. (16777216 < length input) × (ends ≡ Some (drop 16777217 input)))
 
--- the input was read to its end, and this is its first fault
-pub record HasFault (refusal : Refusal) (left ends : Option (List ℕ)) : Type 0 where
+-- the input was read to its end, and this is its first fault, by what a first fault is of inputs of its kind
+pub record HasFault (IsFirst : List ℕ → Refusal → Type 0) (refusal : Refusal) (left ends : Option (List ℕ)) : Type 0 where
   pub bytes : List ℕ
   pub all : AreInput left bytes
   pub short : IsShort bytes
-  pub first : IsFirstFault bytes refusal
+  pub first : IsFirst bytes refusal
   pub ended : ends ≡ nothing_left left
 
 -- why a refusal comes, and what it leaves of the input: its length, which has a refusal of its own; or else its first fault
-abbrev pub IsRefused : Refusal → Option (List ℕ) → Option (List ℕ) → Type 0
-IsRefused refusal left ends =
-    (IsLengthLimit refusal × IsTooLong left ends) ⊎ ((IsLengthLimit refusal → ⊥) × HasFault refusal left ends)
+abbrev pub IsRefused : (List ℕ → Refusal → Type 0) → Refusal → Option (List ℕ) → Option (List ℕ) → Type 0
+IsRefused IsFirst refusal left ends =
+    (IsLengthLimit refusal × IsTooLong left ends) ⊎ ((IsLengthLimit refusal → ⊥) × HasFault IsFirst refusal left ends)
 
 -- what an answer to a run by so many workers tells of the input, with the faults of reading, and of the output, with the faults of
 -- writing
 abbrev pub Ran : ℕ → Status → Option (List ℕ) → Option (List ℕ) → Type 0 → Option (List ℕ) → Option (List ℕ) → Type 0 → Type 0
 Ran workers Done left ends unread old new unwritten = RunsWhole workers left ends old new
-Ran workers (Scenario refusal) left ends unread old new unwritten = IsRefused refusal left ends × (new ≡ old)
+Ran workers (Scenario refusal) left ends unread old new unwritten = IsRefused IsFirstFault refusal left ends × (new ≡ old)
 Ran workers ReadFault left ends unread old new unwritten = unread × (new ≡ old)
 Ran workers WriteFault left ends unread old new unwritten = unwritten × StopsShort workers left ends old new
 Ran workers NoMemory left ends unread old new unwritten = (new ≡ old) ⊎ StopsShort workers left ends old new
@@ -94,11 +94,11 @@ IsLengthRefusal (Scenario refusal) = IsLengthLimit refusal
 IsLengthRefusal _ = ⊥
 
 -- the answer is the refusal that names the first fault of the input
-abbrev pub NamesFault : Status → List ℕ → Type 0
-NamesFault status input = (refusal : Refusal) × (status ≡ Scenario refusal) × IsFirstFault input refusal
+abbrev pub NamesFault : (List ℕ → Refusal → Type 0) → Status → List ℕ → Type 0
+NamesFault IsFirst status input = (refusal : Refusal) × (status ≡ Scenario refusal) × IsFirst input refusal
 
 -- the answer to `run` that an input is due, where no read fails: for too long an input, one that is no scenario, and a scenario
 pub record IsDue (status : Status) (input : List ℕ) (unwritten : Type 0) : Type 0 where
   pub too_long : 16777216 < length input → IsLengthRefusal status
-  pub fault : IsShort input → IsNoScenario input → NamesFault status input
+  pub fault : IsShort input → IsNoScenario input → NamesFault IsFirstFault status input
   pub done : IsShort input → (s : ScenarioContent) → IsScenario input s → ¬ unwritten → status ≡ Done

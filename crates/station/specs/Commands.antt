@@ -1,15 +1,20 @@
 -- What an answer tells, command by command.
-use Rattle.std.specs.Prelude.{◌≡◌, ℕ, List, Option}
+use Rattle.std.specs.Prelude.{◌≡◌, ◌⊎◌, ℕ, List, Option}
 use Rattle.io_edge.specs.Edge.{Appends}
 use Rattle.trace_out.specs.Bytes.{AppendsFront}
 use Rattle.command_words.specs.declared.command.Command.{Command}
-use Rattle.command_words.specs.declared.command.Command.TheVariants.{Run, Check, Generate, Survey, Help, Version}
+use Rattle.command_words.specs.declared.command.Command.TheVariants.{Run, Check, Generate, Survey, Band, Help, Version}
 use Rattle.gen_arterial.specs.Written.{generated, generated_text}
 use Rattle.run_survey.specs.Counting.{surveyed_text}
 use Rattle.station.specs.declared.status.Status.{Status}
+use Rattle.scenario_data.specs.declared.refusal.Refusal.{Refusal}
+use Rattle.scenario_read.specs.Answers.{IsFirstFault}
+use Rattle.band_file.specs.Told.{TellsBands, IsFirstBandFault}
+use Rattle.command_words.specs.Words.{IsRun, IsBand}
 use Rattle.station.specs.declared.status.Status.TheVariants.{Done, WriteFault, NoMemory}
 use Rattle.station.specs.declared.help.TheConstants.{HELP, VERSION}
-use Rattle.station.specs.Answers.{WritesText, Ran}
+use Rattle.station.specs.Answers.{WritesText, Ran, IsRefused}
+use Rattle.station.specs.Replied.{Replied}
 use Rattle.station.specs.Checked.{Checked}
 
 -- a text that the program makes was written whole; or a write failed, and a front of it was written and not all of it; or there was not
@@ -28,6 +33,7 @@ Answered (Generate from) status left ends unread old new unwritten =
     MakesText status (generated_text from.seed from.cabinets from.rounds) unwritten old new
 Answered (Survey from) status left ends unread old new unwritten =
     MakesText status (surveyed_text (generated from.seed from.cabinets from.rounds)) unwritten old new
+Answered Band status left ends unread old new unwritten = Replied TellsBands IsFirstBandFault status left ends unread old new unwritten
 Answered Help status left ends unread old new unwritten = WritesText status HELP.now unwritten old new
 Answered Version status left ends unread old new unwritten = WritesText status VERSION.now unwritten old new
 
@@ -35,4 +41,10 @@ Answered Version status left ends unread old new unwritten = WritesText status V
 abbrev pub ReadsNothing : Command → Type 0
 ReadsNothing (Run workers) = ⊥
 ReadsNothing Check = ⊥
+ReadsNothing Band = ⊥
 ReadsNothing _ = Unit {0}
+
+-- why a refusal comes: the words run a scenario or ask of bands, and it is that of such an input
+abbrev pub IsRefusedFor : List (List ℕ) → Refusal → Option (List ℕ) → Option (List ℕ) → Type 0
+IsRefusedFor words refusal left ends =
+    (((workers : ℕ) × IsRun words workers) × IsRefused IsFirstFault refusal left ends) ⊎ (IsBand words × IsRefused IsFirstBandFault refusal left ends)

@@ -22,6 +22,13 @@ and its trace is proved to be the one that is due.
       comes in a round can come. Nothing is written; where it is no trace, one
       line on standard error names the first line with which no trace goes on,
       and the rule that it breaks.
+  arterial band < STREET
+      Reads a JSON object (at most 16,777,216 bytes) from standard input: a
+      scenario, one of its sections, a pattern, and the travel time in ticks
+      from each cabinet of the section to the next. Writes two lines, outbound
+      and inbound: when the greatest through band of the plan begins at the
+      first cabinet, how wide it is, both in ticks, and the two cabinets that
+      limit it; or none. An object with a mistake is refused as a scenario is.
   arterial generate --seed N --cabinets K --rounds M > SCENARIO
       Writes a scenario of K cabinets (1 to 64) and M rounds of 10 seconds (1 to
       86,400; K times M at most 100,000): traffic, polls, lost messages and a
@@ -42,9 +49,9 @@ Exit status: 0 done, 1 the words are no command, 2 the scenario is refused,
 written is a front of the whole, and not all of it.
 
 docs/SCENARIO.md says how a scenario is written, which rules its tables must
-keep, and what each refusal means; docs/TRACE.md how a trace is read;
+keep, what is asked of bands, and what each refusal means; docs/TRACE.md how a trace is read;
 scenarios/ has examples to run; README.md says what is proved.
 ";
 
 /// Which program this is.
-pub const VERSION: &str = "arterial 0.6\n";
+pub const VERSION: &str = "arterial 0.7\n";

@@ -2,9 +2,11 @@
 //! answers. `station` is the top call: each of its answers has its cause in its contract.
 #![tactic(auto)]
 
+mod asking;
 mod bytes;
 mod checking;
 mod help;
+mod input;
 mod status;
 mod texts;
 mod top;

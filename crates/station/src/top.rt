@@ -6,20 +6,24 @@ ghost use Rattle.scenario_data.specs.Content.{scenario_content};
 ghost use Rattle.scenario_data.specs.declared.refusal.Refusal.{Refusal};
 ghost use Rattle.runnable.specs.Runnable.{Runnable};
 ghost use Rattle.station.specs.Bytes.{nothing_left};
-ghost use Rattle.command_words.specs.Words.{IsRun, IsCheck, IsGenerate, IsSurvey, IsHelp, IsVersion, IsCommand, AskFor};
+ghost use Rattle.command_words.specs.Words.{IsRun, IsCheck, IsGenerate, IsSurvey, IsBand, IsHelp, IsVersion, IsCommand, AskFor};
 ghost use Rattle.command_words.specs.declared.command.Seeding.{Seeding as SeedingRow};
 ghost use Rattle.command_words.specs.declared.command.Command.{Command as CommandRow};
 ghost use Rattle.gen_arterial.specs.Written.{generated, generated_text};
 ghost use Rattle.run_survey.specs.Counting.{surveyed_text};
-ghost use Rattle.station.specs.Answers.{WritesText, IsRead, IsLengthLimit, IsRefused};
+ghost use Rattle.scenario_read.specs.Answers.{IsFirstFault};
+ghost use Rattle.band_file.specs.Told.{AsksOfBands, TellsBands, IsFirstBandFault};
+ghost use Rattle.station.specs.Answers.{WritesText, IsRead, IsRefused};
+ghost use Rattle.station.specs.Replied.{Replied, IsReplyDue};
 ghost use Rattle.station.specs.Answers.{RunsWhole, StopsShort, Ran, IsDue};
 ghost use Rattle.station.specs.Checked.{Checked, IsCheckDue};
-ghost use Rattle.station.specs.Commands.{MakesText, Answered, ReadsNothing};
+ghost use Rattle.station.specs.Commands.{MakesText, Answered, ReadsNothing, IsRefusedFor};
 ghost use Rattle.trace_check.specs.declared.faults.TraceFault.{TraceFault};
 
-use crate::bytes::{ReadEnd, read_all};
+use crate::asking::band;
 use crate::checking::check_input;
 use crate::help::{HELP, VERSION};
+use crate::input::{Unread, whole_input};
 use crate::status::Status;
 use crate::texts::{generate, survey, tell};
 use command_words::{Command, command_of};
@@ -32,41 +36,18 @@ use std::thread::Threads;
 use trace_out::Stop;
 use whole_run::{Crew, write_trace};
 
-/// The most bytes that a scenario has.
-const SCENARIO_LIMIT: usize = 16_777_216;
-
-/// Why there is no scenario to run.
-enum Unread {
-    Fault,
-    Refused(Refusal),
-    NoMemory,
-}
-
-/// The refusal of the whole input for its length.
-fn too_long(alloc: Global) -> Unread
-    ensures refused { (r : Refusal) → result ≡ Unread.Refused r → IsLengthLimit r }
-    ensures no_fault { result ≡ Unread.Fault → ⊥ }
-{
-    match String::from_str(alloc, ".") {
-        Ok(path) => Unread::Refused(Refusal::Limit(path)),
-        Err(_) => Unread::NoMemory,
-    }
-}
-
 /// The scenario that the whole input is. The memory of the input's bytes is given back.
 fn read_scenario<S: Source>(alloc: Global, source: &mut S) -> Result<Scenario, Unread>
     ensures scenario { IfOk result (λ s. IsRead (S.left source.old) (scenario_content s)) }
     ensures runnable { IfOk result (λ s. Runnable (scenario_content s)) }
     ensures ended { OnOk result (S.left source.new ≡ nothing_left (S.left source.old)) }
     ensures fault { result ≡ Err Unread.Fault → Rises (S.faults source.old) (S.faults source.new) }
-    ensures refused { (r : Refusal) → result ≡ Err (Unread.Refused r) → IsRefused r (S.left source.old) (S.left source.new) }
+    ensures refused { (r : Refusal) → result ≡ Err (Unread.Refused r) → IsRefused IsFirstFault r (S.left source.old) (S.left source.new) }
     ensures kept { S.faults source.old ≤ S.faults source.new }
 {
-    let input = match read_all(alloc, source, SCENARIO_LIMIT) {
+    let input = match whole_input(alloc, source) {
         Ok(input) => input,
-        Err(ReadEnd::Fault) => return Err(Unread::Fault),
-        Err(ReadEnd::TooLong) => return Err(too_long(alloc)),
-        Err(ReadEnd::NoMemory) => return Err(Unread::NoMemory),
+        Err(unread) => return Err(unread),
     };
     match read(alloc, &input) {
         Ok(scenario) => Ok(scenario),
@@ -117,23 +98,26 @@ fn answer<R: Threads + Sync, S: Source, K: Sink, G: Gate + Sync>(
     ensures unwritten { command ≡ Command.Check → sink.new ≡ sink.old }
     ensures check_due { command ≡ Command.Check → ¬ Rises (S.faults source.old) (S.faults source.new)
         → IfSome (S.left source.old) (λ input. IsCheckDue result input ⊎ (result ≡ Status.NoMemory)) }
+    ensures band_due { command ≡ Command.Band → ¬ Rises (S.faults source.old) (S.faults source.new)
+        → IfSome (S.left source.old) (λ input. IsReplyDue AsksOfBands IsFirstBandFault result input (Rises (K.faults sink.old) (K.faults sink.new)) ⊎ (result ≡ Status.NoMemory)) }
 {
     match command {
         Command::Run(workers) => run(&Crew { rt, workers, gate }, alloc, source, sink),
         Command::Check => check_input(alloc, source),
         Command::Generate(from) => generate(alloc, from, sink),
         Command::Survey(from) => survey(alloc, from, sink),
+        Command::Band => band(alloc, source, sink),
         Command::Help => tell(sink, HELP.as_bytes()),
         Command::Version => tell(sink, VERSION.as_bytes()),
     }
 }
 
 /// All that the program does: `run` reads a scenario from the source and writes its trace to the sink; `check` reads a text and tells
-/// whether it is a trace; `generate` writes a scenario, `survey` what a run of one comes to, `--help` and `--version` a text, and they read nothing.
+/// whether it is a trace; `band` reads what is asked of a street, and writes its greatest bands; `generate` writes a scenario, `survey` what a run of one comes to, `--help` and `--version` a text, and they read nothing.
 ///
 /// The words are those after the program's name. `run --workers N`, N 0 to 8, has so many workers bring the items of each round to the
 /// cabinets, each worker in a thread of its own where one can be started; with none, as without a number, they come in the serial order.
-/// Each worker calls the gate before each act. A scenario has at most 16,777,216 bytes, a trace at most 67,108,864.
+/// Each worker calls the gate before each act. A scenario, or what `band` reads, has at most 16,777,216 bytes, a trace at most 67,108,864.
 /// `NoMemory` may come wherever memory is taken; of every other answer the clauses say what it tells of the input and the faults.
 pub fn station<R: Threads + Sync, S: Source, K: Sink, G: Gate + Sync>(
     rt: &R,
@@ -182,11 +166,11 @@ pub fn station<R: Threads + Sync, S: Source, K: Sink, G: Gate + Sync>(
         ⊎ ((workers : ℕ) × IsRun (map string_bytes words.now.items) workers
         × StopsShort workers (S.left source.old) (S.left source.new) (K.written sink.old) (K.written sink.new)) }
 
-    // Why a failed read and each refusal come, and that nothing was written then. A refusal names the first fault of the input; the path
-    // `.` with `Limit` is the input's length alone: no other fault has it.
+    // Why a failed read and each refusal come, and that nothing was written then. A refusal names the first fault of the input that `run` or
+    // `band` read; the path `.` with `Limit` is the input's length alone: no other fault has it.
     ensures read_fault { result ≡ Status.ReadFault → Rises (S.faults source.old) (S.faults source.new) × (K.written sink.new ≡ K.written sink.old) }
     ensures refused { (r : Refusal) → result ≡ Status.Scenario r
-        → IsRefused r (S.left source.old) (S.left source.new) × (K.written sink.new ≡ K.written sink.old) }
+        → IsRefusedFor (map string_bytes words.now.items) r (S.left source.old) (S.left source.new) × (K.written sink.new ≡ K.written sink.old) }
 
     // Which answer comes where no read fails: for too long an input, one that is no scenario, and any scenario.
     ensures due { (workers : ℕ) → IsRun (map string_bytes words.now.items) workers → ¬ Rises (S.faults source.old) (S.faults source.new)
@@ -201,6 +185,13 @@ pub fn station<R: Threads + Sync, S: Source, K: Sink, G: Gate + Sync>(
     // Which answer comes where no read fails: for a trace that is not too long, and for every other text.
     ensures check_due { IsCheck (map string_bytes words.now.items) → ¬ Rises (S.faults source.old) (S.faults source.new)
         → IfSome (S.left source.old) (λ input. IsCheckDue result input ⊎ (result ≡ Status.NoMemory)) }
+
+    // Band: the source was read to its end, its bytes ask of the bands of a street, and the two lines of its greatest bands were written
+    // whole; or a write failed, and a front of them was; or the refusal names the first fault. And which answer comes where no read fails.
+    ensures band { IsBand (map string_bytes words.now.items) → Replied TellsBands IsFirstBandFault result (S.left source.old) (S.left source.new)
+        (Rises (S.faults source.old) (S.faults source.new)) (K.written sink.old) (K.written sink.new) (Rises (K.faults sink.old) (K.faults sink.new)) }
+    ensures band_due { IsBand (map string_bytes words.now.items) → ¬ Rises (S.faults source.old) (S.faults source.new)
+        → IfSome (S.left source.old) (λ input. IsReplyDue AsksOfBands IsFirstBandFault result input (Rises (K.faults sink.old) (K.faults sink.new)) ⊎ (result ≡ Status.NoMemory)) }
 {
     match command_of(words) {
         Some(command) => answer(rt, alloc, command, source, sink, gate),

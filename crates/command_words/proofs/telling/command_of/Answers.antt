@@ -22,10 +22,11 @@ returns-in-Some-seeding_of-2 c =
     its_command _ (Survey from)
     (subst (λ (ws : List _). AskFor (map string_bytes ws) (Survey from)) c.as_slice-words.ensures.value ((c.seeding_of-2.ensures from).0 c.in-Some-seeding_of-2.is))
 
-pub returns-else-is_lone-3 : goal.returns-else-is_lone-3
-returns-else-is_lone-3 c =
+pub returns-else-is_lone-4 : goal.returns-else-is_lone-4
+returns-else-is_lone-4 c =
     let texts = map string_bytes c.as_slice-words.result.now in
     subst (λ (ws : List _). (d : Command) → (None ≡ Some d) ↔ AskFor (map string_bytes ws) d) c.as_slice-words.ensures.value
     (no_command texts (not_found (IsRun texts) _ c.in_default.is c.run_workers.ensures) (not_lone texts _ _ c.is_lone.ensures c.if-is_lone.false)
     (not_found (IsGenerate texts) _ c.in_default-seeding_of.is c.seeding_of.ensures) (not_found (IsSurvey texts) _ c.in_default-seeding_of-2.is c.seeding_of-2.ensures)
-    (not_lone texts _ _ c.is_lone-else-is_lone.ensures c.if-is_lone-2.false) (not_lone texts _ _ c.is_lone-else-is_lone-2.ensures c.if-is_lone-3.false))
+    (not_lone texts _ _ c.is_lone-else-is_lone.ensures c.if-is_lone-2.false) (not_lone texts _ _ c.is_lone-else-is_lone-2.ensures c.if-is_lone-3.false)
+    (not_lone texts _ _ c.is_lone-else-is_lone-3.ensures c.if-is_lone-4.false))

@@ -3,13 +3,13 @@ use Rattle.scenario_data.specs.declared.refusal.Refusal.{Refusal}
 use Rattle.scenario_data.specs.Content.{scenario_content}
 use Rattle.scenario_read.specs.Answers.{IsFirstFault}
 use Rattle.runnable_scenarios.proofs.Ranges.{runs}
-use Rattle.station.proofs.Refusals.{whole_scenario, refused_first}
+use Rattle.station.proofs.Refusals.{whole_scenario, fault_elsewhere, refused_first}
 use Rattle.station.proofs.top.read_scenario.Goals as goal
 
 pub returns-in-Ok-read-clause-scenario : goal.returns-in-Ok-read-clause-scenario
 returns-in-Ok-read-clause-scenario g c =
     whole_scenario _ c.in-Ok.input.items c.deref.result.now
-    (scenario_content c.in-Ok-read.scenario) c.in-Ok.ensures.whole c.deref.ensures.value c.in-Ok.ensures.short c.in-Ok-read.ensures.scenario
+    (scenario_content c.in-Ok-read.scenario) c.in-Ok.ensures.input c.deref.ensures.value c.in-Ok.ensures.short c.in-Ok-read.ensures.scenario
 
 pub returns-in-Ok-read-clause-runnable : goal.returns-in-Ok-read-clause-runnable
 returns-in-Ok-read-clause-runnable g c = runs c.deref.result.now (scenario_content c.in-Ok-read.scenario) c.in-Ok-read.ensures.scenario
@@ -18,7 +18,5 @@ pub returns-in-Err-Refused-clause-refused : goal.returns-in-Err-Refused-clause-r
 returns-in-Err-Refused-clause-refused g c = λ r e.
     let same : c.in-Err-Refused.refusal ≡ r = cc in
     let fault : IsFirstFault c.deref.result.now c.in-Err-Refused.refusal = rw c.in-Err-Refused.field-0-is at c.in-Err-Refused.ensures.refused in
-    refused_first _ _ c.in-Ok.input.items r c.in-Ok.ensures.whole c.in-Ok.ensures.short
-    (subst (λ (x : Refusal). IsFirstFault c.in-Ok.input.items x) same
-    (subst (λ (x : List ℕ). IsFirstFault x c.in-Err-Refused.refusal) c.deref.ensures.value fault))
-    c.in-Ok.ensures.ended
+    refused_first IsFirstFault fault_elsewhere _ _ c.in-Ok.input.items c.deref.result.now r c.in-Ok.ensures.input c.deref.ensures.value c.in-Ok.ensures.short
+    (subst (λ (x : Refusal). IsFirstFault c.deref.result.now x) same fault) c.in-Ok.ensures.ended

@@ -1,5 +1,5 @@
 use Rattle.std.proofs.Common.{map, string_bytes}
-use Rattle.command_words.specs.declared.command.Command.TheVariants.{Run, Check, Generate, Survey, Help, Version}
+use Rattle.command_words.specs.declared.command.Command.TheVariants.{Run, Check, Generate, Survey, Band, Help, Version}
 use Rattle.station.proofs.Due.{due}
 use Rattle.station.proofs.Telling.{one_command, none_found, reads_nothing, to_same, never_usage, told_done, told_write_fault, told_no_memory, told_refused, told_no_trace}
 use Rattle.station.proofs.top.station.Goals as goal
@@ -52,7 +52,8 @@ returns-in-Some-clause-no_memory g c = λ e.
     told_no_memory _ _ _ _ _ _ _ _ c.in-Some.command ((c.command_of.ensures c.in-Some.command).0 c.in-Some.is) c.answer.ensures.answered e
 
 pub returns-in-Some-clause-refused : goal.returns-in-Some-clause-refused
-returns-in-Some-clause-refused g c = λ r e. told_refused _ _ _ _ _ _ _ c.in-Some.command r c.answer.ensures.answered e
+returns-in-Some-clause-refused g c = λ r e.
+    told_refused _ _ _ _ _ _ _ _ c.in-Some.command r ((c.command_of.ensures c.in-Some.command).0 c.in-Some.is) c.answer.ensures.answered e
 
 pub returns-in-Some-clause-due : goal.returns-in-Some-clause-due
 returns-in-Some-clause-due g c = λ n is sound.
@@ -71,6 +72,21 @@ returns-in-Some-clause-not_a_trace g c = λ fault e.
 pub returns-in-Some-clause-check_due : goal.returns-in-Some-clause-check_due
 returns-in-Some-clause-check_due g c = λ is sound.
     c.answer.ensures.check_due (one_command _ c.in-Some.command Check c.in-Some.is ((c.command_of.ensures Check).1 is)) sound
+
+pub returns-in-Some-clause-band : goal.returns-in-Some-clause-band
+returns-in-Some-clause-band g c = λ is.
+    let same = one_command _ c.in-Some.command Band c.in-Some.is ((c.command_of.ensures Band).1 is) in
+    to_same _ _ _ _ _ _ _ c.in-Some.command Band same c.answer.ensures.answered
+
+pub returns-in-Some-clause-band_due : goal.returns-in-Some-clause-band_due
+returns-in-Some-clause-band_due g c = λ is sound.
+    c.answer.ensures.band_due (one_command _ c.in-Some.command Band c.in-Some.is ((c.command_of.ensures Band).1 is)) sound
+
+pub returns-in-None-clause-band : goal.returns-in-None-clause-band
+returns-in-None-clause-band g c = λ is. absurd (none_found _ Band c.in-None.is ((c.command_of.ensures Band).1 is))
+
+pub returns-in-None-clause-band_due : goal.returns-in-None-clause-band_due
+returns-in-None-clause-band_due g c = λ is sound. absurd (none_found _ Band c.in-None.is ((c.command_of.ensures Band).1 is))
 
 pub returns-in-None-clause-help : goal.returns-in-None-clause-help
 returns-in-None-clause-help g c = λ is. absurd (none_found _ Help c.in-None.is ((c.command_of.ensures Help).1 is))

@@ -1,0 +1,45 @@
+-- What an answer tells of a command that reads an object from the input and writes a text of it: what such a text is, and what the first
+-- fault of such an input, is a matter of the command.
+use Rattle.std.specs.Prelude.{◌≡◌, ◌<◌, ℕ, List, Option, length}
+use Rattle.io_edge.specs.Edge.{Appends}
+use Rattle.trace_out.specs.Bytes.{AppendsFront}
+use Rattle.scenario_data.specs.declared.refusal.Refusal.{Refusal}
+use Rattle.station.specs.declared.status.Status.{Status}
+use Rattle.station.specs.declared.status.Status.TheVariants.{Done, Scenario, ReadFault, WriteFault, NoMemory}
+use Rattle.station.specs.Bytes.{AreInput, nothing_left}
+use Rattle.station.specs.Answers.{IsShort, IsRefused, IsLengthRefusal, NamesFault}
+
+-- the source was read to its end, and this is a text of its bytes
+pub record IsTextOfInput (Tells : List ℕ → List ℕ → Type 0) (text : List ℕ) (left ends : Option (List ℕ)) : Type 0 where
+  pub bytes : List ℕ
+  pub all : AreInput left bytes
+  pub short : IsShort bytes
+  pub tells : Tells bytes text
+  pub ended : ends ≡ nothing_left left
+
+-- the text was written whole
+pub record RepliesWhole (Tells : List ℕ → List ℕ → Type 0) (left ends old new : Option (List ℕ)) : Type 0 where
+  pub text : List ℕ
+  pub of_input : IsTextOfInput Tells text left ends
+  pub written : Appends old new text
+
+-- a front of it was written, and not all of it
+pub record RepliesShort (Tells : List ℕ → List ℕ → Type 0) (left ends old new : Option (List ℕ)) : Type 0 where
+  pub text : List ℕ
+  pub of_input : IsTextOfInput Tells text left ends
+  pub front : AppendsFront old new text
+
+-- what an answer tells of the input, with the faults of reading, and of the output, with the faults of writing
+abbrev pub Replied : (List ℕ → List ℕ → Type 0) → (List ℕ → Refusal → Type 0) → Status → Option (List ℕ) → Option (List ℕ) → Type 0 → Option (List ℕ) → Option (List ℕ) → Type 0 → Type 0
+Replied Tells IsFirst Done left ends unread old new unwritten = RepliesWhole Tells left ends old new
+Replied Tells IsFirst (Scenario refusal) left ends unread old new unwritten = IsRefused IsFirst refusal left ends × (new ≡ old)
+Replied Tells IsFirst ReadFault left ends unread old new unwritten = unread × (new ≡ old)
+Replied Tells IsFirst WriteFault left ends unread old new unwritten = unwritten × RepliesShort Tells left ends old new
+Replied Tells IsFirst NoMemory left ends unread old new unwritten = new ≡ old
+Replied Tells IsFirst _ left ends unread old new unwritten = ⊥
+
+-- the answer that an input is due, where no read fails: for too long an input, one that asks of nothing, and one that asks
+pub record IsReplyDue (Asks : List ℕ → Type 0) (IsFirst : List ℕ → Refusal → Type 0) (status : Status) (input : List ℕ) (unwritten : Type 0) : Type 0 where
+  pub too_long : 16777216 < length input → IsLengthRefusal status
+  pub fault : IsShort input → (Asks input → ⊥) → NamesFault IsFirst status input
+  pub done : IsShort input → Asks input → ¬ unwritten → status ≡ Done
