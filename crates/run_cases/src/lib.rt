@@ -6,6 +6,8 @@
 #[cfg(test)]
 mod answer_cases;
 #[cfg(test)]
+mod band_cases;
+#[cfg(test)]
 mod check_cases;
 #[cfg(test)]
 mod text_cases;
