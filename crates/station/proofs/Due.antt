@@ -1,5 +1,5 @@
 -- From what an answer to `run` tells to the answer that an input is due.
-use Rattle.std.proofs.Common.{◌≡◌, ◌≤◌, ◌⊎◌, inl, inr, ℕ, List, Option, Some, None, IfSome, length, subst, refl, arith}
+use Rattle.std.proofs.Common.{◌≡◌, ◌<◌, ◌≤◌, ◌⊎◌, inl, inr, ℕ, List, Option, Some, None, IfSome, length, subst, refl, arith}
 use Rattle.scenario_data.specs.Content.{ScenarioContent}
 use Rattle.scenario_data.specs.declared.refusal.Refusal.{Refusal}
 use Rattle.scenario_read.specs.Answers.{IsScenario, IsFirstFault}

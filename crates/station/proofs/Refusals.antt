@@ -1,5 +1,5 @@
 -- Why an input is refused: for its length, or for its first fault.
-use Rattle.std.proofs.Common.{◌≡◌, ◌<◌, ◌≤◌, inl, inr, ℕ, List, Option, Some, None, IfSome, String, codes, string_bytes, drop, length, subst}
+use Rattle.std.proofs.Common.{◌≡◌, ◌≤◌, inr, ℕ, List, Option, String, codes, string_bytes, length, subst}
 use Rattle.std.specs.declared.alloc.Global.{Global}
 use Rattle.scenario_data.specs.declared.refusal.Refusal.{Refusal}
 use Rattle.scenario_data.specs.declared.refusal.Refusal.TheVariants.{Syntax, Field, Limit, Broken}
@@ -8,7 +8,7 @@ use Rattle.scenario_read.specs.Answers.{IsScenario, IsFirstFault}
 use Rattle.scenario_read.proofs.LimitNames.{limit-elsewhere}
 use Rattle.station.specs.Bytes.{AreInput, nothing_left}
 use Rattle.band_file.specs.Told.{IsFirstBandFault}
-use Rattle.station.specs.Answers.{IsRead, IsLengthLimit, IsTooLong, IsRefused}
+use Rattle.station.specs.Answers.{IsRead, IsLengthLimit, IsRefused}
 
 -- a first fault is never that of the whole input's length
 pub fault_elsewhere : (bytes : List ℕ) (refusal : Refusal) → IsFirstFault bytes refusal → IsLengthLimit refusal → ⊥
@@ -32,12 +32,6 @@ module _ (IsFirst : List ℕ → Refusal → Type 0) (elsewhere : (bytes : List 
   refused_first left ends bytes slice refusal same e short fault ended =
       let first : IsFirst bytes refusal = subst (λ (x : List ℕ). IsFirst x refusal) e fault in
       inr (elsewhere bytes refusal first, record { bytes = bytes; all = same; short = short; first = first; ended = ended })
-
--- the input is too long
-pub too_long_input : (left ends : Option (List ℕ)) → IfSome left (λ input. 16777216 < length input)
-    → IfSome left (λ input. ends ≡ Some (drop 16777217 input)) → IsTooLong left ends
-too_long_input None ends long stopped = tt
-too_long_input (Some input) ends long stopped = (long, stopped)
 
 -- all of the input was read, and it is a scenario
 pub whole_scenario : (left : Option (List ℕ)) (bytes slice : List ℕ) (s : ScenarioContent) → AreInput left bytes → slice ≡ bytes → length bytes ≤ 16777216
