@@ -7,12 +7,12 @@ pub loop-done-init : goal.loop-done-init
 loop-done-init c =
     let ds = c.args.bank.now.items in
     let ps = c.args.pulses.now.items in record {
-      fits = c.in-Ok.start.ensures.fits;
-      stands = c.in-Ok.start.ensures.stands;
+      fits = c.in-Ok.ensures.fits;
+      stands = c.in-Ok.ensures.stands;
       before = record {
-        each = λ k p s few some most. c.in-Ok.none_called-before.ensures k p s few ∙ sym (none-called ds ps (k + 1) p);
+        each = λ k p s few some most. c.none_called-before.ensures k p s few ∙ sym (none-called ds ps (k + 1) p);
       };
-      calls = refl;
+      calls = c.new-calls.ensures.items;
     }
 
 pub loop-done-preserved : goal.loop-done-preserved
@@ -21,7 +21,7 @@ loop-done-preserved c =
     let ps = c.args.pulses.now.items in
     let ds = c.args.bank.now.items in
     let stands = c.take_round.ensures.stands ps l.done c.requires.few refl l.invariant.stands in
-    let now = c.called_in-now.ensures ps stands in record {
+    let now = c.called_in-now.ensures ps stands.watches in record {
       fits = c.take_round.ensures.fits;
       stands = stands;
       before = now;
