@@ -20,13 +20,16 @@ use Rattle.run_lines.specs.Lines.{shown_line, frame_lines, load_lines, acts_line
 use Rattle.round_run.specs.Lines.{frames_between, answer_lines, told_lines, book_lines}
 use Rattle.round_run.specs.Standings.{HasRun}
 use Rattle.trace_laws.specs.Runs.{events_in}
-use Rattle.trace_laws.specs.Script.{Script, Says, Hears, say, cabinet_script}
+use Rattle.safe_trace.specs.TraceText.{lines_text}
+use Rattle.trace_laws.specs.Script.{Script, Ends, Says, Hears, say, cabinet_script}
 use Rattle.trace_laws.proofs.Journals.{added, journal-goes}
+use Rattle.trace_laws.proofs.Longest.{longest-told}
 use Rattle.trace_check.specs.declared.faults.CheckFail.{CheckFail}
 use Rattle.trace_check.specs.declared.places.Place.{Place}
-use Rattle.trace_check.specs.Reading.{Fails, Leads, ReadsOn}
-use Rattle.trace_check.specs.Cabinets.{AreLeft, ReadsCabinet, CabinetRead}
+use Rattle.trace_check.specs.Reading.{Leads, ReadsOn}
+use Rattle.trace_check.specs.Cabinets.{AreLeft, ReadsCabinet}
 use Rattle.trace_check.proofs.Walking.{leads-on, fails-on}
+use Rattle.trace_check.proofs.Taking.{said-text, texts-on}
 
 -- lines and then others
 pub say-append : (xs ys : List Line) (rest : Script) → say (xs ++ ys) rest ≡ say xs (say ys rest)
@@ -101,14 +104,19 @@ journal-leads cab streams next runs at then longest all is number = record {
   goes = journal-goes cab streams next runs longest all;
 }
 
+-- the lines of its acts are those that the book has written
+book-acts : (s : ScenarioContent) (cab : ℕ) (t : Standing) (runs : List (ℕ × ℕ)) (b : Book) → HasRun s cab t (passes_of runs) b
+    → ((journal : List ℕ) (x : Book) → HasRun s cab t journal x → cabinet_lines s cab t journal ≡ book_lines cab x)
+    → acts_lines cab t.story (round_acts s cab t (passes_of runs)) ≡ told_lines cab 0 (written_in b) (answered_in b)
+book-acts s cab t runs b run lines =
+    let same : cabinet_lines s cab t (passes_of runs) ≡ book_lines cab b = lines (passes_of runs) b run in
+    cc same
+
 -- what the book has written is due behind it
 pub book-said : (s : ScenarioContent) (cab : ℕ) (t : Standing) (runs : List (ℕ × ℕ)) (b : Book) (rest : Script) → HasRun s cab t (passes_of runs) b
     → ((journal : List ℕ) (x : Book) → HasRun s cab t journal x → cabinet_lines s cab t journal ≡ book_lines cab x)
     → say (acts_lines cab t.story (round_acts s cab t (passes_of runs))) rest ≡ say (told_lines cab 0 (written_in b) (answered_in b)) rest
-book-said s cab t runs b rest run lines =
-    let same : cabinet_lines s cab t (passes_of runs) ≡ book_lines cab b = lines (passes_of runs) b run in
-    let behind : acts_lines cab t.story (round_acts s cab t (passes_of runs)) ≡ told_lines cab 0 (written_in b) (answered_in b) = cc same in
-    ap (λ (xs : List Line). say xs rest) behind
+book-said s cab t runs b rest run lines = ap (λ (xs : List Line). say xs rest) (book-acts s cab t runs b run lines)
 
 -- the cabinet's round is read
 module _ (s : ScenarioContent) (cab : ℕ) (t : Standing) (runs : List (ℕ × ℕ)) (old new : Book) (at then : Place) (begun : HasRun s cab t [] old) (longest : AreLongest runs)
@@ -121,6 +129,17 @@ module _ (s : ScenarioContent) (cab : ℕ) (t : Standing) (runs : List (ℕ × �
       (journal-leads cab (coming_streams s cab t) (λ journal. say (acts_lines cab t.story (round_acts s cab t journal)) (rest journal)) runs at then longest
       (λ p. all p ∙ all-left s cab t old begun p) is number)
 
+  -- by just these lines
+  first-text : (next : Place) → Leads (say (told_lines cab 0 (written_in new) (answered_in new)) Ends) then Ends next
+      → at.left.now ≡ lines_text (cabinet_lines s cab t (passes_of runs)) ++ next.left.now
+  first-text next w =
+      let told : List Line = told_lines cab 0 (written_in new) (answered_in new) in
+      let head : at.left.now ≡ lines_text (J cab runs ∷ []) ++ then.left.now =
+      is ∙ ap (λ (x : List ℕ). x ++ then.left.now) (sym (append-nil (line_text (J cab runs)))) in
+      texts-on (J cab runs ∷ []) told at.left.now then.left.now next.left.now head (said-text told then next w)
+      ∙ ap (λ (x : List (ℕ × ℕ)). lines_text (J cab x ∷ told) ++ next.left.now) (sym (longest-told runs longest))
+      ∙ ap (λ (x : List Line). lines_text (J cab (runs_of (passes_of runs)) ∷ x) ++ next.left.now) (sym (book-acts s cab t runs new run lines))
+
   pub cabinet-reads : (result : Result Place CheckFail)
       → ((rest : Script) → ReadsOn (say (told_lines cab 0 (written_in new) (answered_in new)) rest) then rest result)
       → ReadsCabinet s cab t at new result
@@ -128,6 +147,7 @@ module _ (s : ScenarioContent) (cab : ℕ) (t : Standing) (runs : List (ℕ × �
     journal = passes_of runs;
     merge = is-merge s cab t runs old begun all;
     run = run;
+    text_is = first-text next (reads Ends);
     leads = λ rest. leads-on _ _ _ at then next (first-leads rest) (reads (rest (passes_of runs)));
   }
   cabinet-reads (Err fail) reads = λ rest. fails-on _ _ at then fail (first-leads rest) (reads (rest (passes_of runs)))

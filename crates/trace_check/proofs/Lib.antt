@@ -1,4 +1,7 @@
 pub mod Walking
+pub mod Taking
+pub mod Keeping
+pub mod Watched
 pub mod Lines
 pub mod Counting
 pub mod CabinetLines

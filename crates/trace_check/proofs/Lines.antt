@@ -6,12 +6,12 @@ use Rattle.trace_text.specs.declared.lines.Line.{Line}
 use Rattle.trace_text.specs.declared.lines.Line.TheVariants.{S, F, R, M, J, L, A, Z}
 use Rattle.trace_text.specs.IsLine.{IsLine}
 use Rattle.trace_text.specs.Line.{line_text}
-use Rattle.trace_laws.specs.Faults.{first_piece, IsNoLine}
+use Rattle.trace_laws.specs.Faults.{first_piece}
 use Rattle.trace_laws.specs.Script.{Script, Ends, Says, Hears, Refuses, rule_for, Stops, Lacking, Unread, Other, FaultsAt}
 use Rattle.round_streams.specs.Items.{Item}
-use Rattle.cabinet_story.specs.Journals.{IsMerge, runs_of}
+use Rattle.cabinet_story.specs.Journals.{runs_of}
 use Rattle.trace_check.specs.declared.faults.CheckFail.{CheckFail}
-use Rattle.trace_check.specs.declared.faults.CheckFail.TheVariants.{NotATrace, NoMemory}
+use Rattle.trace_check.specs.declared.faults.CheckFail.TheVariants.{NotATrace}
 use Rattle.trace_check.specs.declared.places.Place.{Place}
 use Rattle.trace_check.specs.Reading.{Fails}
 use Rattle.trace_laws.proofs.Walking.{stops-here}

@@ -1,5 +1,5 @@
 -- The rounds of the cabinets one after another, and a round.
-use Rattle.std.proofs.Common.{◌≡◌, ◌≢◌, ◌⊎◌, ◌<◌, ◌≤◌, ◌+◌, ◌∙◌, ℕ, zero, suc, List, [], ◌∷◌, ◌++◌, Result, Ok, Err, length, map, take, drop, get_or, slice_set, inl, inr, refl, sym, ap, subst, arith, append_assoc, get_or-set_same, get_or-set_other}
+use Rattle.std.proofs.Common.{◌≡◌, ◌≢◌, ◌⊎◌, ◌<◌, ◌≤◌, ◌+◌, ◌∙◌, ℕ, suc, List, [], ◌∷◌, ◌++◌, length, map, take, drop, get_or, slice_set, inl, inr, refl, sym, ap, subst, arith, append-nil, get_or-set_same, get_or-set_other}
 use Rattle.std.proofs.lemmas.Bool.{cases_lt, cases_eq}
 use Rattle.std.proofs.lemmas.List.{at_drop_more, take_more, take_all, drop_all, length-set, length-take-le, length-append, get_or_default, get_or_push, get_or_append_left, get_or-map}
 use Rattle.sig_types.specs.declared.notes.MasterNote.{MasterNote}
@@ -10,16 +10,18 @@ use Rattle.cabinet_story.specs.Journals.{IsMerge}
 use Rattle.cab_book.specs.declared.book.Book.{Book}
 use Rattle.cab_book.specs.Books.{ticks_by_end}
 use Rattle.run_lines.specs.Standing.{Standing, coming_streams, next_standing, each_standing}
-use Rattle.run_lines.specs.Lines.{notes_lines}
+use Rattle.run_lines.specs.Lines.{notes_lines, cabinet_lines, each_lines, round_lines}
+use Rattle.safe_trace.specs.TraceText.{lines_text}
 use Rattle.run_lines.specs.Orders.{EachMerges}
 use Rattle.round_run.specs.Standings.{HasRun, HaveRun, no_journals, TicksWithin}
-use Rattle.trace_laws.specs.Script.{Script, Says, say, cabinet_script, cabinets_script, round_script}
+use Rattle.trace_laws.specs.Script.{Script, Ends, Says, say, cabinet_script, cabinets_script, round_script}
 use Rattle.trace_check.specs.declared.faults.CheckFail.{CheckFail}
 use Rattle.trace_check.specs.declared.places.Place.{Place}
 use Rattle.trace_check.specs.Reading.{Fails, Leads}
 use Rattle.trace_check.specs.Cabinets.{CabinetRead}
 use Rattle.trace_check.specs.Rounds.{CabinetsRead}
 use Rattle.trace_check.proofs.Walking.{leads-here, leads-on, fails-on}
+use Rattle.trace_check.proofs.Taking.{said-text, texts-on, each-lines-append}
 
 -- a standing of a list that has one at this place
 pub standing-at : (ts : List Standing) (k : ℕ) → k < length ts → Standing
@@ -57,6 +59,7 @@ pub record CabinetsSoFar (s : ScenarioContent) (ts : List Standing) (old now : L
   pub merges : EachMerges s 1 (take k ts) journals
   pub run : (j : ℕ) (b : Book) (t : Standing) (journal : List ℕ) → j < k → HasRun s (j + 1) (get_or ts j t) (get_or journals j journal) (get_or now j b)
   pub same : (j : ℕ) (b : Book) → k ≤ j → get_or now j b ≡ get_or old j b
+  pub text_is : start.left.now ≡ lines_text (each_lines s 1 (take k ts) journals) ++ at.left.now
   pub leads : (rest : List Standing → Script)
       → Leads (cabinets_script s 1 [] ts rest) start (cabinets_script s (k + 1) (each_standing s 1 (take k ts) journals) (drop k ts) rest) at
 
@@ -67,6 +70,7 @@ cabinets-none s ts old start = record {
   merges = tt;
   run = λ j b t journal below. absurd (omega (arith, below));
   same = λ j b above. refl;
+  text_is = refl;
   leads = λ rest. leads-here (cabinets_script s 1 [] ts rest) start;
 }
 
@@ -112,6 +116,18 @@ module _ (s : ScenarioContent) (ts : List Standing) (old now : List Book) (start
       (merges-append s 1 (take k ts) (get_or ts k t ∷ []) so.journals (journal ∷ []) so.merges
       (subst (λ (n : ℕ). EachMerges s n (get_or ts k t ∷ []) (journal ∷ [])) number (merge, tt)))
 
+  lines-more : (journal : List ℕ) → each_lines s 1 (take k ts) so.journals ++ cabinet_lines s (k + 1) (get_or ts k t) journal
+      ≡ each_lines s 1 (take (k + 1) ts) (so.journals ++ journal ∷ [])
+  lines-more journal =
+      let within : k ≤ length ts = omega (arith, below) in
+      let many : length (take k ts) ≡ k = length-take-le k ts within in
+      let as_many : length so.journals ≡ length (take k ts) = so.as_many ∙ sym many in
+      let number : 1 + length (take k ts) ≡ k + 1 = omega (arith, many) in
+      sym (ap (λ (us : List Standing). each_lines s 1 us (so.journals ++ journal ∷ [])) (take_more ts k t below)
+      ∙ each-lines-append s 1 (take k ts) (get_or ts k t ∷ []) so.journals (journal ∷ []) as_many
+      ∙ ap (λ (n : ℕ). each_lines s 1 (take k ts) so.journals ++ (cabinet_lines s n (get_or ts k t) journal ++ [])) number
+      ∙ ap (λ (x : List Line). each_lines s 1 (take k ts) so.journals ++ x) (append-nil (cabinet_lines s (k + 1) (get_or ts k t) journal)))
+
   run-here : (new : Book) (j : ℕ) (journal : List ℕ) (other : List ℕ) (b : Book) (u : Standing) → j ≡ k → k < length now → HasRun s (k + 1) (get_or ts k t) journal new
       → HasRun s (j + 1) (get_or ts j u) (get_or (so.journals ++ journal ∷ []) j other) (get_or (slice_set now k new) j b)
   run-here new j journal other b u same within run =
@@ -146,6 +162,8 @@ module _ (s : ScenarioContent) (ts : List Standing) (old now : List Book) (start
     same = λ j b above.
         let apart : j ≢ k = omega (arith, above) in
         get_or-set_other now k j new b apart ∙ so.same j b (omega (arith, above));
+    text_is = texts-on (each_lines s 1 (take k ts) so.journals) (cabinet_lines s (k + 1) (get_or ts k t) read.journal) start.left.now at.left.now next.left.now so.text_is read.text_is
+        ∙ ap (λ (x : List Line). lines_text x ++ next.left.now) (lines-more read.journal);
     leads = λ rest.
         subst (λ (gone : List Standing). Leads (cabinets_script s 1 [] ts rest) start (cabinets_script s (k + 1 + 1) gone (drop (k + 1) ts) rest) next) (gone-more read.journal)
         (leads-on _ _ _ start at next (due-next rest)
@@ -171,6 +189,7 @@ cabinets-all s ts old now start at k many all so =
         as_many = so.as_many ∙ all;
         each = λ j b t journal below. so.run j b t journal (omega (arith, below, all));
       };
+      text_is = subst (λ (us : List Standing). start.left.now ≡ lines_text (each_lines s 1 us so.journals) ++ at.left.now) taken so.text_is;
       leads = λ rest.
           subst (λ (us : List Standing). Leads (cabinets_script s 1 [] ts rest) start (rest (each_standing s 1 us so.journals)) at) taken
           (subst (λ (us : List Standing). Leads (cabinets_script s 1 [] ts rest) start (cabinets_script s (k + 1) (each_standing s 1 (take k ts) so.journals) us rest) at)
@@ -199,3 +218,12 @@ head-due s round ts notes rest same = ap (λ (lines : List Line). Says (R round)
 pub next-note : (notes : List MasterNote) (i : ℕ) (d : MasterNote) (rest : Script) → i < length notes
     → say (map M (drop i notes)) rest ≡ Says (M (get_or notes i d)) (say (map M (drop (i + 1) notes)) rest)
 next-note notes i d rest below = at_drop_more (λ (xs : List MasterNote). say (map M xs) rest) notes i d below
+
+-- the text of a round: its head, and then its cabinets
+pub round-text : (s : ScenarioContent) (round : ℕ) (ts : List Standing) (journals : List (List ℕ)) (notes : List MasterNote) (at first next : Place) → map M notes ≡ notes_lines s 1 ts
+    → ((rest : Script) → Leads (Says (R round) (say (map M notes) rest)) at rest first) → first.left.now ≡ lines_text (each_lines s 1 ts journals) ++ next.left.now
+    → at.left.now ≡ lines_text (round_lines s round ts journals) ++ next.left.now
+round-text s round ts journals notes at first next same leads behind =
+    let head : at.left.now ≡ lines_text (R round ∷ map M notes) ++ first.left.now = said-text (R round ∷ map M notes) at first (leads Ends) in
+    texts-on (R round ∷ map M notes) (each_lines s 1 ts journals) at.left.now first.left.now next.left.now head behind
+    ∙ ap (λ (x : List Line). lines_text ((R round ∷ x) ++ each_lines s 1 ts journals) ++ next.left.now) same

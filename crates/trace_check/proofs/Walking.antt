@@ -1,5 +1,5 @@
 -- The reading of a text from place to place.
-use Rattle.std.proofs.Common.{◌≡◌, ◌+◌, ◌∙◌, ℕ, List, [], ◌++◌, Result, Ok, Err, sym, subst}
+use Rattle.std.proofs.Common.{◌≡◌, ◌+◌, ℕ, [], ◌++◌, Result, Ok, Err, OnOk, sym, subst}
 use Rattle.trace_text.specs.declared.lines.Line.{Line}
 use Rattle.trace_text.specs.Line.{line_text}
 use Rattle.trace_laws.specs.Script.{Script, Ends, Says, Walks}
@@ -44,3 +44,16 @@ fails-next all due mid start at fail same so fails = fails-on all mid start at f
 
 pub leads-last : (all due last : Script) (start at : Place) → due ≡ last → Leads all start due at → Leads all start last at
 leads-last all due last start at same so = subst (λ (x : Script). Leads all start x at) same so
+
+-- of want of memory nothing is said
+pub fails-none : (due : Script) (at : Place) (fail : CheckFail) → fail ≡ NoMemory → Fails due at fail
+fails-none due at fail is = subst (λ (x : CheckFail). Fails due at x) (sym is) tt
+
+-- what holds however it ends
+pub when-ok : {A : Type 0} {P : Type 0} (result : Result A CheckFail) → P → OnOk result P
+when-ok (Ok given) holds = holds
+when-ok (Err fail) holds = tt
+
+pub so-ok : {A P Q : Type 0} (result : Result A CheckFail) → OnOk result P → (P → Q) → OnOk result Q
+so-ok (Ok given) holds next = next holds
+so-ok (Err fail) holds next = tt

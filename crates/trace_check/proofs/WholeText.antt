@@ -1,39 +1,47 @@
 -- The whole text: what each cabinet shows at first, the rounds, the end; and the scenario before them.
-use Rattle.std.proofs.Common.{◌≡◌, ◌≢◌, ◌<◌, ◌≤◌, ◌+◌, ◌-◌, ◌∙◌, ◌⊎◌, inl, inr, ℕ, zero, suc, List, [], ◌∷◌, ◌++◌, Result, Ok, Err, OnOk, length, drop, get_or, refl, sym, ap, subst, arith, append-nil}
-use Rattle.std.proofs.lemmas.List.{at_drop_more, drop_all}
+use Rattle.std.proofs.Common.{◌≡◌, ◌≢◌, ◌<◌, ◌+◌, ◌-◌, ◌∙◌, ◌⊎◌, inl, inr, ℕ, zero, suc, List, [], ◌∷◌, ◌++◌, Result, Ok, Err, OnOk, length, drop, get_or, refl, sym, ap, subst, arith, append-nil}
+use Rattle.std.proofs.lemmas.List.{at_drop_more, length-append}
 use Rattle.sig_types.specs.declared.frame.Frame.{Frame}
 use Rattle.sig_tables.specs.Decide.{last_frame_of}
 use Rattle.trace_text.specs.declared.lines.Line.{Line}
-use Rattle.trace_text.specs.declared.lines.Line.TheVariants.{S, F, R, M, J, L, A, Z}
+use Rattle.trace_text.specs.declared.lines.Line.TheVariants.{S, Z}
 use Rattle.trace_text.specs.IsLine.{IsLine}
 use Rattle.trace_text.specs.Line.{line_text}
 use Rattle.safe_trace.specs.TraceText.{lines_text}
 use Rattle.scenario_data.specs.Content.{ScenarioContent}
 use Rattle.scenario_read.specs.Answers.{IsScenario}
-use Rattle.scenario_read.proofs.OneAnswer.{one-scenario, no-fault-beside}
+use Rattle.scenario_read.proofs.OneAnswer.{one-scenario}
 use Rattle.cabinet_story.specs.Story.{Story}
 use Rattle.cabinet_story.specs.Coming.{history_of}
 use Rattle.cab_book.specs.declared.book.Book.{Book}
 use Rattle.cab_book.specs.Books.{BookStands, story_now}
-use Rattle.run_lines.specs.Standing.{Standing, opened_standings}
-use Rattle.run_lines.specs.Lines.{shown_line, opening_lines, rest_lines, run_text}
-use Rattle.run_lines.specs.Orders.{AreJournals}
+use Rattle.run_lines.specs.Standing.{Standing, opened_standings, each_standing, standings_after}
+use Rattle.run_lines.specs.Lines.{shown_line, opening_lines, round_lines, rounds_lines, rest_lines, run_text}
+use Rattle.run_lines.specs.Orders.{AreMerges, AreJournals}
+use Rattle.runnable.specs.Cabinets.{IsCabinet}
+use Rattle.runnable.specs.Runnable.{Runnable}
+use Rattle.one_trace.specs.Text.{TellsAllKept}
 use Rattle.round_run.specs.Standings.{IsAt, AreAt}
 use Rattle.corridor.specs.declared.rounds.Corridor.{Corridor}
 use Rattle.corridor.specs.Corridor.{Between}
-use Rattle.trace_laws.specs.Traces.{Opens, IsTrace, IsCheckable, IsTraceOf}
-use Rattle.trace_laws.specs.Faults.{first_piece, IsNoLine, FaultOf, FirstFault, TooLong, Empty, NoFirst, NoScenario, Later}
-use Rattle.trace_laws.specs.Script.{Script, Ends, Says, say, Goes, rounds_script, round_script, script_of, FaultIn, FaultsAt, Walks, Beyond}
+use Rattle.trace_laws.specs.Traces.{Opens, IsTrace, IsCheckable}
+use Rattle.trace_laws.specs.Faults.{first_piece, FirstFault, NoFirst, NoScenario}
+use Rattle.trace_laws.specs.Script.{Script, Ends, Says, say, rounds_script, round_script, script_of, FaultsAt, Walks, Beyond}
 use Rattle.trace_laws.specs.Laws.{FaultsAreDetermined, TracesHaveNoFault, TellsOfRun}
 use Rattle.trace_check.specs.declared.faults.TraceFault.{TraceFault}
 use Rattle.trace_check.specs.declared.faults.CheckFail.{CheckFail}
 use Rattle.trace_check.specs.declared.faults.CheckFail.TheVariants.{NotATrace, NoMemory}
 use Rattle.trace_check.specs.declared.places.Place.{Place}
-use Rattle.trace_check.specs.Reading.{Fails, Leads, ReadsOn, ReadsWhole}
-use Rattle.trace_check.specs.Rounds.{RoundRead, ReadsRound}
-use Rattle.trace_check.specs.Checked.{TellsNone, Tells}
+use Rattle.trace_check.specs.Reading.{Fails, Leads, ReadsWhole}
+use Rattle.trace_seen.specs.declared.seen.Seen.{Seen}
+use Rattle.trace_seen.specs.Seen.{IsSeenOf, HasSeen}
+use Rattle.trace_check.specs.Watching.{IsWatched}
+use Rattle.trace_check.specs.Rounds.{RoundRead, RoundsSeen}
+use Rattle.trace_check.specs.Checked.{TellsNone, Tells, RestSeen, TextSeen}
 use Rattle.trace_laws.proofs.Walking.{stops-here, whole-is-trace, fault-is-first}
 use Rattle.trace_check.proofs.Walking.{leads-here, leads-on, fails-on}
+use Rattle.trace_check.proofs.Taking.{said-text, texts-on, nothing-behind, after-round, merges-round, lines-round, after-many}
+use Rattle.trace_check.proofs.Watched.{come-at, numbered-at, opened-many}
 
 -- what the next cabinet shows before any tick
 pub next-opening : (books : List Book) (k : ℕ) (b : Book) (frame : Frame) (ts : List Standing) (rest : Script) → k < length books → b ≡ get_or books k b
@@ -56,39 +64,130 @@ next-opening books k b frame ts rest below is shows at = from ts at
         at_drop_more (λ (xs : List Standing). say (opening_lines (k + 1) xs) rest) us k t place
         ∙ ap (λ (f : Frame). Says (shown_line (k + 1) 0 f) (say (opening_lines (k + 1 + 1) (drop (k + 1) us)) rest)) same
 
--- so many rounds were read
-pub record RoundsSoFar (s : ScenarioContent) (first : List Standing) (start at : Place) (done : ℕ) (c : Corridor) : Type 0 where
-  pub ts : List Standing
-  pub between : Between s done ts c
-  pub leads : (n : ℕ) → done + n ≡ s.rounds → Leads (rounds_script s 1 s.rounds first) start (rounds_script s (done + 1) n ts) at
+-- so many rounds were read, by journals that the text tells; what was seen is what the cabinets have come to by these
+pub record RoundsSoFar (s : ScenarioContent) (first : List Standing) (start at : Place) (done : ℕ) (c : Corridor) (watched : ℕ) (old now : Seen) : Type 0 where
+  pub journals : List (List (List ℕ))
+  pub many : length journals ≡ done
+  pub merges : AreMerges s first journals
+  pub text_is : start.left.now ≡ lines_text (rounds_lines s 1 first journals) ++ at.left.now
+  pub between : Between s done (standings_after s first journals) c
+  pub seen : IsWatched watched old first → IsWatched watched now (standings_after s first journals)
+  pub leads : (n : ℕ) → done + n ≡ s.rounds → Leads (rounds_script s 1 s.rounds first) start (rounds_script s (done + 1) n (standings_after s first journals)) at
 
-pub rounds-none : (s : ScenarioContent) (first : List Standing) (start : Place) (c : Corridor) → Between s 0 first c → RoundsSoFar s first start start 0 c
-rounds-none s first start c between = record {
-  ts = first;
+pub rounds-none : (s : ScenarioContent) (first : List Standing) (start : Place) (c : Corridor) (watched : ℕ) (seen : Seen) → Between s 0 first c
+    → RoundsSoFar s first start start 0 c watched seen seen
+rounds-none s first start c watched seen between = record {
+  journals = [];
+  many = refl;
+  merges = tt;
+  text_is = refl;
   between = between;
+  seen = λ is. is;
   leads = λ n e.
       let all : s.rounds ≡ n = omega (arith, e) in
       subst (λ (m : ℕ). Leads (rounds_script s 1 s.rounds first) start (rounds_script s 1 m first) start) all (leads-here (rounds_script s 1 s.rounds first) start);
 }
 
-pub rounds-more : (s : ScenarioContent) (first : List Standing) (start at next : Place) (done : ℕ) (old new : Corridor) → (so : RoundsSoFar s first start at done old)
-    → RoundRead s done so.ts at new next → RoundsSoFar s first start next (done + 1) new
-rounds-more s first start at next done old new so read = record {
-  ts = read.later;
-  between = read.between;
-  leads = λ n e. leads-on _ _ _ start at next (so.leads (suc n) (omega (arith, e))) (read.leads (rounds_script s (done + 1 + 1) n));
-}
+module _ (s : ScenarioContent) (first : List Standing) (start at next : Place) (done : ℕ) (was new : Corridor) (watched : ℕ) (old mid now : Seen)
+    (so : RoundsSoFar s first start at done was watched old mid) (read : RoundRead s done (standings_after s first so.journals) at new watched mid now next) where
+  come : each_standing s 1 (standings_after s first so.journals) read.journals ≡ standings_after s first (so.journals ++ read.journals ∷ [])
+  come = sym (after-round s first so.journals read.journals)
 
-pub rounds-fail : (s : ScenarioContent) (first : List Standing) (start at : Place) (done : ℕ) (old : Corridor) (fail : CheckFail) → done < s.rounds
-    → (so : RoundsSoFar s first start at done old) → ((rest : List Standing → Script) → Fails (round_script s (done + 1) so.ts rest) at fail)
+  text-more : start.left.now ≡ lines_text (rounds_lines s 1 first (so.journals ++ read.journals ∷ [])) ++ next.left.now
+  text-more =
+      let number : done + 1 ≡ 1 + length so.journals = omega (arith, so.many) in
+      texts-on (rounds_lines s 1 first so.journals) (round_lines s (done + 1) (standings_after s first so.journals) read.journals) start.left.now at.left.now next.left.now so.text_is read.text_is
+      ∙ ap (λ (n : ℕ). lines_text (rounds_lines s 1 first so.journals ++ round_lines s n (standings_after s first so.journals) read.journals) ++ next.left.now) number
+      ∙ ap (λ (x : List Line). lines_text x ++ next.left.now) (sym (lines-round s 1 first so.journals read.journals))
+
+  pub rounds-more : RoundsSoFar s first start next (done + 1) new watched old now
+  rounds-more = record {
+    journals = so.journals ++ read.journals ∷ [];
+    many = length-append so.journals (read.journals ∷ []) ∙ ap (λ (n : ℕ). n + 1) so.many;
+    merges = merges-round s first so.journals read.journals so.merges read.merges;
+    text_is = text-more;
+    between = subst (λ (x : List Standing). Between s (done + 1) x new) come read.between;
+    seen = λ is. subst (λ (x : List Standing). IsWatched watched now x) come (read.seen (so.seen is));
+    leads = λ n e.
+        subst (λ (x : List Standing). Leads (rounds_script s 1 s.rounds first) start (rounds_script s (done + 1 + 1) n x) next) come
+        (leads-on _ _ _ start at next (so.leads (suc n) (omega (arith, e))) (read.leads (rounds_script s (done + 1 + 1) n)));
+  }
+
+pub rounds-fail : (s : ScenarioContent) (first : List Standing) (start at : Place) (done : ℕ) (old : Corridor) (watched : ℕ) (was now : Seen) (fail : CheckFail) → done < s.rounds
+    → (so : RoundsSoFar s first start at done old watched was now)
+    → ((rest : List Standing → Script) → Fails (round_script s (done + 1) (standings_after s first so.journals) rest) at fail)
     → Fails (rounds_script s 1 s.rounds first) start fail
-rounds-fail s first start at done old fail few so fails =
+rounds-fail s first start at done old watched was now fail few so fails =
     let n : ℕ = s.rounds - done - 1 in
     fails-on _ _ start at fail (so.leads (suc n) (omega (arith, few))) (fails (rounds_script s (done + 1 + 1) n))
 
-pub rounds-all : (s : ScenarioContent) (first : List Standing) (start at : Place) (done : ℕ) (c : Corridor) → done ≡ s.rounds → RoundsSoFar s first start at done c
-    → Leads (rounds_script s 1 s.rounds first) start (Says (Z s.rounds) Ends) at
-rounds-all s first start at done c all so = so.leads zero (omega (arith, all))
+pub rounds-all : (s : ScenarioContent) (first : List Standing) (start at : Place) (done : ℕ) (c : Corridor) (watched : ℕ) (was now : Seen) → done ≡ s.rounds
+    → RoundsSoFar s first start at done c watched was now → Leads (rounds_script s 1 s.rounds first) start (Says (Z s.rounds) Ends) at
+rounds-all s first start at done c watched was now all so = so.leads zero (omega (arith, all))
+
+pub rounds-seen : (s : ScenarioContent) (first : List Standing) (start at : Place) (done : ℕ) (c : Corridor) (watched : ℕ) (was now : Seen) → done ≡ s.rounds
+    → RoundsSoFar s first start at done c watched was now → RoundsSeen s first start at watched was now
+rounds-seen s first start at done c watched was now all so =
+    record { journals = so.journals; all = so.many ∙ all; merges = so.merges; text_is = so.text_is; seen = so.seen }
+
+-- all that is left of the text, with nothing behind it
+pub rest-seen : (s : ScenarioContent) (start rounds end behind : Place) (watched : ℕ) (first seen : Seen) (result : Result (Unit {0}) CheckFail)
+    → ((rest : Script) → Leads (say (opening_lines 1 (opened_standings s s.cabinets)) rest) start rest rounds)
+    → RoundsSeen s (opened_standings s s.cabinets) rounds end watched first seen → ((rest : Script) → Leads (Says (Z s.rounds) rest) end rest behind)
+    → ReadsWhole Ends behind result → IsWatched watched first (opened_standings s s.cabinets) → OnOk result (RestSeen s start.left.now watched seen)
+rest-seen s start rounds end behind watched first seen (Ok done) opens so last whole is = record {
+  journals = so.journals;
+  are = record { all = so.all; merges = so.merges };
+  text_is = text;
+  watched_so = so.seen is;
+}
+  where
+    text : start.left.now ≡ lines_text (rest_lines s so.journals)
+    text =
+        let ts : List Standing = opened_standings s s.cabinets in
+        texts-on (opening_lines 1 ts ++ rounds_lines s 1 ts so.journals) (Z s.rounds ∷ []) start.left.now end.left.now behind.left.now
+        (texts-on (opening_lines 1 ts) (rounds_lines s 1 ts so.journals) start.left.now rounds.left.now end.left.now (said-text (opening_lines 1 ts) start rounds (opens Ends)) so.text_is)
+        (said-text (Z s.rounds ∷ []) end behind (last Ends))
+        ∙ ap (λ (x : List ℕ). lines_text (rest_lines s so.journals) ++ x) (nothing-behind behind whole)
+        ∙ append-nil (lines_text (rest_lines s so.journals))
+rest-seen s start rounds end behind watched first seen (Err fail) opens so last whole is = tt
+
+-- and so of the whole text
+pub text-seen : (s : ScenarioContent) (line : Line) (text piece left : List ℕ) (watched : ℕ) (seen : Seen) (result : Result (Unit {0}) CheckFail) → Opens line s → Runnable s
+    → piece ≡ line_text line → text ≡ piece ++ left → OnOk result (RestSeen s left watched seen) → OnOk result (TextSeen text watched seen)
+text-seen s line text piece left watched seen (Ok done) opens runs told all rest = record {
+  scenario = s;
+  journals = rest.journals;
+  told = opens.1;
+  runs = runs;
+  are = rest.are;
+  text_is = all ∙ ap (λ (x : List ℕ). x ++ left) (told ∙ ap line_text opens.0) ∙ ap (λ (x : List ℕ). line_text (S s.compact) ++ x) rest.text_is;
+  watched_so = rest.watched_so;
+}
+text-seen s line text piece left watched seen (Err fail) opens runs told all rest = tt
+
+-- what the answer gives
+pub has-seen : ((s : ScenarioContent) → Runnable s → (journals : List (List (List ℕ))) → AreJournals s journals → TellsAllKept s journals (run_text s journals))
+    → (text : List ℕ) (cab : ℕ) (seen : Seen) → TextSeen text cab seen → HasSeen text cab seen
+has-seen law text cab seen is = record {
+  scenario = is.scenario;
+  journals = is.journals;
+  told = is.told;
+  runs = is.runs;
+  are = is.are;
+  text_is = is.text_is;
+  kept = subst (λ (x : List ℕ). TellsAllKept is.scenario is.journals x) (sym is.text_is) (law is.scenario is.runs is.journals is.are);
+  own = λ c end numbered come.
+      let (k, below, number, here) = come-at cab 1 end (standings_after is.scenario (opened_standings is.scenario is.scenario.cabinets) is.journals) come in
+      subst (λ (t : Standing). IsSeenOf seen (history_of t.story)) (here end) (is.watched_so.own k end below (omega (arith, number)));
+  none = λ never. is.watched_so.none (λ k below same.
+      let s : ScenarioContent = is.scenario in
+      let within : k < length s.cabinets =
+      omega (arith, below, after-many s (opened_standings s s.cabinets) is.journals is.are.merges, opened-many s s.cabinets) in
+      let (c, numbered) = numbered-at s.cabinets 1 k within in
+      let number : 1 + k ≡ cab = omega (arith, same) in
+      never c (subst (λ (n : ℕ). IsCabinet s n c) number numbered));
+}
 
 -- bytes behind the end
 pub behind-end : (at : Place) → at.left.now ≢ [] → FaultsAt Ends at.left.now at.line at.line 11
@@ -177,3 +276,18 @@ pub kept-answer : ((text : List ℕ) → IsTrace text → TellsOfRun text) → (
     → OnOk result (TellsOfRun text)
 kept-answer law text (Ok done) tells = law text tells.0
 kept-answer law text (Err fail) tells = tt
+
+-- the same of an answer that has something to give
+pub no-trace-fails : TracesHaveNoFault → (text : List ℕ) (fail : CheckFail) → Tells text (Err fail) → IsTrace text → IsCheckable text → fail ≡ NoMemory
+no-trace-fails none text (NotATrace f) tells trace short = absurd (none text f.line f.rule short trace tells)
+no-trace-fails none text NoMemory tells trace short = refl
+
+pub no-fault-passes : TracesHaveNoFault → (text : List ℕ) → Tells text (Ok tt) → (f : TraceFault) → FirstFault text f.line f.rule → ⊥
+no-fault-passes none text tells f first = none text f.line f.rule tells.1 tells.0 first
+
+pub same-fault-fails : {A : Type 0} → FaultsAreDetermined → (text : List ℕ) (fail : CheckFail) (result : Result A CheckFail) → result ≡ Err fail → Tells text (Err fail)
+    → (f : TraceFault) → FirstFault text f.line f.rule → (result ≡ Err (NotATrace f)) ⊎ (result ≡ Err NoMemory)
+same-fault-fails one text (NotATrace g) result is tells f first =
+    let (line, rule) = one text g.line g.rule f.line f.rule tells first in
+    inl (is ∙ ap (λ (x : TraceFault). Err (NotATrace x)) (same-fault g f line rule))
+same-fault-fails one text NoMemory result is tells f first = inr is

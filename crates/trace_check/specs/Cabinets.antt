@@ -1,11 +1,13 @@
 -- What the check makes of a cabinet's round.
-use Rattle.std.specs.Prelude.{ℕ, ◌≡◌, List, [], Result, Ok, Err, length, get_or}
+use Rattle.std.specs.Prelude.{ℕ, ◌≡◌, List, [], ◌++◌, Result, Ok, Err, length, get_or}
+use Rattle.safe_trace.specs.TraceText.{lines_text}
 use Rattle.scenario_data.specs.Content.{ScenarioContent}
 use Rattle.round_streams.specs.Items.{Item}
 use Rattle.cabinet_story.specs.Journals.{IsMerge}
 use Rattle.cab_book.specs.declared.book.Book.{Book}
 use Rattle.cab_book.specs.Books.{left_of}
 use Rattle.run_lines.specs.Standing.{Standing, coming_streams}
+use Rattle.run_lines.specs.Lines.{cabinet_lines}
 use Rattle.round_run.specs.Standings.{HasRun}
 use Rattle.trace_laws.specs.Script.{Script, cabinet_script}
 use Rattle.trace_check.specs.declared.faults.CheckFail.{CheckFail}
@@ -22,6 +24,7 @@ pub record CabinetRead (s : ScenarioContent) (cab : ℕ) (t : Standing) (at : Pl
   pub journal : List ℕ
   pub merge : IsMerge (coming_streams s cab t) journal
   pub run : HasRun s cab t journal b
+  pub text_is : at.left.now ≡ lines_text (cabinet_lines s cab t journal) ++ next.left.now
   pub leads : (rest : List ℕ → Script) → Leads (cabinet_script s cab t rest) at (rest journal) next
 
 -- so the cabinet's round is read, or it fails on the way

@@ -1,3 +1,4 @@
+pub mod Watching
 pub mod Reading
 pub mod Cabinets
 pub mod Rounds

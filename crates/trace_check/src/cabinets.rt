@@ -1,10 +1,10 @@
 //! A cabinet's round.
 //! Its journal is read, what it brings is brought, and the lines that come of it are due.
 
-ghost use Rattle.std.specs.Prelude.{◌≡◌, ◌≤◌, ℕ, List, [], drop, length, map, IfOk, IfErr};
+ghost use Rattle.std.specs.Prelude.{◌≡◌, ◌≤◌, ℕ, List, [], drop, length, map, IfOk, IfErr, OnOk};
 ghost use Rattle.trace_text.specs.declared.lines.Line.{Line as LineRow};
 ghost use Rattle.scenario_data.specs.Content.{ScenarioContent};
-ghost use Rattle.cab_book.specs.Books.{written_in, answered_in, ticks_by_end};
+ghost use Rattle.cab_book.specs.Books.{written_in, answered_in, story_now, ticks_by_end};
 ghost use Rattle.cab_book.specs.Happenings.{AreInOrder};
 ghost use Rattle.run_lines.specs.Standing.{Standing};
 ghost use Rattle.run_lines.specs.Lines.{shown_line, frame_lines, load_lines};
@@ -14,16 +14,19 @@ ghost use Rattle.trace_laws.specs.Script.{Script, say};
 ghost use Rattle.trace_laws.specs.Script.Script.{Says};
 ghost use Rattle.trace_check.specs.Reading.{ReadsOn};
 ghost use Rattle.trace_check.specs.Cabinets.{ReadsCabinet};
+ghost use Rattle.trace_check.specs.Watching.{SeesOn};
 
 use crate::expect::expect;
 use crate::faults::CheckFail;
-use crate::journals::{bring_all, journal_at};
+use crate::journals::journal_at;
 use crate::places::Place;
+use crate::watching::bring_round;
 use cab_book::{Answered, Book};
 use cabinet_story::{Load, Reply};
 use round_run::books_follow_runs;
 use sig_types::{Frame, Octets};
 use std::alloc::Global;
+use trace_seen::Seen;
 use trace_text::Line;
 
 /// The line of what a cabinet shows after so many ticks.
@@ -182,22 +185,29 @@ fn expect_told<'a>(
     expect_frames(alloc, at, cab, frames_from(frames, first))
 }
 
-/// A cabinet's round, which its book has begun: the journal, all that it brings, and the lines of that.
+/// A cabinet's round, which its book has begun: the journal, all that it brings, and the lines of that. Of the watched cabinet what is
+/// to be seen is kept.
 pub fn check_cabinet<'a>(
     alloc: Global,
     at: Place<'a>,
     cab: u32,
     book: &mut Book,
+    watched: u32,
+    seen: &mut Seen,
 ) -> Result<Place<'a>, CheckFail>
     requires begun { (s : ScenarioContent) × (t : Standing) × HasRun s cab t [] book.old }
     ensures reads { (s : ScenarioContent) (t : Standing) → HasRun s cab t [] book.old → ReadsCabinet s cab t at.entry book.new result }
     ensures ticks { ticks_by_end book.new ≡ ticks_by_end book.old }
+    ensures seen { OnOk result ((s : ScenarioContent) (t : Standing) → HasRun s cab t [] book.old
+        → SeesOn watched cab seen.old seen.new t.story (story_now book.new t.story)) }
 {
     books_follow_runs();
     let (runs, next) = match journal_at(alloc, at, cab, book) {
         Ok(found) => found,
         Err(fail) => return Err(fail),
     };
-    bring_all(book, runs.as_slice());
-    expect_told(alloc, next, cab, book.written(), book.replies())
+    match bring_round(book, runs.as_slice(), cab == watched, seen) {
+        Ok(()) => expect_told(alloc, next, cab, book.written(), book.replies()),
+        Err(fail) => Err(fail),
+    }
 }

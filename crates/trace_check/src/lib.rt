@@ -9,7 +9,9 @@ mod journals;
 mod pieces;
 mod places;
 mod rounds;
+mod watching;
 mod whole;
 
 pub use faults::{CheckFail, TraceFault};
-pub use whole::check;
+pub use trace_seen::Seen;
+pub use whole::{check, observe};

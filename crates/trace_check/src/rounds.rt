@@ -1,6 +1,6 @@
 //! A round: its number, the master's notes, and each cabinet's round in turn.
 
-ghost use Rattle.std.specs.Prelude.{◌≡◌, ◌≤◌, ◌<◌, ◌+◌, ◌*◌, ℕ, List, length, map};
+ghost use Rattle.std.specs.Prelude.{◌≡◌, ◌≤◌, ◌<◌, ◌+◌, ◌*◌, ℕ, List, length, map, OnOk};
 ghost use Rattle.trace_text.specs.declared.lines.Line.{Line as LineRow};
 ghost use Rattle.scenario_data.specs.Content.{ScenarioContent, scenario_content};
 ghost use Rattle.runnable.specs.Runnable.{Runnable};
@@ -11,6 +11,7 @@ ghost use Rattle.trace_laws.specs.Script.{Script, say};
 ghost use Rattle.trace_laws.specs.Script.Script.{Says};
 ghost use Rattle.trace_check.specs.Reading.{ReadsOn};
 ghost use Rattle.trace_check.specs.Rounds.{ReadsCabinets, ReadsRound};
+ghost use Rattle.trace_check.specs.Watching.{SeenSoFar};
 
 use crate::cabinets::check_cabinet;
 use crate::expect::expect;
@@ -21,6 +22,7 @@ use corridor::Corridor;
 use scenario_data::Scenario;
 use sig_types::{MasterNote, NoMemory};
 use std::alloc::Global;
+use trace_seen::Seen;
 use trace_text::Line;
 
 /// The line of a note of the master.
@@ -68,6 +70,8 @@ fn check_cabinets<'a>(
     alloc: Global,
     start: Place<'a>,
     books: &mut Vec<Book>,
+    watched: u32,
+    seen: &mut Seen,
 ) -> Result<Place<'a>, CheckFail>
     requires few { length books.old.items ≤ 64 }
     requires begun { (s : ScenarioContent) × (ts : List Standing) × HaveRun s ts (no_journals ts) books.old.items }
@@ -75,10 +79,12 @@ fn check_cabinets<'a>(
     ensures reads { (s : ScenarioContent) (ts : List Standing) → HaveRun s ts (no_journals ts) books.old.items
         → ReadsCabinets s ts start.entry books.new.items result }
     ensures ticks { (most : ℕ) → TicksWithin most books.old.items → TicksWithin most books.new.items }
+    ensures seen { OnOk result ((s : ScenarioContent) (ts : List Standing) → HaveRun s ts (no_journals ts) books.old.items
+        → SeenSoFar watched seen.old seen.new ts books.new.items (length ts)) }
 {
     let mut at = start;
     for k in 0..books.len() {
-        match check_cabinet(alloc, at, k as u32 + 1, &mut books[k]) {
+        match check_cabinet(alloc, at, k as u32 + 1, &mut books[k], watched, seen) {
             Ok(next) => at = next,
             Err(fail) => return Err(fail),
         }
@@ -93,12 +99,14 @@ pub fn check_round<'a>(
     done: u32,
     s: &Scenario,
     corridor: &mut Corridor,
+    watched: u32,
+    seen: &mut Seen,
 ) -> Result<Place<'a>, CheckFail>
     requires runnable { Runnable (scenario_content s.now) }
     requires few { done < s.now.rounds }
     requires between { (ts : List Standing) × Between (scenario_content s.now) done ts corridor.old }
     ensures { (ts : List Standing) → Between (scenario_content s.now) done ts corridor.old
-        → ReadsRound (scenario_content s.now) done ts at.entry corridor.new result }
+        → ReadsRound (scenario_content s.now) done ts at.entry corridor.new watched seen.old seen.new result }
 {
     let notes = match corridor.begin_round(alloc, done, s) {
         Ok(notes) => notes,
@@ -108,7 +116,7 @@ pub fn check_round<'a>(
         Ok(first) => first,
         Err(fail) => return Err(fail),
     };
-    let next = match check_cabinets(alloc, first, &mut corridor.books) {
+    let next = match check_cabinets(alloc, first, &mut corridor.books, watched, seen) {
         Ok(next) => next,
         Err(fail) => return Err(fail),
     };

@@ -14,7 +14,9 @@ ghost use Rattle.trace_laws.specs.Laws.{TellsOfRun};
 ghost use Rattle.trace_laws.specs.Script.{Script, say, rounds_script, script_of};
 ghost use Rattle.trace_laws.specs.Script.Script.{Ends};
 ghost use Rattle.trace_check.specs.Reading.{ReadsOn, ReadsWhole};
-ghost use Rattle.trace_check.specs.Checked.{TellsNone, Tells};
+ghost use Rattle.trace_check.specs.Rounds.{RoundsSeen};
+ghost use Rattle.trace_seen.specs.Seen.{HasSeen};
+ghost use Rattle.trace_check.specs.Checked.{TellsNone, Tells, RestSeen, TextSeen};
 
 use crate::cabinets::expect_frame;
 use crate::expect::expect;
@@ -22,14 +24,17 @@ use crate::faults::{CheckFail, TraceFault};
 use crate::pieces::{cut, fault_at};
 use crate::places::Place;
 use crate::rounds::check_round;
+use crate::watching::{first_seen, nothing_seen};
 use cab_book::Book;
 use corridor::Corridor;
+use one_trace::run_texts_are_safe;
 use runnable_scenarios::scenarios_run;
 use scenario_data::{ReadFail, Scenario};
 use scenario_file::read;
 use sig_types::NoMemory;
 use std::alloc::Global;
 use trace_laws::{faults_are_determined, traces_are_safe, traces_have_no_fault};
+use trace_seen::Seen;
 use trace_text::{Line, read_line};
 
 /// What each cabinet shows before any tick.
@@ -58,15 +63,19 @@ fn check_rounds<'a>(
     start: Place<'a>,
     s: &Scenario,
     corridor: &mut Corridor,
+    watched: u32,
+    seen: &mut Seen,
 ) -> Result<Place<'a>, CheckFail>
     requires runnable { Runnable (scenario_content s.now) }
     requires between { Between (scenario_content s.now) 0 (opened_standings (scenario_content s.now) (scenario_content s.now).cabinets) corridor.old }
-    ensures { ReadsOn (rounds_script (scenario_content s.now) 1 s.now.rounds (opened_standings (scenario_content s.now) (scenario_content s.now).cabinets))
+    ensures reads { ReadsOn (rounds_script (scenario_content s.now) 1 s.now.rounds (opened_standings (scenario_content s.now) (scenario_content s.now).cabinets))
         start.entry (Script.Says (LineRow.Z s.now.rounds) Ends) result }
+    ensures seen { IfOk result (λ next. RoundsSeen (scenario_content s.now) (opened_standings (scenario_content s.now) (scenario_content s.now).cabinets)
+        start.entry next watched seen.old seen.new) }
 {
     let mut at = start;
     for done in 0..s.rounds {
-        match check_round(alloc, at, done, s, corridor) {
+        match check_round(alloc, at, done, s, corridor, watched, seen) {
             Ok(next) => at = next,
             Err(fail) => return Err(fail),
         }
@@ -86,19 +95,30 @@ fn expect_nothing(at: Place) -> Result<(), CheckFail>
 }
 
 /// What comes behind the line of the scenario.
-fn check_rest(alloc: Global, start: Place, s: &Scenario) -> Result<(), CheckFail>
+fn check_rest(
+    alloc: Global,
+    start: Place,
+    s: &Scenario,
+    watched: u32,
+    seen: &mut Seen,
+) -> Result<(), CheckFail>
     requires { Runnable (scenario_content s.now) }
-    ensures { ReadsWhole (script_of (scenario_content s.now)) start.entry result }
+    ensures reads { ReadsWhole (script_of (scenario_content s.now)) start.entry result }
+    ensures seen { OnOk result (RestSeen (scenario_content s.now) start.entry.left.now watched seen.new) }
 {
     let mut corridor = match Corridor::open(alloc, s) {
         Ok(corridor) => corridor,
         Err(NoMemory) => return Err(CheckFail::NoMemory),
     };
+    match first_seen(alloc, &corridor.books, watched) {
+        Ok(first) => *seen = first,
+        Err(fail) => return Err(fail),
+    }
     let rounds = match expect_openings(alloc, start, &corridor.books) {
         Ok(rounds) => rounds,
         Err(fail) => return Err(fail),
     };
-    let end = match check_rounds(alloc, rounds, s, &mut corridor) {
+    let end = match check_rounds(alloc, rounds, s, &mut corridor, watched, seen) {
         Ok(end) => end,
         Err(fail) => return Err(fail),
     };
@@ -155,10 +175,11 @@ fn scenario_of(alloc: Global, line: &Line) -> Result<Scenario, CheckFail>
 }
 
 /// A text that is not empty and not too long.
-fn check_text(alloc: Global, text: &[u8]) -> Result<(), CheckFail>
+fn check_text(alloc: Global, text: &[u8], watched: u32, seen: &mut Seen) -> Result<(), CheckFail>
     requires some { text.now ≢ [] }
     requires short { IsCheckable text.now }
-    ensures { Tells text.now result }
+    ensures tells { Tells text.now result }
+    ensures seen { OnOk result (TextSeen text.now watched seen.new) }
 {
     let (piece, left) = cut(text);
     let line = match read_line(alloc, piece) {
@@ -167,14 +188,15 @@ fn check_text(alloc: Global, text: &[u8]) -> Result<(), CheckFail>
         Err(NoMemory) => return Err(CheckFail::NoMemory),
     };
     match scenario_of(alloc, &line) {
-        Ok(scenario) => check_rest(alloc, Place { left, line: 2 }, &scenario),
+        Ok(scenario) => { check_rest(alloc, Place { left, line: 2 }, &scenario, watched, seen) },
         Err(fail) => Err(fail),
     }
 }
 
 /// What is to be said of a text.
-fn answer(alloc: Global, text: &[u8]) -> Result<(), CheckFail>
-    ensures { Tells text.now result }
+fn answer(alloc: Global, text: &[u8], watched: u32, seen: &mut Seen) -> Result<(), CheckFail>
+    ensures tells { Tells text.now result }
+    ensures seen { OnOk result (TextSeen text.now watched seen.new) }
 {
     if text.len() > 67_108_864 {
         return Err(CheckFail::NotATrace(TraceFault { line: 0, rule: 1 }));
@@ -182,7 +204,7 @@ fn answer(alloc: Global, text: &[u8]) -> Result<(), CheckFail>
     if text.is_empty() {
         return Err(first_fault(10));
     }
-    check_text(alloc, text)
+    check_text(alloc, text, watched, seen)
 }
 
 /// Whether a text is a trace: that of a run of the scenario in its first line, in whatever order its journals tell that all came. A text
@@ -198,5 +220,25 @@ pub fn check(alloc: Global, text: &[u8]) -> Result<(), CheckFail>
     traces_have_no_fault();
     faults_are_determined();
     traces_are_safe();
-    answer(alloc, text)
+    let mut unseen = nothing_seen(alloc);
+    answer(alloc, text, 0, &mut unseen)
+}
+
+/// The same for a text, and what was seen of the cabinet with this number while it was checked: the frames that have a line, the tables of
+/// each version, and how many ticks of 0.1 s it had. Where the trace has no such cabinet no tables were seen.
+pub fn observe(alloc: Global, text: &[u8], cab: u32) -> Result<Seen, CheckFail>
+    ensures told { IfErr result (λ fail. Tells text.now (Err fail)) }
+    ensures short { OnOk result (IsCheckable text.now) }
+    ensures trace { IsTrace text.now → IsCheckable text.now → IfErr result (λ fail. fail ≡ CheckFail.NoMemory) }
+    ensures fault { (f : TraceFault) → FirstFault text.now f.line f.rule → (result ≡ Err (CheckFail.NotATrace f)) ⊎ (result ≡ Err CheckFail.NoMemory) }
+    ensures seen { IfOk result (λ seen. HasSeen text.now cab seen) }
+{
+    traces_have_no_fault();
+    faults_are_determined();
+    run_texts_are_safe();
+    let mut seen = nothing_seen(alloc);
+    match answer(alloc, text, cab, &mut seen) {
+        Ok(()) => Ok(seen),
+        Err(fail) => Err(fail),
+    }
 }

@@ -1,4 +1,4 @@
-use Rattle.std.proofs.Common.{Option, sym, subst}
+use Rattle.std.proofs.Common.{Option, subst}
 use Rattle.arrayvec.specs.ArrayVec.{ArrayVec}
 use Rattle.std.proofs.Common.{ℕ}
 use Rattle.trace_text.specs.declared.lines.Line.TheVariants.{A}

@@ -1,10 +1,8 @@
-use Rattle.std.proofs.Common.{◌+◌, ℕ, List, drop, ap, arith}
-use Rattle.std.proofs.lemmas.List.{drop_all}
-use Rattle.sig_types.specs.declared.frame.Frame.{Frame}
+use Rattle.std.proofs.Common.{◌+◌, drop, arith}
 use Rattle.run_lines.specs.Lines.{frame_lines}
 use Rattle.trace_laws.specs.Script.{say}
 use Rattle.trace_check.proofs.CabinetLines.{next-frame}
-use Rattle.trace_check.proofs.Walking.{leads-next, fails-next, leads-last}
+use Rattle.trace_check.proofs.Walking.{leads-next, fails-next}
 use Rattle.trace_check.proofs.cabinets.expect_frames.Goals as goal
 
 pub loop-shown-preserved : goal.loop-shown-preserved

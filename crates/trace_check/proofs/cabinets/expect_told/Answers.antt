@@ -1,9 +1,9 @@
-use Rattle.std.proofs.Common.{◌+◌, ◌∙◌, ℕ, List, Ok, Err, length, drop, ap, sym, refl, subst, arith}
+use Rattle.std.proofs.Common.{◌+◌, ℕ, List, length, drop, ap, subst, arith}
 use Rattle.std.proofs.lemmas.List.{drop_all}
 use Rattle.sig_types.specs.declared.frame.Frame.{Frame}
 use Rattle.cab_book.specs.declared.happened.Answered.{Answered}
 use Rattle.run_lines.specs.Lines.{frame_lines}
-use Rattle.round_run.specs.Lines.{frames_between, answer_lines, told_lines}
+use Rattle.round_run.specs.Lines.{answer_lines, told_lines}
 use Rattle.trace_laws.specs.Script.{Script, say}
 use Rattle.trace_check.specs.Reading.{ReadsOn, Fails, Leads}
 use Rattle.trace_check.proofs.CabinetLines.{next-reply, order-next, in-order-most}

@@ -5,8 +5,9 @@ use Rattle.scenario_data.specs.Content.{scenario_content}
 use Rattle.run_lines.specs.Standing.{each_standing}
 use Rattle.trace_laws.specs.Script.{Script, cabinets_script}
 use Rattle.trace_check.specs.Reading.{Fails, Leads}
-use Rattle.trace_check.proofs.RoundLines.{head-due}
+use Rattle.trace_check.proofs.RoundLines.{head-due, round-text}
 use Rattle.trace_check.proofs.Walking.{leads-on, fails-on}
+use Rattle.trace_check.proofs.Watched.{watched-next}
 use Rattle.trace_check.proofs.rounds.check_round.Goals as goal
 
 pub returns-in-Err-expect_head : goal.returns-in-Err-expect_head
@@ -39,10 +40,14 @@ pub returns-in-Ok-end_round : goal.returns-in-Ok-end_round
 returns-in-Ok-end_round c = λ ts between.
     let s = scenario_content c.args.s.now in
     let same = ap (λ (notes : List MasterNote). map M notes) c.as_slice.ensures.value ∙ c.in-Ok.ensures.notes ts between in
-    let read = c.in-Ok-check_cabinets.ensures.reads s ts (c.in-Ok.ensures.books ts between) in
+    let begun = c.in-Ok.ensures.books ts between in
+    let read = c.in-Ok-check_cabinets.ensures.reads s ts begun in
     record {
-      later = each_standing s 1 ts read.journals;
+      journals = read.journals;
+      merges = read.merges;
+      text_is = round-text s (c.args.done + 1) ts read.journals c.as_slice.result.now c.args.at c.in-Ok-expect_head.first c.in-Ok-check_cabinets.next same c.in-Ok-expect_head.ensures read.text_is;
       between = c.in-Ok-end_round.ensures.between ts read.journals (c.in-Ok.ensures.begun ts between) read.run (c.in-Ok-check_cabinets.ensures.ticks _ c.in-Ok.ensures.ticks);
+      seen = watched-next s c.args.watched c.args.seen.now c.check_cabinets.new.seen ts read.journals c.check_cabinets.new.books.items read.run (c.in-Ok-check_cabinets.ensures.seen s ts begun);
       leads = λ rest.
           let cabinets : Script = cabinets_script s 1 [] ts rest in
           subst (λ (due : Script). Leads due c.args.at (rest (each_standing s 1 ts read.journals)) c.in-Ok-check_cabinets.next) (sym (head-due s (c.args.done + 1) ts c.as_slice.result.now rest same))

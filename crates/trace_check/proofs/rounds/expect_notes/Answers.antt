@@ -1,4 +1,4 @@
-use Rattle.std.proofs.Common.{◌+◌, List, drop, map, ap, arith}
+use Rattle.std.proofs.Common.{◌+◌, drop, map, arith}
 use Rattle.sig_types.specs.declared.notes.MasterNote.TheVariants.{Fail}
 use Rattle.trace_text.specs.declared.lines.Line.TheVariants.{M}
 use Rattle.trace_laws.specs.Script.{say}

@@ -1,0 +1,52 @@
+-- What is kept of the watched cabinet while the rounds are read.
+use Rattle.std.specs.Prelude.{ℕ, ◌+◌, ◌≡◌, ◌≢◌, ◌<◌, Bool, true, false, List, [], ◌∷◌, Option, Some, None, Result, Ok, Err, length, get_or}
+use Rattle.sig_types.specs.declared.notes.Broken.{Broken}
+use Rattle.sig_tables.specs.declared.tables.Tables.{Tables}
+use Rattle.sig_tables.specs.Past.{History}
+use Rattle.sig_tables.specs.Decide.{past_at}
+use Rattle.safe_trace.specs.Written.{tables_of}
+use Rattle.overlap_laws.specs.Trace.{AreByVersion}
+use Rattle.cabinet_story.specs.declared.Load.{Load}
+use Rattle.cabinet_story.specs.Story.{Story}
+use Rattle.cabinet_story.specs.Coming.{history_of}
+use Rattle.cab_book.specs.declared.book.Book.{Book}
+use Rattle.cab_book.specs.declared.happened.Answered.{Answered}
+use Rattle.cab_book.specs.Books.{story_now}
+use Rattle.run_lines.specs.Standing.{Standing}
+use Rattle.trace_seen.specs.declared.seen.Seen.{Seen}
+use Rattle.trace_seen.specs.Seen.{IsSeenOf}
+
+-- a download was put in force
+abbrev pub is_version : Result ℕ Broken → Bool
+is_version (Ok version) = true
+is_version (Err broken) = false
+
+abbrev pub is_put : Option Load → Bool
+is_put None = false
+is_put (Some load) = is_version load.result
+
+-- the first of these replies tells of one that was
+abbrev pub tells_put : List Answered → Bool
+tells_put [] = false
+tells_put (a ∷ answered) = is_put a.reply.load
+
+-- these are the tables of each version of a history
+abbrev pub AreTablesOf : List Tables → History → Type 0
+AreTablesOf tables h = AreByVersion tables (tables_of h) (past_at h).version
+
+-- of one cabinet's round: where it is the watched one, what was seen is that of the story by now if it was that of the story before; else
+-- nothing changes
+pub record SeesOn (watched cab : ℕ) (old new : Seen) (before now : Story) : Type 0 where
+  pub own : watched ≡ cab → IsSeenOf old (history_of before) → IsSeenOf new (history_of now)
+  pub other : watched ≢ cab → new ≡ old
+
+-- so it is of the first cabinets' rounds, which these books have run after the cabinets had come to this
+pub record SeenSoFar (watched : ℕ) (old new : Seen) (ts : List Standing) (books : List Book) (k : ℕ) : Type 0 where
+  pub own : (j : ℕ) (b : Book) (t : Standing) → j < k → watched ≡ j + 1 → IsSeenOf old (history_of (get_or ts j t).story)
+      → IsSeenOf new (history_of (story_now (get_or books j b) (get_or ts j t).story))
+  pub other : ((j : ℕ) → j < k → watched ≢ j + 1) → new ≡ old
+
+-- this was seen of the cabinet with this number, where one of these has it; and else no tables were seen
+pub record IsWatched (watched : ℕ) (seen : Seen) (ts : List Standing) : Type 0 where
+  pub own : (k : ℕ) (t : Standing) → k < length ts → watched ≡ k + 1 → IsSeenOf seen (history_of (get_or ts k t).story)
+  pub none : ((k : ℕ) → k < length ts → watched ≢ k + 1) → seen.tables.items ≡ []
