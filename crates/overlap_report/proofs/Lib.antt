@@ -1,0 +1,4 @@
+mod Shown
+mod Greens
+mod Cabinets
+mod Says

@@ -1,0 +1,77 @@
+-- The frames that the lines of a history tell are those of the history that have a line.
+use Rattle.std.proofs.Common.{◌≡◌, ◌<◌, ◌+◌, ◌==◌, ℕ, Bool, true, false, if◌then◌else◌, List, [], ◌∷◌, ◌++◌, length, Ok, Err, refl, sym, ◌∙◌, ap, arith, append-nil}
+use Rattle.sig_types.specs.declared.frame.Frame.{Frame}
+use Rattle.sig_tables.specs.declared.tables.Tables.{Tables}
+use Rattle.sig_tables.specs.Past.{Event, Tick, Install, Moment, History}
+use Rattle.sig_tables.specs.Looking.{last_frame}
+use Rattle.sig_tables.specs.Decide.{frames, frames_in, next_moment, past_of, since_opening}
+use Rattle.trace_text.specs.declared.lines.Line.{Line}
+use Rattle.trace_text.specs.declared.lines.Line.TheVariants.{S, F, R, M, J, L, A, Z}
+use Rattle.safe_trace.specs.Safe.{Indications, told}
+use Rattle.safe_trace.specs.Written.{shown_by, written}
+use Rattle.safe_trace.proofs.Versions.{versions}
+use Rattle.safe_streets.specs.Told.{Told, Shows, Loads, told_in, frame_told, told_of, history_told}
+
+-- the frames alone
+abbrev shown_in : List Told → List (ℕ × Indications)
+shown_in [] = []
+shown_in (Shows tick shown ∷ rest) = (tick, shown) ∷ shown_in rest
+shown_in (Loads version ∷ rest) = shown_in rest
+
+shown-append : (xs ys : List Told) → shown_in (xs ++ ys) ≡ shown_in xs ++ shown_in ys
+shown-append [] ys = refl
+shown-append (Shows tick shown ∷ rest) ys = ap (λ (x : List (ℕ × Indications)). (tick, shown) ∷ x) (shown-append rest ys)
+shown-append (Loads version ∷ rest) ys = shown-append rest ys
+
+either-shown : (b : Bool) (tick : ℕ) (shown : Indications) (rest : List Told)
+    → shown_in (if b then Shows tick shown ∷ rest else rest) ≡ (if b then (tick, shown) ∷ shown_in rest else shown_in rest)
+either-shown true tick shown rest = refl
+either-shown false tick shown rest = refl
+
+either-load : (b : Bool) (version : ℕ) (rest : List Told) → shown_in (if b then Loads version ∷ rest else rest) ≡ shown_in rest
+either-load true version rest = refl
+either-load false version rest = refl
+
+-- those of the lines of a cabinet
+lines-shown : (cab : ℕ) (lines : List Line) → shown_in (told_in cab lines) ≡ told cab lines
+lines-shown cab [] = refl
+lines-shown cab (F c tick veh ped mode counter target version ∷ lines) =
+    let shown : Indications = record { colours = veh; signals = ped; mode = mode; version = version } in
+    either-shown (c == cab) tick shown (told_in cab lines)
+    ∙ ap (λ (x : List (ℕ × Indications)). if c == cab then (tick, shown) ∷ x else x) (lines-shown cab lines)
+lines-shown cab (L c id (Ok version) ∷ lines) = either-load (c == cab) version (told_in cab lines) ∙ lines-shown cab lines
+lines-shown cab (L c id (Err broken) ∷ lines) = lines-shown cab lines
+lines-shown cab (S json ∷ lines) = lines-shown cab lines
+lines-shown cab (R round ∷ lines) = lines-shown cab lines
+lines-shown cab (M note ∷ lines) = lines-shown cab lines
+lines-shown cab (J c runs ∷ lines) = lines-shown cab lines
+lines-shown cab (A c pass reply ∷ lines) = lines-shown cab lines
+lines-shown cab (Z rounds ∷ lines) = lines-shown cab lines
+
+-- one frame more
+one-shown : (has_line : Frame → Frame → Bool) (moments : List Moment) (m : Moment) → 0 < length moments
+    → written has_line (frames_in (m ∷ moments))
+    ≡ written has_line (frames_in moments)
+    ++ shown_in (if has_line (last_frame moments) m.frame then Shows (length (frames_in moments)) (shown_by m.frame) ∷ [] else [])
+one-shown has_line [] m some = absurd (omega (arith, some))
+one-shown has_line (l ∷ earlier) m some =
+    ap (λ (x : List (ℕ × Indications)). written has_line (frames_in (l ∷ earlier)) ++ x)
+    (sym (either-shown (has_line l.frame m.frame) (length (frames_in (l ∷ earlier))) (shown_by m.frame) []))
+
+-- those of the events of a history
+events-shown : (has_line : Frame → Frame → Bool) (opening : Tables) (events : List Event)
+    → shown_in (told_of has_line opening events) ≡ written has_line (frames_in (past_of opening events).moments)
+events-shown has_line opening [] = refl
+events-shown has_line opening (Tick ∷ events) =
+    shown-append (told_of has_line opening events) (frame_told has_line (past_of opening events))
+    ∙ ap (λ (x : List (ℕ × Indications)). x ++ shown_in (frame_told has_line (past_of opening events))) (events-shown has_line opening events)
+    ∙ sym (one-shown has_line (past_of opening events).moments (next_moment (past_of opening events)) (versions opening events).some)
+events-shown has_line opening (Install t ∷ events) =
+    shown-append (told_of has_line opening events) (Loads ((past_of opening events).version + 1) ∷ [])
+    ∙ append-nil (shown_in (told_of has_line opening events)) ∙ events-shown has_line opening events
+events-shown has_line opening (_ ∷ events) = events-shown has_line opening events
+
+-- those that lines tell, where they tell the history
+pub lines-show : (cab : ℕ) (lines : List Line) (h : History) (has_line : Frame → Frame → Bool) → told_in cab lines ≡ history_told has_line h
+    → told cab lines ≡ written has_line (frames h)
+lines-show cab lines h has_line e = sym (lines-shown cab lines) ∙ ap shown_in e ∙ events-shown has_line h.tables (since_opening h)

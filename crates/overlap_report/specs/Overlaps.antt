@@ -1,0 +1,66 @@
+-- What is told of an overlap at a cabinet of a trace: its text, or the first rule that it breaks. All is said of the trace: of the run that it
+-- tells, of its lines, and of the tables that were in force at the cabinet.
+use Rattle.std.specs.Prelude.{ℕ, ◌+◌, ◌≡◌, List, [], length, Result, Err}
+use Rattle.sig_tables.specs.declared.tables.Tables.{Tables}
+use Rattle.sig_tables.specs.Decide.{frames, past_at}
+use Rattle.trace_text.specs.declared.lines.Line.{Line}
+use Rattle.safe_trace.specs.Safe.{Intersection, intersection_of}
+use Rattle.safe_trace.specs.Written.{tables_of}
+use Rattle.scenario_data.specs.Content.{CabinetContent, ScenarioContent}
+use Rattle.runnable.specs.Cabinets.{IsCabinet}
+use Rattle.cabinet_story.specs.Coming.{history_of}
+use Rattle.run_lines.specs.Standing.{Standing, HasComeTo, opened_standings, standings_after}
+use Rattle.trace_laws.specs.Laws.{TellsOfRun}
+use Rattle.overlap_run.specs.declared.overlap.Timing.{Timing}
+use Rattle.overlap_run.specs.Overlap.{timed}
+use Rattle.overlap_rules.specs.declared.faults.OverlapFault.{OverlapFault}
+use Rattle.overlap_rules.specs.Rules.{verdict}
+use Rattle.overlap_laws.specs.Street.{IsCovered, IsApart}
+use Rattle.overlap_laws.specs.Trace.{AreByVersion, text_of}
+use Rattle.overlap_report.specs.declared.asking.Asked.{Asked}
+
+-- by the end of a run with these journals the cabinet with this number has come to this
+abbrev pub HasEnded : ScenarioContent → List (List (List ℕ)) → ℕ → Standing → Type 0
+HasEnded s journals cab end = HasComeTo cab end 1 (standings_after s (opened_standings s s.cabinets) journals)
+
+-- in a run with these journals these tables were in force at the cabinet with this number, in the order of their versions: those that it
+-- opened with, and those of each accepted download. There are none where the scenario has no such cabinet
+pub data AreInForce (s : ScenarioContent) (journals : List (List (List ℕ))) (cab : ℕ) (tables : List Tables) : Type 0 where
+  AtCabinet : (c : CabinetContent) (end : Standing) → IsCabinet s cab c → HasEnded s journals cab end
+      → AreByVersion tables (tables_of (history_of end.story)) (past_at (history_of end.story)).version → AreInForce s journals cab tables
+  NoCabinet : ((c : CabinetContent) → IsCabinet s cab c → ⊥) → tables ≡ [] → AreInForce s journals cab tables
+
+-- the times of the overlap that is asked for
+abbrev pub times_of : Asked → Timing
+times_of asked = timed asked.trail asked.yellow asked.red
+
+-- what the rules say of it at these tables
+abbrev pub verdict_of : List Tables → Asked → Result (Unit {0}) OverlapFault
+verdict_of tables asked = verdict tables asked.parents.items asked.trail asked.yellow asked.red
+
+-- the text is a trace, and by the tables that were in force at its cabinet the overlap breaks this rule first
+pub record BreaksRule (text : List ℕ) (asked : Asked) (fault : OverlapFault) : Type 0 where
+  pub run : TellsOfRun text
+  pub tables : List Tables
+  pub in_force : AreInForce run.scenario run.journals asked.cabinet tables
+  pub broken : verdict_of tables asked ≡ Err fault
+
+-- a cabinet as the street sees it by these lines, with the tables of each version of what it came to
+abbrev pub street_of : ℕ → Standing → List Line → Intersection
+street_of cab end lines = intersection_of cab (tables_of (history_of end.story)) lines
+
+-- the text is a trace with such a cabinet, at which the overlap breaks no rule. What is written is the text of the overlap over all ticks of
+-- the cabinet, by the lines of the trace; and by these lines, at every tick at which the overlap isn't Red some parent isn't either, so
+-- that each phase that is incompatible with all parents is
+pub record TellsOverlap (text : List ℕ) (asked : Asked) (written : List ℕ) : Type 0 where
+  pub run : TellsOfRun text
+  pub cabinet : CabinetContent
+  pub end : Standing
+  pub own : IsCabinet run.scenario asked.cabinet cabinet
+  pub ended : HasEnded run.scenario run.journals asked.cabinet end
+  pub unbroken : (fault : OverlapFault) → BreaksRule text asked fault → ⊥
+  pub ticks : ℕ
+  pub all : ticks + 1 ≡ length (frames (history_of end.story))
+  pub written_is : written ≡ text_of (times_of asked) asked.parents.items asked.cabinet (tables_of (history_of end.story)) run.kept.lines ticks
+  pub covered : (tick : ℕ) → IsCovered (times_of asked) asked.parents.items (street_of asked.cabinet end run.kept.lines) tick
+  pub apart : (tick : ℕ) → IsApart (times_of asked) asked.parents.items (street_of asked.cabinet end run.kept.lines) tick

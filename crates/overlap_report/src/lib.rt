@@ -1,0 +1,10 @@
+//! An overlap over a trace: from what was seen of a cabinet of a trace to the text of the overlap, or the first rule that it breaks
+//! (NEMA TS 2, overlaps). What is promised is said of the trace and its lines.
+#![tactic(auto)]
+
+mod asking;
+mod reporting;
+mod telling;
+
+pub use asking::Asked;
+pub use reporting::{ReportFail, report};
