@@ -1,2 +1,3 @@
 mod Decimals
 mod OneCommand
+mod OneOverlap

@@ -1,9 +1,11 @@
 -- What the words of a command line say.
-use Rattle.std.specs.Prelude.{◌≡◌, ◌≤◌, ◌⊎◌, ℕ, List, [], ◌∷◌, codes, decimal}
+use Rattle.std.specs.Prelude.{◌≡◌, ◌≤◌, ◌⊎◌, ℕ, List, [], ◌∷◌, Ok, codes, decimal, length}
+use Rattle.hex.specs.Hex.{decode_of}
 use Rattle.gen_arterial.specs.Written.{CanMake}
 use Rattle.command_words.specs.declared.command.Seeding.{Seeding}
+use Rattle.command_words.specs.declared.command.Overlap.{Overlap}
 use Rattle.command_words.specs.declared.command.Command.{Command}
-use Rattle.command_words.specs.declared.command.Command.TheVariants.{Run, Check, Generate, Survey, Band, Help, Version}
+use Rattle.command_words.specs.declared.command.Command.TheVariants.{Run, Check, Generate, Survey, Band, Overlaps, Help, Version}
 
 -- to run a scenario by so many workers, 0 to 8; with no number it is by none
 abbrev pub IsRun : List (List ℕ) → ℕ → Type 0
@@ -35,6 +37,27 @@ IsSurvey words from = (words ≡ codes "survey" ∷ seeding_words from) × CanSe
 abbrev pub IsBand : List (List ℕ) → Type 0
 IsBand words = words ≡ codes "band" ∷ []
 
+-- the words that give an overlap, where this word gives its parents
+abbrev pub overlap_words : Overlap → List ℕ → List (List ℕ)
+overlap_words overlap hex =
+    codes "--cabinet" ∷ decimal overlap.cabinet ∷ codes "--parents" ∷ hex ∷ codes "--trail" ∷ decimal overlap.trail ∷ codes "--yellow" ∷ decimal overlap.yellow ∷ codes "--red" ∷ decimal overlap.red ∷ []
+
+-- an overlap that can be asked for: of cabinet 1 to 64, of 1 to 16 parents, and of times of at most 255 ticks
+pub record IsOverlap (overlap : Overlap) : Type 0 where
+  pub numbered : (1 ≤ overlap.cabinet) × (overlap.cabinet ≤ 64)
+  pub parented : (1 ≤ length overlap.parents.items) × (length overlap.parents.items ≤ 16)
+  pub trailed : overlap.trail ≤ 255
+  pub yellowed : overlap.yellow ≤ 255
+  pub cleared : overlap.red ≤ 255
+
+-- these words give it: its parents by a word of hexadecimal digits, two for each, in either case
+abbrev pub IsGiven : List (List ℕ) → Overlap → Type 0
+IsGiven words overlap = (hex : List ℕ) × (words ≡ overlap_words overlap hex) × (decode_of hex ≡ Ok overlap.parents.items) × IsOverlap overlap
+
+-- to tell this overlap by a trace
+abbrev pub IsOverlaps : List (List ℕ) → Overlap → Type 0
+IsOverlaps words overlap = (hex : List ℕ) × (words ≡ codes "overlaps" ∷ overlap_words overlap hex) × (decode_of hex ≡ Ok overlap.parents.items) × IsOverlap overlap
+
 -- to write the help
 abbrev pub IsHelp : List (List ℕ) → Type 0
 IsHelp words = words ≡ codes "--help" ∷ []
@@ -50,6 +73,7 @@ AskFor words Check = IsCheck words
 AskFor words (Generate from) = IsGenerate words from
 AskFor words (Survey from) = IsSurvey words from
 AskFor words Band = IsBand words
+AskFor words (Overlaps overlap) = IsOverlaps words overlap
 AskFor words Help = IsHelp words
 AskFor words Version = IsVersion words
 

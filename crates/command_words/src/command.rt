@@ -1,5 +1,7 @@
 //! What the words can ask for.
 
+use arrayvec::ArrayVec;
+
 /// What a scenario is generated from: a seed, and how many cabinets and rounds it has.
 #[derive(Clone, Copy, Debug, PartialEq, Eq)]
 pub struct Seeding {
@@ -8,8 +10,22 @@ pub struct Seeding {
     pub rounds: u32,
 }
 
+/// An overlap that is asked for: the number of its cabinet, its parent phases, and its times, in ticks of 0.1 s.
+#[derive(Debug, PartialEq, Drop)]
+pub struct Overlap {
+    pub cabinet: u32,
+    /// One octet for each parent, of any value.
+    pub parents: ArrayVec<u8, 16>,
+    /// How long Green is held when no parent shows it any more.
+    pub trail: u8,
+    /// Yellow change.
+    pub yellow: u8,
+    /// Red clearance.
+    pub red: u8,
+}
+
 /// What the words can ask for.
-#[derive(Clone, Copy, Debug, PartialEq, Eq)]
+#[derive(Debug, PartialEq, Drop)]
 pub enum Command {
     /// To run a scenario by so many workers; by none in the serial order.
     Run(u32),
@@ -21,6 +37,8 @@ pub enum Command {
     Survey(Seeding),
     /// To tell the greatest bands of a street.
     Band,
+    /// To tell an overlap by a trace.
+    Overlaps(Overlap),
     /// To write how the program is used.
     Help,
     /// To write which program this is.

@@ -4,7 +4,8 @@
 
 mod command;
 mod numbers;
+mod overlaps;
 mod telling;
 
-pub use command::{Command, Seeding};
+pub use command::{Command, Overlap, Seeding};
 pub use telling::command_of;

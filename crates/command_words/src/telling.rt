@@ -8,6 +8,7 @@ ghost use Rattle.command_words.specs.declared.command.Command.{Command as Comman
 
 use crate::command::{Command, Seeding};
 use crate::numbers::{behind, option_number};
+use crate::overlaps::overlap_of;
 
 /// Whether there is one word, and it is this one.
 fn is_lone(words: &[String], name: &str) -> bool
@@ -114,6 +115,9 @@ pub fn command_of(words: &Vec<String>) -> Option<Command>
     }
     if let Some(from) = seeding_of(words, "survey") {
         return Some(Command::Survey(from));
+    }
+    if let Some(overlap) = overlap_of(words) {
+        return Some(Command::Overlaps(overlap));
     }
     if is_lone(words, "check") {
         Some(Command::Check)
