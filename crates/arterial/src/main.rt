@@ -12,7 +12,8 @@ use std::io::ErrorKind;
 use std::process::ExitCode;
 
 /// The line for words that are no command.
-const USAGE: &str = "usage: arterial run [--workers N] | check | band | generate | survey";
+const USAGE: &str =
+    "usage: arterial run [--workers N] | check | overlaps | band | generate | survey";
 
 /// The line for a refusal of memory.
 const NO_MEMORY: &str = "out of memory";
@@ -29,6 +30,7 @@ fn code_of(status: &Status) -> u8
         Status::WriteFault => 4,
         Status::NotATrace(_) => 5,
         Status::NoMemory => 6,
+        Status::Overlap(_) => 7,
     }
 }
 
@@ -64,6 +66,10 @@ fn main(rt: HostRuntime) -> ExitCode {
         Status::NotATrace(fault) => eprintln!(rt;
             "trace: line {} breaks rule {}",
             fault.line, fault.rule
+        ),
+        Status::Overlap(fault) => eprintln!(rt;
+            "overlap: rule {} at row {}",
+            fault.rule, fault.row
         ),
         Status::ReadFault => eprintln!(rt; "read fault"),
         Status::WriteFault => eprintln!(rt; "write fault"),

@@ -21,6 +21,10 @@ fn told(alloc: Global, status: &Status) -> Result<String, AllocError> {
             "cabinet {cab} breaks rule {rule} at row {row}"
         ),
         Status::NotATrace(fault) => format!(in alloc; "line {} rule {}", fault.line, fault.rule),
+        Status::Overlap(fault) => format!(in alloc;
+            "overlap rule {} row {}",
+            fault.rule, fault.row
+        ),
         Status::ReadFault => String::from_str(alloc, "read fault"),
         Status::WriteFault => String::from_str(alloc, "write fault"),
         Status::NoMemory => String::from_str(alloc, "out of memory"),

@@ -10,6 +10,8 @@ mod band_cases;
 #[cfg(test)]
 mod check_cases;
 #[cfg(test)]
+mod overlap_cases;
+#[cfg(test)]
 mod text_cases;
 #[cfg(test)]
 mod worker_cases;

@@ -5,7 +5,7 @@ use Rattle.trace_laws.specs.Traces.{IsTrace, IsCheckable}
 use Rattle.trace_laws.specs.Faults.{FirstFault, TooLong}
 use Rattle.trace_laws.specs.Laws.{FaultsAreDetermined, TracesHaveNoFault, TellsOfRun}
 use Rattle.station.specs.declared.status.Status.{Status}
-use Rattle.station.specs.declared.status.Status.TheVariants.{Done, Usage, Scenario, NotATrace, ReadFault, WriteFault, NoMemory}
+use Rattle.station.specs.declared.status.Status.TheVariants.{Done, Usage, Scenario, NotATrace, Overlap as BrokenOverlap, ReadFault, WriteFault, NoMemory}
 use Rattle.station.specs.Bytes.{AreInput, nothing_left}
 use Rattle.station.specs.Checked.{IsTraceRead, IsNoTrace, Checked, IsCheckDue}
 
@@ -53,7 +53,7 @@ module _ (faultless : TracesHaveNoFault) (one : FaultsAreDetermined) where
     fault = λ other second. ap NotATrace (same_fault input fault other first second);
   }
 
-  due_none : (fault : TraceFault) (input : List ℕ) (ends : Option (List ℕ)) → IsNoTrace fault (Some input) ends → IsCheckDue (NotATrace fault) input
+  pub due_none : (fault : TraceFault) (input : List ℕ) (ends : Option (List ℕ)) → IsNoTrace fault (Some input) ends → IsCheckDue (NotATrace fault) input
   due_none fault input ends (inl (length_fault, (long, stopped))) =
       due_fault fault input (subst (λ (f : TraceFault). FirstFault input f.line f.rule) (sym length_fault) (TooLong input long))
       (λ few trace. let short : length input ≤ 67108864 = few in omega (arith, short, long))
@@ -68,6 +68,7 @@ module _ (faultless : TracesHaveNoFault) (one : FaultsAreDetermined) where
   check-due Usage (Some input) ends unread is sound = absurd is
   check-due (Scenario refusal) (Some input) ends unread is sound = absurd is
   check-due (NotATrace fault) (Some input) ends unread is sound = inl (due_none fault input ends is)
+  check-due (BrokenOverlap fault) (Some input) ends unread is sound = absurd is
   check-due ReadFault (Some input) ends unread is sound = absurd (sound is)
   check-due WriteFault (Some input) ends unread is sound = absurd is
   check-due NoMemory (Some input) ends unread is sound = inr refl

@@ -2,4 +2,5 @@ mod Reading
 mod Refusals
 mod Due
 mod CheckDue
+mod OverlapDue
 mod Telling

@@ -3,10 +3,12 @@ use Rattle.std.proofs.Common.{◌≡◌, ◌⊎◌, inl, inr, ◌↔◌, ℕ, Li
 use Rattle.scenario_data.specs.declared.refusal.Refusal.{Refusal}
 use Rattle.trace_check.specs.declared.faults.TraceFault.{TraceFault}
 use Rattle.command_words.specs.declared.command.Command.{Command}
-use Rattle.command_words.specs.declared.command.Command.TheVariants.{Run, Check, Generate, Survey, Band, Help, Version}
-use Rattle.command_words.specs.Words.{IsRun, IsCheck, AskFor, IsCommand}
+use Rattle.command_words.specs.declared.command.Command.TheVariants.{Run, Check, Generate, Survey, Band, Overlaps, Help, Version}
+use Rattle.command_words.specs.declared.command.Overlap.{Overlap}
+use Rattle.command_words.specs.Words.{IsRun, IsCheck, IsOverlaps, AskFor, IsCommand}
+use Rattle.overlap_rules.specs.declared.faults.OverlapFault.{OverlapFault}
 use Rattle.station.specs.declared.status.Status.{Status}
-use Rattle.station.specs.declared.status.Status.TheVariants.{Done, Usage, Scenario, NotATrace, ReadFault, WriteFault, NoMemory}
+use Rattle.station.specs.declared.status.Status.TheVariants.{Done, Usage, Scenario, NotATrace, Overlap as BrokenOverlap, ReadFault, WriteFault, NoMemory}
 use Rattle.station.specs.Answers.{RunsWhole, StopsShort}
 use Rattle.station.specs.Commands.{Answered, ReadsNothing, IsRefusedFor}
 
@@ -42,6 +44,7 @@ module _ (status : Status) (left ends : Option (List ℕ)) (unread : Type 0) (ol
       none (Generate from) is = is
       none (Survey from) is = is
       none Band is = is
+      none (Overlaps o) is = is
       none Help is = is
       none Version is = is
 
@@ -66,6 +69,7 @@ module _ (status : Status) (left ends : Option (List ℕ)) (unread : Type 0) (ol
       from (Generate seeding) is so = inl so
       from (Survey seeding) is so = inl so
       from Band is so = inl so
+      from (Overlaps o) is so = inl so
       from Help is so = absurd so
       from Version is so = absurd so
 
@@ -78,6 +82,7 @@ module _ (status : Status) (left ends : Option (List ℕ)) (unread : Type 0) (ol
       from (Generate seeding) so = absurd so
       from (Survey seeding) so = absurd so
       from Band so = so
+      from (Overlaps o) so = so
       from Help so = absurd so
       from Version so = absurd so
 
@@ -91,17 +96,34 @@ module _ (status : Status) (left ends : Option (List ℕ)) (unread : Type 0) (ol
       from (Generate seeding) is so = absurd so
       from (Survey seeding) is so = absurd so
       from Band is so = (inr (is, so.0), so.1)
+      from (Overlaps o) is so = absurd so
       from Help is so = absurd so
       from Version is so = absurd so
 
-  pub told_no_trace : (words : List (List ℕ)) (c : Command) (fault : TraceFault) → AskFor words c → Tells c status → status ≡ NotATrace fault → IsCheck words
+  pub told_no_trace : (words : List (List ℕ)) (c : Command) (fault : TraceFault) → AskFor words c → Tells c status → status ≡ NotATrace fault
+      → IsCheck words ⊎ ((o : Overlap) × IsOverlaps words o)
   told_no_trace words c fault asked tells e = from c asked (subst (λ (x : Status). Tells c x) e tells)
     where
-      from : (d : Command) → AskFor words d → Tells d (NotATrace fault) → IsCheck words
+      from : (d : Command) → AskFor words d → Tells d (NotATrace fault) → IsCheck words ⊎ ((o : Overlap) × IsOverlaps words o)
       from (Run workers) is so = absurd so
-      from Check is so = is
+      from Check is so = inl is
       from (Generate seeding) is so = absurd so
       from (Survey seeding) is so = absurd so
       from Band is so = absurd so
+      from (Overlaps o) is so = inr (o, is)
+      from Help is so = absurd so
+      from Version is so = absurd so
+
+  pub told_broken : (words : List (List ℕ)) (c : Command) (fault : OverlapFault) → AskFor words c → Tells c status → status ≡ BrokenOverlap fault
+      → (o : Overlap) × IsOverlaps words o
+  told_broken words c fault asked tells e = from c asked (subst (λ (x : Status). Tells c x) e tells)
+    where
+      from : (d : Command) → AskFor words d → Tells d (BrokenOverlap fault) → (o : Overlap) × IsOverlaps words o
+      from (Run workers) is so = absurd so
+      from Check is so = absurd so.1
+      from (Generate seeding) is so = absurd so
+      from (Survey seeding) is so = absurd so
+      from Band is so = absurd so
+      from (Overlaps o) is so = (o, is)
       from Help is so = absurd so
       from Version is so = absurd so

@@ -3,7 +3,7 @@ use Rattle.std.specs.Prelude.{◌≡◌, ◌⊎◌, ℕ, List, Option}
 use Rattle.io_edge.specs.Edge.{Appends}
 use Rattle.trace_out.specs.Bytes.{AppendsFront}
 use Rattle.command_words.specs.declared.command.Command.{Command}
-use Rattle.command_words.specs.declared.command.Command.TheVariants.{Run, Check, Generate, Survey, Band, Help, Version}
+use Rattle.command_words.specs.declared.command.Command.TheVariants.{Run, Check, Generate, Survey, Band, Overlaps, Help, Version}
 use Rattle.gen_arterial.specs.Written.{generated, generated_text}
 use Rattle.run_survey.specs.Counting.{surveyed_text}
 use Rattle.station.specs.declared.status.Status.{Status}
@@ -16,6 +16,7 @@ use Rattle.station.specs.declared.help.TheConstants.{HELP, VERSION}
 use Rattle.station.specs.Answers.{WritesText, Ran, IsRefused}
 use Rattle.station.specs.Replied.{Replied}
 use Rattle.station.specs.Checked.{Checked}
+use Rattle.station.specs.Overlapped.{asked_by, Overlapped}
 
 -- a text that the program makes was written whole; or a write failed, and a front of it was written and not all of it; or there was not
 -- memory enough to make it, and nothing was written
@@ -34,6 +35,7 @@ Answered (Generate from) status left ends unread old new unwritten =
 Answered (Survey from) status left ends unread old new unwritten =
     MakesText status (surveyed_text (generated from.seed from.cabinets from.rounds)) unwritten old new
 Answered Band status left ends unread old new unwritten = Replied TellsBands IsFirstBandFault status left ends unread old new unwritten
+Answered (Overlaps o) status left ends unread old new unwritten = Overlapped (asked_by o) status left ends unread old new unwritten
 Answered Help status left ends unread old new unwritten = WritesText status HELP.now unwritten old new
 Answered Version status left ends unread old new unwritten = WritesText status VERSION.now unwritten old new
 
@@ -42,6 +44,7 @@ abbrev pub ReadsNothing : Command → Type 0
 ReadsNothing (Run workers) = ⊥
 ReadsNothing Check = ⊥
 ReadsNothing Band = ⊥
+ReadsNothing (Overlaps o) = ⊥
 ReadsNothing _ = Unit {0}
 
 -- why a refusal comes: the words run a scenario or ask of bands, and it is that of such an input

@@ -2,4 +2,5 @@ pub mod Bytes
 pub mod Checked
 pub mod Answers
 pub mod Replied
+pub mod Overlapped
 pub mod Commands

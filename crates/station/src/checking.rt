@@ -12,7 +12,7 @@ use trace_check::{CheckFail, TraceFault, check};
 use trace_laws::{faults_are_determined, traces_have_no_fault};
 
 /// The most bytes that a trace has.
-const TRACE_LIMIT: usize = 67_108_864;
+pub(crate) const TRACE_LIMIT: usize = 67_108_864;
 
 /// Reads a text, and tells whether it is a trace.
 pub fn check_input<S: Source>(alloc: Global, source: &mut S) -> Status

@@ -22,6 +22,12 @@ and its trace is proved to be the one that is due.
       comes in a round can come. Nothing is written; where it is no trace, one
       line on standard error names the first line with which no trace goes on,
       and the rule that it breaks.
+  arterial overlaps --cabinet C --parents HEX --trail N --yellow N --red N < TRACE
+      Reads a trace as check does, and writes when an overlap changes: an arrow
+      that is green with any of its parents, 1 to 16 phases of cabinet C (1 to
+      64), two hexadecimal digits each. The times are in ticks (0 to 255): how
+      long green trails, yellow change, red clearance. An overlap that could
+      still be clearing when a parent is red is refused, and nothing is written.
   arterial band < STREET
       Reads a JSON object (at most 16,777,216 bytes) from standard input: a
       scenario, one of its sections, a pattern, and the travel time in ticks
@@ -45,8 +51,8 @@ and its trace is proved to be the one that is due.
 
 Exit status: 0 done, 1 the words are no command, 2 the scenario is refused,
 3 standard input could not be read, 4 standard output could not be written,
-5 the text is no trace, 6 out of memory. After 4, and 6 of a run, what was
-written is a front of the whole, and not all of it.
+5 the text is no trace, 6 out of memory, 7 the overlap breaks a rule. After 4,
+and 6 of a run, what was written is a front of the whole, and not all of it.
 
 docs/SCENARIO.md says how a scenario is written, which rules its tables must
 keep, what is asked of bands, and what each refusal means; docs/TRACE.md how a trace is read;

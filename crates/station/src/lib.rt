@@ -7,10 +7,12 @@ mod bytes;
 mod checking;
 mod help;
 mod input;
+mod overlapping;
 mod status;
 mod texts;
 mod top;
 
+pub use overlap_rules::OverlapFault;
 pub use scenario_data::Refusal;
 pub use status::Status;
 pub use top::station;

@@ -1,5 +1,6 @@
 //! What the program answers.
 
+use overlap_rules::OverlapFault;
 use scenario_data::Refusal;
 use trace_check::TraceFault;
 
@@ -14,6 +15,8 @@ pub enum Status {
     Scenario(Refusal),
     /// The input is no trace: the first line with which no trace goes on, and the rule that it breaks; line 0 where it is too long.
     NotATrace(TraceFault),
+    /// The overlap breaks a rule at the cabinet of the trace: the first that it breaks, and nothing was written.
+    Overlap(OverlapFault),
     /// A read failed, and nothing was written.
     ReadFault,
     /// A write failed: a front of the text was written, and not all of it.

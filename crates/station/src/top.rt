@@ -6,9 +6,11 @@ ghost use Rattle.scenario_data.specs.Content.{scenario_content};
 ghost use Rattle.scenario_data.specs.declared.refusal.Refusal.{Refusal};
 ghost use Rattle.runnable.specs.Runnable.{Runnable};
 ghost use Rattle.station.specs.Bytes.{nothing_left};
-ghost use Rattle.command_words.specs.Words.{IsRun, IsCheck, IsGenerate, IsSurvey, IsBand, IsHelp, IsVersion, IsCommand, AskFor};
+ghost use Rattle.command_words.specs.Words.{IsRun, IsCheck, IsGenerate, IsSurvey, IsBand, IsOverlaps, IsHelp, IsVersion, IsCommand, AskFor};
 ghost use Rattle.command_words.specs.declared.command.Seeding.{Seeding as SeedingRow};
 ghost use Rattle.command_words.specs.declared.command.Command.{Command as CommandRow};
+ghost use Rattle.command_words.specs.declared.command.Overlap.{Overlap as OverlapRow};
+ghost use Rattle.overlap_rules.specs.declared.faults.OverlapFault.{OverlapFault as OverlapFaultRow};
 ghost use Rattle.gen_arterial.specs.Written.{generated, generated_text};
 ghost use Rattle.run_survey.specs.Counting.{surveyed_text};
 ghost use Rattle.scenario_read.specs.Answers.{IsFirstFault};
@@ -17,6 +19,7 @@ ghost use Rattle.station.specs.Answers.{WritesText, IsRead, IsRefused};
 ghost use Rattle.station.specs.Replied.{Replied, IsReplyDue};
 ghost use Rattle.station.specs.Answers.{RunsWhole, StopsShort, Ran, IsDue};
 ghost use Rattle.station.specs.Checked.{Checked, IsCheckDue};
+ghost use Rattle.station.specs.Overlapped.{asked_by, Overlapped, IsOverlapDue};
 ghost use Rattle.station.specs.Commands.{MakesText, Answered, ReadsNothing, IsRefusedFor};
 ghost use Rattle.trace_check.specs.declared.faults.TraceFault.{TraceFault};
 
@@ -24,6 +27,7 @@ use crate::asking::band;
 use crate::checking::check_input;
 use crate::help::{HELP, VERSION};
 use crate::input::{Unread, whole_input};
+use crate::overlapping::overlaps;
 use crate::status::Status;
 use crate::texts::{generate, survey, tell};
 use command_words::{Command, command_of};
@@ -98,6 +102,8 @@ fn answer<R: Threads + Sync, S: Source, K: Sink, G: Gate + Sync>(
     ensures unwritten { command ≡ Command.Check → sink.new ≡ sink.old }
     ensures check_due { command ≡ Command.Check → ¬ Rises (S.faults source.old) (S.faults source.new)
         → IfSome (S.left source.old) (λ input. IsCheckDue result input ⊎ (result ≡ Status.NoMemory)) }
+    ensures overlaps_due { (o : OverlapRow) → command ≡ Command.Overlaps o → ¬ Rises (S.faults source.old) (S.faults source.new)
+        → IfSome (S.left source.old) (λ input. IsOverlapDue (asked_by o) result input (Rises (K.faults sink.old) (K.faults sink.new)) ⊎ (result ≡ Status.NoMemory)) }
     ensures band_due { command ≡ Command.Band → ¬ Rises (S.faults source.old) (S.faults source.new)
         → IfSome (S.left source.old) (λ input. IsReplyDue AsksOfBands IsFirstBandFault result input (Rises (K.faults sink.old) (K.faults sink.new)) ⊎ (result ≡ Status.NoMemory)) }
 {
@@ -107,13 +113,14 @@ fn answer<R: Threads + Sync, S: Source, K: Sink, G: Gate + Sync>(
         Command::Generate(from) => generate(alloc, from, sink),
         Command::Survey(from) => survey(alloc, from, sink),
         Command::Band => band(alloc, source, sink),
+        Command::Overlaps(overlap) => overlaps(alloc, overlap, source, sink),
         Command::Help => tell(sink, HELP.as_bytes()),
         Command::Version => tell(sink, VERSION.as_bytes()),
     }
 }
 
 /// All that the program does: `run` reads a scenario from the source and writes its trace to the sink; `check` reads a text and tells
-/// whether it is a trace; `band` reads what is asked of a street, and writes its greatest bands; `generate` writes a scenario, `survey` what a run of one comes to, `--help` and `--version` a text, and they read nothing.
+/// whether it is a trace; `overlaps` reads a trace, and writes what an overlap shows over it; `band` reads what is asked of a street, and writes its greatest bands; `generate` writes a scenario, `survey` what a run of one comes to, `--help` and `--version` a text, and they read nothing.
 ///
 /// The words are those after the program's name. `run --workers N`, N 0 to 8, has so many workers bring the items of each round to the
 /// cabinets, each worker in a thread of its own where one can be started; with none, as without a number, they come in the serial order.
@@ -180,11 +187,23 @@ pub fn station<R: Threads + Sync, S: Source, K: Sink, G: Gate + Sync>(
     // safe, versions are whole, and coordination is met. NotATrace: the input is too long, or this is its first fault.
     ensures checked { IsCheck (map string_bytes words.now.items) → (sink.new ≡ sink.old)
         × Checked result (S.left source.old) (S.left source.new) (Rises (S.faults source.old) (S.faults source.new)) }
-    ensures not_a_trace { (fault : TraceFault) → result ≡ Status.NotATrace fault → IsCheck (map string_bytes words.now.items) }
+    ensures not_a_trace { (fault : TraceFault) → result ≡ Status.NotATrace fault
+        → IsCheck (map string_bytes words.now.items) ⊎ ((o : OverlapRow) × IsOverlaps (map string_bytes words.now.items) o) }
 
     // Which answer comes where no read fails: for a trace that is not too long, and for every other text.
     ensures check_due { IsCheck (map string_bytes words.now.items) → ¬ Rises (S.faults source.old) (S.faults source.new)
         → IfSome (S.left source.old) (λ input. IsCheckDue result input ⊎ (result ≡ Status.NoMemory)) }
+
+    // Overlaps: the source was read to its end, its bytes are a trace, and the text of the overlap at its cabinet, by the lines of the trace, was
+    // written whole; by these lines the overlap is never green, yellow or clearing unless one of its parents is. Or a write failed, and a front
+    // of the text was written; or the input is no trace, or the overlap breaks a rule there. And which answer comes where no read fails.
+    ensures overlaps { (o : OverlapRow) → IsOverlaps (map string_bytes words.now.items) o → Overlapped (asked_by o) result
+        (S.left source.old) (S.left source.new) (Rises (S.faults source.old) (S.faults source.new)) (K.written sink.old) (K.written sink.new)
+        (Rises (K.faults sink.old) (K.faults sink.new)) }
+    ensures overlaps_due { (o : OverlapRow) → IsOverlaps (map string_bytes words.now.items) o → ¬ Rises (S.faults source.old) (S.faults source.new)
+        → IfSome (S.left source.old) (λ input. IsOverlapDue (asked_by o) result input (Rises (K.faults sink.old) (K.faults sink.new)) ⊎ (result ≡ Status.NoMemory)) }
+    ensures broken_overlap { (fault : OverlapFaultRow) → result ≡ Status.Overlap fault
+        → (o : OverlapRow) × IsOverlaps (map string_bytes words.now.items) o }
 
     // Band: the source was read to its end, its bytes ask of the bands of a street, and the two lines of its greatest bands were written
     // whole; or a write failed, and a front of them was; or the refusal names the first fault. And which answer comes where no read fails.

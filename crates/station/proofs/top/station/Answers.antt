@@ -1,7 +1,7 @@
 use Rattle.std.proofs.Common.{map, string_bytes}
-use Rattle.command_words.specs.declared.command.Command.TheVariants.{Run, Check, Generate, Survey, Band, Help, Version}
+use Rattle.command_words.specs.declared.command.Command.TheVariants.{Run, Check, Generate, Survey, Band, Overlaps, Help, Version}
 use Rattle.station.proofs.Due.{due}
-use Rattle.station.proofs.Telling.{one_command, none_found, reads_nothing, to_same, never_usage, told_done, told_write_fault, told_no_memory, told_refused, told_no_trace}
+use Rattle.station.proofs.Telling.{one_command, none_found, reads_nothing, to_same, never_usage, told_done, told_write_fault, told_no_memory, told_refused, told_no_trace, told_broken}
 use Rattle.station.proofs.top.station.Goals as goal
 
 pub returns-in-Some-clause-usage : goal.returns-in-Some-clause-usage
@@ -68,6 +68,25 @@ returns-in-Some-clause-checked g c = λ is.
 pub returns-in-Some-clause-not_a_trace : goal.returns-in-Some-clause-not_a_trace
 returns-in-Some-clause-not_a_trace g c = λ fault e.
     told_no_trace _ _ _ _ _ _ _ _ c.in-Some.command fault ((c.command_of.ensures c.in-Some.command).0 c.in-Some.is) c.answer.ensures.answered e
+
+pub returns-in-Some-clause-overlaps : goal.returns-in-Some-clause-overlaps
+returns-in-Some-clause-overlaps g c = λ o is.
+    let same = one_command _ c.in-Some.command (Overlaps o) c.in-Some.is ((c.command_of.ensures (Overlaps o)).1 is) in
+    to_same _ _ _ _ _ _ _ c.in-Some.command (Overlaps o) same c.answer.ensures.answered
+
+pub returns-in-Some-clause-overlaps_due : goal.returns-in-Some-clause-overlaps_due
+returns-in-Some-clause-overlaps_due g c = λ o is sound.
+    c.answer.ensures.overlaps_due o (one_command _ c.in-Some.command (Overlaps o) c.in-Some.is ((c.command_of.ensures (Overlaps o)).1 is)) sound
+
+pub returns-in-Some-clause-broken_overlap : goal.returns-in-Some-clause-broken_overlap
+returns-in-Some-clause-broken_overlap g c = λ fault e.
+    told_broken _ _ _ _ _ _ _ _ c.in-Some.command fault ((c.command_of.ensures c.in-Some.command).0 c.in-Some.is) c.answer.ensures.answered e
+
+pub returns-in-None-clause-overlaps : goal.returns-in-None-clause-overlaps
+returns-in-None-clause-overlaps g c = λ o is. absurd (none_found _ (Overlaps o) c.in-None.is ((c.command_of.ensures (Overlaps o)).1 is))
+
+pub returns-in-None-clause-overlaps_due : goal.returns-in-None-clause-overlaps_due
+returns-in-None-clause-overlaps_due g c = λ o is sound. absurd (none_found _ (Overlaps o) c.in-None.is ((c.command_of.ensures (Overlaps o)).1 is))
 
 pub returns-in-Some-clause-check_due : goal.returns-in-Some-clause-check_due
 returns-in-Some-clause-check_due g c = λ is sound.

@@ -1,0 +1,70 @@
+//! What `overlaps` does: a trace is checked, and the overlap at one of its cabinets is told or refused.
+
+ghost use Rattle.std.specs.Prelude.{◌≡◌, ◌≤◌, ◌⊎◌, IfSome};
+ghost use Rattle.io_edge.specs.Edge.{Rises};
+ghost use Rattle.station.specs.Overlapped.{asked_by, Overlapped, IsOverlapDue};
+
+use crate::bytes::{ReadEnd, read_all};
+use crate::checking::TRACE_LIMIT;
+use crate::status::Status;
+use crate::texts::tell;
+use command_words::Overlap;
+use io_edge::{Sink, Source};
+use overlap_report::{Asked, ReportFail, report};
+use std::alloc::Global;
+use trace_check::{CheckFail, TraceFault, observe};
+use trace_laws::{faults_are_determined, traces_have_no_fault};
+
+/// The overlap that the words ask for.
+fn asked_by(overlap: Overlap) -> Asked
+    ensures { result ≡ asked_by overlap }
+{
+    let Overlap {
+        cabinet,
+        parents,
+        trail,
+        yellow,
+        red,
+    } = overlap;
+    Asked {
+        cabinet,
+        parents,
+        trail,
+        yellow,
+        red,
+    }
+}
+
+/// Reads a text, and writes what an overlap shows over the trace that it is.
+pub fn overlaps<S: Source, K: Sink>(
+    alloc: Global,
+    overlap: Overlap,
+    source: &mut S,
+    sink: &mut K,
+) -> Status
+    ensures overlapped { Overlapped (asked_by overlap) result (S.left source.old) (S.left source.new) (Rises (S.faults source.old) (S.faults source.new))
+        (K.written sink.old) (K.written sink.new) (Rises (K.faults sink.old) (K.faults sink.new)) }
+    ensures due { ¬ Rises (S.faults source.old) (S.faults source.new)
+        → IfSome (S.left source.old) (λ input. IsOverlapDue (asked_by overlap) result input (Rises (K.faults sink.old) (K.faults sink.new)) ⊎ (result ≡ Status.NoMemory)) }
+    ensures kept { (S.faults source.old ≤ S.faults source.new) × (K.faults sink.old ≤ K.faults sink.new) }
+{
+    traces_have_no_fault();
+    faults_are_determined();
+    let asked = asked_by(overlap);
+    let text = match read_all(alloc, source, TRACE_LIMIT) {
+        Ok(text) => text,
+        Err(ReadEnd::Fault) => return Status::ReadFault,
+        Err(ReadEnd::TooLong) => return Status::NotATrace(TraceFault { line: 0, rule: 1 }),
+        Err(ReadEnd::NoMemory) => return Status::NoMemory,
+    };
+    let seen = match observe(alloc, text.as_slice(), asked.cabinet) {
+        Ok(seen) => seen,
+        Err(CheckFail::NotATrace(fault)) => return Status::NotATrace(fault),
+        Err(CheckFail::NoMemory) => return Status::NoMemory,
+    };
+    match report(alloc, &seen, &asked) {
+        Ok(written) => tell(sink, written.as_slice()),
+        Err(ReportFail::Overlap(fault)) => Status::Overlap(fault),
+        Err(ReportFail::NoMemory) => Status::NoMemory,
+    }
+}
