@@ -1,0 +1,9 @@
+pub mod Upto
+pub mod Behind
+pub mod Inside
+pub mod Detectors
+pub mod Rules
+pub mod Placed
+pub mod Whole
+pub mod OneAnswer
+pub mod LimitNames

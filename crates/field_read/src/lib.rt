@@ -1,0 +1,39 @@
+//! The field file, read whole and refused at its first fault: a scenario, the vehicle detectors of its cabinets with their
+//! pulses, and how patterns follow the traffic, as one JSON object (RFC 8259) with the names `scenario`, `bank`, `pulses` and
+//! `respond`.
+#![tactic(auto)]
+
+mod across;
+mod bank;
+mod inner;
+mod marks;
+mod members;
+mod named;
+mod place;
+mod pulses;
+mod reading;
+mod respond;
+mod traffic;
+
+ghost use Rattle.std.specs.Prelude.{◌≡◌, ℕ, List, codes, String, string_bytes};
+ghost use Rattle.std.specs.declared.alloc.Global.{Global};
+ghost use Rattle.scenario_data.specs.declared.refusal.Refusal.{Refusal};
+ghost use Rattle.scenario_read.specs.Answers.{SameFault};
+ghost use Rattle.field_read.specs.Content.{FieldContent};
+ghost use Rattle.field_read.specs.Answers.{IsField, IsFirstFieldFault};
+
+pub use named::Field;
+pub use reading::read;
+pub use respond::Respond;
+
+/// A law: bytes are one field file and no more, or have one first fault and no other, and never both.
+pub fn bytes_have_one_answer()
+    ensures one { (bytes : List ℕ) → (a b : FieldContent) → IsField bytes a → IsField bytes b → a ≡ b }
+    ensures apart { (bytes : List ℕ) → (a : FieldContent) → (refusal : Refusal) → IsField bytes a → IsFirstFieldFault bytes refusal → ⊥ }
+    ensures one_fault { (bytes : List ℕ) → (a b : Refusal) → IsFirstFieldFault bytes a → IsFirstFieldFault bytes b → SameFault a b }
+{}
+
+/// A law: a limit has the name of what is beyond it, and never that of the whole, `.`.
+pub fn limits_have_names()
+    ensures { (bytes : List ℕ) → (path : String Global) → IsFirstFieldFault bytes (Refusal.Limit path) → string_bytes path ≡ codes "." → ⊥ }
+{}

@@ -1,0 +1,57 @@
+//! The field file: bytes in, what it says or the first fault out.
+
+ghost use Rattle.std.specs.Prelude.{◌≡◌, ◌≤◌, IfOk, IfErr};
+ghost use Rattle.serde_json.specs.Data.{depth};
+ghost use Rattle.serde_json.specs.Read.{max_depth};
+ghost use Rattle.serde_json.specs.View.{view};
+ghost use Rattle.scenario_data.specs.Content.{scenario_content};
+ghost use Rattle.scenario_read.specs.Sorted.{Sorted};
+ghost use Rattle.scenario_read.specs.Readers.{Answers};
+ghost use Rattle.scenario_read.specs.Answers.{IsScenario, OnRefusal};
+ghost use Rattle.field_read.specs.Content.{field_content, field_of};
+ghost use Rattle.field_read.specs.Checks.{file_faults};
+ghost use Rattle.field_read.specs.Answers.{IsField, IsFirstFieldFault};
+
+use crate::across::across;
+use crate::named::{Field, named_in};
+use scenario_data::{ReadFail, Refusal};
+use serde_json::Value;
+use std::alloc::Global;
+
+/// A field file from its JSON value, refused at its first fault.
+fn field_in(alloc: Global, value: &Value) -> Result<Field, ReadFail>
+    requires sorted { Sorted (view value.now) }
+    requires nests { depth (view value.now) ≤ max_depth }
+    ensures read { Answers result (file_faults (view value.now)) (λ f. field_content f ≡ field_of (view value.now)) }
+    ensures back { IfOk result (λ f. IsScenario f.scenario.compact.items (scenario_content f.scenario)) }
+{
+    let field = match named_in(alloc, value) {
+        Ok(field) => field,
+        Err(fail) => return Err(fail),
+    };
+    match across(alloc, &field) {
+        Ok(()) => Ok(field),
+        Err(fail) => Err(fail),
+    }
+}
+
+/// Reads a field file, in time and memory that grow with its bytes. The refusal is the first fault in the order of the checks:
+/// the JSON reading, the names and values in the order of their table, those of the scenario with their paths behind `scenario.`,
+/// and then what lies across the lists. The compact text of its scenario reads as that scenario.
+pub fn read(alloc: Global, bytes: &[u8]) -> Result<Field, ReadFail>
+    ensures told { IfOk result (λ f. IsField bytes.now (field_content f)) }
+    ensures refused { IfErr result (λ fail. OnRefusal fail (IsFirstFieldFault bytes.now)) }
+    ensures scenario { IfOk result (λ f. IsScenario f.scenario.compact.items (scenario_content f.scenario)) }
+{
+    match Value::from_slice(alloc, bytes) {
+        Ok(value) => match field_in(alloc, &value) {
+            Ok(field) => Ok(field),
+            Err(fail) => Err(fail),
+        },
+        Err(e) => Err(if e.is_memory() {
+            ReadFail::NoMemory
+        } else {
+            ReadFail::Refused(Refusal::Syntax)
+        }),
+    }
+}
