@@ -12,8 +12,7 @@ use std::io::ErrorKind;
 use std::process::ExitCode;
 
 /// The line for words that are no command.
-const USAGE: &str =
-    "usage: arterial run [--workers N] | check | overlaps | band | generate | survey";
+const USAGE: &str = "usage: arterial run [--workers N] | check | generate | survey";
 
 /// The line for a refusal of memory.
 const NO_MEMORY: &str = "out of memory";

@@ -27,14 +27,14 @@ and its trace is proved to be the one that is due.
       that is green with any of its parents, 1 to 16 phases of cabinet C (1 to
       64), two hexadecimal digits each. The times are in ticks (0 to 255): how
       long green trails, yellow change, red clearance. An overlap that could
-      still be clearing when a parent is red is refused, and nothing is written.
+      still be clearing when all its parents are red is refused.
   arterial band < STREET
       Reads a JSON object (at most 16,777,216 bytes) from standard input: a
       scenario, one of its sections, a pattern, and the travel time in ticks
       from each cabinet of the section to the next. Writes two lines, outbound
       and inbound: when the greatest through band of the plan begins at the
-      first cabinet, how wide it is, both in ticks, and the two cabinets that
-      limit it; or none. An object with a mistake is refused as a scenario is.
+      cabinet that is passed first, how wide it is, both in ticks, and the two
+      cabinets that limit it; or none. A mistake is refused as a scenario's is.
   arterial generate --seed N --cabinets K --rounds M > SCENARIO
       Writes a scenario of K cabinets (1 to 64) and M rounds of 10 seconds (1 to
       86,400; K times M at most 100,000): traffic, polls, lost messages and a
