@@ -55,8 +55,8 @@ Exit status: 0 done, 1 the words are no command, 2 the scenario is refused,
 and 6 of a run, what was written is a front of the whole, and not all of it.
 
 docs/SCENARIO.md says how a scenario is written, which rules its tables must
-keep, what is asked of bands, and what each refusal means; docs/TRACE.md how a trace is read;
-scenarios/ has examples to run; README.md says what is proved.
+keep, what is asked of bands, and what each refusal means; docs/TRACE.md how a
+trace is read; scenarios/ has examples to run; README.md says what is proved.
 ";
 
 /// Which program this is.
