@@ -384,7 +384,7 @@ fn help_and_version_write_their_text_and_read_nothing(rt: HostRuntime) -> Result
     let alloc = rt.alloc();
     for (word, text) in [
         ("--help", "arterial: a bench for"),
-        ("--version", "arterial 0.6\n"),
+        ("--version", "arterial 0.7\n"),
     ] {
         // The first read would fail.
         let (said, written) = answer(&rt, alloc, &[word], Vec::new(alloc), (1, 0), 10_000)?;
