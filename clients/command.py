@@ -153,6 +153,8 @@ def serve(words, program, scenario):
 def main(arguments=None):
     """Does what the words ask for, and returns the exit status."""
     words = parser().parse_args(arguments)
+    # also where it was started with SIGINT ignored, as a shell does behind `&`
+    signal.signal(signal.SIGINT, signal.default_int_handler)
     signal.signal(signal.SIGTERM, signal.default_int_handler)
     try:
         program = found(words.program)
