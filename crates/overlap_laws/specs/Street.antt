@@ -24,7 +24,7 @@ overlap_of t parents s tick = overlap_at t (parent_green s parents) tick
 abbrev pub VersionsUpTo : Intersection → ℕ → Type 0
 VersionsUpTo s last = (tick : ℕ) → (s.shown tick).version ≤ last
 
--- an overlap with these times is over before any of its parents can have cleared: trail, yellow change and red clearance together are no
+-- an overlap with these times takes no longer than any of its parents takes to clear: trail, yellow change and red clearance together are no
 -- longer than the least yellow change of each parent and its least red clearance, each over the versions up to the last
 abbrev pub IsWithinClearances : Timing → List ℕ → (ℕ → Tables) → ℕ → Type 0
 IsWithinClearances t parents tables last = (p v w : ℕ) → is_in parents p ≡ true → v ≤ last → w ≤ last

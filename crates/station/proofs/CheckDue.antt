@@ -27,7 +27,7 @@ trace_read left ends bytes slice all same short tells ended = record {
 }
 
 -- a text that tells of a run is a trace
-told_trace : (text : List ℕ) → TellsOfRun text → IsTrace text
+pub told_trace : (text : List ℕ) → TellsOfRun text → IsTrace text
 told_trace text tells = (tells.scenario, tells.journals, tells.told, tells.are, tells.text_is)
 
 module _ (faultless : TracesHaveNoFault) (one : FaultsAreDetermined) where

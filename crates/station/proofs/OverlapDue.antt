@@ -5,18 +5,14 @@ use Rattle.overlap_report.specs.declared.asking.Asked.{Asked}
 use Rattle.overlap_report.specs.Overlaps.{TellsOverlap, BreaksRule}
 use Rattle.trace_check.specs.declared.faults.TraceFault.{TraceFault}
 use Rattle.trace_laws.specs.Traces.{IsTrace, IsCheckable}
-use Rattle.trace_laws.specs.Laws.{FaultsAreDetermined, TracesHaveNoFault, TellsOfRun}
+use Rattle.trace_laws.specs.Laws.{FaultsAreDetermined, TracesHaveNoFault}
 use Rattle.station.specs.declared.status.Status.{Status}
 use Rattle.station.specs.declared.status.Status.TheVariants.{Done, Usage, Scenario, NotATrace, Overlap as BrokenOverlap, ReadFault, WriteFault, NoMemory}
 use Rattle.station.specs.Bytes.{AreInput, nothing_left}
 use Rattle.station.specs.Answers.{WritesText}
 use Rattle.station.specs.Checked.{IsNoTrace}
 use Rattle.station.specs.Overlapped.{IsTextRead, Overlapped, IsOverlapDue}
-use Rattle.station.proofs.CheckDue.{due_none}
-
--- a text that tells of a run is a trace
-told_trace : (text : List ℕ) → TellsOfRun text → IsTrace text
-told_trace text tells = (tells.scenario, tells.journals, tells.told, tells.are, tells.text_is)
+use Rattle.station.proofs.CheckDue.{told_trace, due_none}
 
 -- what is so of the text that was read
 pub read_so : (P : List ℕ → Type 0) (left ends : Option (List ℕ)) (bytes slice : List ℕ) → AreInput left bytes → slice ≡ bytes → IsCheckable slice → P slice
