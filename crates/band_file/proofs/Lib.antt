@@ -1,3 +1,2 @@
-pub mod Around
 pub mod OneAnswer
 pub mod LimitNames

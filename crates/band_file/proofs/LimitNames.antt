@@ -12,7 +12,8 @@ use Rattle.scenario_read.specs.Faults.{faults, first_cause}
 use Rattle.band_report.specs.declared.misfit.Misfit.{Misfit}
 use Rattle.band_report.specs.declared.misfit.Misfit.TheVariants.{NoCabinet, Undefined, Cycles, Legs}
 use Rattle.band_report.specs.Street.{misfit_of}
-use Rattle.band_file.specs.Asked.{inner_path, inner_cause, inner_scenario, list_of_any, scenario, section, pattern, travel, asked_shape, cabinets_asked, travel_asked, misfit_causes, band_faults}
+use Rattle.scenario_inside.specs.Inside.{inner_path, inner_cause, inner_scenario, scenario}
+use Rattle.band_file.specs.Asked.{list_of_any, section, pattern, travel, asked_shape, cabinets_asked, travel_asked, misfit_causes, band_faults}
 use Rattle.band_file.specs.Told.{IsFirstBandFault}
 
 -- a text that does not begin with a dot

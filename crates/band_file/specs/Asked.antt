@@ -1,39 +1,22 @@
 -- What is asked of bands: the table of the object's names, and all its faults in the order of the checks.
-use Rattle.std.specs.Prelude.{ℕ, if◌then◌else◌, List, [], ◌∷◌, ◌++◌, map, length, codes, bytes_eq, Option, Some, None}
+use Rattle.std.specs.Prelude.{ℕ, List, [], ◌∷◌, ◌++◌, length, codes, Option, Some, None}
 use Rattle.serde_json.specs.Data.{Data}
-use Rattle.scenario_data.specs.Causes.{Cause, Field as FieldCause, Limit, Broken}
+use Rattle.scenario_data.specs.Causes.{Cause, Field as FieldCause, Limit}
 use Rattle.scenario_data.specs.Content.{CabinetContent}
 use Rattle.scenario_read.specs.Kinds.{Kind, fault_at, whole, each, items_in, array_fits}
 use Rattle.scenario_read.specs.Fields.{Field, needed, Shape, held, object_of}
 use Rattle.scenario_read.specs.Table.{needed_whole}
 use Rattle.scenario_read.specs.Content.{number_at, whole_of, list_in, cabinets_of}
-use Rattle.scenario_read.specs.Faults.{faults}
+use Rattle.scenario_inside.specs.Inside.{scenario}
 use Rattle.band_report.specs.declared.misfit.Misfit.{Misfit}
 use Rattle.band_report.specs.declared.misfit.Misfit.TheVariants.{NoCabinet, Undefined, Cycles, Legs}
 use Rattle.band_report.specs.Street.{misfit_of}
-
--- where a fault of the scenario stands in the object
-abbrev pub inner_path : List ℕ → List ℕ
-inner_path path = if bytes_eq path (codes ".") then codes "scenario" else codes "scenario." ++ path
-
--- a fault of the scenario as one of the object
-abbrev pub inner_cause : Cause → Cause
-inner_cause (FieldCause path) = FieldCause (inner_path path)
-inner_cause (Limit path) = Limit (inner_path path)
-inner_cause (Broken cabinet rule row) = Broken cabinet rule row
-
--- a scenario, with all its own checks
-abbrev pub inner_scenario : Kind
-inner_scenario path d = map inner_cause (faults d)
 
 -- a list of any length
 abbrev pub list_of_any : Kind → Kind
 list_of_any kind path d = fault_at path (array_fits d) ++ each kind path 0 (items_in d)
 
--- the names
-abbrev pub scenario : Field
-scenario = needed (codes "scenario") inner_scenario
-
+-- the names behind the scenario's
 abbrev pub section : Field
 section = needed_whole (codes "section") 1 8
 

@@ -7,14 +7,15 @@ ghost use Rattle.scenario_read.specs.Paths.{Named, then_named, then_item};
 ghost use Rattle.scenario_read.specs.Kinds.{each, whole, fault_at};
 ghost use Rattle.scenario_read.specs.Fields.{field_faults, object_of};
 ghost use Rattle.scenario_read.specs.Content.{whole_of, each_of};
-ghost use Rattle.scenario_read.specs.Readers.{Answers, Refuses, fit_of, steps_of};
+ghost use Rattle.scenario_read.specs.Readers.{Answers, Refuses, fit_of, refusal_at, steps_of};
+ghost use Rattle.scenario_inside.specs.Inside.{scenario};
 ghost use Rattle.band_report.specs.Street.{misfit_of};
-ghost use Rattle.band_file.specs.Asked.{scenario, travel, asked_shape, cabinets_asked, travel_asked, misfit_causes, band_faults};
+ghost use Rattle.band_file.specs.Asked.{travel, asked_shape, cabinets_asked, travel_asked, misfit_causes, band_faults};
 ghost use Rattle.band_file.specs.Told.{Says};
 
-use crate::inner::{inner_fail, named};
 use band_report::{Misfit, misfit_of};
-use scenario_data::{ReadFail, Scenario};
+use scenario_data::{ReadFail, Refusal, Scenario};
+use scenario_inside::inner_fail;
 use scenario_read::{
     Place, Unfit, checked_parts, items_of, known_names, refuse_member, scenario_from, whole_at,
     whole_of,
@@ -43,6 +44,16 @@ fn scenario_at(alloc: Global, object: &Value) -> Result<Scenario, ReadFail>
             Ok(parts) => Ok(scenario_from(parts, Vec::new(alloc))),
             Err(fail) => Err(inner_fail(alloc, fail)),
         },
+    }
+}
+
+/// The refusal that names a path.
+fn named(path: String, unfit: Unfit) -> ReadFail
+    ensures { result ≡ ReadFail.Refused (refusal_at path unfit) }
+{
+    match unfit {
+        Unfit::Wrong => ReadFail::Refused(Refusal::Field(path)),
+        Unfit::Beyond => ReadFail::Refused(Refusal::Limit(path)),
     }
 }
 

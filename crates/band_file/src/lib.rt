@@ -3,7 +3,6 @@
 #![tactic(auto)]
 
 mod asked;
-mod inner;
 mod told;
 
 ghost use Rattle.std.specs.Prelude.{◌≡◌, ℕ, List, codes, String, string_bytes};

@@ -5,7 +5,7 @@ use Rattle.serde_json.specs.Find.{get}
 use Rattle.serde_json.specs.View.{view}
 use Rattle.scenario_data.specs.Content.{ScenarioContent, cabinet_content}
 use Rattle.scenario_read.specs.Content.{cabinets_of}
-use Rattle.band_file.proofs.Around.{few-cabinets, scenario-clean, scenario-held}
+use Rattle.scenario_inside.proofs.Around.{few-cabinets, scenario-clean, scenario-held}
 use Rattle.band_file.proofs.asked.scenario_at.Goals as goal
 
 pub returns-in-Ok-clause-read : goal.returns-in-Ok-clause-read
