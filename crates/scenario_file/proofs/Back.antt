@@ -18,7 +18,7 @@ use Rattle.serde_json.proofs.Texts.{print-outline}
 use Rattle.serde_json.proofs.Nesting.{depth-read}
 use Rattle.scenario_read.specs.Sorted.{Below, Sorted, ItemsSorted, MembersSorted}
 use Rattle.scenario_read.proofs.Rising.{read-sorted}
-use Rattle.scenario_file.proofs.Turns.{whole}
+use Rattle.scenario_cut.proofs.Turns.{whole}
 use Rattle.scenario_file.proofs.Numerals.{IfFound, number-numeral}
 
 -- what is written for the value has numbers, and is this value

@@ -3,7 +3,8 @@ use Rattle.std.proofs.Common.{◌≡◌, ℕ, zero, suc, ◌+◌, List, Bool, tr
 use Rattle.serde_json.specs.Data.{object, array, Items, no_items, item, no_members}
 use Rattle.serde_json.specs.Events.{items_len}
 use Rattle.scenario_read.specs.Sorted.{Sorted, ItemsSorted}
-use Rattle.scenario_file.specs.Growing.{both, blanks}
+use Rattle.scenario_cut.specs.Growing.{both}
+use Rattle.scenario_file.specs.Growing.{blanks}
 use Rattle.scenario_file.specs.Framing.{stand_in}
 
 pub blanks-len : (n : ℕ) → items_len (blanks n) ≡ n

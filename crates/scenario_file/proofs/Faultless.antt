@@ -1,88 +1,32 @@
 -- A scenario has no faults where its frame has none, and the items of its lists are of rounds and cabinets that there are.
-use Rattle.std.proofs.Common.{◌≡◌, ◌≤◌, ℕ, ◌*◌, true, false, if◌then◌else◌, List, [], ◌∷◌, ◌++◌, codes, length, map, Option, Some, None, unwrap_or, option_map, refl, sym, ap, ◌∙◌, subst, arith}
+use Rattle.std.proofs.Common.{◌≡◌, ◌≤◌, ℕ, ◌*◌, false, List, [], ◌∷◌, ◌++◌, codes, length, map, Option, Some, None, unwrap_or, option_map, refl, sym, ap, ◌∙◌, subst}
 use Rattle.std.proofs.lemmas.List.{length-map}
-use Rattle.serde_json.specs.Data.{Data, null, array, object, Items, no_items, Members, no_members, member}
+use Rattle.serde_json.specs.Data.{Data, null, array, object, Items, no_items, Members}
 use Rattle.serde_json.specs.Events.{items_len}
 use Rattle.serde_json.specs.Find.{get_member}
 use Rattle.serde_json.specs.Written.{compact_text}
-use Rattle.scenario_data.specs.Causes.{Cause, Field as FieldCause}
-use Rattle.scenario_data.specs.Content.{CabinetContent, cabinet_content}
+use Rattle.scenario_data.specs.Causes.{Cause}
+use Rattle.scenario_data.specs.Content.{CabinetContent, cabinet_content, master_content}
 use Rattle.scenario_read.specs.declared.scenario.Parts.{Parts}
-use Rattle.scenario_read.specs.Paths.{Step, path_text, then_named}
-use Rattle.scenario_read.specs.Kinds.{Kind, is_among, fault_at, within, each}
+use Rattle.scenario_read.specs.Kinds.{fault_at, within, each}
 use Rattle.scenario_read.specs.Fields.{Field, either, faults_of, field_faults, fields_faults, held, names, known_fields, unknown_faults, object_of}
-use Rattle.scenario_read.specs.Table.{version, rounds, ticks, community, cabinet, cabinets, master, round, cabinet_number, setup_fields, inputs, loads, priority, frames, link_faults, event_fields, scenario_shape, optional_list, input_shape, priority_item, frame_shape, fault_shape}
-use Rattle.scenario_read.specs.Content.{whole_of, number_at, text_of, list_in, cabinet_of, master_of, input_of, load_of, priority_of, frame_of, fault_of, each_of, events_at, version_number, round_count, tick_count, cabinets_of, cabinet_count, scenario_of}
+use Rattle.scenario_read.specs.Table.{version, rounds, ticks, community, cabinet, cabinets, master, round, cabinet_number, setup_fields, inputs, loads, priority, frames, link_faults, event_fields, scenario_shape, input_shape, priority_item, frame_shape, fault_shape}
+use Rattle.scenario_read.specs.Content.{number_at, text_of, list_in, cabinet_of, master_of, input_of, load_of, priority_of, frame_of, fault_of, each_of, events_at, version_number, round_count, tick_count, cabinets_of, cabinet_count, scenario_of}
 use Rattle.scenario_read.specs.Faults.{faults, named_faults, product_faults, all_table_faults}
 use Rattle.scenario_read.specs.Readers.{Says, content_from}
-use Rattle.scenario_read.proofs.Walks.{within-fits}
 use Rattle.scenario_read.proofs.Objects.{both-fields, at-same}
 use Rattle.scenario_read.proofs.Whole.{faultless-parts, whole-content}
 use Rattle.scenario_file.specs.declared.lists.Lists.{Lists}
 use Rattle.scenario_file.specs.Growing.{blanks}
-use Rattle.scenario_file.specs.Listing.{AllOf, AsksWithin, InRounds, Told, list_path, any_input, any_priority, any_frame, any_fault}
-use Rattle.scenario_file.specs.Framing.{is_list, value_in, with_lists, IsHeld, AllStand}
+use Rattle.scenario_file.specs.Listing.{AllOf, AsksWithin, InRounds, list_path, any_input, any_priority, any_frame, any_fault}
+use Rattle.scenario_file.specs.Framing.{value_in, with_lists, IsHeld, AllStand, setup_with}
 use Rattle.scenario_file.proofs.Growth.{none-left, none-both, within-more, chain, each_of-len}
+use Rattle.scenario_file.proofs.Filled.{unknown-same, kept, kept-fields, same-held, same-number, Becomes, stood, list-faults}
+use Rattle.scenario_file.proofs.Masters.{master-kept, master-said, master-value}
 use Rattle.scenario_file.proofs.Frames.{get-through}
 use Rattle.scenario_file.proofs.Blanks.{blanks-len}
 use Rattle.scenario_file.proofs.Versions.{HasNames, each-version, said-version}
 use Rattle.scenario_file.proofs.Rounds.{input-within, priority-within, frame-within, fault-within, each-within, loads-within, said-same}
-
-unknown-same : (known : List (List ℕ)) (path : List Step) (rows : List ℕ → Items) (ms : Members) → unknown_faults known path (with_lists rows ms) ≡ unknown_faults known path ms
-unknown-same known path rows no_members = refl
-unknown-same known path rows (member name e ms) =
-    ap (λ rest. if is_among known name then rest else (FieldCause (path_text (then_named path name)) ∷ rest)) (unknown-same known path rows ms)
-
--- ---- names that are none of a list
-
-same-value : (o : Option Data) (name : List ℕ) (rows : List ℕ → Items) → is_list name ≡ false → option_map (value_in rows name) o ≡ o
-same-value None name rows other = refl
-same-value (Some d) name rows other = ap (λ b. Some (if b then array (rows name) else d)) other
-
-get-other : (name : List ℕ) (rows : List ℕ → Items) (ms : Members) → is_list name ≡ false → get_member name (with_lists rows ms) ≡ get_member name ms
-get-other name rows ms other = get-through rows name ms ∙ same-value (get_member name ms) name rows other
-
--- fields that are without fault in the value where they are in the frame
-abbrev AllKept : (List ℕ → Items) → Members → List Field → Type 0
-AllKept rows ms [] = Unit {0}
-AllKept rows ms (f ∷ fields) = (field_faults [] (object ms) f ≡ [] → field_faults [] (object (with_lists rows ms)) f ≡ []) × AllKept rows ms fields
-
-kept : (f : Field) (rows : List ℕ → Items) (ms : Members) → is_list f.name ≡ false → field_faults [] (object ms) f ≡ [] → field_faults [] (object (with_lists rows ms)) f ≡ []
-kept f rows ms other e = ap (λ o. faults_of f.kind (then_named [] f.name) (either o f.default)) (get-other f.name rows ms other) ∙ e
-
-kept-fields : (fields : List Field) (rows : List ℕ → Items) (ms : Members) → AllKept rows ms fields → fields_faults [] (object ms) fields ≡ [] → fields_faults [] (object (with_lists rows ms)) fields ≡ []
-kept-fields [] rows ms all e = refl
-kept-fields (f ∷ fields) rows ms all e =
-    let parts = none-left (field_faults [] (object ms) f) (fields_faults [] (object ms) fields) e in
-    none-both (field_faults [] (object (with_lists rows ms)) f) (fields_faults [] (object (with_lists rows ms)) fields) (all.0 parts.0) (kept-fields fields rows ms all.1 parts.1)
-
-same-held : (f : Field) (rows : List ℕ → Items) (ms : Members) → is_list f.name ≡ false → held f (object (with_lists rows ms)) ≡ held f (object ms)
-same-held f rows ms other = ap (λ o. unwrap_or (either o f.default) null) (get-other f.name rows ms other)
-
-same-number : (f : Field) (rows : List ℕ → Items) (ms : Members) → is_list f.name ≡ false → number_at f (object (with_lists rows ms)) ≡ number_at f (object ms)
-same-number f rows ms other = ap whole_of (same-held f rows ms other)
-
--- ---- the lists
-
-stood-value : (o : Option Data) (name : List ℕ) (rows : List ℕ → Items) → is_list name ≡ true → option_map (value_in rows name) o ≡ option_map (λ d. array (rows name)) o
-stood-value None name rows is = refl
-stood-value (Some d) name rows is = ap (λ b. Some (if b then array (rows name) else d)) is
-
--- what stands at the name of a list, or counts where nothing does, is the list of its items
-stood : (name : List ℕ) (rows : List ℕ → Items) (ms : Members) → is_list name ≡ true → IsHeld name (get_member name ms) (rows name) → either (get_member name (with_lists rows ms)) (Some (array no_items)) ≡ Some (array (rows name))
-stood name rows ms is held = ap (λ o. either o (Some (array no_items))) (get-through rows name ms ∙ stood-value (get_member name ms) name rows is) ∙ counts (get_member name ms) held
-  where
-    counts : (o : Option Data) → IsHeld name o (rows name) → either (option_map (λ d. array (rows name)) o) (Some (array no_items)) ≡ Some (array (rows name))
-    counts None none = ap (λ ds. Some (array ds)) (sym none)
-    counts (Some d) h = refl
-
-list-faults : {A : Type 0} (name : List ℕ) (most : ℕ) (any kind : Kind) (says : Data → A) (found : List A) (ms : Members) (rows : List ℕ → Items) → is_list name ≡ true → IsHeld name (get_member name ms) (rows name)
-    → Told name any says most found (rows name) → each kind (list_path name) 0 (rows name) ≡ [] → field_faults [] (object (with_lists rows ms)) (optional_list name most kind) ≡ []
-list-faults name most any kind says found ms rows is held told none =
-    let ds = rows name in
-    let few : items_len ds ≤ most = subst (λ n. n ≤ most) (ap length told.said ∙ each_of-len says ds) told.few in
-    ap (faults_of (optional_list name most kind).kind (list_path name)) (stood name rows ms is held)
-    ∙ none-both (fault_at (list_path name) (within 0 most (items_len ds))) (each kind (list_path name) 0 ds) (ap (fault_at (list_path name)) (within-fits 0 most (items_len ds) (omega arith) few)) none
 
 -- the names before the lists of what happens in the rounds
 abbrev before_lists : ℕ → List Field
@@ -104,7 +48,7 @@ stand-whole : (rows : List ℕ → Items) (ms : Members) → get_member (codes "
     → get_member (codes "cabinets") (with_lists rows ms) ≡ Some (array (rows (codes "cabinets")))
 stand-whole rows ms frame =
     let name = codes "cabinets" in
-    get-through rows name ms ∙ stood-value (get_member name ms) name rows refl ∙ ap (option_map (λ (d : Data). array (rows name))) frame
+    get-through (value_in rows) name ms ∙ ap (option_map (value_in rows name)) frame
 
 -- they are without fault as they are: as many as in the frame, and each of the version
 cabinets-kept : (v : ℕ) (lists : Lists) (ms : Members) (rows : List ℕ → Items) → AllStand lists ms rows → HasNames v lists.last
@@ -150,7 +94,7 @@ new-cabinets lists ms rows none s has =
     let name = codes "cabinets" in
     let new = object (with_lists rows ms) in
     let frame = stand-blank v (get_member name ms) (rows name) (frame-cabinets ms none) s.cabinets.held in
-    ap (λ w. cabinets_said w (get_member name (with_lists rows ms))) (same-number version rows ms refl) ∙ ap (cabinets_said v) (stand-whole rows ms frame)
+    ap (λ w. cabinets_said w (get_member name (with_lists rows ms))) (same-number version (value_in rows) (object ms) (λ e. refl)) ∙ ap (cabinets_said v) (stand-whole rows ms frame)
     ∙ said-version v lists.last has (rows name) s.cabinets.within ∙ sym s.cabinets.holds.said
 
 -- as many as in the frame
@@ -174,15 +118,15 @@ lists-faultless r k lists ms rows s far_round far_cabinet =
     let last = lists.last in
     let far = λ (ds : Items) (w : AllOf (AsksWithin false last) ds). within-more (AsksWithin false last) (InRounds r k) ds
     (λ e asks. (chain (number_at (round 86400) e) last.round r asks.0 far_round, chain (number_at (cabinet_number 64) e) last.cabinet k asks.1 far_cabinet)) w in
-    let a = list-faults (codes "inputs") 1000000 any_input (object_of (input_shape r k)) (input_of 86400 64) _ ms rows refl s.inputs.held s.inputs.holds
+    let a = list-faults (codes "inputs") [] 1000000 any_input (object_of (input_shape r k)) (input_of 86400 64) _ (value_in rows) (object ms) (rows (codes "inputs")) (λ e. refl) s.inputs.held s.inputs.holds
     (each-within any_input (object_of (input_shape r k)) r k (input-within r k) (list_path (codes "inputs")) _ 0 s.inputs.holds.causes (far _ s.inputs.within)) in
-    let b : field_faults [] new (loads r k) ≡ [] = ap (faults_of (loads r k).kind (list_path (loads r k).name)) (stood (loads r k).name rows ms refl s.loads.held)
+    let b : field_faults [] new (loads r k) ≡ [] = ap (faults_of (loads r k).kind (list_path (loads r k).name)) (stood (loads r k).name (value_in rows) (object ms) (rows (loads r k).name) (λ e. refl) s.loads.held)
     ∙ loads-within r k (list_path (codes "loads")) _ 0 [] s.loads.holds.causes (far _ s.loads.within) in
-    let c = list-faults (codes "priority") 100000 any_priority (priority_item r k) (priority_of 86400 64) _ ms rows refl s.priority.held s.priority.holds
+    let c = list-faults (codes "priority") [] 100000 any_priority (priority_item r k) (priority_of 86400 64) _ (value_in rows) (object ms) (rows (codes "priority")) (λ e. refl) s.priority.held s.priority.holds
     (each-within any_priority (priority_item r k) r k (priority-within r k) (list_path (codes "priority")) _ 0 s.priority.holds.causes (far _ s.priority.within)) in
-    let d = list-faults (codes "frames") 100000 any_frame (object_of (frame_shape r k)) (frame_of 86400 64) _ ms rows refl s.frames.held s.frames.holds
+    let d = list-faults (codes "frames") [] 100000 any_frame (object_of (frame_shape r k)) (frame_of 86400 64) _ (value_in rows) (object ms) (rows (codes "frames")) (λ e. refl) s.frames.held s.frames.holds
     (each-within any_frame (object_of (frame_shape r k)) r k (frame-within r k) (list_path (codes "frames")) _ 0 s.frames.holds.causes (far _ s.frames.within)) in
-    let e = list-faults (codes "faults") 100000 any_fault (object_of (fault_shape r k)) (fault_of 86400 64) _ ms rows refl s.faults.held s.faults.holds
+    let e = list-faults (codes "faults") [] 100000 any_fault (object_of (fault_shape r k)) (fault_of 86400 64) _ (value_in rows) (object ms) (rows (codes "faults")) (λ e. refl) s.faults.held s.faults.holds
     (each-within any_fault (object_of (fault_shape r k)) r k (fault-within r k) (list_path (codes "faults")) _ 0 s.faults.holds.causes (far _ s.faults.within)) in
     none-both (field_faults [] new (inputs r k)) (fields_faults [] new (loads r k ∷ priority r k ∷ frames r k ∷ link_faults r k ∷ [])) a
     (none-both (field_faults [] new (loads r k)) (fields_faults [] new (priority r k ∷ frames r k ∷ link_faults r k ∷ [])) b
@@ -198,29 +142,19 @@ names-faultless v r k lists ms rows s has round cabinet e =
     let a = none-left (unknown_faults known [] ms) (fields_faults [] d (before_lists v ++ event_fields r k) ++ []) e in
     let b = none-left (fields_faults [] d (before_lists v ++ event_fields r k)) [] a.1 in
     let c = none-left (fields_faults [] d (before_lists v)) (fields_faults [] d (event_fields r k)) (sym (both-fields [] d (before_lists v) (event_fields r k)) ∙ b.0) in
-    let g = kept-fields (before_lists v) rows ms (
-      kept version rows ms refl,
-      (kept rounds rows ms refl, (kept ticks rows ms refl, (kept community rows ms refl, (cabinets-kept v lists ms rows s has, (kept master rows ms refl, tt))))),
+    let g = kept-fields (before_lists v) (value_in rows) [] (object ms) (
+      kept version (value_in rows) [] (object ms) (λ e. refl),
+      (kept rounds (value_in rows) [] (object ms) (λ e. refl), (kept ticks (value_in rows) [] (object ms) (λ e. refl), (kept community (value_in rows) [] (object ms) (λ e. refl), (cabinets-kept v lists ms rows s has, (master-kept rows lists.schedule.items ms s.schedule.holds s.schedule.held, tt))))),
     ) c.0 in
     let fields : fields_faults [] new (before_lists v ++ event_fields r k) ≡ [] =
     both-fields [] new (before_lists v) (event_fields r k)
     ∙ none-both (fields_faults [] new (before_lists v)) (fields_faults [] new (event_fields r k)) g (lists-faultless r k lists ms rows s round cabinet) in
     none-both (unknown_faults known [] (with_lists rows ms)) (fields_faults [] new (before_lists v ++ event_fields r k) ++ [])
-    (unknown-same known [] rows ms ∙ a.0) (none-both (fields_faults [] new (before_lists v ++ event_fields r k)) [] fields refl)
+    (unknown-same known [] (value_in rows) ms ∙ a.0) (none-both (fields_faults [] new (before_lists v ++ event_fields r k)) [] fields refl)
 
--- these parts, with the cabinets and what happens in the rounds that were found
+-- these parts, with the cabinets, the schedule and what happens in the rounds that were found
 abbrev pub with_found : Parts → Lists → Parts
-with_found parts lists = record {
-  version = parts.version;
-  setup = record {
-    rounds = parts.setup.rounds;
-    ticks = parts.setup.ticks;
-    community = parts.setup.community;
-    cabinets = lists.cabinets;
-    master = parts.setup.master;
-  };
-  events = lists.events;
-}
+with_found parts lists = record { version = parts.version; setup = setup_with parts.setup lists.cabinets lists.schedule; events = lists.events }
 
 -- what is said where there are so many rounds and cabinets, is said where there are as many
 at-three : (P : ℕ → ℕ → ℕ → Type 0) (a b c x y z : ℕ) → a ≡ x → b ≡ y → c ≡ z → P a b c → P x y z
@@ -239,22 +173,22 @@ whole-faultless parts lists ms rows says none stands has round cabinet judged =
     let as-many = same-count lists ms rows none stands has in
     let names-none : named_faults new ≡ [] =
     at-three (λ v r k. object_of (scenario_shape v r k) [] new ≡ []) (version_number d) (round_count d) (cabinet_count d) (version_number new) (round_count new) (cabinet_count new)
-    (sym (same-number version rows ms refl)) (sym (same-number rounds rows ms refl)) (sym as-many) here in
+    (sym (same-number version (value_in rows) (object ms) (λ e. refl))) (sym (same-number rounds (value_in rows) (object ms) (λ e. refl))) (sym as-many) here in
     let product : product_faults (cabinet_count new * round_count new * tick_count new) ≡ [] =
-    ap (λ n. product_faults (n * round_count new * tick_count new)) as-many ∙ ap (λ n. product_faults (cabinet_count d * n * tick_count new)) (same-number rounds rows ms refl)
-    ∙ ap (λ n. product_faults (cabinet_count d * round_count d * n)) (same-number ticks rows ms refl) ∙ old.1 in
+    ap (λ n. product_faults (n * round_count new * tick_count new)) as-many ∙ ap (λ n. product_faults (cabinet_count d * n * tick_count new)) (same-number rounds (value_in rows) (object ms) (λ e. refl))
+    ∙ ap (λ n. product_faults (cabinet_count d * round_count d * n)) (same-number ticks (value_in rows) (object ms) (λ e. refl)) ∙ old.1 in
     let tables : all_table_faults 1 (cabinets_of new) ≡ [] = ap (all_table_faults 1) (new-cabinets lists ms rows none stands has) ∙ judged in
     none-both (named_faults new)
     (product_faults (cabinet_count new * round_count new * tick_count new) ++ all_table_faults 1 (cabinets_of new)) names-none
     (none-both (product_faults (cabinet_count new * round_count new * tick_count new)) (all_table_faults 1 (cabinets_of new)) product tables)
 
 -- what the items of a list say is what its name says
-said-at : {A : Type 0} (f : ℕ → ℕ → Field) (says : ℕ → ℕ → Data → A) (r k : ℕ) (found : List A) (ms : Members) (rows : List ℕ → Items) → is_list (f r k).name ≡ true
+said-at : {A : Type 0} (f : ℕ → ℕ → Field) (says : ℕ → ℕ → Data → A) (r k : ℕ) (found : List A) (ms : Members) (rows : List ℕ → Items) → Becomes (value_in rows) (f r k).name (rows (f r k).name)
     → (f r k).default ≡ Some (array no_items) → IsHeld (f r k).name (get_member (f r k).name ms) (rows (f r k).name) → found ≡ each_of (says 86400 64) (rows (f r k).name) → ((d : Data) → says 86400 64 d ≡ says r k d)
     → found ≡ events_at f says r k (object (with_lists rows ms))
-said-at f says r k found ms rows is default held said same =
+said-at f says r k found ms rows becomes default held said same =
     let new = get_member (f r k).name (with_lists rows ms) in
-    let there : either new (f r k).default ≡ Some (array (rows (f r k).name)) = ap (either new) default ∙ stood (f r k).name rows ms is held in
+    let there : either new (f r k).default ≡ Some (array (rows (f r k).name)) = ap (either new) default ∙ stood (f r k).name (value_in rows) (object ms) (rows (f r k).name) becomes held in
     said ∙ said-same (says 86400 64) (says r k) same (rows (f r k).name) ∙ ap (λ o. list_in (says r k) (unwrap_or o null)) (sym there)
 
 pub whole-said : (parts : Parts) (lists : Lists) (text : List ℕ) (ms : Members) (rows : List ℕ → Items) → Says parts (object ms) → faults (object ms) ≡ [] → AllStand lists ms rows
@@ -267,20 +201,21 @@ whole-said parts lists text ms rows says none stands has is =
     let k = cabinet_count new in
     whole-content (with_found parts lists) text new
     record {
-      version = says.version ∙ sym (same-number version rows ms refl);
+      version = says.version ∙ sym (same-number version (value_in rows) (object ms) (λ e. refl));
       setup = record {
-        rounds = setup.rounds ∙ sym (same-number rounds rows ms refl);
-        ticks = setup.ticks ∙ sym (same-number ticks rows ms refl);
-        community = setup.community ∙ sym (ap text_of (same-held community rows ms refl));
+        rounds = setup.rounds ∙ sym (same-number rounds (value_in rows) (object ms) (λ e. refl));
+        ticks = setup.ticks ∙ sym (same-number ticks (value_in rows) (object ms) (λ e. refl));
+        community = setup.community ∙ sym (ap text_of (same-held community (value_in rows) (object ms) (λ e. refl)));
         cabinets = sym (new-cabinets lists ms rows none stands has);
-        master = setup.master ∙ sym (ap master_of (same-held master rows ms refl));
+        master = master-said (master_content parts.setup.master) lists.schedule.items (rows (codes "schedule")) (held master (object ms)) setup.master stands.schedule.holds.said stands.schedule.held
+            ∙ ap master_of (sym (master-value rows ms));
       };
       events = record {
-        inputs = said-at inputs input_of r k _ ms rows refl refl stands.inputs.held stands.inputs.holds.said (λ d. refl);
-        loads = said-at loads load_of r k _ ms rows refl refl stands.loads.held stands.loads.holds.said (λ d. refl);
-        priority = said-at priority priority_of r k _ ms rows refl refl stands.priority.held stands.priority.holds.said (λ d. refl);
-        frames = said-at frames frame_of r k _ ms rows refl refl stands.frames.held stands.frames.holds.said (λ d. refl);
-        faults = said-at link_faults fault_of r k _ ms rows refl refl stands.faults.held stands.faults.holds.said (λ d. refl);
+        inputs = said-at inputs input_of r k _ ms rows (λ e. refl) refl stands.inputs.held stands.inputs.holds.said (λ d. refl);
+        loads = said-at loads load_of r k _ ms rows (λ e. refl) refl stands.loads.held stands.loads.holds.said (λ d. refl);
+        priority = said-at priority priority_of r k _ ms rows (λ e. refl) refl stands.priority.held stands.priority.holds.said (λ d. refl);
+        frames = said-at frames frame_of r k _ ms rows (λ e. refl) refl stands.frames.held stands.frames.holds.said (λ d. refl);
+        faults = said-at link_faults fault_of r k _ ms rows (λ e. refl) refl stands.faults.held stands.faults.holds.said (λ d. refl);
       };
     }
     is

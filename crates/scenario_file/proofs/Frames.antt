@@ -1,17 +1,14 @@
--- What is put into the frame of a scenario is put into its value.
-use Rattle.std.proofs.Common.{◌≡◌, ℕ, Bool, true, false, if◌then◌else◌, List, Some, option_map, Ordering, Less, Equal, Greater, nat_cmp, bytes_eq, is_eq, refl, sym, ap, ◌∙◌, subst}
+-- What is put into a frame is put into the value of which it is one.
+use Rattle.std.proofs.Common.{◌≡◌, ℕ, Bool, true, false, ◌||◌, if◌then◌else◌, List, Some, option_map, Ordering, Less, Equal, Greater, nat_cmp, bytes_eq, codes, refl, sym, ap, ap₂, ◌∙◌, subst}
 use Rattle.std.proofs.lemmas.Cmp.{nat_list_cmp_total, tied_itself}
-use Rattle.std.proofs.lemmas.Map.Text.{is_eq-slice_cmp}
 use Rattle.std.proofs.lemmas.Slice.Eq.{bytes_eq-Decides}
 use Rattle.std.specs.Cmp.Lexicographic.{slice_cmp}
 use Rattle.std.specs.Ordering.{match_ordering}
-use Rattle.serde_json.specs.Data.{Data, array, Items, Members, no_members, member, put}
-use Rattle.serde_json.specs.Find.{get_member}
+use Rattle.serde_json.specs.Data.{Data, null, boolean, number, string, array, object, Items, Members, no_members, member, put}
+use Rattle.serde_json.specs.Find.{get, get_member}
 use Rattle.scenario_read.specs.Sorted.{Below, MembersSorted}
-use Rattle.scenario_file.specs.Framing.{is_list, value_in, with_lists, with_rows}
-
-equal-names : (a b : List ℕ) → slice_cmp nat_cmp a b ≡ Equal → a ≡ b
-equal-names a b is = (bytes_eq-Decides a b).0 (sym (is_eq-slice_cmp a b) ∙ ap is_eq is)
+use Rattle.scenario_cut.proofs.Members.{equal-names}
+use Rattle.scenario_file.specs.Framing.{is_list, filled, filled_in, scheduled, master_with, value_in, with_rows, Enters}
 
 pub apart-names : (a b : List ℕ) → (slice_cmp nat_cmp a b ≡ Equal → ⊥) → bytes_eq b a ≡ false
 apart-names a b other = differ (bytes_eq b a) refl
@@ -30,61 +27,111 @@ Below-chain : (low name : List ℕ) (ms : Members) → slice_cmp nat_cmp low nam
 Below-chain low name no_members less below = tt
 Below-chain low name (member other d ms) less below = (nat_list_cmp_total.trans low name other less below.0, Below-chain low name ms less below.1)
 
--- the values are the same, but for that at one name
-abbrev pub SameBut : List ℕ → (List ℕ → Items) → (List ℕ → Items) → Type 0
-SameBut l rows now = (name : List ℕ) → bytes_eq name l ≡ false → (d : Data) → value_in rows name d ≡ value_in now name d
-
-module _ (l : List ℕ) (rows now : List ℕ → Items) (but : SameBut l rows now) where
-  pub without : (ms : Members) → Below l ms → with_lists rows ms ≡ with_lists now ms
+module _ (l : List ℕ) (old now : List ℕ → Data → Data) (d standing : Data) (enters : Enters old now l d standing) where
+  without : (ms : Members) → Below l ms → filled old ms ≡ filled now ms
   without no_members below = refl
-  without (member name d ms) below =
-      let first = but name (apart-names l name (not-less (slice_cmp nat_cmp l name) below.0)) d in
-      ap (λ e. member name e (with_lists rows ms)) first ∙ ap (member name (value_in now name d)) (without ms below.1)
+  without (member name e ms) below =
+      let first = enters.others name (apart-names l name (not-less (slice_cmp nat_cmp l name) below.0)) e in
+      ap (λ v. member name v (filled old ms)) first ∙ ap (member name (now name e)) (without ms below.1)
 
-  -- a value that is put at the name, is put into the frame as what it stands for
-  pub put-through : (d new : Data) (ms : Members) → value_in now l d ≡ new → MembersSorted ms → put l new (with_lists rows ms) ≡ with_lists now (put l d ms)
-  put-through d new no_members is sorted = ap (λ e. member l e no_members) (sym is)
-  put-through d new (member name e ms) is sorted = at (slice_cmp nat_cmp l name) refl (put-through d new ms is sorted.2)
+  -- a value that enters at the name, is put into the frame as what stands for it
+  pub put-through : (ms : Members) → MembersSorted ms → put l d (filled old ms) ≡ filled now (put l standing ms)
+  put-through no_members sorted = ap (λ e. member l e no_members) (sym enters.here)
+  put-through (member name e ms) sorted = at (slice_cmp nat_cmp l name) refl (put-through ms sorted.2)
     where
-      at : (o : Ordering) → slice_cmp nat_cmp l name ≡ o → put l new (with_lists rows ms) ≡ with_lists now (put l d ms)
-          → match_ordering o (member l new (with_lists rows (member name e ms))) (member name new (with_lists rows ms)) (member name (value_in rows name e) (put l new (with_lists rows ms)))
-          ≡ with_lists now (match_ordering o (member l d (member name e ms)) (member name d ms) (member name e (put l d ms)))
+      at : (o : Ordering) → slice_cmp nat_cmp l name ≡ o → put l d (filled old ms) ≡ filled now (put l standing ms)
+          → match_ordering o (member l d (filled old (member name e ms))) (member name d (filled old ms)) (member name (old name e) (put l d (filled old ms)))
+          ≡ filled now (match_ordering o (member l standing (member name e ms)) (member name standing ms) (member name e (put l standing ms)))
       at Less less rest =
           let below : Below l (member name e ms) = (less, Below-chain l name ms less sorted.1) in
-          ap (λ v. member l v (with_lists rows (member name e ms))) (sym is) ∙ ap (member l (value_in now l d)) (without (member name e ms) below)
+          ap (λ v. member l v (filled old (member name e ms))) (sym enters.here) ∙ ap (member l (now l standing)) (without (member name e ms) below)
       at Equal same rest =
           let here : l ≡ name = equal-names l name same in
           let below : Below l ms = subst (λ n. Below n ms) (sym here) sorted.1 in
-          ap (λ v. member name v (with_lists rows ms)) (sym is ∙ ap (λ n. value_in now n d) here) ∙ ap (member name (value_in now name d)) (without ms below)
+          ap (λ v. member name v (filled old ms)) (sym enters.here ∙ ap (λ n. now n standing) here) ∙ ap (member name (now name standing)) (without ms below)
       at Greater more rest =
-          let first = but name (apart-names l name (not-greater (slice_cmp nat_cmp l name) more)) e in
-          ap (λ v. member name v (put l new (with_lists rows ms))) first ∙ ap (member name (value_in now name e)) rest
+          let first = enters.others name (apart-names l name (not-greater (slice_cmp nat_cmp l name) more)) e in
+          ap (λ v. member name v (put l d (filled old ms))) first ∙ ap (member name (now name e)) rest
 
--- a value at a name that is none of a list
-pub put-other : (name : List ℕ) (d : Data) (rows : List ℕ → Items) (ms : Members) → is_list name ≡ false → MembersSorted ms → put name d (with_lists rows ms) ≡ with_lists rows (put name d ms)
-put-other name d rows ms other sorted = put-through name rows rows (λ n apart e. refl) d d ms (ap (λ b. if b then array (rows name) else d) other) sorted
+-- ---- the names of lists
+
+at-name : (P : List ℕ → Type 0) (name l : List ℕ) → bytes_eq name l ≡ true → P l → P name
+at-name P name l is p = subst P (sym ((bytes_eq-Decides name l).0 is)) p
+
+-- what holds of each list's name holds of a name that is one of these
+pub by-name : (P : List ℕ → Type 0) (name : List ℕ) → is_list name ≡ true → P (codes "cabinets") → P (codes "inputs") → P (codes "loads") → P (codes "priority") → P (codes "frames") → P (codes "faults") → P name
+by-name P name is cabinets inputs loads priority frames faults =
+    one (bytes_eq name (codes "cabinets")) (bytes_eq name (codes "inputs")) (bytes_eq name (codes "loads")) (bytes_eq name (codes "priority")) (bytes_eq name (codes "frames")) (bytes_eq name (codes "faults")) refl refl refl refl refl refl is
+  where
+    one : (a b c d e f : Bool) → bytes_eq name (codes "cabinets") ≡ a → bytes_eq name (codes "inputs") ≡ b → bytes_eq name (codes "loads") ≡ c → bytes_eq name (codes "priority") ≡ d → bytes_eq name (codes "frames") ≡ e → bytes_eq name (codes "faults") ≡ f
+        → (a || (b || (c || (d || (e || f))))) ≡ true → P name
+    one true b c d e f u v w x y z i = at-name P name (codes "cabinets") u cabinets
+    one false true c d e f u v w x y z i = at-name P name (codes "inputs") v inputs
+    one false false true d e f u v w x y z i = at-name P name (codes "loads") w loads
+    one false false false true e f u v w x y z i = at-name P name (codes "priority") x priority
+    one false false false false true f u v w x y z i = at-name P name (codes "frames") y frames
+    one false false false false false true u v w x y z i = at-name P name (codes "faults") z faults
+    one false false false false false false u v w x y z i = absurd (cc)
+
+no-schedule : (name : List ℕ) → is_list name ≡ true → bytes_eq name (codes "schedule") ≡ false
+no-schedule name is = by-name (λ n. bytes_eq n (codes "schedule") ≡ false) name is refl refl refl refl refl refl
+
+schedule-apart : (name : List ℕ) → is_list name ≡ true → bytes_eq (codes "schedule") name ≡ false
+schedule-apart name is = by-name (λ n. bytes_eq (codes "schedule") n ≡ false) name is refl refl refl refl refl refl
 
 with-same : (rows : List ℕ → Items) (l : List ℕ) (ds : Items) → with_rows rows l ds l ≡ ds
 with-same rows l ds = ap (λ b. if b then ds else rows l) ((bytes_eq-Decides l l).1 refl)
 
-rows-but : (l : List ℕ) (rows : List ℕ → Items) (ds : Items) → SameBut l rows (with_rows rows l ds)
-rows-but l rows ds name apart d = ap (λ b. if is_list name then array (if b then ds else rows name) else d) (sym apart)
+-- ---- what enters at a name
+
+-- a value that stands for itself
+pub enters-same : (fill : List ℕ → Data → Data) (name : List ℕ) (d : Data) → fill name d ≡ d → Enters fill fill name d d
+enters-same fill name d is = record { here = is; others = λ other apart e. refl }
 
 -- a list at its name, whatever stands there in the frame
-pub put-list : (l : List ℕ) (rows : List ℕ → Items) (ds : Items) (d : Data) (ms : Members) → is_list l ≡ true → MembersSorted ms
-    → put l (array ds) (with_lists rows ms) ≡ with_lists (with_rows rows l ds) (put l d ms)
-put-list l rows ds d ms is sorted =
-    put-through l rows (with_rows rows l ds) (rows-but l rows ds) d (array ds) ms (ap (λ b. if b then array (with_rows rows l ds l) else d) is ∙ ap array (with-same rows l ds)) sorted
+pub enters-list : (l : List ℕ) (rows : List ℕ → Items) (ds : Items) (standing : Data) → is_list l ≡ true → Enters (value_in rows) (value_in (with_rows rows l ds)) l (array ds) standing
+enters-list l rows ds standing is =
+    let now = with_rows rows l ds in
+    record {
+      here =
+          ap (λ b. if b then array (now l) else (if bytes_eq l (codes "master") then master_with (now (codes "schedule")) standing else standing)) is
+          ∙ ap array (with-same rows l ds);
+      others = λ name apart e. ap₂ (λ (a b : Bool).
+          if is_list name then array (if a then ds else rows name) else
+          (if bytes_eq name (codes "master") then master_with (if b then ds else rows (codes "schedule")) e else e)) (sym apart) (sym (schedule-apart l is));
+    }
+
+-- the master with its schedule, where it stands in the frame without
+pub enters-master : (rows : List ℕ → Items) (ds : Items) (ms : Members) → Enters (value_in rows) (value_in (with_rows rows (codes "schedule") ds)) (codes "master") (object (filled (scheduled ds) ms)) (object ms)
+enters-master rows ds ms = record { here = refl; others = λ name apart e. at name apart e (is_list name) refl }
+  where
+    at : (name : List ℕ) → bytes_eq name (codes "master") ≡ false → (e : Data) → (b : Bool) → is_list name ≡ b
+        → (if b then array (rows name) else (if bytes_eq name (codes "master") then master_with (rows (codes "schedule")) e else e))
+        ≡ (if b then array (if bytes_eq name (codes "schedule") then ds else rows name) else (if bytes_eq name (codes "master") then master_with ds e else e))
+    at name apart e true is = ap (λ c. array (if c then ds else rows name)) (sym (no-schedule name is))
+    at name apart e false is = ap (λ c. if c then master_with (rows (codes "schedule")) e else e) apart ∙ sym (ap (λ c. if c then master_with ds e else e) apart)
+
+-- a schedule in its master, whatever stands there in the frame
+pub enters-schedule : (old ds : Items) (standing : Data) → Enters (scheduled old) (scheduled ds) (codes "schedule") (array ds) standing
+enters-schedule old ds standing = record { here = refl; others = λ name apart e. ap (λ b. if b then array old else e) apart ∙ sym (ap (λ b. if b then array ds else e) apart) }
 
 -- ---- what is found in the value
 
-pub get-through : (rows : List ℕ → Items) (name : List ℕ) (ms : Members) → get_member name (with_lists rows ms) ≡ option_map (value_in rows name) (get_member name ms)
-get-through rows name no_members = refl
-get-through rows name (member l e ms) = at (slice_cmp nat_cmp name l) refl (get-through rows name ms)
+pub get-through : (fill : List ℕ → Data → Data) (name : List ℕ) (ms : Members) → get_member name (filled fill ms) ≡ option_map (fill name) (get_member name ms)
+get-through fill name no_members = refl
+get-through fill name (member l e ms) = at (slice_cmp nat_cmp name l) refl (get-through fill name ms)
   where
-    at : (o : Ordering) → slice_cmp nat_cmp name l ≡ o → get_member name (with_lists rows ms) ≡ option_map (value_in rows name) (get_member name ms)
-        → match_ordering o (get_member name (with_lists rows ms)) (Some (value_in rows l e)) (get_member name (with_lists rows ms))
-        ≡ option_map (value_in rows name) (match_ordering o (get_member name ms) (Some e) (get_member name ms))
+    at : (o : Ordering) → slice_cmp nat_cmp name l ≡ o → get_member name (filled fill ms) ≡ option_map (fill name) (get_member name ms)
+        → match_ordering o (get_member name (filled fill ms)) (Some (fill l e)) (get_member name (filled fill ms))
+        ≡ option_map (fill name) (match_ordering o (get_member name ms) (Some e) (get_member name ms))
     at Less is rest = rest
-    at Equal is rest = ap (λ n. Some (value_in rows n e)) (sym (equal-names name l is))
+    at Equal is rest = ap (λ n. Some (fill n e)) (sym (equal-names name l is))
     at Greater is rest = rest
+
+pub get-in : (fill : List ℕ → Data → Data) (name : List ℕ) (d : Data) → get name (filled_in fill d) ≡ option_map (fill name) (get name d)
+get-in fill name null = refl
+get-in fill name (boolean b) = refl
+get-in fill name (number n) = refl
+get-in fill name (string s) = refl
+get-in fill name (array ds) = refl
+get-in fill name (object ms) = get-through fill name ms

@@ -9,10 +9,11 @@ use Rattle.scenario_read.specs.Paths.{Step, then_item}
 use Rattle.scenario_read.specs.Kinds.{Kind, each, each_behind}
 use Rattle.scenario_read.specs.Table.{round, cabinet_number, load_cabinet}
 use Rattle.scenario_read.specs.Content.{each_of, number_at, load_of}
-use Rattle.scenario_file.specs.Growing.{written, both, inner_text, follows}
+use Rattle.scenario_cut.specs.Growing.{both}
+use Rattle.scenario_file.specs.Growing.{written, inner_text, follows}
 use Rattle.scenario_file.specs.declared.found.Reach.{Reach}
 use Rattle.scenario_file.specs.declared.listed.Listed.{Listed}
-use Rattle.scenario_file.specs.Listing.{Told, ToldLoads, Adds, AllOf, AsksWithin, Further, Within, Holds, Lists, any_load, asked_version, list_path, name_of}
+use Rattle.scenario_file.specs.Listing.{Told, ToldLoads, Adds, AllOf, AsksWithin, UnlessEntry, Further, Within, Holds, Lists, any_load, asked_version, list_path, name_of}
 
 pub none-left : (xs ys : List Cause) → xs ++ ys ≡ [] → (xs ≡ []) × (ys ≡ [])
 none-left [] ys e = (refl, e)
@@ -54,12 +55,12 @@ pub each_of-len : {A : Type 0} (f : Data → A) (ds : Items) → length (each_of
 each_of-len f no_items = refl
 each_of-len f (item d ds) = ap suc (each_of-len f ds)
 
-pub told-next : {A : Type 0} (name : List ℕ) (kind : Kind) (says : Data → A) (most : ℕ) (old new : List A) (ds : Items) (d : Data)
-    → Told name kind says most old ds → Adds kind says name most old new d → Told name kind says most new (both ds (item d no_items))
-told-next name kind says most old new ds d t a =
+pub told-next : {A : Type 0} (path : List Step) (kind : Kind) (says : Data → A) (most : ℕ) (old new : List A) (ds : Items) (d : Data)
+    → Told path kind says most old ds → Adds path kind says most old new d → Told path kind says most new (both ds (item d no_items))
+told-next path kind says most old new ds d t a =
     let counted : length old ≡ items_len ds = ap length t.said ∙ each_of-len says ds in
     record {
-      causes = each-next kind (list_path name) d (length old) a.causes ds 0 (omega (arith, counted)) t.causes;
+      causes = each-next kind path d (length old) a.causes ds 0 (omega (arith, counted)) t.causes;
       said = a.more ∙ ap (λ found. found ++ says d ∷ []) t.said ∙ sym (each_of-next says d ds);
       few = a.few;
     }
@@ -105,14 +106,20 @@ within-next P (item first ds) d all here = (all.0, within-next P ds d all.1 here
 pub chain : (a b c : ℕ) → a ≤ b → b ≤ c → a ≤ c
 chain a b c p q = omega (arith, p, q)
 
-pub asks-further : (b : Bool) (old new : Reach) (d : Data) → Further old new → AsksWithin b old d → AsksWithin b new d
+asks-further : (b : Bool) (old new : Reach) (d : Data) → Further old new → AsksWithin b old d → AsksWithin b new d
 asks-further true old new d far asks = chain (asked_version d) old.version new.version asks far.version
 asks-further false old new d far asks =
     (chain (number_at (round 86400) d) old.round new.round asks.0 far.round, chain (number_at (cabinet_number 64) d) old.cabinet new.cabinet asks.1 far.cabinet)
 
+unless-further : (entry b : Bool) (old new : Reach) (d : Data) → Further old new → UnlessEntry entry (AsksWithin b old d) → UnlessEntry entry (AsksWithin b new d)
+unless-further true b old new d far asks = tt
+unless-further false b old new d far asks = asks-further b old new d far asks
+
+within-further : (name : List ℕ) (old new : Reach) (d : Data) → Further old new → Within name old d → Within name new d
+within-further name old new d far asks = unless-further (bytes_eq name (codes "schedule")) (bytes_eq name (codes "cabinets")) old new d far asks
+
 pub all-further : (name : List ℕ) (old new : Reach) (ds : Items) → Further old new → AllOf (Within name old) ds → AllOf (Within name new) ds
-all-further name old new ds far all =
-    within-more (Within name old) (Within name new) ds (λ d asks. asks-further (bytes_eq name (codes "cabinets")) old new d far asks) all
+all-further name old new ds far all = within-more (Within name old) (Within name new) ds (λ d asks. within-further name old new d far asks) all
 
 -- the list's own text has the brackets
 pub bracketed : (later : Bool) (ds : Items) → items_text later ds ≡ inner_text later ds ++ 93 ∷ []
@@ -129,7 +136,7 @@ pub lists-next : (old new : Listed) (ds : Items) (d : Data) (reach : Reach) → 
     → Within (name_of old.found) reach d → Further old.last new.last → Further reach new.last → Lists new (both ds (item d no_items))
 lists-next old new ds d reach l holds text some same within far there =
     let name = name_of old.found in
-    let here : Within name new.last d = asks-further (bytes_eq name (codes "cabinets")) reach new.last d there within in
+    let here : Within name new.last d = within-further name reach new.last d there within in
     let all = within-next (Within name new.last) ds d (all-further name old.last new.last ds far l.within) here in
     record {
       holds = holds;

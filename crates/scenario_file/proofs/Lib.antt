@@ -1,5 +1,4 @@
 pub mod Numbers
-pub mod Turns
 pub mod Growth
 pub mod Frames
 pub mod Standing
@@ -7,6 +6,8 @@ pub mod Blanks
 pub mod Versions
 pub mod Texts
 pub mod Rounds
+pub mod Filled
+pub mod Masters
 pub mod Faultless
 pub mod Numerals
 pub mod Back

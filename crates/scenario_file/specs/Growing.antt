@@ -1,4 +1,4 @@
--- A list of values that grows at its end, and the text between its brackets.
+-- The text between the brackets of a list of values.
 use Rattle.std.specs.Prelude.{ℕ, zero, suc, List, [], ◌++◌, Bool, true, take, string_bytes}
 use Rattle.serde_json.specs.Data.{Items, no_items, item, object, no_members}
 use Rattle.serde_json.specs.Written.{comma_if, compact_text}
@@ -7,11 +7,6 @@ use Rattle.scenario_file.specs.declared.written.Written.{Written}
 -- a text: the first bytes of a part of the file, and what follows them
 abbrev pub written : Written → List ℕ
 written text = take text.len text.part.now ++ string_bytes text.further
-
--- these items, and then those
-abbrev pub both : Items → Items → Items
-both no_items more = more
-both (item d ds) more = item d (both ds more)
 
 -- the compact text of the items, with commas between, and one before the first where something stands before
 abbrev pub inner_text : Bool → Items → List ℕ

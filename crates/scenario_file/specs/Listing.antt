@@ -2,6 +2,7 @@
 use Rattle.std.specs.Prelude.{◌≡◌, ◌≤◌, ◌||◌, ℕ, Bool, true, false, if◌then◌else◌, List, [], ◌∷◌, ◌++◌, bytes_eq, codes, is_some, length, map}
 use Rattle.serde_json.specs.Data.{Data, Items, no_items, item}
 use Rattle.serde_json.specs.Find.{get}
+use Rattle.scenario_data.specs.declared.scenario.Entry.{Entry}
 use Rattle.scenario_data.specs.declared.scenario.Fault.{Fault}
 use Rattle.scenario_data.specs.declared.scenario.Input.{Input}
 use Rattle.scenario_data.specs.declared.scenario.PriorityItem.{PriorityItem}
@@ -10,17 +11,20 @@ use Rattle.scenario_read.specs.Paths.{Step, Named, then_item}
 use Rattle.scenario_read.specs.Kinds.{Kind, each, each_behind}
 use Rattle.scenario_read.specs.Fields.{object_of}
 use Rattle.scenario_read.specs.Readers.{load_cabinets}
-use Rattle.scenario_read.specs.Table.{cabinet, gain, lose, round, cabinet_number, input_shape, load_cabinet, load, priority_item, frame_shape, fault_shape}
-use Rattle.scenario_read.specs.Content.{number_at, each_of, cabinet_of, input_of, load_of, priority_of, frame_of, fault_of}
+use Rattle.scenario_read.specs.Table.{cabinet, gain, lose, entry_shape, round, cabinet_number, input_shape, load_cabinet, load, priority_item, frame_shape, fault_shape}
+use Rattle.scenario_read.specs.Content.{number_at, each_of, cabinet_of, entry_of, input_of, load_of, priority_of, frame_of, fault_of}
 use Rattle.scenario_file.specs.declared.found.Found.{Found}
-use Rattle.scenario_file.specs.declared.found.Found.TheVariants.{Cabinets, Inputs, Loads, Priority, Frames, Faults}
+use Rattle.scenario_file.specs.declared.found.Found.TheVariants.{Cabinets, Inputs, Loads, Priority, Frames, Faults, Schedule}
 use Rattle.scenario_file.specs.declared.found.Reach.{Reach}
 use Rattle.scenario_file.specs.declared.listed.Listed.{Listed}
 use Rattle.scenario_file.specs.Growing.{written, inner_text, follows}
 
--- where a list stands
+-- where a list at the top stands, and the schedule of the master
 abbrev pub list_path : List ℕ → List Step
 list_path name = Named name ∷ []
+
+abbrev pub schedule_path : List Step
+schedule_path = Named (codes "master") ∷ Named (codes "schedule") ∷ []
 
 -- cabinets of the version that has the most names, and items of the most rounds and cabinets that a scenario has
 abbrev pub any_cabinet : Kind
@@ -41,9 +45,12 @@ any_frame = object_of (frame_shape 86400 64)
 abbrev pub any_fault : Kind
 any_fault = object_of (fault_shape 86400 64)
 
--- the items of a list at this name are of the kind, at most so many, and these say the same
-pub record Told {A : Type 0} (name : List ℕ) (kind : Kind) (says : Data → A) (most : ℕ) (found : List A) (ds : Items) : Type 0 where
-  pub causes : each kind (list_path name) 0 ds ≡ []
+abbrev pub any_entry : Kind
+any_entry = object_of entry_shape
+
+-- the items of a list at this path are of the kind, at most so many, and these say the same
+pub record Told {A : Type 0} (path : List Step) (kind : Kind) (says : Data → A) (most : ℕ) (found : List A) (ds : Items) : Type 0 where
+  pub causes : each kind path 0 ds ≡ []
   pub said : found ≡ each_of says ds
   pub few : length found ≤ most
 
@@ -54,19 +61,22 @@ pub record ToldLoads (found : List LoadContent) (cabinets : List ℕ) (ds : Item
   pub whose : cabinets ≡ each_of (load_cabinet 64) ds
 
 abbrev pub ToldCabinets : List CabinetContent → Items → Type 0
-ToldCabinets = Told (codes "cabinets") any_cabinet (cabinet_of 2) 64
+ToldCabinets = Told (list_path (codes "cabinets")) any_cabinet (cabinet_of 2) 64
 
 abbrev pub ToldInputs : List Input → Items → Type 0
-ToldInputs = Told (codes "inputs") any_input (input_of 86400 64) 1000000
+ToldInputs = Told (list_path (codes "inputs")) any_input (input_of 86400 64) 1000000
 
 abbrev pub ToldPriority : List PriorityItem → Items → Type 0
-ToldPriority = Told (codes "priority") any_priority (priority_of 86400 64) 100000
+ToldPriority = Told (list_path (codes "priority")) any_priority (priority_of 86400 64) 100000
 
 abbrev pub ToldFrames : List FrameContent → Items → Type 0
-ToldFrames = Told (codes "frames") any_frame (frame_of 86400 64) 100000
+ToldFrames = Told (list_path (codes "frames")) any_frame (frame_of 86400 64) 100000
 
 abbrev pub ToldFaults : List Fault → Items → Type 0
-ToldFaults = Told (codes "faults") any_fault (fault_of 86400 64) 100000
+ToldFaults = Told (list_path (codes "faults")) any_fault (fault_of 86400 64) 100000
+
+abbrev pub ToldEntries : List Entry → Items → Type 0
+ToldEntries = Told schedule_path any_entry entry_of 1000
 
 -- what was found says what the items say, and these are without fault where the version has their names and there are rounds and cabinets enough
 abbrev pub Holds : Found → Items → Type 0
@@ -76,6 +86,7 @@ Holds (Loads found) ds = ToldLoads (map load_content found.items) (load_cabinets
 Holds (Priority found) ds = ToldPriority found.items ds
 Holds (Frames found) ds = ToldFrames (map frame_content found.items) ds
 Holds (Faults found) ds = ToldFaults found.items ds
+Holds (Schedule found) ds = ToldEntries found.items ds
 
 -- the name of a list
 abbrev pub name_of : Found → List ℕ
@@ -85,10 +96,11 @@ name_of (Loads found) = codes "loads"
 name_of (Priority found) = codes "priority"
 name_of (Frames found) = codes "frames"
 name_of (Faults found) = codes "faults"
+name_of (Schedule found) = codes "schedule"
 
 -- a value is one more item behind those of the list: it is of the kind, and says this
-pub record Adds {A : Type 0} (kind : Kind) (says : Data → A) (name : List ℕ) (most : ℕ) (old new : List A) (d : Data) : Type 0 where
-  pub causes : kind (then_item (list_path name) (length old)) d ≡ []
+pub record Adds {A : Type 0} (path : List Step) (kind : Kind) (says : Data → A) (most : ℕ) (old new : List A) (d : Data) : Type 0 where
+  pub causes : kind (then_item path (length old)) d ≡ []
   pub more : new ≡ old ++ says d ∷ []
   pub few : length new ≤ most
 
@@ -105,9 +117,14 @@ abbrev pub AsksWithin : Bool → Reach → Data → Type 0
 AsksWithin true reach d = asked_version d ≤ reach.version
 AsksWithin false reach d = InRounds reach.round reach.cabinet d
 
+-- an entry of a schedule asks for nothing
+abbrev pub UnlessEntry : Bool → Type 0 → Type 0
+UnlessEntry true P = Unit {0}
+UnlessEntry false P = P
+
 -- the same of an item of the list at a name
 abbrev pub Within : List ℕ → Reach → Data → Type 0
-Within name = AsksWithin (bytes_eq name (codes "cabinets"))
+Within name reach d = UnlessEntry (bytes_eq name (codes "schedule")) (AsksWithin (bytes_eq name (codes "cabinets")) reach d)
 
 -- each item is so
 abbrev pub AllOf : (Data → Type 0) → Items → Type 0

@@ -6,11 +6,13 @@ ghost use Rattle.serde_json.specs.Data.{Items, item, no_items, array};
 ghost use Rattle.serde_json.specs.Written.{has_float};
 ghost use Rattle.serde_json.specs.View.{view};
 ghost use Rattle.scenario_read.specs.Sorted.{Sorted};
-ghost use Rattle.scenario_file.specs.Growing.{both, blanks};
+ghost use Rattle.scenario_cut.specs.Growing.{both};
+ghost use Rattle.scenario_file.specs.Growing.{blanks};
 ghost use Rattle.scenario_file.specs.Listing.{Further, Holds, Within, asked_version, name_of};
 ghost use Rattle.scenario_file.specs.Framing.{Begins, stand_in};
 
-use scenario_data::{Cabinet, Fault, FrameItem, Input, LoadItem, PriorityItem};
+use crate::entries::entry_in;
+use scenario_data::{Cabinet, Entry, Fault, FrameItem, Input, LoadItem, PriorityItem};
 use scenario_read::{cabinet_in, fault_in, frame_in, input_in, load_in, priority_in};
 use serde_json::{Map, Value};
 use std::alloc::Global;
@@ -24,6 +26,7 @@ pub(crate) enum Found {
     Priority(Vec<PriorityItem>),
     Frames(Vec<FrameItem>),
     Faults(Vec<Fault>),
+    Schedule(Vec<Entry>),
 }
 
 /// What items ask for: a round and a cabinet, counted from 1, and a version of the scenario; 0 is none.
@@ -78,7 +81,7 @@ impl Reach {
     }
 }
 
-/// The list of this name, without items yet; none, where the name is not that of a list.
+/// The list of this name at the top, without items yet; none, where the name is not that of a list.
 pub(crate) fn list_named(alloc: Global, name: &str) -> Option<Found>
     ensures { Begins result name.now }
 {
@@ -278,6 +281,25 @@ fn add_fault(alloc: Global, object: &Value, faults: &mut Vec<Fault>) -> Option<R
     }
 }
 
+/// Adds an entry of the master's schedule, of a thousand at most. It asks for nothing.
+fn add_entry(alloc: Global, object: &Value, entries: &mut Vec<Entry>) -> Option<Reach>
+    ensures added { IfSome result (λ _. (ds : Items) → Holds (Found.Schedule entries.old) ds → Holds (Found.Schedule entries.new) (both ds (item (view object.now) no_items))) }
+    ensures floatless { IfSome result (λ _. Sorted (view object.now) → has_float (view object.now) ≡ false) }
+    ensures reach { IfSome result (λ reach. Within (name_of (Found.Schedule entries.old)) reach (view object.now)) }
+{
+    let place = entries.len();
+    if place >= 1000 {
+        return None;
+    }
+    let Ok(entry) = entry_in(alloc, object, place) else {
+        return None;
+    };
+    match entries.push(entry) {
+        Ok(()) => Some(Reach::none()),
+        Err(_) => None,
+    }
+}
+
 /// Adds an item to its list, and says what it asks for.
 pub(crate) fn add_item(alloc: Global, object: &Value, found: &mut Found) -> Option<Reach>
     ensures added { IfSome result (λ _. (ds : Items) → Holds found.old ds → Holds found.new (both ds (item (view object.now) no_items))) }
@@ -292,6 +314,7 @@ pub(crate) fn add_item(alloc: Global, object: &Value, found: &mut Found) -> Opti
         Found::Priority(priority) => add_priority(alloc, object, priority),
         Found::Frames(frames) => add_frame(alloc, object, frames),
         Found::Faults(faults) => add_fault(alloc, object, faults),
+        Found::Schedule(entries) => add_entry(alloc, object, entries),
     }
 }
 

@@ -1,17 +1,17 @@
 //! The items of a list, read one by one, with their compact text.
 
-ghost use Rattle.std.specs.Prelude.{◌≡◌, ◌<◌, length, Some, IfSome};
+ghost use Rattle.std.specs.Prelude.{◌≡◌, ◌<◌, ◌+◌, length, Some, IfSome};
 ghost use Rattle.json.specs.Json.{value, items};
-ghost use Rattle.serde_json.specs.Data.{Data, Items, item, no_items};
+ghost use Rattle.serde_json.specs.Data.{Data, Items, array, item, no_items};
 ghost use Rattle.serde_json.specs.Read.{of_json, of_items, converted};
-ghost use Rattle.scenario_file.specs.Growing.{both};
+ghost use Rattle.scenario_cut.specs.Growing.{both};
 ghost use Rattle.scenario_file.specs.Listing.{Holds, Lists, name_of};
 
 use crate::found::{Found, Reach, add_item};
 use crate::pieces::{comma, piece_of};
 use crate::trees::{ITEM, tree};
 use crate::written::Written;
-use json::Reader;
+use json::{Reader, Token};
 use std::alloc::Global;
 
 /// The items of a list, the compact text between its brackets, whether there is an item, and what the items ask for at
@@ -24,14 +24,19 @@ pub(crate) struct Listed<'a> {
     pub last: Reach,
 }
 
-/// Reads one more item: what it says, and its text behind those before.
-fn next_item(alloc: Global, reader: &mut Reader<'_>, listed: &mut Listed<'_>) -> Option<()>
-    ensures ok { IfSome result (λ _. (d : Data) × (converted of_json (value 125 reader.old) ≡ Some (d, reader.new))
+/// Reads one more item, nested at most so deep: what it says, and its text behind those before.
+fn next_item(
+    alloc: Global,
+    reader: &mut Reader<'_>,
+    depth: usize,
+    listed: &mut Listed<'_>,
+) -> Option<()>
+    ensures ok { IfSome result (λ _. (d : Data) × (converted of_json (value depth reader.old) ≡ Some (d, reader.new))
         × ((ds : Items) → Lists listed.old ds → Lists listed.new (both ds (item d no_items)))) }
     ensures list { name_of listed.new.found ≡ name_of listed.old.found }
     ensures shorter { IfSome result (λ _. length reader.new < length reader.old) }
 {
-    let object = tree(alloc, reader, 125, &ITEM)?;
+    let object = tree(alloc, reader, depth, &ITEM)?;
     let reach = add_item(alloc, &object, &mut listed.found)?;
     let piece = piece_of(alloc, &object)?;
     listed.text.add(comma(listed.some))?;
@@ -41,15 +46,16 @@ fn next_item(alloc: Global, reader: &mut Reader<'_>, listed: &mut Listed<'_>) ->
     Some(())
 }
 
-/// The items up to the bracket that closes their list, in this file.
-pub(crate) fn list_items<'a>(
+/// The items, each nested at most so deep, up to the bracket that closes their list, in this file.
+fn list_items<'a>(
     alloc: Global,
     reader: &mut Reader<'_>,
     found: Found,
+    depth: usize,
     file: &'a [u8],
 ) -> Option<Listed<'a>>
     requires begins { Holds found no_items }
-    ensures ok { IfSome result (λ listed. (ds : Items) × (converted of_items (items (value 125) (length reader.old) reader.old) ≡ Some (ds, reader.new))
+    ensures ok { IfSome result (λ listed. (ds : Items) × (converted of_items (items (value depth) (length reader.old) reader.old) ≡ Some (ds, reader.new))
         × Lists listed ds) }
     ensures list { IfSome result (λ listed. name_of listed.found ≡ name_of found) }
     ensures shorter { IfSome result (λ _. length reader.new < length reader.old) }
@@ -62,7 +68,29 @@ pub(crate) fn list_items<'a>(
         last: Reach::none(),
     };
     'items: while !reader.take_end_array() {
-        next_item(alloc, reader, &mut listed)?;
+        next_item(alloc, reader, depth, &mut listed)?;
     }
     Some(listed)
+}
+
+/// The list, where one is the reader's next value, with items that are nested at most so deep.
+pub(crate) fn list_at<'a>(
+    alloc: Global,
+    reader: &mut Reader<'_>,
+    found: Found,
+    depth: usize,
+    file: &'a [u8],
+) -> Option<Listed<'a>>
+    requires begins { Holds found no_items }
+    ensures ok { IfSome result (λ listed. (ds : Items) × (converted of_json (value (depth + 1) reader.old) ≡ Some (array ds, reader.new)) × Lists listed ds) }
+    ensures list { IfSome result (λ listed. name_of listed.found ≡ name_of found) }
+    ensures shorter { IfSome result (λ _. length reader.new < length reader.old) }
+{
+    match reader.next() {
+        Some(Token::BeginArray) => match list_items(alloc, reader, found, depth, file) {
+            Some(listed) => Some(listed),
+            None => None,
+        },
+        _ => None,
+    }
 }

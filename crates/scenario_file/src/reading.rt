@@ -2,18 +2,39 @@
 //! is kept on which its first fault may hang. The reader of the whole value is left what neither decides: a right scenario in
 //! which an earlier of equal names holds what none may hold.
 
-ghost use Rattle.std.specs.Prelude.{IfOk, IfErr, IfSome};
+ghost use Rattle.std.specs.Prelude.{◌≡◌, IfOk, IfErr, IfSome};
 ghost use Rattle.scenario_data.specs.Content.{scenario_content};
 ghost use Rattle.scenario_read.specs.Answers.{IsScenario, IsFirstFault, OnRefusal};
+ghost use Rattle.scenario_file.specs.Framing.{setup_with};
 
 use crate::compact::compact;
 use crate::lists::Lists;
 use crate::top::{Whole, whole_of};
 use scenario_cut::first_fault;
-use scenario_data::{ReadFail, Scenario};
+use scenario_data::{Cabinet, Entry, MasterSetup, ReadFail, Scenario};
 use scenario_read::{Parts, Setup, all_judged, checked_parts, scenario_from};
 use serde_json::Value;
 use std::alloc::Global;
+
+/// The same setup, with these cabinets and this schedule.
+fn with_found(setup: Setup, cabinets: Vec<Cabinet>, schedule: Vec<Entry>) -> Setup
+    ensures { result ≡ setup_with setup cabinets schedule }
+{
+    let Setup {
+        rounds,
+        ticks,
+        community,
+        master,
+        ..
+    } = setup;
+    Setup {
+        rounds,
+        ticks,
+        community,
+        cabinets,
+        master: MasterSetup { schedule, ..master },
+    }
+}
 
 /// A scenario that is right, where there is memory for it.
 pub(crate) fn scenario_of(alloc: Global, bytes: &[u8]) -> Option<Scenario>
@@ -24,6 +45,7 @@ pub(crate) fn scenario_of(alloc: Global, bytes: &[u8]) -> Option<Scenario>
     let Whole { frame, lists } = whole;
     let Lists {
         cabinets,
+        schedule,
         events,
         texts,
         last,
@@ -42,7 +64,7 @@ pub(crate) fn scenario_of(alloc: Global, bytes: &[u8]) -> Option<Scenario>
     }
     let parts = Parts {
         version,
-        setup: Setup { cabinets, ..setup },
+        setup: with_found(setup, cabinets, schedule),
         events,
     };
     Some(scenario_from(parts, text.into_bytes()))

@@ -113,7 +113,72 @@ fn cabinets_are_read_before_the_version(rt: HostRuntime) -> Result<(), Fail> {
     Ok(())
 }
 
-const GIVES_UP: [(&str, &str); 10] = [
+const SCHEDULE: &str =
+    "{\"master\" : { \"schedule\":[ {\"second\":86399 , \"section\":8,\"pattern\" : 255},\n{\"pattern\":1,\"second\":0,\"section\":1} ], \"retries\" : 2,\"clock\":5 },\"version\":1,\"cabinets\":[{}],\"rounds\":1,\"ticks\":1}";
+
+const SCHEDULE_COMPACT: &str =
+    "{\"cabinets\":[{}],\"master\":{\"clock\":5,\"retries\":2,\"schedule\":[{\"pattern\":255,\"second\":86399,\"section\":8},{\"pattern\":1,\"second\":0,\"section\":1}]},\"rounds\":1,\"ticks\":1,\"version\":1}";
+
+#[test]
+fn a_schedule_is_read_entry_by_entry(rt: HostRuntime) -> Result<(), Fail> {
+    let alloc = rt.alloc();
+    let Some(scenario) = scenario_of(alloc, SCHEDULE.as_bytes()) else {
+        return Err(Fail::from("not read in parts"));
+    };
+    assert!(rt; scenario.compact.as_slice() == SCHEDULE_COMPACT.as_bytes());
+    assert!(rt; scenario.master.clock == 5 && scenario.master.retries == 2);
+    let [late, early] = scenario.master.schedule.as_slice() else {
+        return Err(Fail::from("other entries"));
+    };
+    assert!(rt; late.second == 86_399 && late.section == 8 && late.pattern == 255);
+    assert!(rt; early.second == 0 && early.section == 1 && early.pattern == 1);
+    Ok(())
+}
+
+const MASTERS: [(&str, &str, usize); 3] = [
+    (
+        "{\"master\":{\"schedule\":[{\"pattern\":1,\"second\":0,\"section\":1}]},\"cabinets\":[{}],\"rounds\":1,\"master\":{\"poll_every\":9},\"ticks\":1,\"version\":1}",
+        "{\"cabinets\":[{}],\"master\":{\"poll_every\":9},\"rounds\":1,\"ticks\":1,\"version\":1}",
+        0,
+    ),
+    (
+        "{\"master\":{\"schedule\":[{\"pattern\":1,\"second\":0,\"section\":1}],\"schedule\":[]},\"cabinets\":[{}],\"rounds\":1,\"ticks\":1,\"version\":1}",
+        "{\"cabinets\":[{}],\"master\":{\"schedule\":[]},\"rounds\":1,\"ticks\":1,\"version\":1}",
+        0,
+    ),
+    (
+        "{\"master\":{},\"cabinets\":[{}],\"rounds\":1,\"ticks\":1,\"version\":1,\"master\":{\"schedule\":[],\"schedule\":[{\"section\":3,\"pattern\":7,\"second\":60,\"second\":61}]}}",
+        "{\"cabinets\":[{}],\"master\":{\"schedule\":[{\"pattern\":7,\"second\":61,\"section\":3}]},\"rounds\":1,\"ticks\":1,\"version\":1}",
+        1,
+    ),
+];
+
+#[test]
+fn the_last_master_and_its_last_schedule_count(rt: HostRuntime) -> Result<(), Fail> {
+    let alloc = rt.alloc();
+    for (text, compact, entries) in &MASTERS {
+        let Some(scenario) = scenario_of(alloc, text.as_bytes()) else {
+            return Err(Fail::from("not read in parts"));
+        };
+        assert!(rt; scenario.compact.as_slice() == compact.as_bytes());
+        assert!(rt; scenario.master.schedule.len() == *entries);
+    }
+    Ok(())
+}
+
+const GIVES_UP: [(&str, &str); 13] = [
+    (
+        "{\"cabinets\":[{}],\"master\":{\"schedule\":[{\"pattern\":1,\"second\":0,\"section\":1},{\"pattern\":1,\"second\":0,\"section\":9}]},\"rounds\":1,\"ticks\":1,\"version\":1}",
+        "limit master.schedule[1].section",
+    ),
+    (
+        "{\"cabinets\":[{}],\"master\":{\"retry\":1,\"schedule\":[]},\"rounds\":1,\"ticks\":1,\"version\":1}",
+        "field master.retry",
+    ),
+    (
+        "{\"cabinets\":[{}],\"master\":{\"schedule\":5},\"rounds\":1,\"ticks\":1,\"version\":1}",
+        "field master.schedule",
+    ),
     (
         "{\"cabinets\":[{\"gain\":12000}],\"rounds\":1,\"ticks\":1,\"version\":1}",
         "field cabinets[0].gain",

@@ -1,19 +1,20 @@
 //! The whole text of a scenario: an object whose lists are read item by item, and whose other members become a tree, with
 //! a list of empty objects where the cabinets stand, and an empty list where another list does.
 
-ghost use Rattle.std.specs.Prelude.{◌≡◌, ◌<◌, ℕ, List, length, Some, IfSome, IsUtf8};
+ghost use Rattle.std.specs.Prelude.{◌≡◌, ◌<◌, ℕ, List, true, length, Some, IfSome, IsUtf8, codes};
 ghost use Rattle.json.specs.Json.{value, members};
-ghost use Rattle.serde_json.specs.Data.{Items, array, object, no_members, no_items};
+ghost use Rattle.serde_json.specs.Data.{Data, Items, object, no_members, no_items};
 ghost use Rattle.serde_json.specs.Read.{of_json, of_members, converted, read};
 ghost use Rattle.serde_json.specs.View.{view, members_view};
-ghost use Rattle.scenario_read.specs.Sorted.{MembersSorted};
-ghost use Rattle.scenario_file.specs.Listing.{Holds, Lists as ListsItems, name_of};
-ghost use Rattle.scenario_file.specs.Framing.{with_lists, AllStand};
+ghost use Rattle.scenario_read.specs.Sorted.{Sorted, MembersSorted};
+ghost use Rattle.scenario_file.specs.Listing.{Holds, name_of};
+ghost use Rattle.scenario_file.specs.Framing.{is_list, with_lists, Puts, AllStand};
 
 use crate::found::{Found, list_named, stand_in};
-use crate::listed::{Listed, list_items};
+use crate::listed::list_at;
 use crate::lists::{Lists, no_lists, put_list};
-use crate::trees::{BESIDE, put_member, tree};
+use crate::master::{Master, master_at};
+use crate::trees::{put_member, tree};
 use json::{Reader, Scratch, Token};
 use serde_json::{Map, Value};
 use std::alloc::Global;
@@ -25,25 +26,67 @@ pub(crate) struct Whole<'a> {
     pub lists: Lists<'a>,
 }
 
-/// The list, where one is the reader's next value.
-fn list_at<'a>(
+/// Reads a list, and gives what stands for it.
+fn list_member<'a>(
     alloc: Global,
     reader: &mut Reader<'_>,
     found: Found,
+    lists: &mut Lists<'a>,
     file: &'a [u8],
-) -> Option<Listed<'a>>
+) -> Option<Value>
+    requires top { is_list (name_of found) ≡ true }
     requires begins { Holds found no_items }
-    ensures ok { IfSome result (λ listed. (ds : Items) × (converted of_json (value 126 reader.old) ≡ Some (array ds, reader.new))
-        × ListsItems listed ds) }
-    ensures list { IfSome result (λ listed. name_of listed.found ≡ name_of found) }
+    ensures ok { IfSome result (λ v. (d : Data) × (converted of_json (value 126 reader.old) ≡ Some (d, reader.new)) × Puts lists.old lists.new (name_of found) d (view v)) }
+    ensures sorted { IfSome result (λ v. Sorted (view v)) }
     ensures shorter { IfSome result (λ _. length reader.new < length reader.old) }
 {
-    match reader.next() {
-        Some(Token::BeginArray) => match list_items(alloc, reader, found, file) {
-            Some(listed) => Some(listed),
-            None => None,
-        },
-        _ => None,
+    let listed = list_at(alloc, reader, found, 125, file)?;
+    let standing = stand_in(alloc, &listed.found)?;
+    put_list(lists, listed);
+    Some(standing)
+}
+
+/// Reads the master, and gives what stands for it.
+fn master_member<'a>(
+    alloc: Global,
+    reader: &mut Reader<'_>,
+    lists: &mut Lists<'a>,
+    file: &'a [u8],
+) -> Option<Value>
+    ensures ok { IfSome result (λ v. (d : Data) × (converted of_json (value 126 reader.old) ≡ Some (d, reader.new)) × Puts lists.old lists.new (codes "master") d (view v)) }
+    ensures sorted { IfSome result (λ v. Sorted (view v)) }
+    ensures shorter { IfSome result (λ _. length reader.new < length reader.old) }
+{
+    let master = master_at(alloc, reader, file)?;
+    let Master { members, schedule } = master;
+    put_list(lists, schedule);
+    Some(Value::Object(members))
+}
+
+/// Reads what stands at the next name, and gives what stands for it in the frame.
+fn member_at<'a>(
+    alloc: Global,
+    reader: &mut Reader<'_>,
+    name: &str,
+    lists: &mut Lists<'a>,
+    file: &'a [u8],
+) -> Option<Value>
+    ensures ok { IfSome result (λ v. (d : Data) × (converted of_json (value 126 reader.old) ≡ Some (d, reader.new)) × Puts lists.old lists.new name.now d (view v)) }
+    ensures sorted { IfSome result (λ v. Sorted (view v)) }
+    ensures shorter { IfSome result (λ _. length reader.new < length reader.old) }
+{
+    match list_named(alloc, name) {
+        Some(found) => list_member(alloc, reader, found, lists, file),
+        None => {
+            if name == "master" {
+                master_member(alloc, reader, lists, file)
+            } else {
+                match tree(alloc, reader, 126, &[]) {
+                    Some(value) => Some(value),
+                    None => None,
+                }
+            }
+        }
     }
 }
 
@@ -66,21 +109,8 @@ fn members_of<'a>(alloc: Global, reader: &mut Reader<'_>, file: &'a [u8]) -> Opt
             Ok(key) => key,
             Err(_) => return None,
         };
-        match list_named(alloc, name) {
-            Some(found) => {
-                let listed = list_at(alloc, reader, found, file)?;
-                let standing = stand_in(alloc, &listed.found)?;
-                put_list(&mut lists, listed);
-                match put_member(&mut frame, key, standing) {
-                    Some(()) => {}
-                    None => return None,
-                }
-            }
-            None => {
-                let value = tree(alloc, reader, 126, &BESIDE)?;
-                put_member(&mut frame, key, value)?;
-            }
-        }
+        let value = member_at(alloc, reader, name, &mut lists, file)?;
+        put_member(&mut frame, key, value)?;
     }
 }
 

@@ -22,9 +22,6 @@ pub(crate) enum Level {
 /// An item of a list: an object, in which the cells of a cabinet or a load are lists of a list.
 pub(crate) const ITEM: [Level; 3] = [Level::Members, Level::Items(4096), Level::Items(8)];
 
-/// What stands beside the lists: the master is an object, with a list of objects for a schedule.
-pub(crate) const BESIDE: [Level; 3] = [Level::Members, Level::Items(1000), Level::Members];
-
 /// How many items an array may have at the first level, and the levels below; none, where no array may open.
 fn items_below(levels: &[Level]) -> Option<(usize, &[Level])> {
     match levels {

@@ -1,10 +1,9 @@
-use Rattle.std.proofs.Common.{rules, ◌≡◌, ◌∷◌, ◌++◌, [], true, false, string_bytes, sym, ap, ◌∙◌, subst}
+use Rattle.std.proofs.Common.{rules, ◌≡◌, ◌∷◌, ◌++◌, [], false, string_bytes, ap, ◌∙◌}
 use Rattle.json.specs.Print.{quoted}
 use Rattle.serde_json.specs.Data.{member}
 use Rattle.serde_json.specs.View.{view, members_view}
 use Rattle.serde_json.specs.Written.{comma_if, members_text, compact_text}
-use Rattle.scenario_file.specs.Growing.{inner_text}
-use Rattle.scenario_file.specs.Framing.{is_list, text_named, value_in, with_lists}
+use Rattle.scenario_file.specs.Framing.{value_in, with_lists}
 use Rattle.scenario_file.proofs.Texts.{one-member}
 use Rattle.scenario_file.proofs.compact.compact.Goals as goal
 
@@ -17,9 +16,8 @@ loop-name-preserved c = λ rows is plain.
     let rest = members_view c.next.new.self in
     let first : members_view l.name-iterator ≡ member name d rest = search rules in
     let called : c.as_str-in-loop-name.result.now ≡ name = c.as_str-in-loop-name.ensures.value in
-    let here = subst (λ n. is_list n ≡ true → text_named c.args.texts.now n ≡ inner_text false (rows n)) (sym called) (is name) in
     let whole = 123 ∷ members_text false (with_lists rows (members_view c.args.frame.now.entries)) in
-    one-member rows name d rest (members_view l.name-iterator) l.later (string_bytes l.text) (string_bytes c.add_name.new.text) (string_bytes c.add_member.new.text) whole
+    one-member (value_in rows) name d rest (members_view l.name-iterator) l.later (string_bytes l.text) (string_bytes c.add_name.new.text) (string_bytes c.add_member.new.text) whole
     first so-far.0 so-far.1
     (c.in_ok-add_name.ensures ∙ ap (λ n. ((string_bytes l.text ++ comma_if l.later) ++ quoted n) ++ 58 ∷ []) c.as_str.ensures.value)
-    (λ none. c.in_ok-add_member.ensures rows here none ∙ ap (λ n. string_bytes c.add_name.new.text ++ compact_text (value_in rows n d)) called)
+    (λ none. c.in_ok-add_member.ensures rows is none ∙ ap (λ n. string_bytes c.add_name.new.text ++ compact_text (value_in rows n d)) called)

@@ -22,7 +22,7 @@ returns-clause-added c = λ ds told.
     let more : new ≡ old ++ cabinet_of 2 d ∷ [] =
     ap (map cabinet_content) c.in_ok-push_cabinet.ensures ∙ map-more cabinet_content items c.in-Ok.cabinet ∙ ap (λ i. old ++ i ∷ []) c.in-Ok.ensures.1 in
     let few : length new ≤ 64 = rw more (omega (arith, placed, length-append old (cabinet_of 2 d ∷ []), c.if-place-ge64.false)) in
-    told-next (codes "cabinets") any_cabinet (cabinet_of 2) 64 old new ds d told
+    told-next (list_path (codes "cabinets")) any_cabinet (cabinet_of 2) 64 old new ds d told
     record { causes = subst (λ n. any_cabinet (then_item (list_path (codes "cabinets")) n) d ≡ []) placed c.in-Ok.ensures.0; more = more; few = few }
 
 pub returns-clause-floatless : goal.returns-clause-floatless

@@ -17,7 +17,7 @@ returns-in-Ok-push-clause-added c = λ ds told.
     let counted : place ≡ length old = search rules in
     let more : new ≡ old ++ fault_of 86400 64 d ∷ [] = c.in-Ok-push.ensures.items ∙ ap (λ i. old ++ i ∷ []) c.in-Ok.ensures.1 in
     let few : length new ≤ 100000 = rw more (omega (arith, counted, length-append old (fault_of 86400 64 d ∷ []), c.if-place-ge100000.false)) in
-    told-next (codes "faults") any_fault (fault_of 86400 64) 100000 old new ds d told
+    told-next (list_path (codes "faults")) any_fault (fault_of 86400 64) 100000 old new ds d told
     record { causes = subst (λ n. any_fault (then_item (list_path (codes "faults")) n) d ≡ []) counted c.in-Ok.ensures.0; more = more; few = few }
 
 pub returns-in-Ok-push-clause-floatless : goal.returns-in-Ok-push-clause-floatless

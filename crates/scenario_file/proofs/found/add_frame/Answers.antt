@@ -22,7 +22,7 @@ returns-clause-added c = λ ds told.
     let more : new ≡ old ++ frame_of 86400 64 d ∷ [] =
     ap (map frame_content) c.in_ok-push_frame.ensures ∙ map-more frame_content items c.in-Ok.frame ∙ ap (λ i. old ++ i ∷ []) c.in-Ok.ensures.1 in
     let few : length new ≤ 100000 = rw more (omega (arith, placed, length-append old (frame_of 86400 64 d ∷ []), c.if-place-ge100000.false)) in
-    told-next (codes "frames") any_frame (frame_of 86400 64) 100000 old new ds d told
+    told-next (list_path (codes "frames")) any_frame (frame_of 86400 64) 100000 old new ds d told
     record { causes = subst (λ n. any_frame (then_item (list_path (codes "frames")) n) d ≡ []) placed c.in-Ok.ensures.0; more = more; few = few }
 
 pub returns-clause-floatless : goal.returns-clause-floatless

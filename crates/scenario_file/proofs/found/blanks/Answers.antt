@@ -3,8 +3,8 @@ use Rattle.serde_json.specs.Data.{object, item, no_items, no_members}
 use Rattle.serde_json.specs.View.{view, items_view, members_view}
 use Rattle.serde_json.specs.declared.value.Value.{Object}
 use Rattle.serde_json.proofs.Views.{view-Object}
-use Rattle.scenario_file.specs.Growing.{both}
-use Rattle.scenario_file.proofs.Turns.{both-push}
+use Rattle.scenario_cut.specs.Growing.{both}
+use Rattle.scenario_cut.proofs.Turns.{both-push}
 use Rattle.scenario_file.proofs.Blanks.{blanks-next}
 use Rattle.scenario_file.proofs.found.blanks.Goals as goal
 

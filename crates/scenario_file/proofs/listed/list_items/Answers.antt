@@ -2,18 +2,18 @@ use Rattle.std.proofs.Common.{◌≡◌, ◌<◌, ◌-◌, Some, None, length, r
 use Rattle.json.specs.Json.{value, items, parse_map, after_end_array}
 use Rattle.serde_json.specs.Data.{no_items, item}
 use Rattle.serde_json.specs.Read.{of_items, converted}
-use Rattle.scenario_file.specs.Growing.{both}
-use Rattle.scenario_file.proofs.Turns.{item_read, items_over, both-end, one_more, none_before}
+use Rattle.scenario_cut.specs.Growing.{both}
+use Rattle.scenario_cut.proofs.Turns.{item_read, items_over, both-end, one_more, none_before}
 use Rattle.scenario_file.proofs.listed.list_items.Goals as goal
 
 pub items-init : goal.items-init
 items-init c =
-    let all = converted of_items (items (value 125) (length c.args.reader.now) c.args.reader.now) in
+    let all = converted of_items (items (value c.args.depth) (length c.args.reader.now) c.args.reader.now) in
     (length c.args.reader.now, no_items, omega arith, none_before all, omega arith, record { holds = c.requires.begins; text = c.in_ok-text.ensures; some = refl; within = tt }, refl)
 
 pub items-preserved : goal.items-preserved
 items-preserved c =
-    let p = value 125 in
+    let p = value c.args.depth in
     let l = c.items in
     let n = l.invariant.0 in
     let ds = l.invariant.1 in
@@ -34,7 +34,7 @@ items-preserved c =
 
 pub returns-clause-ok : goal.returns-clause-ok
 returns-clause-ok c =
-    let p = value 125 in
+    let p = value c.args.depth in
     let l = c.items in
     let n = l.invariant.0 in
     let ds = l.invariant.1 in

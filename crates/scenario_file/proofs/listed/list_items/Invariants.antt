@@ -2,7 +2,7 @@ use Rattle.std.proofs.Common.{◌≡◌, ℕ, ◌≤◌, length}
 use Rattle.json.specs.Json.{items, value, parse_map}
 use Rattle.serde_json.specs.Data.{Items}
 use Rattle.serde_json.specs.Read.{of_items, converted}
-use Rattle.scenario_file.specs.Growing.{both}
+use Rattle.scenario_cut.specs.Growing.{both}
 use Rattle.scenario_file.specs.Listing.{Lists, name_of}
 use Rattle.scenario_file.proofs.listed.list_items.Given as goal
 
@@ -10,7 +10,7 @@ use Rattle.scenario_file.proofs.listed.list_items.Given as goal
 abbrev pub invariant-items : goal.invariant-items
 invariant-items l =
     (n : ℕ) × (ds : Items) × (length l.reader ≤ n)
-    × (converted of_items (items (value 125) (length l.fn.reader) l.fn.reader) ≡ parse_map (both ds) (converted of_items (items (value 125) n l.reader)))
+    × (converted of_items (items (value l.depth) (length l.fn.reader) l.fn.reader) ≡ parse_map (both ds) (converted of_items (items (value l.depth) n l.reader)))
     × (length l.reader ≤ length l.fn.reader)
     × Lists l.listed ds
     × (name_of l.listed.found ≡ name_of l.fn.found)

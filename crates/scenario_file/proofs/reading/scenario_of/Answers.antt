@@ -40,7 +40,8 @@ returns-clause-scenario c =
     let judged : all_table_faults 1 (map cabinet_content lists.cabinets.items) ≡ [] = c.in-Ok-all_judged.ensures.0 in
     let text-is : members_have_float ms ≡ false → text ≡ compact_text (object (with_lists rows ms)) = λ plain. c.in_ok-text.ensures rows (texts-stand lists ms rows seen.ok.2) plain in
     let content-is : scenario_content c.scenario_from.result ≡ content_from (with_found parts lists) text =
-    c.scenario_from.ensures.content ∙ ap (λ v. content_from (with_found parts lists) v.items) c.into_bytes.ensures.value in
+    c.scenario_from.ensures.content ∙ ap (λ setup. content_from record { version = parts.version; setup = setup; events = lists.events } c.into_bytes.result.items) c.with_found.ensures
+    ∙ ap (λ v. content_from (with_found parts lists) v.items) c.into_bytes.ensures.value in
     (both-read c.args.bytes.now text parts lists ms rows (scenario_content c.scenario_from.result) seen.utf8 seen.ok.1 seen.sorted seen.ok.2 none says (c.lies_within.ensures.version inside) round cabinet judged
     (IsUtf8-string_bytes c.in_ok-text.text) text-is content-is).0
 
@@ -63,7 +64,8 @@ returns-clause-reads_back c =
     let judged : all_table_faults 1 (map cabinet_content lists.cabinets.items) ≡ [] = c.in-Ok-all_judged.ensures.0 in
     let text-is : members_have_float ms ≡ false → text ≡ compact_text (object (with_lists rows ms)) = λ plain. c.in_ok-text.ensures rows (texts-stand lists ms rows seen.ok.2) plain in
     let content-is : scenario_content c.scenario_from.result ≡ content_from (with_found parts lists) text =
-    c.scenario_from.ensures.content ∙ ap (λ v. content_from (with_found parts lists) v.items) c.into_bytes.ensures.value in
+    c.scenario_from.ensures.content ∙ ap (λ setup. content_from record { version = parts.version; setup = setup; events = lists.events } c.into_bytes.result.items) c.with_found.ensures
+    ∙ ap (λ v. content_from (with_found parts lists) v.items) c.into_bytes.ensures.value in
     let both = both-read c.args.bytes.now text parts lists ms rows (scenario_content c.scenario_from.result) seen.utf8 seen.ok.1 seen.sorted seen.ok.2 none says (c.lies_within.ensures.version inside) round cabinet judged
     (IsUtf8-string_bytes c.in_ok-text.text) text-is content-is in
     let written : text ≡ c.scenario_from.result.compact.items = sym (ap (λ v. v.items) (c.scenario_from.ensures.text ∙ c.into_bytes.ensures.value)) in

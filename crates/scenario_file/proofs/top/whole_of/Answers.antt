@@ -8,7 +8,7 @@ use Rattle.serde_json.specs.Data.{object}
 use Rattle.serde_json.specs.Read.{of_json, converted, read}
 use Rattle.serde_json.specs.View.{members_view}
 use Rattle.scenario_file.specs.Framing.{with_lists}
-use Rattle.scenario_file.proofs.Turns.{converted-object, whole_read}
+use Rattle.scenario_cut.proofs.Turns.{converted-object, whole_read}
 use Rattle.scenario_file.proofs.top.whole_of.Goals as goal
 
 pub returns-clause-ok : goal.returns-clause-ok

@@ -8,8 +8,8 @@ use Rattle.serde_json.specs.Read.{of_json, of_items, of_members, converted}
 use Rattle.serde_json.specs.View.{view, number_view, items_view, members_view}
 use Rattle.serde_json.specs.declared.value.Value.{String, Number, Bool, Null, the_lemmas}
 use Rattle.serde_json.proofs.Views.{view-Array, view-Object}
-use Rattle.scenario_file.specs.Growing.{both}
-use Rattle.scenario_file.proofs.Turns.{converted-array, converted-object, item_read, items_over, member_read, members_over, both-end, one_more, both-push}
+use Rattle.scenario_cut.specs.Growing.{both}
+use Rattle.scenario_cut.proofs.Turns.{converted-array, converted-object, item_read, items_over, member_read, members_over, both-end, one_more, both-push}
 use Rattle.scenario_file.proofs.trees.+tree.Goals as goal
 
 pub tree-returns-in-Ok-clause-ok : goal.tree-returns-in-Ok-clause-ok

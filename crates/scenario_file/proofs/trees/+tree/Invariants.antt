@@ -3,7 +3,7 @@ use Rattle.json.specs.Json.{items, members, value, parse_map}
 use Rattle.serde_json.specs.Data.{no_members}
 use Rattle.serde_json.specs.Read.{of_items, of_members, converted}
 use Rattle.serde_json.specs.View.{items_view, members_view}
-use Rattle.scenario_file.specs.Growing.{both}
+use Rattle.scenario_cut.specs.Growing.{both}
 use Rattle.scenario_file.proofs.trees.+tree.Given as goal
 
 abbrev pub decreases-tree : goal.decreases-tree
