@@ -1,2 +1,3 @@
 pub mod Limits
 pub mod Stands
+pub mod Passed

@@ -8,6 +8,7 @@ ghost use Rattle.std.specs.Prelude.{◌≡◌, ◌<◌, ◌≤◌, ◌-◌, ◌+
 use sig_tables::Plan;
 
 mod limits;
+mod passing;
 
 use limits::{ADD_ONLY, DWELL, SHORTWAY};
 pub use limits::{Limits, needed};

@@ -1,11 +1,16 @@
 //! Ticks that are passed over at once. No register moves while no request is active.
 
-ghost use Rattle.std.specs.Prelude.{IsTrue};
+ghost use Rattle.std.specs.Prelude.{◌≡◌, ◌<◌, ℕ, IsTrue};
 
 use crate::Queue;
 
 impl Queue {
+    ghost use Rattle.sig_types.specs.declared.frame.Mode.TheVariants.{Coord};
+    ghost use Rattle.sig_tables.specs.declared.tables.Tables.{Tables};
+    ghost use Rattle.sig_tables.specs.Past.{Past};
+    ghost use Rattle.sig_tables.specs.Priority.{active_in};
     ghost use Rattle.prio_queue.specs.Idle.{IsIdle};
+    ghost use Rattle.prio_queue.specs.Stands.{QueueStands};
 
     /// Whether no request was active at the last tick, or the one that was has been replaced since.
     pub fn is_idle(&self) -> bool
@@ -15,5 +20,13 @@ impl Queue {
             None => true,
             Some(_) => false,
         }
+    }
+
+    /// Whether no request is active at any tick that comes after so many, since all have departed.
+    pub fn is_over(&self, tick: u32) -> bool
+        ensures over { (past : Past) (t : Tables) (n number : ℕ) → QueueStands self.now past → IsTrue result → tick < number
+            → active_in t (Coord n) number past.asked ≡ 0 }
+    {
+        self.until <= u64::from(tick)
     }
 }
