@@ -1,4 +1,4 @@
--- At rest a tick gives the last frame again.
+-- A tick gives again what the last frame shows: at rest, and wherever nothing ends and nothing begins.
 use Rattle.std.proofs.Common.{◌||◌, inl, inr, ◌≡◌, ◌≢◌, ◌==◌, ◌&&◌, not, ℕ, Bool, true, false, if◌then◌else◌, List, [], ◌∷◌, map, length, Option, None, refl, sym, ◌∙◌, ap}
 use Rattle.std.proofs.lemmas.Bool.{false≢true, ne_eqb, cases_Bool}
 use Rattle.sig_types.specs.declared.frame.Colour.{Colour}
@@ -26,13 +26,14 @@ use Rattle.sig_tables.specs.Course.{Turn, Rings, turn_of, course_of}
 use Rattle.sig_tables.specs.Walking.{Crossing, has_walk, walk_begins}
 use Rattle.sig_tables.specs.Moves.{Moves, ring_moves}
 use Rattle.sig_tables.specs.View.{is_open, is_done, ended_of}
-use Rattle.sig_tables.specs.Ticking.{moves_of, colours_of, frame_of, frame_with, next_moment}
+use Rattle.sig_tables.specs.Ticking.{on_of, moves_of, colours_of, frame_of, frame_with, next_moment}
 use Rattle.sig_tables.specs.Seen.{frame_seen, mode_seen, view_seen, moves_seen, sight_seen, demand_with, pedestrian_seen, opposed_seen}
 use Rattle.call_store.proofs.Listed.{none-has}
 use Rattle.controller.specs.Modes.{is_free}
 use Rattle.controller.specs.Shows.{is_clearing, is_signalling}
 use Rattle.controller.specs.Walks.{crossing_seen, walk_after, signal_seen}
 use Rattle.controller.specs.Rests.{IsCurrent}
+use Rattle.controller.specs.Passed.{timed}
 use Rattle.controller.proofs.Colours.{still-colours}
 use Rattle.controller.proofs.Signals.{still-signals}
 use Rattle.controller.proofs.Frames.{frame-parts}
@@ -81,7 +82,7 @@ pub rings-turn : (t : Tables) (past : List Moment) (mode : Mode) → (last_frame
 rings-turn t past mode was e = rw (was, e) refl
 
 -- no walk begins on a phase that keeps its colour, but on one in Green with Dont that is called to and isn't opposed
-no-walk : (c : Crossing) (mode : Mode) (p : ℕ) (before after : Colour) (signal : Ped) → mode ≡ Free → after ≡ before
+pub no-walk : (c : Crossing) (mode : Mode) (p : ℕ) (before after : Colour) (signal : Ped) → mode ≡ Free → after ≡ before
     → ((has_walk c.tables p && is_in c.pedestrian p)
     && ((same_colour before Green && not (same_signal signal Walk || same_signal signal Flash)) && not (is_in c.opposed p))) ≡ false
     → walk_begins c mode p before after signal ≡ false
@@ -112,7 +113,7 @@ unopposed t f demand p h e =
     never true = refl
     never false = refl
 
-abbrev no-moves : Moves
+abbrev pub no-moves : Moves
 no-moves = record { ends = []; begins = [] }
 
 -- what both rings do, where nothing has demand and neither is open
@@ -139,44 +140,82 @@ no-counter past e = rw e refl
 pub no-target : (past : Past) → mode_seen past ≡ Free → (course_of past).target ≡ 0
 no-target past e = rw e refl
 
--- the last frame comes again where its colours and its signals do
+-- what the last frame shows comes again, with the counter and the target of the tick, where its colours and its signals do
+pub frame-like : (past : Past) (mode : Mode) → (frame_seen past).version ≡ past.version
+    → (frame_seen past).on ≡ on_of past.tables (frame_seen past).veh 1 ∷ on_of past.tables (frame_seen past).veh 2 ∷ []
+    → (frame_seen past).mode ≡ mode → mode_seen past ≡ mode → mode_reached mode past.tables (frame_seen past).veh ≡ mode
+    → (frame_seen past).veh ≡ colours_of past (moves_seen past)
+    → (frame_seen past).ped ≡ map (λ p. if walk_after past mode (colours_of past (moves_seen past)) p then Walk else signal_seen past p) all_phases
+    → (next_moment past).frame ≡ timed true (course_of past).counter (course_of past).target (frame_seen past)
+frame-like past mode version on was now reached veh ped =
+    let f : Frame = frame_seen past in
+    let at : f.ped ≡ map (λ (p : ℕ). if walk_after past f.mode f.veh p then Walk else signal_seen past p) all_phases =
+    ped
+    ∙ ap (λ (x : List Colour). map (λ (p : ℕ). if walk_after past mode x p then Walk else signal_seen past p) all_phases) (sym veh)
+    ∙ ap (λ (x : Mode). map (λ (p : ℕ). if walk_after past x f.veh p then Walk else signal_seen past p) all_phases) (sym was) in
+    let same : f.mode ≡ mode_reached (mode_seen past) past.tables f.veh =
+    was ∙ sym reached ∙ sym (ap (λ (m : Mode). mode_reached m past.tables f.veh) now) in
+    sym (parts f _ _ (course_of past).counter (course_of past).target on
+    ∙ frame-parts past f.mode f.veh f.ped _ _ (course_of past).counter (course_of past).target f.version at refl refl refl refl version
+    ∙ ap (λ (m : Mode). frame_of (course_of past) past (sight_seen past) f.veh m) same
+    ∙ ap (λ (x : List Colour). frame_with (course_of past) past (sight_seen past) x) veh)
+  where
+    parts : (f : Frame) (one two counter target : ℕ) → f.on ≡ one ∷ two ∷ [] → timed true counter target f ≡ record {
+      veh = f.veh;
+      ped = f.ped;
+      on = one ∷ two ∷ [];
+      mode = f.mode;
+      counter = counter;
+      target = target;
+      version = f.version;
+    }
+    parts f one two counter target e = ap (λ (on : List ℕ). record {
+      veh = f.veh;
+      ped = f.ped;
+      on = on;
+      mode = f.mode;
+      counter = counter;
+      target = target;
+      version = f.version;
+    }) e
+
+-- and so they do where what clears or signals goes on with it, no phase ends or begins, and no walk begins
+pub frame-going : (past : Past) (mode : Mode) → (frame_seen past).version ≡ past.version
+    → (frame_seen past).on ≡ on_of past.tables (frame_seen past).veh 1 ∷ on_of past.tables (frame_seen past).veh 2 ∷ []
+    → (frame_seen past).mode ≡ mode → mode_seen past ≡ mode → mode_reached mode past.tables (frame_seen past).veh ≡ mode
+    → moves_seen past ≡ record { ends = []; begins = [] }
+    → length (frame_seen past).veh ≡ 16 → length (frame_seen past).ped ≡ 16
+    → ((p : ℕ) → is_phase p ≡ true → is_clearing (frame_seen past).veh p ≡ true
+    → runs_on p past.tables past.moments (colour_of (frame_seen past) p) ≡ colour_of (frame_seen past) p)
+    → ((p : ℕ) → is_phase p ≡ true → is_signalling (frame_seen past) p ≡ true → signal_seen past p ≡ signal_of (frame_seen past) p)
+    → ((p : ℕ) → is_phase p ≡ true → walk_after past mode (frame_seen past).veh p ≡ false)
+    → (next_moment past).frame ≡ timed true (course_of past).counter (course_of past).target (frame_seen past)
+frame-going past mode version on was now reached moves wide long clear dark walks =
+    let f : Frame = frame_seen past in
+    let still : f.veh ≡ colours_of past no-moves = still-colours past no-moves f.veh wide refl (λ p h. refl) (λ p h. refl) clear in
+    let veh : f.veh ≡ colours_of past (moves_seen past) = still ∙ ap (λ (w : Moves). colours_of past w) (sym moves) in
+    let ped : f.ped ≡ map (λ (p : ℕ). if walk_after past mode f.veh p then Walk else signal_seen past p) all_phases =
+    still-signals past (walk_after past mode f.veh) f.ped long refl walks dark in
+    frame-like past mode version on was now reached veh
+    (ped ∙ ap (λ (x : List Colour). map (λ (p : ℕ). if walk_after past mode x p then Walk else signal_seen past p) all_phases) veh)
+
+-- a frame of Free has no counter and no target
+timed-free : (past : Past) → IsCurrent past → mode_seen past ≡ Free
+    → timed true (course_of past).counter (course_of past).target (frame_seen past) ≡ frame_seen past
+timed-free past now mode =
+    none (frame_seen past) _ _ (no-counter past mode ∙ sym now.counter) (no-target past mode ∙ sym now.target)
+  where
+    none : (f : Frame) (counter target : ℕ) → counter ≡ f.counter → target ≡ f.target → timed true counter target f ≡ f
+    none f counter target c t = rw (c, t) refl
+
+-- so in free operation the last frame itself comes again
 pub frame-same : (past : Past) → IsCurrent past → (frame_seen past).mode ≡ Free → mode_seen past ≡ Free
     → (frame_seen past).veh ≡ colours_of past (moves_seen past)
     → (frame_seen past).ped ≡ map (λ p. if walk_after past Free (colours_of past (moves_seen past)) p then Walk else signal_seen past p) all_phases
     → (next_moment past).frame ≡ frame_seen past
 frame-same past now was mode veh ped =
-    let f : Frame = frame_seen past in
-    let at : f.ped ≡ map (λ (p : ℕ). if walk_after past f.mode f.veh p then Walk else signal_seen past p) all_phases =
-    ped
-    ∙ ap (λ (x : List Colour). map (λ (p : ℕ). if walk_after past Free x p then Walk else signal_seen past p) all_phases) (sym veh)
-    ∙ ap (λ (x : Mode). map (λ (p : ℕ). if walk_after past x f.veh p then Walk else signal_seen past p) all_phases) (sym was) in
-    let free : f.mode ≡ mode_reached (mode_seen past) past.tables f.veh = was ∙ sym (ap (λ (m : Mode). mode_reached m past.tables f.veh) mode) in
-    sym (parts f _ _ now.on
-    ∙ frame-parts past f.mode f.veh f.ped _ _ f.counter f.target f.version at refl refl
-    (now.counter ∙ sym (no-counter past mode)) (now.target ∙ sym (no-target past mode)) now.version
-    ∙ ap (λ (m : Mode). frame_of (course_of past) past (sight_seen past) f.veh m) free
-    ∙ ap (λ (x : List Colour). frame_with (course_of past) past (sight_seen past) x) veh)
-  where
-    parts : (f : Frame) (one two : ℕ) → f.on ≡ one ∷ two ∷ [] → f ≡ record {
-      veh = f.veh;
-      ped = f.ped;
-      on = one ∷ two ∷ [];
-      mode = f.mode;
-      counter = f.counter;
-      target = f.target;
-      version = f.version;
-    }
-    parts f one two e = ap (λ (on : List ℕ). record {
-      veh = f.veh;
-      ped = f.ped;
-      on = on;
-      mode = f.mode;
-      counter = f.counter;
-      target = f.target;
-      version = f.version;
-    }) e
+    frame-like past Free now.version now.on was mode refl veh ped ∙ timed-free past now mode
 
--- and so they do where what clears or signals goes on with it, the rings stay as they are, and no walk begins
 pub frame-again : (past : Past) → IsCurrent past → (frame_seen past).mode ≡ Free → mode_seen past ≡ Free
     → ring_moves (view_seen past) ≡ record { ends = []; begins = [] }
     → length (frame_seen past).veh ≡ 16 → length (frame_seen past).ped ≡ 16
@@ -188,15 +227,11 @@ pub frame-again : (past : Past) → IsCurrent past → (frame_seen past).mode �
     && ((same_colour (colour_of (frame_seen past) p) Green && not (is_signalling (frame_seen past) p)) && not (is_in (opposed_seen past) p))) ≡ false)
     → (next_moment past).frame ≡ frame_seen past
 frame-again past now was mode none wide long clear dark calls =
-    let f : Frame = frame_seen past in
-    let moves : moves_seen past ≡ no-moves = moves-none past was mode none in
-    let still : f.veh ≡ colours_of past no-moves = still-colours past no-moves f.veh wide refl (λ p h. refl) (λ p h. refl) clear in
-    let veh : f.veh ≡ colours_of past (moves_seen past) = still ∙ ap (λ (w : Moves). colours_of past w) (sym moves) in
-    let ped : f.ped ≡ map (λ (p : ℕ). if walk_after past Free f.veh p then Walk else signal_seen past p) all_phases =
-    still-signals past (walk_after past Free f.veh) f.ped long refl
-    (λ p h. no-walk (crossing_seen past Free) Free p (colour_of f p) (colour_in f.veh p) (signal_of f p) refl refl (calls p h)) dark in
-    frame-same past now was mode veh
-    (ped ∙ ap (λ (x : List Colour). map (λ (p : ℕ). if walk_after past Free x p then Walk else signal_seen past p) all_phases) veh)
+    frame-going past Free now.version now.on was mode refl (moves-none past was mode none) wide long clear dark
+    (λ p h.
+    no-walk (crossing_seen past Free) Free p (colour_of (frame_seen past) p) (colour_in (frame_seen past).veh p) (signal_of (frame_seen past) p) refl refl
+    (calls p h))
+    ∙ timed-free past now mode
 
 -- a frame of Free is not in step with a pattern
 pub free-apart : (f : Frame) (version n : ℕ) → f.mode ≡ Free → is_in_step f version n ≡ false

@@ -1,139 +1,149 @@
--- Ticks at rest: each gives the last frame again and is followed by another, and what is kept stands for one more.
-use Rattle.std.proofs.Common.{◌≡◌, ◌≢◌, ◌&&◌, not, if◌then◌else◌, ℕ, Bool, true, false}
-use Rattle.std.proofs.Common.{List, [], ◌∷◌, length, None, refl, sym, ◌∙◌, ap, arith, subst}
+-- A tick of a cabinet that lasts as it is: its mode goes on, it shows what the last frame shows, and what lasts after it lasts one
+-- tick less.
+use Rattle.std.proofs.Common.{◌≡◌, ◌≢◌, ◌<◌, ◌≤◌, ◌+◌, ◌*◌, ◌&&◌, ◌||◌, ◌⊎◌, ◌==◌, not, if◌then◌else◌, ℕ, suc, Bool, true, false}
+use Rattle.std.proofs.Common.{List, [], ◌∷◌, length, get_or, Option, None, Some, refl, sym, ◌∙◌, ap, arith, subst, inl, inr}
 use Rattle.std.proofs.lemmas.Bool.{false≢true}
+use Rattle.sig_types.specs.declared.frame.Colour.{Colour}
+use Rattle.sig_types.specs.declared.frame.Colour.TheVariants.{Green}
+use Rattle.sig_types.specs.declared.frame.Ped.{Ped}
 use Rattle.sig_types.specs.declared.frame.Frame.{Frame}
 use Rattle.sig_types.specs.declared.frame.Mode.{Mode}
-use Rattle.sig_types.specs.declared.frame.Mode.TheVariants.{Free}
-use Rattle.sig_types.specs.declared.frame.Colour.TheVariants.{Green}
+use Rattle.sig_types.specs.declared.frame.Mode.TheVariants.{Start, Free, Seek, Coord, Ending, Flash, Entry, Track, Dwell, Exit}
 use Rattle.sig_types.specs.Phases.{is_phase, is_in, those}
-use Rattle.sig_types.specs.Colour.{same_colour, colour_of, on_in}
+use Rattle.sig_types.specs.Colour.{same_colour, colour_in, colour_of, signal_of, on_in, is_start}
 use Rattle.sig_tables.specs.declared.tables.Tables.{Tables}
 use Rattle.sig_tables.specs.Slots.{is_defined}
 use Rattle.sig_tables.specs.Past.{Past, Moment}
-use Rattle.sig_tables.specs.Looking.{runs_on}
-use Rattle.sig_tables.specs.Calls.{demand_of}
+use Rattle.sig_tables.specs.Looking.{last_frame, runs_on}
+use Rattle.sig_tables.specs.Lesser.{Lesser, InFull, signal_runs_within}
+use Rattle.sig_tables.specs.Goals.{lesser_in}
 use Rattle.sig_tables.specs.Command.{is_backed_up, is_commanded, command_now}
 use Rattle.sig_tables.specs.Modes.{bound}
+use Rattle.sig_tables.specs.Choosing.{mode_reached}
+use Rattle.sig_tables.specs.Course.{Turn, Rings, turn_of, course_of}
+use Rattle.sig_tables.specs.Priority.{active_in}
 use Rattle.sig_tables.specs.Preempts.{all_preempts}
 use Rattle.sig_tables.specs.Walking.{has_walk}
-use Rattle.sig_tables.specs.Ticking.{on_of}
+use Rattle.sig_tables.specs.Ticking.{on_of, moves_of}
 use Rattle.sig_tables.specs.Decide.{with_moment, next_moment}
-use Rattle.sig_tables.specs.Seen.{frame_seen, moment_seen, mode_seen, pedestrian_seen, demand_with, opposed_seen}
-use Rattle.call_store.proofs.Again.{vehicle-again, pedestrian-again, detectors-again}
+use Rattle.sig_tables.specs.Seen.{frame_seen, moment_seen, mode_seen, turn_seen, view_seen, moves_seen, pedestrian_seen}
+use Rattle.preempt_run.specs.Dwelling.{is_dwell}
+use Rattle.preempt_run.specs.Stands.{preempts_seen}
 use Rattle.preempt_run.proofs.Called.{seen-is}
 use Rattle.controller.specs.Shows.{is_clearing, is_signalling}
-use Rattle.controller.specs.Rests.{Repeats}
-use Rattle.controller.specs.Passed.{IsFresh, AsksNothing, RestsOn}
-use Rattle.controller.proofs.Again.{free-on, frame-again, rings-rest, shut, unopposed}
+use Rattle.controller.specs.Walks.{crossing_seen, walk_after, signal_seen}
+use Rattle.controller.specs.Lasting.{IsFresh, PhaseLasts, StaysFree, StaysInStep, Lasts, opposed_with}
+use Rattle.controller.specs.Passed.{timed}
+use Rattle.controller.proofs.Again.{free-on, rings-turn, no-counter, no-moves, no-walk, frame-going, shut}
+use Rattle.controller.proofs.Stays.{colour-stays, signal-stays, rings-stay}
+use Rattle.controller.proofs.Free.{command-none}
+use Rattle.controller.proofs.InStep.{mode-in, counter-next, no-walk-in, no-zero}
 
--- a command that asks for nothing does so once its backup time has passed
-backed-none : (b : Bool) (t : Tables) (n : ℕ) → n ≢ 255 → is_defined t n ≡ false
-    → ((if b then 0 else n) ≢ 255) × (is_defined t (if b then 0 else n) ≡ false)
-backed-none false t n other undefined = (other, undefined)
-backed-none true t n other undefined = (λ e. absurd (omega (arith, e)), refl)
+-- the mode goes on at the next tick
+pub record Goes (mode : Mode) (past : Past) : Type 0 where
+  pub now : mode_seen past ≡ mode
+  pub turn : turn_seen past ≡ Rings
+  pub reached : mode_reached mode past.tables (frame_seen past).veh ≡ mode
+  pub active : (course_of past).active ≡ 0
+  pub counter : (course_of past).counter ≤ (frame_seen past).counter + 1
+  pub walks : (p : ℕ) → is_phase p ≡ true → walk_after past mode (frame_seen past).veh p ≡ false
+  pub full : (p : ℕ) → lesser_in past.tables mode p ≡ InFull
+  pub started : is_start mode ≡ false
+  pub beside : is_dwell mode ≡ false
 
-pub told-none : (past : Past) → past.commanded ≡ None
-    → command_now past ≡ (if is_backed_up past.tables (is_commanded past.commanded) past.moments then 0 else (moment_seen past).command)
-told-none past e = rw e refl
+goes-free : (past : Past) → IsFresh past → (frame_seen past).mode ≡ Free → preempts_seen past ≡ [] → StaysFree past → Goes Free past
+goes-free past fresh was beside s =
+    let none = command-none past fresh s.other s.undefined in
+    let mode : mode_seen past ≡ Free =
+    free-on past.tables past.version (command_now past) _ past.moments was (sym (seen-is past) ∙ beside) none.0 none.1 in
+    let zero : (course_of past).counter ≡ 0 = no-counter past mode in
+    record {
+      now = mode;
+      turn = rings-turn past.tables past.moments (mode_seen past) was mode;
+      reached = refl;
+      active = ap (λ (m : Mode). active_in past.tables m ((moment_seen past).number + 1) past.asked) mode;
+      counter = omega (arith, zero);
+      walks = λ p h.
+          no-walk (crossing_seen past Free) Free p (colour_of (frame_seen past) p) (colour_in (frame_seen past).veh p) (signal_of (frame_seen past) p) refl refl
+          (ap (λ (o : Option ℕ). (has_walk past.tables p && is_in (pedestrian_seen past) p)
+          && ((same_colour (colour_of (frame_seen past) p) Green && not (is_signalling (frame_seen past) p))
+          && not (is_in (opposed_with o past) p))) (ap bound mode) ∙ s.uncalled p h);
+      full = λ p. refl;
+      started = refl;
+      beside = refl;
+    }
 
-pub command-none : (past : Past) → IsFresh past → AsksNothing past → (command_now past ≢ 255) × (is_defined past.tables (command_now past) ≡ false)
-command-none past fresh asks =
-    subst (λ (n : ℕ). (n ≢ 255) × (is_defined past.tables n ≡ false)) (sym (told-none past fresh.commanded))
-    (backed-none (is_backed_up past.tables (is_commanded past.commanded) past.moments) past.tables (moment_seen past).command asks.other asks.undefined)
+goes-coord : (n j : ℕ) (past : Past) → IsFresh past → (frame_seen past).mode ≡ Coord n → (frame_seen past).version ≡ past.version
+    → preempts_seen past ≡ [] → StaysInStep n (suc j) past → Goes (Coord n) past
+goes-coord n j past fresh was version beside s =
+    let mode : mode_seen past ≡ Coord n = mode-in n j past fresh s was version beside in
+    let counter : (course_of past).counter ≡ (frame_seen past).counter + 1 = counter-next n j past fresh s was mode in
+    let more : (moment_seen past).number < (moment_seen past).number + 1 = omega arith in
+    record {
+      now = mode;
+      turn = coord-turn past.tables past.moments (mode_seen past) n was mode;
+      reached = refl;
+      active = ap (λ (m : Mode). active_in past.tables m ((moment_seen past).number + 1) past.asked) mode
+          ∙ s.unasked ((moment_seen past).number + 1) more;
+      counter = omega (arith, counter);
+      walks = λ p h.
+          no-walk-in n (crossing_seen past (Coord n)) p (colour_of (frame_seen past) p) (signal_of (frame_seen past) p)
+          (no-zero (Coord n) (course_of past).counter (frame_seen past).counter (frame_seen past) counter);
+      full = λ p. refl;
+      started = refl;
+      beside = refl;
+    }
+  where
+    coord-turn : (t : Tables) (past : List Moment) (mode : Mode) (n : ℕ) → (last_frame past).mode ≡ Coord n → mode ≡ Coord n → turn_of t past mode ≡ Rings
+    coord-turn t past mode n was e = rw (was, e) refl
 
--- at rest the cabinet goes on in free operation
-pub rest-free : (past : Past) → RestsOn past → mode_seen past ≡ Free
-rest-free past r =
-    let none = command-none past r.fresh r.asks in
-    free-on past.tables past.version (command_now past) _ past.moments r.asks.was (sym (seen-is past) ∙ r.asks.beside) none.0 none.1
+pub tick-goes : (mode : Mode) (j : ℕ) (past : Past) → Lasts mode (suc j) past → Goes mode past
+tick-goes Free j past l = goes-free past l.fresh l.was l.beside l.goes
+tick-goes (Coord n) j past l = goes-coord n j past l.fresh l.was l.version l.beside l.goes
+tick-goes Start j past l = absurd l.goes
+tick-goes (Seek n) j past l = absurd l.goes
+tick-goes Ending j past l = absurd l.goes
+tick-goes Flash j past l = absurd l.goes
+tick-goes (Entry i) j past l = absurd l.goes
+tick-goes (Track i) j past l = absurd l.goes
+tick-goes (Dwell i) j past l = absurd l.goes
+tick-goes (Exit i) j past l = absurd l.goes
 
-pub unopposed-rest : (past : Past) (p : ℕ) → RestsOn past → is_phase p ≡ true → is_in (opposed_seen past) p ≡ false
-unopposed-rest past p r h =
-    let free : demand_with (bound (mode_seen past)) past ≡ [] = ap (λ (m : Mode). demand_with (bound m) past) (rest-free past r) ∙ r.demand in
-    unopposed past.tables (frame_seen past) _ p h free
-
--- and its tick gives the last frame again
-pub rest-repeats : (past : Past) → RestsOn past → Repeats past
-rest-repeats past r =
-    let mode : mode_seen past ≡ Free = rest-free past r in
+-- the tick shows what the last frame shows, with its own counter and target
+pub frame-goes : (mode : Mode) (j : ℕ) (past : Past) → Lasts mode (suc j) past
+    → (next_moment past).frame ≡ timed true (course_of past).counter (course_of past).target (frame_seen past)
+frame-goes mode j past l =
+    let g = tick-goes mode j past l in
     let clear : (p : ℕ) → is_phase p ≡ true → is_clearing (frame_seen past).veh p ≡ true
     → runs_on p past.tables past.moments (colour_of (frame_seen past) p) ≡ colour_of (frame_seen past) p =
-    λ p h e. absurd (false≢true (sym (r.colours p h) ∙ e)) in
-    record {
-      was = r.asks.was;
-      mode = mode;
-      first = r.first;
-      second = r.second;
-      again = frame-again past r.current r.asks.was mode
-          (rings-rest past mode r.demand (shut past (on_in (frame_seen past) 1) r.first clear) (shut past (on_in (frame_seen past) 2) r.second clear))
-          r.wide r.long clear
-          (λ p h e. absurd (false≢true (sym (r.signals p h) ∙ e)))
-          r.uncalled;
-    }
+    λ p h e. colour-stays j p past.tables past.moments (colour_of (frame_seen past) p) (l.phases p h).colour in
+    let moves : moves_seen past ≡ no-moves =
+    ap (λ (t : Turn). moves_of t (view_seen past)) g.turn
+    ∙ rings-stay j past (bound mode) (ap bound g.now) g.active g.counter l.phases
+    (shut past (on_in (frame_seen past) 1) l.first clear) (shut past (on_in (frame_seen past) 2) l.second clear) in
+    frame-going past mode l.version l.on l.was g.now g.reached moves l.wide l.long clear
+    (λ p h e.
+    ap (λ (m : Mode). signal_runs_within (lesser_in past.tables m p) p past.tables past.moments (signal_of (frame_seen past) p)) g.now
+    ∙ ap (λ (x : Lesser). signal_runs_within x p past.tables past.moments (signal_of (frame_seen past) p)) (g.full p)
+    ∙ signal-stays j p past.tables past.moments (signal_of (frame_seen past) p) (l.phases p h).signal)
+    g.walks
 
-demand-same : (t : Tables) (f g : Frame) (v w q s d e : List ℕ) → f ≡ g → v ≡ w → q ≡ s → d ≡ e → demand_of t f v q d ≡ demand_of t g w s e
-demand-same t f g v w q s d e a b k l = rw (a, b, k, l) refl
+-- a frame shows what another shows, with a counter and a target of its own
+pub record Alike (f g : Frame) : Type 0 where
+  pub veh : f.veh ≡ g.veh
+  pub ped : f.ped ≡ g.ped
+  pub on : f.on ≡ g.on
+  pub mode : f.mode ≡ g.mode
+  pub version : f.version ≡ g.version
 
--- who is not called to, where something opposes him or not
-still-none : (walk called green signalling o : Bool) → ((walk && called) && ((green && not signalling) && not o)) ≡ false → o ≡ false
-    → ((walk && called) && ((green && not signalling) && not false)) ≡ false
-still-none walk called green signalling o e f = rw f at e
+pub alike-by : (f g : Frame) (counter target : ℕ) → f ≡ timed true counter target g → Alike f g
+alike-by f g counter target e = record {
+  veh = ap (λ (x : Frame). x.veh) e;
+  ped = ap (λ (x : Frame). x.ped) e;
+  on = ap (λ (x : Frame). x.on) e;
+  mode = ap (λ (x : Frame). x.mode) e;
+  version = ap (λ (x : Frame). x.version) e;
+}
 
-uncalled-same : (t : Tables) (f g : Frame) (called more : List ℕ) (p : ℕ) (o : Bool) → f ≡ g → more ≡ called → o ≡ false
-    → ((has_walk t p && is_in called p) && ((same_colour (colour_of g p) Green && not (is_signalling g p)) && not false)) ≡ false
-    → ((has_walk t p && is_in more p) && ((same_colour (colour_of f p) Green && not (is_signalling f p)) && not o)) ≡ false
-uncalled-same t f g called more p o a b e none = rw (a, b, e) none
-
--- the command that such a tick sees asks for nothing, and no preempt input is on at it
-asks-again : (past : Past) → RestsOn past → AsksNothing (with_moment past (next_moment past))
-asks-again past r =
-    let m : Moment = next_moment past in
-    let none = command-none past r.fresh r.asks in
-    record {
-      was = ap (λ (x : Frame). x.mode) (rest-repeats past r).again ∙ r.asks.was;
-      beside = seen-is (with_moment past m)
-          ∙ ap (λ (xs : List ℕ). those (λ i. is_in xs i) all_preempts) (sym (seen-is past) ∙ r.asks.beside);
-      other = none.0;
-      undefined = none.1;
-    }
-
--- so the next tick is at rest too
-pub rest-again : (past : Past) → RestsOn past → RestsOn (with_moment past (next_moment past))
-rest-again past r =
-    let m : Moment = next_moment past in
-    let a : m.frame ≡ frame_seen past = (rest-repeats past r).again in
-    let v = vehicle-again past m a refl in
-    let q = pedestrian-again past m a refl in
-    let d = detectors-again past m refl in
-    let asks = asks-again past r in
-    let fresh : IsFresh (with_moment past m) = record { heard = refl; commanded = refl; clock_set = refl } in
-    let demand : demand_with None (with_moment past m) ≡ [] = demand-same past.tables m.frame (frame_seen past) _ _ _ _ _ _ a v q d ∙ r.demand in
-    let none = command-none (with_moment past m) fresh asks in
-    let mode : mode_seen (with_moment past m) ≡ Free =
-    free-on past.tables past.version (command_now (with_moment past m)) _ (m ∷ past.moments) asks.was
-    (sym (seen-is (with_moment past m)) ∙ asks.beside) none.0 none.1 in
-    let free : demand_with (bound (mode_seen (with_moment past m))) (with_moment past m) ≡ [] =
-    ap (λ (x : Mode). demand_with (bound x) (with_moment past m)) mode ∙ demand in
-    record {
-      fresh = fresh;
-      asks = asks;
-      demand = demand;
-      colours = λ p h. ap (λ (f : Frame). is_clearing f.veh p) a ∙ r.colours p h;
-      signals = λ p h. ap (λ (f : Frame). is_signalling f p) a ∙ r.signals p h;
-      uncalled = λ p h.
-          uncalled-same past.tables m.frame (frame_seen past) (pedestrian_seen past) (pedestrian_seen (with_moment past m)) p _ a q
-          (unopposed past.tables m.frame _ p h free)
-          (still-none (has_walk past.tables p) (is_in (pedestrian_seen past) p) (same_colour (colour_of (frame_seen past) p) Green)
-          (is_signalling (frame_seen past) p) (is_in (opposed_seen past) p) (r.uncalled p h) (unopposed-rest past p r h));
-      current = record {
-        version = ap (λ (f : Frame). f.version) a ∙ r.current.version;
-        counter = ap (λ (f : Frame). f.counter) a ∙ r.current.counter;
-        target = ap (λ (f : Frame). f.target) a ∙ r.current.target;
-        on = subst (λ (f : Frame). f.on ≡ on_of past.tables f.veh 1 ∷ on_of past.tables f.veh 2 ∷ []) (sym a) r.current.on;
-      };
-      first = λ x. r.first (ap (λ (f : Frame). on_in f 1) (sym a) ∙ x);
-      second = λ x. r.second (ap (λ (f : Frame). on_in f 2) (sym a) ∙ x);
-      wide = ap (λ (f : Frame). length f.veh) a ∙ r.wide;
-      long = ap (λ (f : Frame). length f.ped) a ∙ r.long;
-    }
+pub goes-alike : (mode : Mode) (j : ℕ) (past : Past) → Lasts mode (suc j) past → Alike (next_moment past).frame (frame_seen past)
+goes-alike mode j past l = alike-by (next_moment past).frame (frame_seen past) _ _ (frame-goes mode j past l)

@@ -1,46 +1,70 @@
--- What a controller keeps stands after ticks at rest that it passes over, one by one and at once.
-use Rattle.std.proofs.Common.{◌≡◌, ◌≢◌, ◌<◌, ◌≤◌, ◌+◌, ◌*◌, ◌-◌, ◌%◌, inl, inr, ◌&&◌, not, min, if◌then◌else◌, nat_le, ℕ, zero, suc, Bool, true, false}
-use Rattle.std.proofs.Common.{List, ◌∷◌, length, refl, sym, ◌∙◌, ap, arith, subst}
-use Rattle.std.proofs.lemmas.Bool.{false≢true, cases_Bool, leb-true}
+-- What a controller keeps stands after ticks that it passes over, one by one and at once.
+use Rattle.std.proofs.Common.{◌≡◌, ◌≢◌, ◌<◌, ◌≤◌, ◌+◌, ◌*◌, ◌-◌, ◌%◌, ◌==◌, inl, inr, ◌&&◌, ◌||◌, not, min, if◌then◌else◌, nat_le, ℕ, zero, suc, Bool, true, false}
+use Rattle.std.proofs.Common.{List, ◌∷◌, length, get_or, Option, refl, sym, ◌∙◌, ap, arith, subst}
+use Rattle.std.proofs.lemmas.Bool.{false≢true, ne_eqb, cases_Bool, leb-true, and_parts}
+use Rattle.std.proofs.lemmas.Bool.Decides.{Decides-eqb}
+use Rattle.sig_types.specs.declared.frame.Colour.{Colour}
+use Rattle.sig_types.specs.declared.frame.Colour.TheVariants.{Green}
+use Rattle.sig_types.specs.declared.frame.Ped.{Ped}
+use Rattle.sig_types.specs.declared.frame.Ped.TheVariants.{Walk, Flash as Flashes}
 use Rattle.sig_types.specs.declared.frame.Frame.{Frame}
 use Rattle.sig_types.specs.declared.frame.Mode.{Mode}
-use Rattle.sig_types.specs.declared.frame.Mode.TheVariants.{Free}
+use Rattle.sig_types.specs.declared.frame.Mode.TheVariants.{Start, Free, Seek, Coord, Ending, Flash, Entry, Track, Dwell, Exit}
 use Rattle.sig_types.specs.Phases.{is_in}
-use Rattle.sig_types.specs.Colour.{is_start}
+use Rattle.sig_types.specs.Colour.{is_start, on_in, colour_in, same_colour, same_signal, same_mode}
 use Rattle.sig_tables.specs.declared.tables.Tables.{Tables}
+use Rattle.sig_tables.specs.declared.plan.Plan.{Plan}
+use Rattle.sig_tables.specs.Plan.{plan_of}
+use Rattle.sig_tables.specs.Slots.{cycle_time}
+use Rattle.sig_tables.specs.Clock.{clock_now, target_at, target_in}
 use Rattle.sig_tables.specs.Past.{Past, Moment}
-use Rattle.sig_tables.specs.Looking.{last_on, in_a_row}
+use Rattle.sig_tables.specs.Looking.{last_on, last_frame, latest_on, in_a_row}
 use Rattle.sig_tables.specs.Calls.{is_green}
 use Rattle.sig_tables.specs.Command.{is_backed_up, is_commanded, command_now}
+use Rattle.sig_tables.specs.Choosing.{is_in_step}
+use Rattle.sig_tables.specs.Counters.{counters_since}
+use Rattle.sig_tables.specs.Counting.{last_counter}
+use Rattle.sig_tables.specs.Course.{course_of}
 use Rattle.sig_tables.specs.Clock.{rise_at}
 use Rattle.sig_tables.specs.Preempts.{preempts_on}
-use Rattle.sig_tables.specs.Priority.{active_in}
 use Rattle.sig_tables.specs.Decide.{with_moment, next_moment, colours_of}
 use Rattle.sig_tables.specs.Layout.{Has}
 use Rattle.sig_tables.specs.Modes.{bound}
 use Rattle.sig_tables.specs.Seen.{frame_seen, moment_seen, moves_seen, mode_seen, quiet_with}
 use Rattle.call_store.specs.Stands.{is_walking}
 use Rattle.call_store.proofs.Again.{calls-on}
+use Rattle.coord_count.specs.declared.Count.{Count}
+use Rattle.coord_count.specs.Stands.{CountStands}
+use Rattle.coord_count.proofs.Passed.{count-on}
 use Rattle.phase_clock.proofs.Passed.{clocks-on}
 use Rattle.ped_clock.proofs.Passed.{signals-on}
 use Rattle.preempt_run.specs.Dwelling.{is_dwell, NamesPhases}
 use Rattle.preempt_run.proofs.Called.{seen-is}
+use Rattle.preempt_run.proofs.OnPhases.{names-phases}
 use Rattle.preempt_run.proofs.Passed.{preempts-on}
 use Rattle.prio_queue.proofs.Idle.{queue-on}
+use Rattle.controller.specs.declared.binding.Binding.{Binding}
 use Rattle.controller.specs.declared.orders.Orders.{Orders}
 use Rattle.controller.specs.declared.Controller.{Controller}
+use Rattle.controller.specs.Binds.{BindingIs, IsBound}
+use Rattle.controller.specs.Modes.{is_coord}
 use Rattle.controller.specs.Shows.{ShowsColours, is_signalling}
 use Rattle.controller.specs.Orders.{OrdersStand, SawOrders, ticks_since, most}
 use Rattle.controller.specs.Even.{IsEven, OrdersPassed}
-use Rattle.controller.specs.StandsFor.{Keeps}
-use Rattle.controller.specs.Passed.{IsFresh, RestsOn, passed, IsReady}
-use Rattle.controller.proofs.Again.{free-apart, free-started}
+use Rattle.controller.specs.StandsFor.{Keeps, CountsOn}
+use Rattle.controller.specs.Lasting.{IsFresh, Lasts, opposed_with}
+use Rattle.controller.specs.Passed.{timed, counted, planned_target, passed, IsReady}
+use Rattle.controller.proofs.Again.{free-apart, no-counter, no-target}
 use Rattle.controller.proofs.Backup.{backed-up}
-use Rattle.controller.proofs.GoesOn.{rest-free, rest-repeats, rest-again, told-none, unopposed-rest}
+use Rattle.controller.proofs.Counted.{counters-head, step-version}
+use Rattle.controller.proofs.Free.{told-none, never-backed}
+use Rattle.controller.proofs.GoesOn.{Goes, tick-goes, frame-goes, Alike, goes-alike}
+use Rattle.controller.proofs.InStep.{step-in, counter-next}
+use Rattle.controller.proofs.OneLess.{seen-again, looks-on, lasts-less}
 use Rattle.controller.proofs.Rings.{each-ring, last-again, latest-again}
 use Rattle.controller.proofs.Seen.{opposed-green}
 use Rattle.controller.proofs.Sought.{start-again}
-use Rattle.controller.proofs.Pickups.{start-zero, start-next, few-next, one-more, same-most}
+use Rattle.controller.proofs.Pickups.{kept-on, start-zero, start-next, few-next, one-more, same-most}
 
 -- the pattern in command stays at an even tick
 unbacked : (past : Past) (since : ℕ) → past.tables.unit.backup ≤ 65535 → since + 1 < 10 * past.tables.unit.backup
@@ -55,9 +79,6 @@ unbacked past since few less is =
       | inl e ↦ let g : n ≤ k = leb-true n k e in absurd (omega arith)
       | inr e ↦ e
     ]
-
-never-backed : (t : Tables) (commanded : Bool) (past : List Moment) → t.unit.backup ≡ 0 → is_backed_up t commanded past ≡ false
-never-backed t commanded past e = rw e refl
 
 command-stays : (o : Orders) (past : Past) → OrdersStand o past → IsFresh past → IsEven o past.tables 1 → past.tables.unit.backup ≤ 65535
     → command_now past ≡ o.command
@@ -101,25 +122,46 @@ orders-on o new past m by stands saw fresh even few =
         let small : (clock + 1) % 864000 ≡ clock + 1 = omega arith in
         sym small ∙ ap (λ (n : ℕ). n % 864000) (sym sum) ∙ sym k
 
--- the controller with these counts and orders
-abbrev moved : Controller → ℕ → ℕ → ℕ → Orders → Controller
-moved c a b d o = record c {
+-- the controller with these parts
+abbrev built : Controller → Orders → Frame → ℕ → ℕ → ℕ → Count → Controller
+built c new f a b d count = record c {
+  frame = f;
   clocks = record c.clocks { steps = a };
   signals = record c.signals { steps = b };
   preempts = record c.preempts { steps = d };
-  orders = o;
+  orders = new;
+  count = count;
 }
 
-moved-same : (c : Controller) (o : Orders) (a b d h i j : ℕ) → a ≡ h → b ≡ i → d ≡ j → moved c a b d o ≡ moved c h i j o
-moved-same c o a b d h i j n p q = rw (n, p, q) refl
+built-same : (c : Controller) (new : Orders) (f g : Frame) (a b d e i n : ℕ) (x y : Count) → f ≡ g → a ≡ b → d ≡ e → i ≡ n → x ≡ y
+    → built c new f a d i x ≡ built c new g b e n y
+built-same c new f g a b d e i n x y p q r s t = rw (p, q, r, s, t) refl
 
--- passing over ticks one by one comes to passing over them at once
-pub passed-one : (k : ℕ) (c : Controller) (o new : Orders) → passed 1 (passed k c o) new ≡ passed (suc k) c new
-passed-one k c o new =
-    moved-same c new
-    (c.clocks.steps + k + 1) (c.signals.steps + k + 1) (c.preempts.steps + k + 1)
-    (c.clocks.steps + suc k) (c.signals.steps + suc k) (c.preempts.steps + suc k)
+counted-twice : (b : Bool) (f : Frame) (counter target k j : ℕ) (count : Count) → b ≡ is_coord f.mode
+    → counted (is_coord (timed b counter target f).mode) j (counted b k count) ≡ counted b (k + j) count
+counted-twice true f counter target k j count e =
+    let sum : count.counter + k + j ≡ count.counter + (k + j) = omega arith in
+    ap (λ (x : Bool). counted x j (counted true k count)) (sym e) ∙ ap (λ (n : ℕ). record count { counter = n; changed = true }) sum
+counted-twice false f counter target k j count e = ap (λ (x : Bool). counted x j count) (sym e)
+
+timed-twice : (b : Bool) (f : Frame) (target later k j : ℕ) (count : Count) → b ≡ is_coord f.mode
+    → timed (is_coord (timed b (count.counter + k) target f).mode) ((counted b k count).counter + j) later (timed b (count.counter + k) target f)
+    ≡ timed b (count.counter + (k + j)) later f
+timed-twice true f target later k j count e =
+    let sum : count.counter + k + j ≡ count.counter + (k + j) = omega arith in
+    ap (λ (x : Bool). timed x (count.counter + k + j) later (timed true (count.counter + k) target f)) (sym e)
+    ∙ ap (λ (n : ℕ). timed true n later f) sum
+timed-twice false f target later k j count e = ap (λ (x : Bool). timed x (count.counter + j) later f) (sym e)
+
+-- passing over ticks in two parts comes to passing over all of them
+pub passed-more : (k j : ℕ) (c : Controller) (o new : Orders) → passed j (passed k c o) new ≡ passed (k + j) c new
+passed-more k j c o new =
+    built-same c new _ _
+    (c.clocks.steps + k + j) (c.clocks.steps + (k + j)) (c.signals.steps + k + j) (c.signals.steps + (k + j))
+    (c.preempts.steps + k + j) (c.preempts.steps + (k + j)) _ _
+    (timed-twice (is_coord c.frame.mode) c.frame (planned_target c.binding.plan o.clock) (planned_target c.binding.plan new.clock) k j c.count refl)
     (omega arith) (omega arith) (omega arith)
+    (counted-twice (is_coord c.frame.mode) c.frame (c.count.counter + k) (planned_target c.binding.plan o.clock) k j c.count refl)
 
 -- the orders on the way
 abbrev orders-at : (k : ℕ) (o : Orders) → o.clock + k < 864000 → Orders
@@ -136,115 +178,193 @@ orders-at k o h = record {
 at-passed : (k : ℕ) (o : Orders) (h : o.clock + k < 864000) → OrdersPassed k o (orders-at k o h)
 at-passed k o h = record { command = refl; since = refl; clock = refl; ticks = refl; gain = refl; lose = refl }
 
--- one tick at rest
-pub keeps-on : (c : Controller) (new : Orders) (past : Past) → OrdersPassed 1 c.orders new → Keeps c past → RestsOn past → IsReady c
-    → IsEven c.orders past.tables 1 → past.tables.unit.backup ≤ 65535 → Keeps (passed 1 c new) (with_moment past (next_moment past))
-keeps-on c new past by k r ready even few =
+timed-same : (f g : Frame) (a b x y : ℕ) → f ≡ g → a ≡ b → x ≡ y → timed true a x f ≡ timed true b y g
+timed-same f g a b x y e h i = rw (e, h, i) refl
+
+timed-none : (f : Frame) (counter target : ℕ) → counter ≡ f.counter → target ≡ f.target → timed true counter target f ≡ f
+timed-none f counter target c t = rw (c, t) refl
+
+-- the counter that is kept is that of the last frame
+count-is : (n : ℕ) (c : Controller) (past : Past) → Keeps c past → is_in_step (frame_seen past) past.version n ≡ true
+    → c.count.counter ≡ (frame_seen past).counter
+count-is n c past k step =
+    let (before, head) = counters-head n past.version past.moments step in
+    (k.counts n step).stands.counter ∙ ap last_counter head
+
+-- the frame that is kept is that of the tick
+frame-on : (mode : Mode) (j : ℕ) (c : Controller) (new : Orders) (past : Past) → Keeps c past → Lasts mode (suc j) past → Goes mode past
+    → IsBound c.binding past.tables mode → new.clock ≡ clock_now past
+    → timed (is_coord c.frame.mode) (c.count.counter + 1) (planned_target c.binding.plan new.clock) c.frame ≡ (next_moment past).frame
+frame-on Free j c new past k l g bound clock =
+    let was : c.frame.mode ≡ Free = ap (λ (f : Frame). f.mode) k.frame ∙ l.was in
+    ap (λ (b : Bool). timed b (c.count.counter + 1) (planned_target c.binding.plan new.clock) c.frame) (ap is_coord was)
+    ∙ k.frame
+    ∙ sym (frame-goes Free j past l
+    ∙ timed-none (frame_seen past) _ _ (no-counter past g.now ∙ sym l.goes.counter) (no-target past g.now ∙ sym l.goes.target))
+frame-on (Coord n) j c new past k l g bound clock =
+    let was : c.frame.mode ≡ Coord n = ap (λ (f : Frame). f.mode) k.frame ∙ l.was in
+    let same = count-is n c past k (step-in (frame_seen past) past.version n l.was l.version) in
+    let next = counter-next n j past l.fresh l.goes l.was g.now in
+    ap (λ (b : Bool). timed b (c.count.counter + 1) (planned_target c.binding.plan new.clock) c.frame) (ap is_coord was)
+    ∙ timed-same c.frame (frame_seen past) (c.count.counter + 1) (course_of past).counter
+    (planned_target c.binding.plan new.clock) (course_of past).target k.frame
+    (ap (λ (x : ℕ). x + 1) same ∙ sym next)
+    (ap (λ (x : Plan). planned_target x new.clock) bound.plan ∙ ap (λ (x : ℕ). target_at past.tables n x) clock
+    ∙ sym (ap (λ (m : Mode). target_in past.tables m (clock_now past)) g.now))
+    ∙ sym (frame-goes (Coord n) j past l)
+frame-on Start j c new past k l g bound clock = absurd l.goes
+frame-on (Seek n) j c new past k l g bound clock = absurd l.goes
+frame-on Ending j c new past k l g bound clock = absurd l.goes
+frame-on Flash j c new past k l g bound clock = absurd l.goes
+frame-on (Entry i) j c new past k l g bound clock = absurd l.goes
+frame-on (Track i) j c new past k l g bound clock = absurd l.goes
+frame-on (Dwell i) j c new past k l g bound clock = absurd l.goes
+frame-on (Exit i) j c new past k l g bound clock = absurd l.goes
+
+-- the counters since the pickup have its counter
+counts-coord : (n j : ℕ) (c : Controller) (past : Past) → Keeps c past → Lasts (Coord n) (suc j) past → Goes (Coord n) past
+    → CountsOn (counted true 1 c.count) (with_moment past (next_moment past)) n
+counts-coord n j c past k l g =
     let m : Moment = next_moment past in
-    let a : m.frame ≡ frame_seen past = (rest-repeats past r).again in
-    let mode : mode_seen past ≡ Free = rest-free past r in
-    let f : frame_seen past ≡ m.frame = sym a in
-    let free : m.frame.mode ≡ Free = ap (λ (x : Frame). x.mode) a ∙ r.asks.was in
-    let names : NamesPhases m.frame = subst (λ (x : Frame). NamesPhases x) f k.names in
-    let going : is_start (frame_seen past).mode ≡ false = sym (free-started (frame_seen past).mode r.asks.was) in
+    let a = goes-alike (Coord n) j past l in
+    let step = step-in (frame_seen past) past.version n l.was l.version in
+    let now = step-in m.frame past.version n (a.mode ∙ l.was) (a.version ∙ l.version) in
+    let (before, head) = counters-head n past.version past.moments step in
+    let stands : CountStands c.count ((frame_seen past).counter ∷ before) = subst (λ (xs : List ℕ). CountStands c.count xs) head (k.counts n step).stands in
+    let same : c.count.counter ≡ (frame_seen past).counter = count-is n c past k step in
+    let cycle : (frame_seen past).counter + suc j < cycle_time past.tables n = l.goes.cycle in
+    record {
+      stands = kept-on (counted true 1 c.count) past m n (frame_seen past).counter ((frame_seen past).counter + 1) before now
+          (sym (counter-next n j past l.fresh l.goes l.was g.now)) head (count-on c.count (frame_seen past).counter before stands);
+      within = omega (arith, same, cycle);
+    }
+
+counts-on : (mode : Mode) (j : ℕ) (c : Controller) (past : Past) → Keeps c past → Lasts mode (suc j) past → Goes mode past
+    → (n : ℕ) → is_in_step (next_moment past).frame past.version n ≡ true
+    → CountsOn (counted (is_coord c.frame.mode) 1 c.count) (with_moment past (next_moment past)) n
+counts-on Free j c past k l g n st =
+    let free : (next_moment past).frame.mode ≡ Free = (goes-alike Free j past l).mode ∙ l.was in
+    absurd (false≢true (sym (free-apart (next_moment past).frame past.version n free) ∙ st))
+counts-on (Coord i) j c past k l g n st =
+    let m : Moment = next_moment past in
+    let is : m.frame.mode ≡ Coord i = (goes-alike (Coord i) j past l).mode ∙ l.was in
+    let mine : (i == n) ≡ true =
+    ap (λ (x : Mode). same_mode x (Coord n)) (sym is) ∙ (and_parts (same_mode m.frame.mode (Coord n)) (m.frame.version == past.version) st).0 in
+    let coord : is_coord c.frame.mode ≡ true = ap is_coord (ap (λ (f : Frame). f.mode) k.frame ∙ l.was) in
+    subst (λ (b : Bool). CountsOn (counted b 1 c.count) (with_moment past m) n) (sym coord)
+    (subst (λ (x : ℕ). CountsOn (counted true 1 c.count) (with_moment past m) x) ((Decides-eqb i n).0 mine) (counts-coord i j c past k l g))
+counts-on Start j c past k l g n st = absurd l.goes
+counts-on (Seek i) j c past k l g n st = absurd l.goes
+counts-on Ending j c past k l g n st = absurd l.goes
+counts-on Flash j c past k l g n st = absurd l.goes
+counts-on (Entry i) j c past k l g n st = absurd l.goes
+counts-on (Track i) j c past k l g n st = absurd l.goes
+counts-on (Dwell i) j c past k l g n st = absurd l.goes
+counts-on (Exit i) j c past k l g n st = absurd l.goes
+
+-- one tick
+pub keeps-on : (mode : Mode) (j : ℕ) (c : Controller) (new : Orders) (past : Past) → OrdersPassed 1 c.orders new → Keeps c past
+    → Lasts mode (suc j) past → IsReady c mode past → IsEven c.orders past.tables 1 → past.tables.unit.backup ≤ 65535
+    → Keeps (passed 1 c new) (with_moment past (next_moment past))
+keeps-on mode j c new past by k l ready even few =
+    let m : Moment = next_moment past in
+    let g = tick-goes mode j past l in
+    let a = goes-alike mode j past l in
+    let orders : OrdersStand new (with_moment past m) =
+    orders-on c.orders new past m by k.orders (record { number = refl; command = refl; is_commanded = refl; clock = refl }) l.fresh even few in
+    let names : NamesPhases m.frame = names-phases m.frame past.tables (colours_of past (moves_seen past)) refl in
+    let going : is_start (frame_seen past).mode ≡ false = ap is_start l.was ∙ g.started in
+    let still : false ≡ is_start m.frame.mode = sym (ap is_start (a.mode ∙ l.was) ∙ g.started) in
     record {
       tables = k.tables;
       layout = k.layout;
       ordered = k.ordered;
       version = k.version;
-      frame = k.frame ∙ f;
-      calls = calls-on c.calls past m k.calls r.fresh.heard a refl refl refl;
-      clocks = clocks-on c.clocks ready.active ready.opposed past.moments m k.clocks ready.steady (ap (λ (x : Frame). x.veh) a)
-          (λ p h. ap (λ (x : Mode). is_in (quiet_with (bound x) past) p) mode ∙ ready.quiet past k.calls k.layout p h)
+      frame = frame-on mode j c new past k l g ready.bound orders.clock;
+      calls = calls-on c.calls past m k.calls l.fresh.heard a.veh a.ped refl refl refl;
+      clocks = clocks-on c.clocks ready.sight.active ready.sight.opposed past.moments m k.clocks ready.steady a.veh
+          (λ p h. ap (λ (x : Mode). is_in (quiet_with (bound x) past) p) g.now ∙ ready.looks.quiet p h)
           (λ p h.
           opposed-green past p h
-          ∙ ap (λ (b : Bool). is_green (frame_seen past) p && b) (unopposed-rest past p r h ∙ sym (ready.none p)));
-      signals = signals-on c.signals past.moments m k.signals (ap (λ (x : Frame). x.ped) a);
+          ∙ ap (λ (b : Bool). is_green (frame_seen past) p && b)
+          (ap (λ (x : Mode). is_in (opposed_with (bound x) past) p) g.now ∙ sym (ready.looks.opposed p h)));
+      signals = signals-on c.signals past.moments m k.signals a.ped;
       preempts = preempts-on c.preempts past m k.preempts ready.clear (record {
         saw = sym (seen-is past);
-        none = λ i above within. ap (λ (xs : List ℕ). is_in xs i) r.asks.beside;
-        mode = ap (λ (x : Frame). x.mode) a;
-        beside = ap is_dwell free;
-        wide = ap (λ (x : Frame). length x.veh) a ∙ r.wide;
+        none = λ i above within. ap (λ (xs : List ℕ). is_in xs i) l.beside;
+        mode = a.mode;
+        beside = ap is_dwell (a.mode ∙ l.was) ∙ g.beside;
+        wide = ap length a.veh ∙ l.wide;
         names = names;
       });
-      requests = queue-on c.requests past m k.requests ready.idle (one-more (moment_seen past).number)
-          (ap (λ (x : Mode). active_in past.tables x ((moment_seen past).number + 1) past.asked) mode);
-      shown = subst (λ (x : Frame). ShowsColours c.shown x.veh) f k.shown;
-      walking = subst (λ (x : Frame). Has c.walking (is_walking x)) f k.walking;
-      signalling = subst (λ (x : Frame). Has c.signalling (is_signalling x)) f k.signalling;
+      requests = queue-on c.requests past m k.requests ready.idle (one-more (moment_seen past).number) g.active;
+      shown = subst (λ (veh : List Colour). ShowsColours c.shown veh) (sym a.veh) k.shown;
+      walking = λ p h. k.walking p h ∙ ap (λ (ped : List Ped). same_signal (get_or ped (p - 1) Walk) Walk) (sym a.ped);
+      signalling = λ p h.
+          k.signalling p h
+          ∙ ap (λ (ped : List Ped). same_signal (get_or ped (p - 1) Walk) Walk || same_signal (get_or ped (p - 1) Walk) Flashes) (sym a.ped);
       names = names;
       last = each-ring c.last 0 (λ q. last_on q (m ∷ past.moments))
-          (k.last 1 (omega arith) (omega arith) ∙ last-again m past.moments 1 a going r.first)
-          (k.last 2 (omega arith) (omega arith) ∙ last-again m past.moments 2 a going r.second);
-      latest = k.latest ∙ latest-again m past.moments a going r.first;
-      start = k.start ∙ start-zero past.moments going
-          ∙ start-next m past.moments c.start_run false (free-started m.frame.mode free) k.start;
+          (k.last 1 (omega arith) (omega arith) ∙ last-again m past.moments 1 a.on a.mode going l.first)
+          (k.last 2 (omega arith) (omega arith) ∙ last-again m past.moments 2 a.on a.mode going l.second);
+      latest = k.latest ∙ latest-again m past.moments a.on a.mode going l.first;
+      start = k.start ∙ start-zero past.moments going ∙ start-next m past.moments c.start_run false still k.start;
       few_start = few-next m past.moments
           (λ now last. start-again past.tables past.version (command_now past) (preempts_on past.heard (moment_seen past)) past.moments
           (colours_of past (moves_seen past)) last now);
-      orders = orders-on c.orders new past m by k.orders (record { number = refl; command = refl; is_commanded = refl; clock = refl })
-          r.fresh even few;
+      orders = orders;
       binding = k.binding;
-      counts = λ n st. absurd (false≢true (sym (free-apart m.frame past.version n free) ∙ st));
+      counts = counts-on mode j c past k l g;
       old_frame = same-most past.version;
+    }
+
+ready-on : (mode : Mode) (j : ℕ) (c : Controller) (o : Orders) (past : Past) → Lasts mode (suc j) past → IsReady c mode past
+    → IsReady (passed 1 c o) mode (with_moment past (next_moment past))
+ready-on mode j c o past l ready =
+    let a = goes-alike mode j past l in
+    record {
+      sight = ready.sight;
+      looks = looks-on (bound mode) ready.sight past a (seen-again (bound mode) past l.fresh a) ready.looks;
+      steady = record { quiet = ready.steady.quiet; pressed = ready.steady.pressed };
+      clear = record { inputs = ready.clear.inputs; green = ready.clear.green; off = ready.clear.off };
+      idle = ready.idle;
+      bound = ready.bound;
     }
 
 -- what has come after so many ticks more
 abbrev pub after : ℕ → Past → Past
 after zero past = past
-after (suc k) past = with_moment (after k past) (next_moment (after k past))
+after (suc k) past = after k (with_moment past (next_moment past))
 
-after-tables : (k : ℕ) (past : Past) → (after k past).tables ≡ past.tables
-after-tables zero past = refl
-after-tables (suc k) past = after-tables k past
-
--- at rest all ticks that come are so
-pub rest-after : (k : ℕ) (past : Past) → RestsOn past → RestsOn (after k past)
-rest-after zero past r = r
-rest-after (suc k) past r = rest-again (after k past) (rest-after k past r)
-
--- of an even stretch each tick is even
-even-one : (k n : ℕ) (o : Orders) (t : Tables) (h : o.clock + k < 864000) → k < n → IsEven o t n → IsEven (orders-at k o h) t 1
-even-one k n o t h less even = record {
-  clock = omega (arith, less, even.clock);
+first-even : (j : ℕ) (o : Orders) (t : Tables) → IsEven o t (suc j) → IsEven o t 1
+first-even j o t even = record {
+  clock = omega (arith, even.clock);
   gain = even.gain;
   lose = even.lose;
   few = even.few;
   command = elim even.command [
     | inl none ↦ inl none
     | inr (inl never) ↦ inr (inl never)
-    | inr (inr short) ↦ inr (inr (omega (arith, less, short)))
+    | inr (inr short) ↦ inr (inr (omega (arith, short)))
   ];
 }
 
-first-even : (n : ℕ) (o : Orders) (t : Tables) → 0 < n → IsEven o t n → IsEven o t 1
-first-even n o t less even = record {
-  clock = omega (arith, less, even.clock);
+-- of an even stretch what comes after its first tick is even
+rest-even : (j : ℕ) (o : Orders) (t : Tables) (h : o.clock + 1 < 864000) → IsEven o t (suc j) → IsEven (orders-at 1 o h) t j
+rest-even j o t h even = record {
+  clock = omega (arith, even.clock);
   gain = even.gain;
   lose = even.lose;
   few = even.few;
   command = elim even.command [
     | inl none ↦ inl none
     | inr (inl never) ↦ inr (inl never)
-    | inr (inr short) ↦ inr (inr (omega (arith, less, short)))
+    | inr (inr short) ↦ inr (inr (omega (arith, short)))
   ];
 }
 
-ready-on : (k : ℕ) (c : Controller) (o : Orders) → IsReady c → IsReady (passed k c o)
-ready-on k c o ready = record {
-  active = ready.active;
-  opposed = ready.opposed;
-  none = ready.none;
-  quiet = ready.quiet;
-  steady = record { quiet = ready.steady.quiet; pressed = ready.steady.pressed };
-  clear = record { inputs = ready.clear.inputs; green = ready.clear.green; off = ready.clear.off };
-  idle = ready.idle;
-}
-
--- the last of some ticks
-one-by : (k : ℕ) (o new : Orders) (h : o.clock + k < 864000) → OrdersPassed (suc k) o new → OrdersPassed 1 (orders-at k o h) new
-one-by k o new h by = record {
+rest-by : (j : ℕ) (o new : Orders) (h : o.clock + 1 < 864000) → OrdersPassed (suc j) o new → OrdersPassed j (orders-at 1 o h) new
+rest-by j o new h by = record {
   command = by.command;
   since = omega (arith, by.since);
   clock = omega (arith, by.clock);
@@ -254,21 +374,26 @@ one-by k o new h by = record {
 }
 
 -- and what is kept stands after all of them
-pub keeps-after : (k n : ℕ) (c : Controller) (new : Orders) (past : Past) → k < n → OrdersPassed (suc k) c.orders new → Keeps c past
-    → RestsOn past → IsReady c → IsEven c.orders past.tables n → past.tables.unit.backup ≤ 65535
-    → Keeps (passed (suc k) c new) (after (suc k) past)
-keeps-after zero n c new past h by k r ready even few =
-    keeps-on c new past by k r ready (first-even n c.orders past.tables (omega (arith, h)) even) few
-keeps-after (suc j) n c new past h by k r ready even few =
-    let less : j < n = omega (arith, h) in
-    let day : c.orders.clock + suc j < 864000 = omega (arith, h, even.clock) in
-    let mid : Orders = orders-at (suc j) c.orders day in
-    let same : past.tables ≡ (after (suc j) past).tables = sym (after-tables (suc j) past) in
-    let before : Keeps (passed (suc j) c mid) (after (suc j) past) =
-    keeps-after j n c mid past less (at-passed (suc j) c.orders day) k r ready even few in
-    let now : IsEven mid (after (suc j) past).tables 1 =
-    subst (λ (t : Tables). IsEven mid t 1) same (even-one (suc j) n c.orders past.tables day h even) in
-    let small : (after (suc j) past).tables.unit.backup ≤ 65535 = subst (λ (t : Tables). t.unit.backup ≤ 65535) same few in
-    subst (λ (x : Controller). Keeps x (after (suc (suc j)) past)) (passed-one (suc j) c mid new)
-    (keeps-on (passed (suc j) c mid) new (after (suc j) past) (one-by (suc j) c.orders new day by) before
-    (rest-after (suc j) past r) (ready-on (suc j) c mid ready) now small)
+pub keeps-after : (n : ℕ) (mode : Mode) (c : Controller) (new : Orders) (past : Past) → 0 < n → OrdersPassed n c.orders new → Keeps c past
+    → Lasts mode n past → IsReady c mode past → IsEven c.orders past.tables n → past.tables.unit.backup ≤ 65535
+    → Keeps (passed n c new) (after n past)
+keeps-after zero mode c new past some by k l ready even few = absurd (omega (arith, some))
+keeps-after (suc zero) mode c new past some by k l ready even few = keeps-on mode zero c new past by k l ready even few
+keeps-after (suc (suc j)) mode c new past some by k l ready even few =
+    let day : c.orders.clock + 1 < 864000 = omega (arith, even.clock) in
+    let mid : Orders = orders-at 1 c.orders day in
+    let more : 0 < suc j = omega arith in
+    let whole : 1 + suc j ≡ suc (suc j) = omega arith in
+    let next : Past = with_moment past (next_moment past) in
+    let first : Keeps (passed 1 c mid) next =
+    keeps-on mode (suc j) c mid past (at-passed 1 c.orders day) k l ready (first-even (suc j) c.orders past.tables even) few in
+    subst (λ (x : Controller). Keeps x (after (suc j) next)) (passed-more 1 (suc j) c mid new ∙ ap (λ (n : ℕ). passed n c new) whole)
+    (keeps-after (suc j) mode (passed 1 c mid) new next more (rest-by (suc j) c.orders new day by) first (lasts-less mode (suc j) past l)
+    (ready-on mode (suc j) c mid past l ready) (rest-even (suc j) c.orders past.tables day even) few)
+
+-- what lasts longer lasts after some ticks
+pub lasts-after : (k j : ℕ) (mode : Mode) (past : Past) → Lasts mode (k + suc j) past → Lasts mode (suc j) (after k past)
+lasts-after zero j mode past l = let e : zero + suc j ≡ suc j = omega arith in subst (λ (n : ℕ). Lasts mode n past) e l
+lasts-after (suc k) j mode past l =
+    let e : suc k + suc j ≡ suc (k + suc j) = omega arith in
+    lasts-after k j mode (with_moment past (next_moment past)) (lasts-less mode (k + suc j) past (subst (λ (n : ℕ). Lasts mode n past) e l))

@@ -1,6 +1,6 @@
 -- What the answers on single phases say of the sets and lists of the definitions.
 use Rattle.std.proofs.Common.{◌≡◌, ◌≢◌, ◌<◌, ◌≤◌, ◌+◌, ◌-◌, ℕ, nat_le, Bool, true, false, not}
-use Rattle.std.proofs.Common.{◌&&◌, ◌||◌, Option, Some, None, refl, sym, ◌∙◌, ap, arith, inl, inr}
+use Rattle.std.proofs.Common.{◌&&◌, ◌||◌, List, Option, Some, None, refl, sym, ◌∙◌, ap, arith, inl, inr}
 use Rattle.std.proofs.lemmas.Bool.{cases_Bool, false≢true, leb-true, leb-false, le-leb, lt-leb}
 use Rattle.std.proofs.Math.Bool.{and-false, not-not}
 use Rattle.sig_types.specs.declared.frame.Colour.{Colour}
@@ -14,7 +14,7 @@ use Rattle.sig_tables.specs.Tables.{is_enabled, has_maximum_recall, gap_time, ma
 use Rattle.sig_tables.specs.Past.{Past}
 use Rattle.sig_tables.specs.Looking.{in_a_row, run, latched, runs_on, signal_runs_on, shows, lasts_now}
 use Rattle.sig_tables.specs.Sides.{are_incompatible}
-use Rattle.sig_tables.specs.Calls.{is_active, is_green, some_heard, turns_on}
+use Rattle.sig_tables.specs.Calls.{is_active, is_green, opposed_of, some_heard, turns_on}
 use Rattle.sig_tables.specs.View.{ended_of, has_gap, has_maximum, is_reasoned, is_served, is_done, is_startable}
 use Rattle.sig_tables.specs.Splits.{keeps_maximum, split_maximum}
 use Rattle.sig_tables.specs.Modes.{bound, stage_of}
@@ -240,9 +240,13 @@ done-not past p e = rw e refl
 pub active-is : (quiet green active : Bool) → quiet ≡ (green && not active) → green ≡ true → active ≡ not quiet
 active-is quiet green active e g = sym (ap not (e ∙ ap (λ (b : Bool). b && not active) g) ∙ not-not active)
 
+pub opposed-by : (past : Past) (phases : List ℕ) (p : ℕ) → is_phase p ≡ true
+    → is_in (opposed_of past.tables (frame_seen past) phases) p ≡ (is_green (frame_seen past) p && some (are_incompatible past.tables p) phases)
+opposed-by past phases p h = in-phases (λ q. is_green (frame_seen past) q && some (are_incompatible past.tables q) phases) p h
+
 pub opposed-is : (past : Past) (p : ℕ) → is_phase p ≡ true
     → is_in (opposed_seen past) p ≡ (is_green (frame_seen past) p && some (are_incompatible past.tables p) (demand_seen past))
-opposed-is past p h = in-phases (λ q. is_green (frame_seen past) q && some (are_incompatible past.tables q) (demand_seen past)) p h
+opposed-is past p h = opposed-by past (demand_seen past) p h
 
 -- what is opposed is Green
 pub opposed-green : (past : Past) (p : ℕ) → is_phase p ≡ true

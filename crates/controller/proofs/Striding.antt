@@ -8,24 +8,35 @@ use Rattle.sig_types.specs.declared.frame.Colour.TheVariants.{Green, Yellow, Cle
 use Rattle.sig_types.specs.declared.frame.Ped.{Ped}
 use Rattle.sig_types.specs.declared.frame.Ped.TheVariants.{Walk, Flash, Dont}
 use Rattle.sig_types.specs.declared.frame.Frame.{Frame}
-use Rattle.sig_types.specs.declared.frame.Mode.TheVariants.{Free}
-use Rattle.sig_types.specs.Colour.{same_colours, same_signals}
+use Rattle.sig_types.specs.declared.frame.Mode.{Mode}
+use Rattle.sig_types.specs.declared.frame.Mode.TheVariants.{Start, Free, Seek, Coord, Ending, Flash as InFlash, Entry, Track, Dwell, Exit}
+use Rattle.sig_types.specs.Colour.{same_colours, same_signals, same_mode}
 use Rattle.sig_tables.specs.declared.tables.Tables.{Tables}
+use Rattle.sig_tables.specs.Walking.{is_local_zero}
 use Rattle.sig_tables.specs.Past.{Past, History}
 use Rattle.sig_tables.specs.Decide.{past_at, ticked, decide, last_frame_of, with_moment, next_moment}
+use Rattle.sig_tables.specs.Seen.{frame_seen}
+use Rattle.preempt_run.proofs.Goes.{same_mode-itself}
 use Rattle.controller.specs.declared.Controller.{Controller}
 use Rattle.controller.specs.declared.orders.Orders.{Orders}
 use Rattle.controller.specs.Even.{IsEven, OrdersPassed}
 use Rattle.controller.specs.StandsFor.{Keeps, StandsFor}
 use Rattle.controller.specs.Strides.{has_line, ticks_more, is_told}
-use Rattle.controller.specs.Passed.{RestsOn, passed, IsReady}
-use Rattle.controller.proofs.GoesOn.{rest-repeats}
-use Rattle.controller.proofs.Passed.{after, rest-after, keeps-after}
+use Rattle.controller.specs.Lasting.{Lasts}
+use Rattle.controller.specs.Passed.{passed, IsReady}
+use Rattle.controller.proofs.GoesOn.{tick-goes, Alike, goes-alike}
+use Rattle.controller.proofs.InStep.{counter-next, no-zero}
+use Rattle.controller.proofs.Passed.{after, lasts-after, keeps-after}
 
 -- what a history has come to after so many ticks more
+after-last : (k : ℕ) (past : Past)
+    → with_moment (after k past) (next_moment (after k past)) ≡ after k (with_moment past (next_moment past))
+after-last zero past = refl
+after-last (suc k) past = after-last k (with_moment past (next_moment past))
+
 pub more-past : (k : ℕ) (h : History) → past_at (ticks_more k h) ≡ after k (past_at h)
 more-past zero h = refl
-more-past (suc k) h = ap (λ (p : Past). with_moment p (next_moment p)) (more-past k h)
+more-past (suc k) h = ap (λ (p : Past). with_moment p (next_moment p)) (more-past k h) ∙ after-last k (past_at h)
 
 pub more-more : (k d : ℕ) (h : History) → ticks_more k (ticks_more d h) ≡ ticks_more (d + k) h
 more-more zero d h = let e : d ≡ d + 0 = omega arith in ap (λ (n : ℕ). ticks_more n h) e
@@ -47,33 +58,53 @@ same-signals (Walk ∷ xs) = same-signals xs
 same-signals (Flash ∷ xs) = same-signals xs
 same-signals (Dont ∷ xs) = same-signals xs
 
--- a frame of Free that comes again is plain
-again-plain : (f : Frame) → f.mode ≡ Free → has_line f f ≡ false
-again-plain f e =
-    let same : (f.version == f.version) ≡ true = (Decides-eqb f.version f.version).1 refl in
-    rw (same-colours f.veh, same-signals f.ped, same, e) refl
+-- a frame is plain that shows what the one before it shows, and is no local zero
+like-plain : (f g : Frame) → Alike g f → is_local_zero g.mode g.counter f ≡ false → has_line f g ≡ false
+like-plain f g a none =
+    let colours : same_colours f.veh g.veh ≡ true = ap (λ (xs : List Colour). same_colours f.veh xs) a.veh ∙ same-colours f.veh in
+    let signals : same_signals f.ped g.ped ≡ true = ap (λ (xs : List Ped). same_signals f.ped xs) a.ped ∙ same-signals f.ped in
+    let mode : same_mode f.mode g.mode ≡ true = ap (λ (m : Mode). same_mode f.mode m) a.mode ∙ same_mode-itself f.mode in
+    let version : (f.version == g.version) ≡ true = (Decides-eqb f.version g.version).1 (sym a.version) in
+    rw (colours, signals, mode, version, none) refl
 
--- the frames of ticks at rest are plain
-pub rest-plain : (k : ℕ) (h : History) → RestsOn (past_at h) → is_told h (suc k) ≡ false
-rest-plain k h r =
-    let rests : RestsOn (past_at (ticks_more k h)) = subst RestsOn (sym (more-past k h)) (rest-after k (past_at h) r) in
-    let again : decide (ticks_more k h) ≡ last_frame_of (ticks_more k h) = (rest-repeats (past_at (ticks_more k h)) rests).again in
-    ap (λ (f : Frame). has_line (last_frame_of (ticks_more k h)) f) again
-    ∙ again-plain (last_frame_of (ticks_more k h)) rests.asks.was
+-- the tick of a cabinet that lasts is no local zero
+zero-not : (mode : Mode) (j : ℕ) (past : Past) → Lasts mode (suc j) past
+    → is_local_zero (next_moment past).frame.mode (next_moment past).frame.counter (frame_seen past) ≡ false
+zero-not Free j past l =
+    let free : (next_moment past).frame.mode ≡ Free = (goes-alike Free j past l).mode ∙ l.was in
+    ap (λ (m : Mode). is_local_zero m (next_moment past).frame.counter (frame_seen past)) free
+zero-not (Coord n) j past l =
+    no-zero (next_moment past).frame.mode (next_moment past).frame.counter (frame_seen past).counter (frame_seen past)
+    (counter-next n j past l.fresh l.goes l.was (tick-goes (Coord n) j past l).now)
+zero-not Start j past l = absurd l.goes
+zero-not (Seek n) j past l = absurd l.goes
+zero-not Ending j past l = absurd l.goes
+zero-not InFlash j past l = absurd l.goes
+zero-not (Entry i) j past l = absurd l.goes
+zero-not (Track i) j past l = absurd l.goes
+zero-not (Dwell i) j past l = absurd l.goes
+zero-not (Exit i) j past l = absurd l.goes
 
--- what is kept stands after some of them
-pub keeps-all : (n : ℕ) (c : Controller) (new : Orders) (h : History) → 0 < n → OrdersPassed n c.orders new → StandsFor c h → RestsOn (past_at h)
-    → IsReady c → IsEven c.orders (past_at h).tables n → (past_at h).tables.unit.backup ≤ 65535 → StandsFor (passed n c new) (ticks_more n h)
-keeps-all zero c new h some by k r ready even few = absurd (omega (arith, some))
-keeps-all (suc j) c new h some by k r ready even few =
-    subst (λ (p : Past). Keeps (passed (suc j) c new) p) (sym (more-past (suc j) h))
-    (keeps-after j (suc j) c new (past_at h) (omega arith) by k r ready even few)
+-- so the frames of all of them are plain
+pub lasts-plain : (k n : ℕ) (mode : Mode) (h : History) → k < n → Lasts mode n (past_at h) → is_told h (suc k) ≡ false
+lasts-plain k n mode h less l =
+    let j : ℕ = n - suc k in
+    let parts : n ≡ k + suc (n - suc k) = omega (arith, less) in
+    let past : Past = past_at (ticks_more k h) in
+    let now : Lasts mode (suc j) (past_at (ticks_more k h)) =
+    subst (λ (p : Past). Lasts mode (suc j) p) (sym (more-past k h))
+    (lasts-after k j mode (past_at h) (subst (λ (x : ℕ). Lasts mode x (past_at h)) parts l)) in
+    like-plain (last_frame_of (ticks_more k h)) (decide (ticks_more k h)) (goes-alike mode j (past_at (ticks_more k h)) now)
+    (zero-not mode j (past_at (ticks_more k h)) now)
 
-pub keeps-by : (n : ℕ) (c new : Controller) (h : History) → 0 < n → new ≡ passed n c new.orders → OrdersPassed n c.orders new.orders → StandsFor c h
-    → RestsOn (past_at h) → IsReady c → IsEven c.orders c.tables n → StandsFor new (ticks_more n h)
-keeps-by n c new h some same by s r ready even =
+-- and what is kept stands after them
+pub keeps-by : (n : ℕ) (mode : Mode) (c new : Controller) (h : History) → 0 < n → new ≡ passed n c new.orders → OrdersPassed n c.orders new.orders
+    → StandsFor c h → Lasts mode n (past_at h) → IsReady c mode (past_at h) → IsEven c.orders c.tables n → StandsFor new (ticks_more n h)
+keeps-by n mode c new h some same by s l ready even =
     let now : IsEven c.orders (past_at h).tables n = subst (λ (t : Tables). IsEven c.orders t n) s.tables even in
-    subst (λ (x : Controller). StandsFor x (ticks_more n h)) (sym same) (keeps-all n c new.orders h some by s r ready now now.few)
+    subst (λ (x : Controller). StandsFor x (ticks_more n h)) (sym same)
+    (subst (λ (p : Past). Keeps (passed n c new.orders) p) (sym (more-past n h))
+    (keeps-after n mode c new.orders (past_at h) some by s l ready now now.few))
 
 -- after ticks with plain frames, one more and some that were passed over, all have plain frames
 pub plain-on : (h : History) (done more : ℕ) → ((k : ℕ) → k ≤ done → is_told h k ≡ false) → is_told h (suc done) ≡ false

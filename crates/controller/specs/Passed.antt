@@ -1,70 +1,50 @@
--- Ticks at rest in free operation that are passed over at once.
-use Rattle.std.specs.Prelude.{ℕ, ◌≡◌, ◌≢◌, ◌&&◌, not, true, false, [], length, None}
-use Rattle.sig_types.specs.declared.frame.Colour.TheVariants.{Green}
-use Rattle.sig_types.specs.declared.frame.Mode.TheVariants.{Free}
-use Rattle.sig_types.specs.declared.phase_set.PhaseSet.{PhaseSet}
-use Rattle.sig_types.specs.PhaseSet.{has}
-use Rattle.sig_types.specs.Phases.{is_phase, is_in}
-use Rattle.sig_types.specs.Colour.{same_colour, colour_of, on_in}
-use Rattle.sig_tables.specs.Slots.{is_defined}
-use Rattle.sig_tables.specs.Walking.{has_walk}
+-- Ticks that are passed over at once.
+use Rattle.std.specs.Prelude.{ℕ, ◌≡◌, ◌+◌, ◌-◌, ◌%◌, Bool, true, false}
+use Rattle.sig_types.specs.declared.frame.Mode.{Mode}
+use Rattle.sig_types.specs.declared.frame.Frame.{Frame}
+use Rattle.sig_tables.specs.declared.plan.Plan.{Plan}
 use Rattle.sig_tables.specs.Past.{Past}
-use Rattle.sig_tables.specs.Calls.{is_green}
-use Rattle.sig_tables.specs.Layout.{LaidOut}
-use Rattle.sig_tables.specs.Seen.{frame_seen, moment_seen, pedestrian_seen, demand_with, quiet_with, opposed_seen}
-use Rattle.call_store.specs.Stands.{CallsStand}
+use Rattle.sig_tables.specs.Modes.{bound}
+use Rattle.coord_count.specs.declared.Count.{Count}
+use Rattle.coord_count.specs.Passed.{passed as count_passed}
 use Rattle.phase_clock.specs.Passed.{IsSteady, passed as clocks_passed}
 use Rattle.ped_clock.specs.Passed.{passed as signals_passed}
-use Rattle.preempt_run.specs.Stands.{preempts_seen}
 use Rattle.preempt_run.specs.Passed.{IsClear, passed as preempts_passed}
 use Rattle.prio_queue.specs.Idle.{IsIdle}
 use Rattle.controller.specs.declared.orders.Orders.{Orders}
+use Rattle.controller.specs.declared.seeing.Sight.{Sight}
 use Rattle.controller.specs.declared.Controller.{Controller}
-use Rattle.controller.specs.Shows.{is_clearing, is_signalling}
-use Rattle.controller.specs.Rests.{IsCurrent}
+use Rattle.controller.specs.Modes.{is_coord}
+use Rattle.controller.specs.Binds.{IsBound}
 use Rattle.controller.specs.Even.{IsEven, OrdersPassed}
+use Rattle.controller.specs.Lasting.{Looks}
 
--- nothing has been told since the last frame
-pub record IsFresh (past : Past) : Type 0 where
-  pub heard : past.heard ≡ []
-  pub commanded : past.commanded ≡ None
-  pub clock_set : past.clock_set ≡ None
+-- the frame with this counter and this target, where it is in step with a pattern
+abbrev pub timed : Bool → ℕ → ℕ → Frame → Frame
+timed true counter target f = record f { counter = counter; target = target }
+timed false counter target f = f
 
--- the command asks for no pattern and no flash, no preempt input is on, and the cabinet runs free
-pub record AsksNothing (past : Past) : Type 0 where
-  pub was : (frame_seen past).mode ≡ Free
-  pub beside : preempts_seen past ≡ []
-  pub other : (moment_seen past).command ≢ 255
-  pub undefined : is_defined past.tables (moment_seen past).command ≡ false
+-- the count after so many ticks more, where it counts
+abbrev pub counted : Bool → ℕ → Count → Count
+counted true k count = count_passed k count
+counted false k count = count
 
--- and besides no phase has demand, nothing clears, walks or flashes, no walk begins, and something is on in each ring: the ticks
--- that come are at rest until something is told
-pub record RestsOn (past : Past) : Type 0 where
-  pub fresh : IsFresh past
-  pub asks : AsksNothing past
-  pub demand : demand_with None past ≡ []
-  pub colours : (p : ℕ) → is_phase p ≡ true → is_clearing (frame_seen past).veh p ≡ false
-  pub signals : (p : ℕ) → is_phase p ≡ true → is_signalling (frame_seen past) p ≡ false
-  pub uncalled : (p : ℕ) → is_phase p ≡ true
-      → ((has_walk past.tables p && is_in (pedestrian_seen past) p)
-      && ((same_colour (colour_of (frame_seen past) p) Green && not (is_signalling (frame_seen past) p))
-      && not (is_in (opposed_seen past) p))) ≡ false
-  pub current : IsCurrent past
-  pub first : on_in (frame_seen past) 1 ≢ 0
-  pub second : on_in (frame_seen past) 2 ≢ 0
-  pub wide : length (frame_seen past).veh ≡ 16
-  pub long : length (frame_seen past).ped ≡ 16
+-- where the target of a plan stands at this time of the day
+abbrev pub planned_target : Plan → ℕ → ℕ
+planned_target plan clock = (clock + plan.shift + (plan.cycle - plan.offset % plan.cycle)) % plan.cycle
 
--- the controller after so many ticks at rest, which leave these orders
+-- the controller after so many ticks at which it shows what it showed, which leave these orders
 abbrev pub passed : ℕ → Controller → Orders → Controller
 passed k c o = record c {
+  frame = timed (is_coord c.frame.mode) (c.count.counter + k) (planned_target c.binding.plan o.clock) c.frame;
   clocks = clocks_passed k c.clocks;
   signals = signals_passed k c.signals;
   preempts = preempts_passed k c.preempts;
   orders = o;
+  count = counted (is_coord c.frame.mode) k c.count;
 }
 
--- new is old after so many ticks at rest, with the orders that it has
+-- new is old after so many such ticks, with the orders that it has
 abbrev pub HasPassed : ℕ → Controller → Controller → Type 0
 HasPassed k old new = new ≡ passed k old new.orders
 
@@ -76,13 +56,12 @@ HasOrders k old new = OrdersPassed k old.orders new.orders
 abbrev pub GoesEvenly : Controller → ℕ → Type 0
 GoesEvenly c k = IsEven c.orders c.tables k
 
--- at such ticks no other register moves: the phases that are active are these, and what is counted of them was so at the last tick
-pub record IsReady (c : Controller) : Type 0 where
-  pub active : PhaseSet
-  pub opposed : PhaseSet
-  pub none : (p : ℕ) → has opposed p ≡ false
-  pub quiet : (past : Past) → CallsStand c.calls past → LaidOut c.layout past.tables → (p : ℕ) → is_phase p ≡ true
-      → is_in (quiet_with None past) p ≡ (is_green (frame_seen past) p && not (has active p))
-  pub steady : IsSteady c.clocks active opposed
+-- at ticks in this mode that show what the last frame shows no register moves beside those that count: what is counted of the phases
+-- was so at the last tick, no preempt is counted, no priority request was active, and the pattern of the mode is the one that is kept
+pub record IsReady (c : Controller) (mode : Mode) (past : Past) : Type 0 where
+  pub sight : Sight
+  pub looks : Looks (bound mode) sight past
+  pub steady : IsSteady c.clocks sight.active sight.opposed
   pub clear : IsClear c.preempts
   pub idle : IsIdle c.requests
+  pub bound : IsBound c.binding past.tables mode

@@ -2,7 +2,7 @@
 //! plain ones, where what is on stays as it is and no more is looked at; and those at which no phase ends, begins or walks.
 //! Only the registers that count are stepped.
 
-ghost use Rattle.std.specs.Prelude.{◌≡◌, ◌≢◌, ◌<◌, ◌≤◌, ◌+◌, ◌&&◌, ◌∷◌, [], ℕ, true, false, None, IsTrue, length, get_or, not};
+ghost use Rattle.std.specs.Prelude.{◌≡◌, ◌≢◌, ◌<◌, ◌≤◌, ◌+◌, ◌&&◌, ◌∷◌, [], ℕ, Bool, true, false, None, IsTrue, length, get_or, not};
 ghost use Rattle.controller.specs.Modes.{is_free};
 
 use crate::Controller;
@@ -57,6 +57,7 @@ impl Controller {
     ghost use Rattle.sig_tables.specs.Layout.{Has};
     ghost use Rattle.sig_types.specs.PhaseSet.{has, phases_of};
     ghost use Rattle.sig_tables.specs.Walking.{has_walk};
+    ghost use Rattle.sig_tables.specs.Ticking.{on_of};
     ghost use Rattle.sig_tables.specs.Decide.{with_moment, next_moment};
     ghost use Rattle.sig_tables.specs.Seen.{frame_seen, mode_seen, pedestrian_seen, demand_with, quiet_seen, opposed_seen};
     ghost use Rattle.preempt_run.specs.Stands.{preempts_seen};
@@ -87,10 +88,10 @@ impl Controller {
     /// Whether no walk begins on a phase that stays Green: of those that show steady don't walk and are not opposed none is
     /// called to.
     pub(crate) fn is_uncalled(&self, opposed: PhaseSet) -> bool
-        ensures walks { (past : Past) (p : ℕ) → Keeps self.now past → Has opposed (is_in (opposed_seen past)) → IsTrue result → is_phase p ≡ true
+        ensures walks { (past : Past) (against : ℕ → Bool) (p : ℕ) → Keeps self.now past → Has opposed against → IsTrue result → is_phase p ≡ true
             → ((has_walk past.tables p && is_in (pedestrian_seen past) p)
             && ((same_colour (colour_of (frame_seen past) p) Green && not (is_signalling (frame_seen past) p))
-            && not (is_in (opposed_seen past) p))) ≡ false }
+            && not (against p))) ≡ false }
     {
         let called = self.layout.walks.meet(self.calls.pedestrian());
         let steady = self.shown.green.minus(self.signalling);
@@ -111,17 +112,14 @@ impl Controller {
         }
     }
 
-    /// Whether the last frame has what a frame of Free has by the tables in force: their version, what is on by their rings,
-    /// and no counter and no target.
-    pub(crate) fn is_current(&self) -> bool
-        ensures { (past : Past) → Keeps self.now past → IsTrue result → IsCurrent past }
+    /// Whether the last frame has the version of the tables in force, and what is on by their rings.
+    pub(crate) fn is_laid_out(&self) -> bool
+        ensures version { (past : Past) → Keeps self.now past → IsTrue result → (frame_seen past).version ≡ past.version }
+        ensures on { (past : Past) → Keeps self.now past → IsTrue result
+            → (frame_seen past).on ≡ on_of past.tables (frame_seen past).veh 1 ∷ on_of past.tables (frame_seen past).veh 2 ∷ [] }
     {
         let red = self.shown.red;
         if self.frame.version != self.version {
-            false
-        } else if self.frame.counter != 0 {
-            false
-        } else if self.frame.target != 0 {
             false
         } else {
             are_on(
@@ -129,6 +127,20 @@ impl Controller {
                 self.on_in_ring(red, 1),
                 self.on_in_ring(red, 2),
             )
+        }
+    }
+
+    /// Whether the last frame has what a frame of Free has by the tables in force: their version, what is on by their rings,
+    /// and no counter and no target.
+    pub(crate) fn is_current(&self) -> bool
+        ensures { (past : Past) → Keeps self.now past → IsTrue result → IsCurrent past }
+    {
+        if self.frame.counter != 0 {
+            false
+        } else if self.frame.target != 0 {
+            false
+        } else {
+            self.is_laid_out()
         }
     }
 

@@ -85,6 +85,7 @@ pub(crate) fn is_defined(tables: &Tables, pattern: u8) -> bool
 
 impl Binding {
     ghost use Rattle.controller.specs.Binds.{BindingIs, BindingStands, IsBound, Names};
+    ghost use Rattle.controller.specs.Passed.{planned_target};
 
     /// No pattern.
     pub fn none(tables: &Tables, layout: Layout) -> Binding
@@ -162,6 +163,7 @@ impl Binding {
     /// Where the target of the pattern's counter stands at this time of the day.
     pub fn target(&self, clock: u32) -> u32
         requires of_day { clock < 864000 }
+        ensures planned { result ≡ planned_target self.now.plan clock }
         ensures target { (t : Tables) (n : ℕ) → BindingIs self.now t n → result ≡ target_at t n clock }
         ensures below { result < self.now.plan.cycle }
     {

@@ -21,6 +21,7 @@ mod by_colour;
 mod colouring;
 mod course;
 mod keeping;
+mod lasting;
 mod moving;
 mod orders;
 mod passing;

@@ -98,6 +98,8 @@ impl Orders {
     /// The clock, in ticks of the day.
     pub fn clock(&self) -> u32
         ensures clock { (past : Past) → OrdersStand self.now past → result ≡ clock_shown past }
+        ensures kept { result ≡ self.now.clock }
+        ensures of_day { result < 864000 }
     {
         self.clock
     }

@@ -1,78 +1,229 @@
-//! Ticks at rest in free operation that are passed over at once: nothing is asked for and nothing runs out, so that each
-//! gives the last frame again, and no register moves but the number of the tick, the clock and how long the command has
-//! stood.
+//! Ticks that are passed over at once, in free operation and in step with a pattern: each shows what the last frame shows, and
+//! no register moves but those that count: the number of the tick, the clock, how long the command has stood, the counter
+//! of the cycle and its target.
 
-ghost use Rattle.std.specs.Prelude.{◌≡◌, ◌≢◌, ◌<◌, ◌≤◌, ◌+◌, [], ℕ, false, IsTrue};
+ghost use Rattle.std.specs.Prelude.{◌≡◌, ◌<◌, ◌≤◌, ◌+◌, ◌⊎◌, [], ℕ, true, IsTrue, None};
 
 use crate::Controller;
-use crate::at_rest::{are_both_on, is_free, shows_sixteen};
+use crate::at_rest::{are_both_on, shows_sixteen};
 use crate::binding::is_defined;
-use sig_types::PhaseSet;
+use crate::course::is_coord;
+use crate::seeing::Sight;
+use sig_types::{Mode, PhaseSet};
+use split_options::SplitOptions;
 
 /// The command that asks for flash.
 const FLASH_COMMAND: u8 = 255;
 
 impl Controller {
+    ghost use Rattle.sig_types.specs.Phases.{is_in};
+    ghost use Rattle.sig_tables.specs.Modes.{bound};
+    ghost use Rattle.sig_tables.specs.Slots.{cycle_time, window};
+    ghost use Rattle.sig_tables.specs.Clock.{target_at};
+    ghost use Rattle.sig_tables.specs.Seen.{moment_seen};
+    ghost use Rattle.coord_count.specs.Stands.{counter_of};
+    ghost use Rattle.controller.specs.Modes.{is_coord};
     ghost use Rattle.sig_tables.specs.Past.{Past};
-    ghost use Rattle.sig_tables.specs.Command.{command_now};
-    ghost use Rattle.controller.specs.Passed.{IsFresh, AsksNothing, RestsOn, IsReady, GoesEvenly, HasPassed, HasOrders};
+    ghost use Rattle.sig_tables.specs.Layout.{Has};
+    ghost use Rattle.preempt_run.specs.Stands.{preempts_seen};
+    ghost use Rattle.split_options.specs.Options.{AreBinding};
+    ghost use Rattle.controller.specs.Binds.{BindingIs, IsBound};
+    ghost use Rattle.controller.specs.Lasting.{IsFresh, Looks, StaysFree, StaysInStep, ModeLasts, Lasts, opposed_with};
+    ghost use Rattle.controller.specs.Passed.{IsReady, GoesEvenly, HasPassed, HasOrders};
     ghost use Rattle.controller.specs.StandsFor.{Keeps, tick_count, install_count};
 
-    /// Whether the cabinet runs free and goes on to, whatever becomes of its command: no preempt input is on, and the command
-    /// is no pattern that is defined and is no flash.
-    fn asks_nothing(&self) -> bool
-        ensures { (past : Past) → Keeps self.now past → IsFresh past → IsTrue result → AsksNothing past }
+    /// Whether the pattern that the last frame is in step with, if it is with one, is the one that is kept.
+    fn is_bound(&self) -> bool
+        ensures { (past : Past) → Keeps self.now past → IsTrue result → IsBound self.now.binding past.tables self.now.frame.mode }
     {
-        let command = self.orders.command();
-        if !is_free(self.frame.mode) {
-            false
-        } else if !self.preempts.on().is_empty() {
-            false
-        } else if command == FLASH_COMMAND {
-            false
-        } else {
-            !is_defined(&self.tables, command)
+        match self.frame.mode {
+            Mode::Free => true,
+            Mode::Coord(pattern) => {
+                if pattern == 0 {
+                    false
+                } else {
+                    pattern == self.binding.pattern
+                }
+            }
+            _ => false,
         }
     }
 
-    /// Whether the ticks that come are at rest until something is told, where nothing has been since the last frame.
-    pub(crate) fn rests_on(&self) -> bool
-        ensures { (past : Past) → Keeps self.now past → IsFresh past → IsTrue result → RestsOn past }
+    /// What the split of the pattern asks that the last frame is in step with; none where it is with none.
+    fn options_kept(&self) -> Option<&SplitOptions>
+        ensures options { (past : Past) → IsBound self.now.binding past.tables self.now.frame.mode
+            → AreBinding result (bound self.now.frame.mode) past.tables }
     {
-        shows_sixteen(self.frame);
-        if !self.asks_nothing() {
-            false
-        } else if !self.free_demand().is_empty() {
-            false
-        } else if !self.is_settled() {
-            false
-        } else if !self.is_uncalled(PhaseSet::empty()) {
-            false
-        } else if !self.is_current() {
-            false
+        if is_coord(self.frame.mode) {
+            Some(&self.binding.options)
         } else {
-            are_both_on(self.frame.on)
+            None
         }
     }
 
-    /// Whether no register moves at such ticks beside those that count.
-    pub(crate) fn is_ready(&self) -> bool
-        ensures { IsTrue result → IsReady self.now }
+    /// What is seen of the phases, where the mode goes on.
+    fn sight_kept(&self) -> Sight
+        ensures looks { (past : Past) → Keeps self.now past → IsBound self.now.binding past.tables self.now.frame.mode
+            → Looks (bound self.now.frame.mode) result past }
     {
-        let active = self.calls.active(&self.layout, None);
+        let options = self.options_kept();
+        let active = self.calls.active(&self.layout, options);
+        let demand = self.calls.demand(&self.layout, self.shown.red, options);
+        Sight {
+            demand,
+            active,
+            opposed: self.opposed(demand),
+        }
+    }
+
+    /// Whether no register moves at ticks that see this and show what the last frame shows, beside those that count.
+    fn is_ready(&self, sight: &Sight) -> bool
+        ensures ready { (past : Past) → IsBound self.now.binding past.tables self.now.frame.mode
+            → Looks (bound self.now.frame.mode) sight.now past → IsTrue result → IsReady self.now self.now.frame.mode past }
+    {
         if !self.preempts.is_clear() {
             false
         } else if !self.requests.is_idle() {
             false
         } else {
-            self.clocks.is_steady(active, PhaseSet::empty())
+            self.clocks.is_steady(sight.active, sight.opposed)
         }
+    }
+
+    /// Whether free operation goes on, and no walk begins, where these phases are opposed.
+    fn stays_at_free(&self, opposed: PhaseSet) -> bool
+        ensures { (past : Past) → Keeps self.now past → IsFresh past → Has opposed (is_in (opposed_with None past)) → IsTrue result
+            → StaysFree past }
+    {
+        let command = self.orders.command();
+        if command == FLASH_COMMAND {
+            false
+        } else if is_defined(&self.tables, command) {
+            false
+        } else if self.frame.counter != 0 {
+            false
+        } else if self.frame.target != 0 {
+            false
+        } else {
+            self.is_uncalled(opposed)
+        }
+    }
+
+    /// For how many ticks more the counter of the pattern that is kept goes on as time does, before the end of its cycle. While
+    /// it is to be corrected this says none.
+    fn counter_left(&self) -> u32
+        ensures cycle { (past : Past) (n k : ℕ) → Keeps self.now past → BindingIs self.now.binding past.tables n → 0 < k → k ≤ result
+            → self.now.frame.counter + k < cycle_time past.tables n }
+        ensures even { (past : Past) (n : ℕ) → Keeps self.now past → BindingIs self.now.binding past.tables n → IsFresh past → 0 < result
+            → (window past.tables n ≤ self.now.frame.counter)
+            ⊎ (target_at past.tables n (moment_seen past).clock ≡ self.now.frame.counter) }
+        ensures room { 0 < result → counter_of self.now.count + result ≤ 4294967295 }
+    {
+        let counter = self.count.counter();
+        let left = (self.binding.plan.cycle - 1).saturating_sub(counter);
+        if self.frame.counter != counter {
+            0
+        } else if self.binding.plan.window <= counter {
+            left
+        } else if self.binding.target(self.orders.clock()) == counter {
+            left
+        } else {
+            0
+        }
+    }
+
+    /// For how many ticks more the cabinet stays in step with this pattern, which is the one that is kept, and the counter goes
+    /// on as time does.
+    fn step_left(&self, pattern: u8) -> u32
+        ensures left { (past : Past) (k : ℕ) → Keeps self.now past → BindingIs self.now.binding past.tables pattern → IsFresh past
+            → GoesEvenly self.now k → 0 < k → k ≤ result → StaysInStep pattern k past }
+        ensures room { 0 < result → counter_of self.now.count + result ≤ 4294967295 }
+    {
+        if self.orders.command() != pattern {
+            0
+        } else if !is_defined(&self.tables, pattern) {
+            0
+        } else if !self.requests.is_over(self.orders.ticks()) {
+            0
+        } else {
+            self.counter_left()
+        }
+    }
+
+    /// For how many ticks more the mode goes on, where these phases are opposed.
+    fn mode_left(&self, opposed: PhaseSet) -> u32
+        ensures left { (past : Past) (k : ℕ) → Keeps self.now past → IsBound self.now.binding past.tables self.now.frame.mode → IsFresh past
+            → GoesEvenly self.now k → Has opposed (is_in (opposed_with (bound self.now.frame.mode) past)) → 0 < k → k ≤ result
+            → ModeLasts self.now.frame.mode k past }
+        ensures room { is_coord self.now.frame.mode ≡ true → 0 < result → counter_of self.now.count + result ≤ 4294967295 }
+    {
+        match self.frame.mode {
+            Mode::Free => {
+                if self.stays_at_free(opposed) {
+                    u32::MAX
+                } else {
+                    0
+                }
+            }
+            Mode::Coord(pattern) => self.step_left(pattern),
+            _ => 0,
+        }
+    }
+
+    /// Whether no preempt input is on.
+    fn is_beside(&self) -> bool
+        ensures { (past : Past) → Keeps self.now past → IsTrue result → preempts_seen past ≡ [] }
+    {
+        self.preempts.on().is_empty()
+    }
+
+    /// For how many ticks more the mode and all phases go on, where this is seen of them.
+    fn all_left(&self, sight: &Sight) -> u32
+        requires few { tick_count self.now < 4294967295 }
+        ensures lasts { (past : Past) (k : ℕ) → Keeps self.now past → IsBound self.now.binding past.tables self.now.frame.mode → IsFresh past
+            → GoesEvenly self.now k → Looks (bound self.now.frame.mode) sight.now past → 0 < k → k ≤ result
+            → Lasts self.now.frame.mode k past }
+        ensures room { is_coord self.now.frame.mode ≡ true → 0 < result → counter_of self.now.count + result ≤ 4294967295 }
+    {
+        shows_sixteen(self.frame);
+        if !are_both_on(self.frame.on) {
+            0
+        } else if !self.is_laid_out() {
+            0
+        } else if !self.is_beside() {
+            0
+        } else {
+            let mode = self.mode_left(sight.opposed);
+            mode.min(self.phases_left(sight))
+        }
+    }
+
+    /// For how many of so many ticks at the most the cabinet shows what it shows, where nothing has been told since the last
+    /// frame. It may be fewer than there are.
+    pub(crate) fn lasting(&self, most: u32) -> u32
+        requires few { tick_count self.now < 4294967295 }
+        ensures within { result ≤ most }
+        ensures even { 0 < result → GoesEvenly self.now result }
+        ensures lasts { (past : Past) → Keeps self.now past → IsFresh past → 0 < result → Lasts self.now.frame.mode result past }
+        ensures ready { (past : Past) → Keeps self.now past → 0 < result → IsReady self.now self.now.frame.mode past }
+        ensures room { is_coord self.now.frame.mode ≡ true → 0 < result → counter_of self.now.count + result ≤ 4294967295 }
+    {
+        if !self.is_bound() {
+            return 0;
+        }
+        let sight = self.sight_kept();
+        if !self.is_ready(&sight) {
+            return 0;
+        }
+        let left = self.all_left(&sight);
+        self.orders.even(&self.tables, most.min(left))
     }
 
     /// Passes over so many ticks.
     pub(crate) fn pass(&mut self, ticks: u32)
         requires few { tick_count self.old + ticks ≤ 4294967295 }
         requires even { GoesEvenly self.old ticks }
+        requires room { is_coord self.old.frame.mode ≡ true → counter_of self.old.count + ticks ≤ 4294967295 }
         ensures passed { HasPassed ticks self.old self.new }
         ensures orders { HasOrders ticks self.old self.new }
         ensures ticks { tick_count self.new ≡ tick_count self.old + ticks }
@@ -82,5 +233,10 @@ impl Controller {
         self.signals.pass(ticks);
         self.preempts.pass(ticks);
         self.orders.pass(ticks, &self.tables);
+        if is_coord(self.frame.mode) {
+            self.count.pass(ticks);
+            self.frame.counter = self.count.counter();
+            self.frame.target = self.binding.target(self.orders.clock());
+        }
     }
 }

@@ -1,5 +1,5 @@
-//! Strides: the ticks up to the next frame that has a line in a trace are taken in one call. Ticks at rest in free operation
-//! are passed over at once.
+//! Strides: the ticks up to the next frame that has a line in a trace are taken in one call. Those at which nothing that is
+//! shown can change are passed over at once.
 
 ghost use Rattle.std.specs.Prelude.{◌≡◌, ◌<◌, ◌≤◌, ◌+◌, ℕ, suc, false};
 
@@ -12,9 +12,9 @@ impl Controller {
     ghost use Rattle.controller.specs.Strides.{IsStride, is_told, ticks_more};
     ghost use Rattle.controller.specs.StandsFor.{StandsFor, tick_count, install_count};
 
-    /// Passes over the ticks at rest that come, at most so many, and says how many, where nothing has been told since the last
-    /// tick. It may stop before all of them.
-    fn pass_rest(&mut self, most: u32) -> u32
+    /// Passes over ticks that come, at most so many, and says how many, where nothing has been told since the last tick. It may
+    /// stop before the first whose frame has a line.
+    fn pass_on(&mut self, most: u32) -> u32
         requires few { tick_count self.old + most ≤ 4294967295 }
         ensures within { result ≤ most }
         ensures stands { (h : History) → StandsFor self.old (ticked h) → StandsFor self.new (ticks_more result (ticked h)) }
@@ -25,13 +25,7 @@ impl Controller {
         if most == 0 {
             return 0;
         }
-        if !self.rests_on() {
-            return 0;
-        }
-        if !self.is_ready() {
-            return 0;
-        }
-        let ticks = self.orders.even(&self.tables, most);
+        let ticks = self.lasting(most);
         if ticks == 0 {
             return 0;
         }
@@ -60,7 +54,7 @@ impl Controller {
             if has_line(&last, &next) {
                 return done;
             }
-            done += self.pass_rest(n - done);
+            done += self.pass_on(n - done);
         }
         done
     }

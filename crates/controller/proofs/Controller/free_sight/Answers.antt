@@ -13,6 +13,6 @@ returns c = record {
       record {
         demand = demand;
         quiet = λ p h. ap (λ (m : Mode). is_in (quiet_with (bound m) past) p) mode ∙ c.active.ensures.quiet None past k.calls k.layout tt p h;
-        opposed = c.opposed.ensures.opposed past k demand;
+        opposed = c.opposed.ensures.opposed past (demand_seen past) k demand;
       };
 }

@@ -3,10 +3,10 @@ use Rattle.std.proofs.lemmas.Bool.{false≢true}
 use Rattle.sig_types.specs.declared.frame.Frame.{Frame}
 use Rattle.sig_types.specs.declared.frame.Mode.{Mode}
 use Rattle.sig_types.specs.Colour.{on_in, colour_of}
-use Rattle.sig_types.specs.Phases.{is_phase}
+use Rattle.sig_types.specs.Phases.{is_phase, is_in}
 use Rattle.sig_tables.specs.Looking.{runs_on}
 use Rattle.sig_tables.specs.Modes.{bound}
-use Rattle.sig_tables.specs.Seen.{frame_seen, mode_seen, demand_with}
+use Rattle.sig_tables.specs.Seen.{frame_seen, mode_seen, demand_with, opposed_seen}
 use Rattle.controller.specs.Shows.{is_clearing}
 use Rattle.controller.proofs.Again.{frame-again, rings-rest, shut, unopposed}
 use Rattle.controller.proofs.Controller.is_at_rest.Goals as goal
@@ -32,7 +32,7 @@ returns-else-not-is_current c = record {
             (ap (λ (f : Frame). length f.ped) (sym k.frame) ∙ c.shows_sixteen.ensures.ped)
             clear
             (λ p h e. absurd (false≢true (sym (c.is_settled.ensures.signals past p k c.if-not-is_settled.false h) ∙ e)))
-            (λ p h. c.is_uncalled.ensures.walks past p k (λ q g. c.empty.ensures.has q ∙ sym (unopposed past.tables (frame_seen past) _ q g free))
+            (λ p h. c.is_uncalled.ensures.walks past (is_in (opposed_seen past)) p k (λ q g. c.empty.ensures.has q ∙ sym (unopposed past.tables (frame_seen past) _ q g free))
             c.if-not-is_uncalled.false h);
       };
   demand = λ t. c.is_empty.ensures.empty.0 c.if-not-is_empty.false;

@@ -1,9 +1,9 @@
 use Rattle.std.proofs.Common.{◌≡◌, ◌≢◌, ℕ, length, true, sym, ◌∙◌, ap}
 use Rattle.sig_types.specs.declared.frame.Frame.{Frame}
 use Rattle.sig_types.specs.Colour.{on_in, colour_of}
-use Rattle.sig_types.specs.Phases.{is_phase}
+use Rattle.sig_types.specs.Phases.{is_phase, is_in}
 use Rattle.sig_tables.specs.Looking.{runs_on}
-use Rattle.sig_tables.specs.Seen.{frame_seen}
+use Rattle.sig_tables.specs.Seen.{frame_seen, opposed_seen}
 use Rattle.controller.specs.Shows.{is_clearing}
 use Rattle.controller.proofs.Again.{frame-again, shut}
 use Rattle.controller.proofs.Controller.is_plain.Goals as goal
@@ -28,6 +28,6 @@ returns-else-not-is_current c = record {
             (ap (λ (f : Frame). length f.ped) (sym k.frame) ∙ c.shows_sixteen.ensures.ped)
             clear
             (λ p h e. c.all_walk_on.ensures.stays past p k mode c.if-not-all_walk_on.false h e)
-            (λ p h. c.is_uncalled.ensures.walks past p k s.opposed c.if-not-is_uncalled.false h);
+            (λ p h. c.is_uncalled.ensures.walks past (is_in (opposed_seen past)) p k s.opposed c.if-not-is_uncalled.false h);
       };
 }

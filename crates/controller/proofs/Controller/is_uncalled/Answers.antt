@@ -10,7 +10,7 @@ apart x w y a b s t z g h u v o q none e f i j k l m n p = rw (← k, ← l, ←
 
 pub returns : goal.returns
 returns c = record {
-  walks = λ past p k o t h.
+  walks = λ past against p k o t h.
       apart _ _ _ _ _ _ _ _ _ _ _ _ _ _
       (none-has c.meet.result p h (c.is_empty.ensures.empty.0 t))
       (c.meet.ensures.has p) (c.meet-called.ensures.has p) (c.minus.ensures.has p (is-within p h)) (c.minus-steady.ensures.has p (is-within p h))

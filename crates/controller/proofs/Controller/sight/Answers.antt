@@ -1,5 +1,5 @@
 use Rattle.sig_tables.specs.Modes.{bound}
-use Rattle.sig_tables.specs.Seen.{mode_seen}
+use Rattle.sig_tables.specs.Seen.{mode_seen, demand_seen}
 use Rattle.call_store.proofs.Quiet.{quiet-is}
 use Rattle.controller.proofs.Controller.sight.Goals as goal
 
@@ -12,6 +12,6 @@ returns c = record {
         demand = demand;
         quiet = quiet-is (bound (mode_seen past)) past c.active-active.result
             (c.active-active.ensures.active (bound (mode_seen past)) past r.keeps.calls r.keeps.layout options);
-        opposed = c.opposed-opposed.ensures.opposed past r.keeps demand;
+        opposed = c.opposed-opposed.ensures.opposed past (demand_seen past) r.keeps demand;
       };
 }

@@ -24,14 +24,14 @@ pub loop-done-preserved : goal.loop-done-preserved
 loop-done-preserved c =
     let i = c.loop-done.invariant in
     let done : ℕ = c.loop-done.done in
-    let more : ℕ = c.pass_rest-done.result in
+    let more : ℕ = c.pass_on-done.result in
     record {
-      within = omega (arith, i.within, c.pass_rest-done.ensures.within);
+      within = omega (arith, i.within, c.pass_on-done.ensures.within);
       stands = λ h s.
           let before = i.stands h s in
           let sum : suc done + more ≡ done + 1 + more = omega arith in
-          subst (λ (x : History). StandsFor c.pass_rest-done.new.self x) (more-more more (suc done) h ∙ ap (λ (n : ℕ). ticks_more n h) sum)
-          (c.pass_rest-done.ensures.stands (ticks_more done h) (c.tick-next.ensures.stands (ticks_more done h) before));
+          subst (λ (x : History). StandsFor c.pass_on-done.new.self x) (more-more more (suc done) h ∙ ap (λ (n : ℕ). ticks_more n h) sum)
+          (c.pass_on-done.ensures.stands (ticks_more done h) (c.tick-next.ensures.stands (ticks_more done h) before));
       plain = λ h k s few.
           let before = i.stands h s in
           let now : is_told h (suc done) ≡ false =
@@ -39,10 +39,10 @@ loop-done-preserved c =
           (c.tick-next.ensures.decided (ticks_more done h) before)
           ∙ c.if-has_line.false in
           plain-on h done more (λ j less. i.plain h j s less) now
-          (λ j less. c.pass_rest-done.ensures.plain (ticks_more done h) j (c.tick-next.ensures.stands (ticks_more done h) before) less)
+          (λ j less. c.pass_on-done.ensures.plain (ticks_more done h) j (c.tick-next.ensures.stands (ticks_more done h) before) less)
           k few;
-      ticks = omega (arith, i.ticks, c.tick-next.ensures.counted, c.pass_rest-done.ensures.ticks);
-      installs = c.pass_rest-done.ensures.installs ∙ c.tick-next.ensures.installs ∙ i.installs;
+      ticks = omega (arith, i.ticks, c.tick-next.ensures.counted, c.pass_on-done.ensures.ticks);
+      installs = c.pass_on-done.ensures.installs ∙ c.tick-next.ensures.installs ∙ i.installs;
     }
 
 pub returns-then-has_line-clause-least : goal.returns-then-has_line-clause-least

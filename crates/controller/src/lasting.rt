@@ -1,0 +1,264 @@
+//! For how many ticks a phase goes on with what it shows: until the first of its intervals is over, or a point of the plan
+//! comes at which it may end. An answer that is too small makes a stride shorter, and no frame another.
+
+ghost use Rattle.std.specs.Prelude.{◌≡◌, ◌<◌, ◌≤◌, ◌+◌, ◌&&◌, ◌⊎◌, ℕ, true, not, Option, None, Some, []};
+
+use crate::Controller;
+use crate::binding::lone;
+use crate::course::is_coord;
+use crate::seeing::Sight;
+use sig_types::Colour;
+
+impl Controller {
+    ghost use Rattle.sig_types.specs.Phases.{is_phase, is_in};
+    ghost use Rattle.sig_types.specs.Colour.{colour_of, signal_of};
+    ghost use Rattle.sig_tables.specs.Past.{Past};
+    ghost use Rattle.sig_tables.specs.Tables.{is_enabled};
+    ghost use Rattle.sig_tables.specs.Calls.{is_green};
+    ghost use Rattle.sig_tables.specs.Modes.{bound};
+    ghost use Rattle.sig_tables.specs.Seen.{frame_seen, demand_with, quiet_with};
+    ghost use Rattle.ped_clock.specs.Passed.{SignalLasts};
+    ghost use Rattle.controller.specs.Binds.{BindingIs, IsBound};
+    ghost use Rattle.controller.specs.Lasting.{Looks, ColourLasts, StaysUnserved, HasNoGap, HasNoMaximum, ComesBefore, HasNoReason, StaysUnforced, PhaseLasts, opposed_with};
+    ghost use Rattle.controller.specs.StandsFor.{Keeps, tick_count};
+
+    /// For how many ticks more a phase, 1 to 16, keeps its colour where it neither ends nor begins.
+    fn colour_left(&self, phase: u8) -> u32
+        requires above { 0 < phase }
+        requires within { phase ≤ 16 }
+        requires few { tick_count self.now < 4294967295 }
+        ensures left { (past : Past) (k : ℕ) → Keeps self.now past → 0 < k → k ≤ result
+            → ColourLasts k phase past.tables past.moments (colour_of (frame_seen past) phase) }
+    {
+        match self.frame.veh[phase as usize - 1] {
+            Colour::Green => u32::MAX,
+            Colour::Red => u32::MAX,
+            Colour::Yellow => {
+                let time = self.clocks.latched_yellow(phase);
+                time.saturating_sub(self.clocks.run(phase))
+            }
+            Colour::Clear => {
+                let time = self.clocks.latched_clear(phase);
+                time.saturating_sub(self.clocks.run(phase))
+            }
+        }
+    }
+
+    /// For how many ticks more a phase, 1 to 16, keeps its signal where no walk begins.
+    fn signal_left(&self, phase: u8) -> u32
+        requires above { 0 < phase }
+        requires within { phase ≤ 16 }
+        requires few { tick_count self.now < 4294967295 }
+        ensures left { (past : Past) (k : ℕ) → Keeps self.now past → 0 < k → k ≤ result
+            → SignalLasts k phase past.tables past.moments (signal_of (frame_seen past) phase) }
+    {
+        self.signals.left(phase, self.frame.ped[phase as usize - 1])
+    }
+
+    /// For how many ticks more a Green phase, 1 to 16, is not served. While it shows Walk or Flash it is not.
+    fn unserved_left(&self, phase: u8) -> u32
+        requires above { 0 < phase }
+        requires within { phase ≤ 16 }
+        requires few { tick_count self.now < 4294967295 }
+        ensures left { (past : Past) (k : ℕ) → Keeps self.now past → is_green (frame_seen past) phase ≡ true → 0 < k → k ≤ result
+            → StaysUnserved k past phase }
+    {
+        if self.signalling.has(phase) {
+            u32::MAX
+        } else {
+            let least = self.clocks.latched_least(phase);
+            least.saturating_sub(self.clocks.run(phase))
+        }
+    }
+
+    /// For how many ticks more a Green phase, 1 to 16, that is active or is not, has no gap.
+    fn gap_left(&self, phase: u8, active: bool) -> u32
+        requires above { 0 < phase }
+        requires within { phase ≤ 16 }
+        ensures left { (past : Past) (o : Option ℕ) (k : ℕ) → Keeps self.now past → active ≡ not (is_in (quiet_with o past) phase) → 0 < k → k ≤ result
+            → HasNoGap o k past phase }
+    {
+        if active {
+            u32::MAX
+        } else {
+            let gap = u32::from(self.tables.phase(phase).passage.max(1));
+            (gap - 1).saturating_sub(self.clocks.quiet(phase))
+        }
+    }
+
+    /// For how many ticks more a Green phase, 1 to 16, that is opposed or is not, is not at its maximum.
+    fn maximum_left(&self, phase: u8, opposed: bool) -> u32
+        requires above { 0 < phase }
+        requires within { phase ≤ 16 }
+        ensures left { (past : Past) (o : Option ℕ) (k : ℕ) → Keeps self.now past → opposed ≡ is_in (opposed_with o past) phase → 0 < k → k ≤ result
+            → HasNoMaximum o k past phase }
+    {
+        let maximum = 10 * u32::from(self.tables.phase(phase).maximum);
+        if maximum == 0 {
+            0
+        } else if opposed {
+            (maximum - 1).saturating_sub(self.clocks.pressed(phase))
+        } else {
+            u32::MAX
+        }
+    }
+
+    /// How many ticks more come before the force point of a phase, 1 to 16, in the pattern that is kept.
+    fn force_left(&self, phase: u8) -> u32
+        requires above { 0 < phase }
+        requires within { phase ≤ 16 }
+        ensures left { (past : Past) (n k : ℕ) → Keeps self.now past → BindingIs self.now.binding past.tables n → 0 < k → k ≤ result
+            → ComesBefore n k past phase }
+    {
+        let force = self.binding.plan.force[phase as usize - 1];
+        force.saturating_sub(1).saturating_sub(self.frame.counter)
+    }
+
+    /// For how many ticks more there is no reason to end a Green phase, 1 to 16, where the pattern that is kept binds.
+    fn bound_left(&self, phase: u8, active: bool) -> u32
+        requires above { 0 < phase }
+        requires within { phase ≤ 16 }
+        ensures left { (past : Past) (n k : ℕ) → Keeps self.now past → BindingIs self.now.binding past.tables n
+            → active ≡ not (is_in (quiet_with (Some n) past) phase) → 0 < k → k ≤ result → HasNoReason (Some n) k past phase }
+    {
+        if self.binding.options.coordinated.has(phase) {
+            self.force_left(phase)
+        } else if self.binding.plan.floating {
+            0
+        } else {
+            self.gap_left(phase, active)
+        }
+    }
+
+    /// For how many ticks more there is no reason to end a Green phase, 1 to 16, where no pattern binds.
+    fn unbound_left(&self, phase: u8, active: bool, opposed: bool) -> u32
+        requires above { 0 < phase }
+        requires within { phase ≤ 16 }
+        ensures left { (past : Past) (k : ℕ) → Keeps self.now past → active ≡ not (is_in (quiet_with None past) phase)
+            → opposed ≡ is_in (opposed_with None past) phase → 0 < k → k ≤ result → HasNoReason None k past phase }
+    {
+        let gap = self.gap_left(phase, active);
+        gap.min(self.maximum_left(phase, opposed))
+    }
+
+    /// For how many ticks more there is no reason to end a Green phase, 1 to 16, in the mode of the last frame.
+    fn reason_left(&self, phase: u8, active: bool, opposed: bool) -> u32
+        requires above { 0 < phase }
+        requires within { phase ≤ 16 }
+        ensures left { (past : Past) (k : ℕ) → Keeps self.now past → IsBound self.now.binding past.tables self.now.frame.mode
+            → active ≡ not (is_in (quiet_with (bound self.now.frame.mode) past) phase)
+            → opposed ≡ is_in (opposed_with (bound self.now.frame.mode) past) phase → 0 < k → k ≤ result
+            → HasNoReason (bound self.now.frame.mode) k past phase }
+    {
+        if is_coord(self.frame.mode) {
+            self.bound_left(phase, active)
+        } else {
+            self.unbound_left(phase, active, opposed)
+        }
+    }
+
+    /// For how many ticks more no pattern forces a phase, 1 to 16, off.
+    fn unforced_left(&self, phase: u8) -> u32
+        requires above { 0 < phase }
+        requires within { phase ≤ 16 }
+        ensures left { (past : Past) (k : ℕ) → Keeps self.now past → IsBound self.now.binding past.tables self.now.frame.mode → 0 < k → k ≤ result
+            → StaysUnforced (bound self.now.frame.mode) k past phase }
+    {
+        if !is_coord(self.frame.mode) {
+            u32::MAX
+        } else if self.binding.options.coordinated.has(phase) {
+            u32::MAX
+        } else {
+            self.force_left(phase)
+        }
+    }
+
+    /// For how many ticks more an enabled Green phase, 1 to 16, stays: it is not served, or there is no reason to end it.
+    fn stay_left(&self, sight: &Sight, phase: u8) -> u32
+        requires above { 0 < phase }
+        requires within { phase ≤ 16 }
+        requires few { tick_count self.now < 4294967295 }
+        ensures left { (past : Past) (k : ℕ) → Keeps self.now past → IsBound self.now.binding past.tables self.now.frame.mode
+            → Looks (bound self.now.frame.mode) sight.now past → is_green (frame_seen past) phase ≡ true → 0 < k → k ≤ result
+            → StaysUnserved k past phase ⊎ HasNoReason (bound self.now.frame.mode) k past phase }
+    {
+        let unserved = self.unserved_left(phase);
+        let active = sight.active.has(phase);
+        let opposed = sight.opposed.has(phase);
+        unserved.max(self.reason_left(phase, active, opposed))
+    }
+
+    /// For how many ticks more a phase, 1 to 16, is not ended where it is Green: it is not forced off, and nothing has demand,
+    /// or it stays.
+    fn green_left(&self, sight: &Sight, phase: u8) -> u32
+        requires above { 0 < phase }
+        requires within { phase ≤ 16 }
+        requires few { tick_count self.now < 4294967295 }
+        ensures unforced { (past : Past) (k : ℕ) → Keeps self.now past → IsBound self.now.binding past.tables self.now.frame.mode
+            → (is_enabled past.tables phase && is_green (frame_seen past) phase) ≡ true → 0 < k → k ≤ result
+            → StaysUnforced (bound self.now.frame.mode) k past phase }
+        ensures stays { (past : Past) (k : ℕ) → Keeps self.now past → IsBound self.now.binding past.tables self.now.frame.mode
+            → Looks (bound self.now.frame.mode) sight.now past
+            → (is_enabled past.tables phase && is_green (frame_seen past) phase) ≡ true → 0 < k → k ≤ result
+            → (demand_with (bound self.now.frame.mode) past ≡ [])
+            ⊎ (StaysUnserved k past phase ⊎ HasNoReason (bound self.now.frame.mode) k past phase) }
+    {
+        if !self.shown.green.has(phase) {
+            return u32::MAX;
+        }
+        let unforced = self.unforced_left(phase);
+        if sight.demand.is_empty() {
+            unforced
+        } else {
+            unforced.min(self.stay_left(sight, phase))
+        }
+    }
+
+    /// For how many ticks more a phase, 1 to 16, goes on with what it shows.
+    fn phase_left(&self, sight: &Sight, phase: u8) -> u32
+        requires above { 0 < phase }
+        requires within { phase ≤ 16 }
+        requires few { tick_count self.now < 4294967295 }
+        ensures left { (past : Past) (k : ℕ) → Keeps self.now past → IsBound self.now.binding past.tables self.now.frame.mode
+            → Looks (bound self.now.frame.mode) sight.now past → 0 < k → k ≤ result → PhaseLasts (bound self.now.frame.mode) k past phase }
+    {
+        let colour = self.colour_left(phase);
+        let signal = self.signal_left(phase);
+        colour.min(signal).min(self.green_left(sight, phase))
+    }
+
+    /// The same of what may be no phase: that goes on for ever.
+    fn place_left(&self, sight: &Sight, phase: u8) -> u32
+        requires few { tick_count self.now < 4294967295 }
+        ensures left { (past : Past) (k : ℕ) → Keeps self.now past → IsBound self.now.binding past.tables self.now.frame.mode
+            → Looks (bound self.now.frame.mode) sight.now past → 0 < k → k ≤ result → is_phase phase ≡ true
+            → PhaseLasts (bound self.now.frame.mode) k past phase }
+    {
+        if phase == 0 {
+            u32::MAX
+        } else if phase > 16 {
+            u32::MAX
+        } else {
+            self.phase_left(sight, phase)
+        }
+    }
+
+    /// For how many ticks more all phases go on with what they show. Only those that are on in a ring are looked at: where
+    /// another is on, or shows Walk or Flash, this says none.
+    pub(crate) fn phases_left(&self, sight: &Sight) -> u32
+        requires few { tick_count self.now < 4294967295 }
+        ensures left { (past : Past) (k p : ℕ) → Keeps self.now past → IsBound self.now.binding past.tables self.now.frame.mode
+            → Looks (bound self.now.frame.mode) sight.now past → 0 < k → k ≤ result → is_phase p ≡ true
+            → PhaseLasts (bound self.now.frame.mode) k past p }
+    {
+        let [first, second] = self.frame.on;
+        let lit = self.shown.green.union(self.shown.clearing);
+        let busy = lit.union(self.signalling);
+        if busy.minus(lone(first)).minus(lone(second)).is_empty() {
+            let one = self.place_left(sight, first);
+            one.min(self.place_left(sight, second))
+        } else {
+            0
+        }
+    }
+}
