@@ -1,38 +1,33 @@
 -- A tick of a cabinet that lasts as it is: its mode goes on, it shows what the last frame shows, and what lasts after it lasts one
 -- tick less.
-use Rattle.std.proofs.Common.{◌≡◌, ◌≢◌, ◌<◌, ◌≤◌, ◌+◌, ◌*◌, ◌&&◌, ◌||◌, ◌⊎◌, ◌==◌, not, if◌then◌else◌, ℕ, suc, Bool, true, false}
-use Rattle.std.proofs.Common.{List, [], ◌∷◌, length, get_or, Option, None, Some, refl, sym, ◌∙◌, ap, arith, subst, inl, inr}
-use Rattle.std.proofs.lemmas.Bool.{false≢true}
-use Rattle.sig_types.specs.declared.frame.Colour.{Colour}
+use Rattle.std.proofs.Common.{◌≡◌, ◌<◌, ◌≤◌, ◌+◌, ◌&&◌, not, ℕ, suc, true, false}
+use Rattle.std.proofs.Common.{List, [], Option, refl, sym, ◌∙◌, ap, arith}
 use Rattle.sig_types.specs.declared.frame.Colour.TheVariants.{Green}
-use Rattle.sig_types.specs.declared.frame.Ped.{Ped}
 use Rattle.sig_types.specs.declared.frame.Frame.{Frame}
 use Rattle.sig_types.specs.declared.frame.Mode.{Mode}
 use Rattle.sig_types.specs.declared.frame.Mode.TheVariants.{Start, Free, Seek, Coord, Ending, Flash, Entry, Track, Dwell, Exit}
-use Rattle.sig_types.specs.Phases.{is_phase, is_in, those}
+use Rattle.sig_types.specs.Phases.{is_phase, is_in}
 use Rattle.sig_types.specs.Colour.{same_colour, colour_in, colour_of, signal_of, on_in, is_start}
 use Rattle.sig_tables.specs.declared.tables.Tables.{Tables}
-use Rattle.sig_tables.specs.Slots.{is_defined}
 use Rattle.sig_tables.specs.Past.{Past, Moment}
 use Rattle.sig_tables.specs.Looking.{last_frame, runs_on}
 use Rattle.sig_tables.specs.Lesser.{Lesser, InFull, signal_runs_within}
 use Rattle.sig_tables.specs.Goals.{lesser_in}
-use Rattle.sig_tables.specs.Command.{is_backed_up, is_commanded, command_now}
+use Rattle.sig_tables.specs.Command.{command_now}
 use Rattle.sig_tables.specs.Modes.{bound}
 use Rattle.sig_tables.specs.Choosing.{mode_reached}
 use Rattle.sig_tables.specs.Course.{Turn, Rings, turn_of, course_of}
 use Rattle.sig_tables.specs.Priority.{active_in}
-use Rattle.sig_tables.specs.Preempts.{all_preempts}
 use Rattle.sig_tables.specs.Walking.{has_walk}
-use Rattle.sig_tables.specs.Ticking.{on_of, moves_of}
-use Rattle.sig_tables.specs.Decide.{with_moment, next_moment}
+use Rattle.sig_tables.specs.Ticking.{moves_of}
+use Rattle.sig_tables.specs.Decide.{next_moment}
 use Rattle.sig_tables.specs.Seen.{frame_seen, moment_seen, mode_seen, turn_seen, view_seen, moves_seen, pedestrian_seen}
 use Rattle.preempt_run.specs.Dwelling.{is_dwell}
 use Rattle.preempt_run.specs.Stands.{preempts_seen}
 use Rattle.preempt_run.proofs.Called.{seen-is}
 use Rattle.controller.specs.Shows.{is_clearing, is_signalling}
-use Rattle.controller.specs.Walks.{crossing_seen, walk_after, signal_seen}
-use Rattle.controller.specs.Lasting.{IsFresh, PhaseLasts, StaysFree, StaysInStep, Lasts, opposed_with}
+use Rattle.controller.specs.Walks.{crossing_seen, walk_after}
+use Rattle.controller.specs.Lasting.{IsFresh, StaysFree, StaysInStep, Lasts, opposed_with}
 use Rattle.controller.specs.Passed.{timed}
 use Rattle.controller.proofs.Again.{free-on, rings-turn, no-counter, no-moves, no-walk, frame-going, shut}
 use Rattle.controller.proofs.Stays.{colour-stays, signal-stays, rings-stay}

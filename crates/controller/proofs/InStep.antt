@@ -1,7 +1,7 @@
 -- The next tick of a cabinet that stays in step with a pattern: the pattern stays in command, and the counter goes on by one.
-use Rattle.std.proofs.Common.{◌≡◌, ◌≢◌, ◌<◌, ◌≤◌, ◌+◌, ◌-◌, ◌*◌, ◌%◌, ◌&&◌, ◌||◌, ◌⊎◌, ◌==◌, not, min, nat_le, if◌then◌else◌, ℕ, suc, Bool, true, false}
-use Rattle.std.proofs.Common.{List, [], ◌∷◌, Option, None, Some, refl, sym, ◌∙◌, ap, arith, inl, inr}
-use Rattle.std.proofs.lemmas.Bool.{false≢true, ne_eqb, eq-eqb, lt-leb, le-leb, and_parts, leb-true}
+use Rattle.std.proofs.Common.{◌≡◌, ◌≢◌, ◌<◌, ◌≤◌, ◌+◌, ◌-◌, ◌*◌, ◌%◌, ◌&&◌, ◌⊎◌, ◌==◌, not, min, nat_le, if◌then◌else◌, ℕ, suc, Bool, true, false}
+use Rattle.std.proofs.Common.{List, [], ◌∷◌, Option, None, refl, sym, ◌∙◌, ap, arith, inl, inr}
+use Rattle.std.proofs.lemmas.Bool.{ne_eqb, eq-eqb, lt-leb, le-leb, and_parts, leb-true}
 use Rattle.std.proofs.lemmas.Bool.Decides.{Decides-eqb}
 use Rattle.std.proofs.Math.Bool.{and-false, or-true}
 use Rattle.std.proofs.Math.Nat.{mod_self, mod-add-mod, mod-eq_of_lt}
@@ -12,16 +12,15 @@ use Rattle.sig_types.specs.declared.frame.Ped.TheVariants.{Walk, Flash, Dont}
 use Rattle.sig_types.specs.declared.frame.Frame.{Frame}
 use Rattle.sig_types.specs.declared.frame.Mode.{Mode}
 use Rattle.sig_types.specs.declared.frame.Mode.TheVariants.{Start, Free, Seek, Coord, Ending, Flash as InFlash, Entry, Track, Dwell, Exit}
-use Rattle.sig_types.specs.Colour.{same_mode}
 use Rattle.sig_tables.specs.declared.tables.Tables.{Tables}
 use Rattle.sig_tables.specs.Cells.{pattern_of}
-use Rattle.sig_tables.specs.Slots.{is_defined, cycle_time, window}
+use Rattle.sig_tables.specs.Slots.{is_defined, cycle_time}
 use Rattle.sig_tables.specs.Past.{Past, Moment}
-use Rattle.sig_tables.specs.Looking.{last_frame, in_a_row, lasts_now}
+use Rattle.sig_tables.specs.Looking.{last_frame, in_a_row}
 use Rattle.sig_tables.specs.Clock.{clock_now, clock_told, rise_at, offset_time, shift_time, target_at, target_in}
 use Rattle.sig_tables.specs.Command.{is_backed_up, is_commanded, command_now}
-use Rattle.sig_tables.specs.Counting.{Correction, tick_later, ahead, counter_after, next_counter}
-use Rattle.sig_tables.specs.Counters.{correction_of, counters_since, counter_in}
+use Rattle.sig_tables.specs.Counting.{Correction, ahead, counter_after, next_counter}
+use Rattle.sig_tables.specs.Counters.{correction_of, counter_in}
 use Rattle.sig_tables.specs.Course.{course_of}
 use Rattle.sig_tables.specs.Walking.{Crossing, walk_begins, is_local_zero}
 use Rattle.sig_tables.specs.Preempts.{preempts_on, stage_after, stage_now}

@@ -1,5 +1,5 @@
 -- For how many ticks more a phase goes on, from what is kept of it.
-use Rattle.std.proofs.Common.{◌≡◌, ◌≢◌, ◌<◌, ◌≤◌, ◌+◌, ◌-◌, ◌&&◌, ◌||◌, ℕ, Bool, true, false, List, get_or, Option, refl, sym, ◌∙◌, ap, arith}
+use Rattle.std.proofs.Common.{◌≡◌, ◌≤◌, ◌+◌, ◌-◌, ◌&&◌, ◌||◌, ℕ, Bool, true, false, List, get_or, Option, refl, sym, ◌∙◌, ap, arith}
 use Rattle.std.proofs.lemmas.Bool.{false≢true}
 use Rattle.std.proofs.Math.Bool.{and-false}
 use Rattle.sig_types.specs.declared.frame.Colour.{Colour}
@@ -15,7 +15,6 @@ use Rattle.sig_tables.specs.Past.{Past, Moment}
 use Rattle.sig_tables.specs.Looking.{run, latched}
 use Rattle.sig_tables.specs.Calls.{is_green}
 use Rattle.sig_tables.specs.Seen.{frame_seen}
-use Rattle.sig_tables.proofs.Below.{phase-is}
 use Rattle.ped_clock.specs.Passed.{SignalLasts}
 use Rattle.controller.specs.declared.binding.Binding.{Binding}
 use Rattle.sig_tables.specs.declared.plan.Plan.{Plan}

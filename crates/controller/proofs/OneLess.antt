@@ -1,7 +1,7 @@
 -- What lasts so many ticks more lasts one less after the next of them.
-use Rattle.std.proofs.Common.{◌≡◌, ◌≢◌, ◌<◌, ◌≤◌, ◌+◌, ◌-◌, ◌*◌, ◌&&◌, ◌||◌, ◌⊎◌, not, if◌then◌else◌, ℕ, suc, Bool, true, false}
+use Rattle.std.proofs.Common.{◌≡◌, ◌<◌, ◌≤◌, ◌+◌, ◌-◌, ◌&&◌, ◌||◌, not, if◌then◌else◌, ℕ, suc, Bool, true, false}
 use Rattle.std.proofs.Common.{List, [], ◌∷◌, length, get_or, Option, None, Some, refl, sym, ◌∙◌, ap, arith, subst, inl, inr}
-use Rattle.std.proofs.lemmas.Bool.{false≢true, cases_Bool}
+use Rattle.std.proofs.lemmas.Bool.{false≢true}
 use Rattle.sig_types.specs.declared.frame.Colour.{Colour}
 use Rattle.sig_types.specs.declared.frame.Colour.TheVariants.{Green, Yellow, Clear, Red}
 use Rattle.sig_types.specs.declared.frame.Ped.{Ped}
@@ -9,15 +9,14 @@ use Rattle.sig_types.specs.declared.frame.Ped.TheVariants.{Walk, Flash, Dont}
 use Rattle.sig_types.specs.declared.frame.Frame.{Frame}
 use Rattle.sig_types.specs.declared.frame.Mode.{Mode}
 use Rattle.sig_types.specs.declared.frame.Mode.TheVariants.{Start, Free, Seek, Coord, Ending, Flash as InFlash, Entry, Track, Dwell, Exit}
-use Rattle.sig_types.specs.Phases.{all_phases, is_phase, is_in, some, those}
+use Rattle.sig_types.specs.Phases.{all_phases, is_in, some, those}
 use Rattle.sig_types.specs.PhaseSet.{has}
-use Rattle.sig_types.specs.Colour.{same_colour, same_signal, colour_in, colour_of, signal_of, on_in}
+use Rattle.sig_types.specs.Colour.{same_colour, same_signal, colour_in, colour_of, signal_of}
 use Rattle.sig_tables.specs.declared.tables.Tables.{Tables}
 use Rattle.sig_tables.specs.Tables.{is_enabled, least_green, yellow_time, red_clear_time, walk_time, pedestrian_clear_time, gap_time, maximum_time}
-use Rattle.sig_tables.specs.Slots.{is_defined, is_coordinated, is_omitted, force_point, window, cycle_time}
-use Rattle.sig_tables.specs.Coordinating.{is_floating}
-use Rattle.sig_tables.specs.Clock.{clock_now, target_at}
-use Rattle.sig_tables.specs.Command.{is_commanded, command_now}
+use Rattle.sig_tables.specs.Slots.{is_omitted, force_point, cycle_time}
+use Rattle.sig_tables.specs.Clock.{target_at}
+use Rattle.sig_tables.specs.Command.{is_commanded}
 use Rattle.sig_tables.specs.Past.{Past, Moment, Heard}
 use Rattle.sig_tables.specs.Looking.{in_a_row, begun, run, latched, shows, signals, signal_run, signal_latched}
 use Rattle.sig_tables.specs.Calls.{is_green, is_called, is_active, opposed_of}
@@ -28,7 +27,6 @@ use Rattle.sig_tables.specs.Modes.{bound}
 use Rattle.sig_tables.specs.Preempts.{all_preempts}
 use Rattle.sig_tables.specs.Walking.{has_walk}
 use Rattle.sig_tables.specs.Ticking.{on_of}
-use Rattle.sig_tables.specs.Course.{course_of}
 use Rattle.sig_tables.specs.Decide.{with_moment, next_moment}
 use Rattle.sig_tables.specs.Seen.{frame_seen, moment_seen, vehicle_seen, pedestrian_seen, detectors_seen, demand_with, quiet_with}
 use Rattle.call_store.proofs.Again.{vehicle-again, pedestrian-again, detectors-again}

@@ -1,37 +1,32 @@
 -- What a controller keeps stands after ticks that it passes over, one by one and at once.
 use Rattle.std.proofs.Common.{◌≡◌, ◌≢◌, ◌<◌, ◌≤◌, ◌+◌, ◌*◌, ◌-◌, ◌%◌, ◌==◌, inl, inr, ◌&&◌, ◌||◌, not, min, if◌then◌else◌, nat_le, ℕ, zero, suc, Bool, true, false}
-use Rattle.std.proofs.Common.{List, ◌∷◌, length, get_or, Option, refl, sym, ◌∙◌, ap, arith, subst}
-use Rattle.std.proofs.lemmas.Bool.{false≢true, ne_eqb, cases_Bool, leb-true, and_parts}
+use Rattle.std.proofs.Common.{List, ◌∷◌, length, get_or, refl, sym, ◌∙◌, ap, arith, subst}
+use Rattle.std.proofs.lemmas.Bool.{false≢true, cases_Bool, leb-true, and_parts}
 use Rattle.std.proofs.lemmas.Bool.Decides.{Decides-eqb}
 use Rattle.sig_types.specs.declared.frame.Colour.{Colour}
-use Rattle.sig_types.specs.declared.frame.Colour.TheVariants.{Green}
 use Rattle.sig_types.specs.declared.frame.Ped.{Ped}
 use Rattle.sig_types.specs.declared.frame.Ped.TheVariants.{Walk, Flash as Flashes}
 use Rattle.sig_types.specs.declared.frame.Frame.{Frame}
 use Rattle.sig_types.specs.declared.frame.Mode.{Mode}
 use Rattle.sig_types.specs.declared.frame.Mode.TheVariants.{Start, Free, Seek, Coord, Ending, Flash, Entry, Track, Dwell, Exit}
 use Rattle.sig_types.specs.Phases.{is_in}
-use Rattle.sig_types.specs.Colour.{is_start, on_in, colour_in, same_colour, same_signal, same_mode}
+use Rattle.sig_types.specs.Colour.{is_start, same_signal, same_mode}
 use Rattle.sig_tables.specs.declared.tables.Tables.{Tables}
 use Rattle.sig_tables.specs.declared.plan.Plan.{Plan}
-use Rattle.sig_tables.specs.Plan.{plan_of}
 use Rattle.sig_tables.specs.Slots.{cycle_time}
 use Rattle.sig_tables.specs.Clock.{clock_now, target_at, target_in}
 use Rattle.sig_tables.specs.Past.{Past, Moment}
-use Rattle.sig_tables.specs.Looking.{last_on, last_frame, latest_on, in_a_row}
+use Rattle.sig_tables.specs.Looking.{last_on, in_a_row}
 use Rattle.sig_tables.specs.Calls.{is_green}
 use Rattle.sig_tables.specs.Command.{is_backed_up, is_commanded, command_now}
 use Rattle.sig_tables.specs.Choosing.{is_in_step}
-use Rattle.sig_tables.specs.Counters.{counters_since}
 use Rattle.sig_tables.specs.Counting.{last_counter}
 use Rattle.sig_tables.specs.Course.{course_of}
 use Rattle.sig_tables.specs.Clock.{rise_at}
 use Rattle.sig_tables.specs.Preempts.{preempts_on}
 use Rattle.sig_tables.specs.Decide.{with_moment, next_moment, colours_of}
-use Rattle.sig_tables.specs.Layout.{Has}
 use Rattle.sig_tables.specs.Modes.{bound}
-use Rattle.sig_tables.specs.Seen.{frame_seen, moment_seen, moves_seen, mode_seen, quiet_with}
-use Rattle.call_store.specs.Stands.{is_walking}
+use Rattle.sig_tables.specs.Seen.{frame_seen, moment_seen, moves_seen, quiet_with}
 use Rattle.call_store.proofs.Again.{calls-on}
 use Rattle.coord_count.specs.declared.Count.{Count}
 use Rattle.coord_count.specs.Stands.{CountStands}
@@ -43,12 +38,11 @@ use Rattle.preempt_run.proofs.Called.{seen-is}
 use Rattle.preempt_run.proofs.OnPhases.{names-phases}
 use Rattle.preempt_run.proofs.Passed.{preempts-on}
 use Rattle.prio_queue.proofs.Idle.{queue-on}
-use Rattle.controller.specs.declared.binding.Binding.{Binding}
 use Rattle.controller.specs.declared.orders.Orders.{Orders}
 use Rattle.controller.specs.declared.Controller.{Controller}
-use Rattle.controller.specs.Binds.{BindingIs, IsBound}
+use Rattle.controller.specs.Binds.{IsBound}
 use Rattle.controller.specs.Modes.{is_coord}
-use Rattle.controller.specs.Shows.{ShowsColours, is_signalling}
+use Rattle.controller.specs.Shows.{ShowsColours}
 use Rattle.controller.specs.Orders.{OrdersStand, SawOrders, ticks_since, most}
 use Rattle.controller.specs.Even.{IsEven, OrdersPassed}
 use Rattle.controller.specs.StandsFor.{Keeps, CountsOn}
@@ -56,9 +50,9 @@ use Rattle.controller.specs.Lasting.{IsFresh, Lasts, opposed_with}
 use Rattle.controller.specs.Passed.{timed, counted, planned_target, passed, IsReady}
 use Rattle.controller.proofs.Again.{free-apart, no-counter, no-target}
 use Rattle.controller.proofs.Backup.{backed-up}
-use Rattle.controller.proofs.Counted.{counters-head, step-version}
+use Rattle.controller.proofs.Counted.{counters-head}
 use Rattle.controller.proofs.Free.{told-none, never-backed}
-use Rattle.controller.proofs.GoesOn.{Goes, tick-goes, frame-goes, Alike, goes-alike}
+use Rattle.controller.proofs.GoesOn.{Goes, tick-goes, frame-goes, goes-alike}
 use Rattle.controller.proofs.InStep.{step-in, counter-next}
 use Rattle.controller.proofs.OneLess.{seen-again, looks-on, lasts-less}
 use Rattle.controller.proofs.Rings.{each-ring, last-again, latest-again}

@@ -1,5 +1,5 @@
 -- What lasts for some ticks more is as it was at the next of them: nothing ends, and no phase is done or forced off.
-use Rattle.std.proofs.Common.{◌≡◌, ◌≢◌, ◌<◌, ◌≤◌, ◌+◌, ◌&&◌, ◌||◌, ◌⊎◌, ◌==◌, not, nat_le, if◌then◌else◌, ℕ, suc, Bool, true, false, List, [], ◌∷◌}
+use Rattle.std.proofs.Common.{◌≡◌, ◌≢◌, ◌<◌, ◌≤◌, ◌+◌, ◌&&◌, ◌||◌, ◌==◌, not, nat_le, if◌then◌else◌, ℕ, suc, Bool, true, false, List, [], ◌∷◌}
 use Rattle.std.proofs.Common.{Option, None, Some, refl, sym, ◌∙◌, ap, arith, inl, inr}
 use Rattle.std.proofs.lemmas.Bool.{false≢true, ne_eqb, cases_Bool, lt-leb}
 use Rattle.std.proofs.Math.Bool.{and-false}
@@ -8,25 +8,23 @@ use Rattle.sig_types.specs.declared.frame.Colour.TheVariants.{Green, Yellow, Cle
 use Rattle.sig_types.specs.declared.frame.Ped.{Ped}
 use Rattle.sig_types.specs.declared.frame.Ped.TheVariants.{Walk, Flash, Dont}
 use Rattle.sig_types.specs.Phases.{is_phase, is_in}
-use Rattle.sig_types.specs.Colour.{same_colour, same_signal, colour_of, signal_of}
+use Rattle.sig_types.specs.Colour.{same_signal, signal_of}
 use Rattle.sig_tables.specs.declared.tables.Tables.{Tables}
 use Rattle.sig_tables.specs.Tables.{is_enabled, least_green, yellow_time, red_clear_time, walk_time, pedestrian_clear_time, gap_time, maximum_time}
-use Rattle.sig_tables.specs.Slots.{is_coordinated, force_point}
-use Rattle.sig_tables.specs.Coordinating.{is_forced_off, is_released, extension_of, is_floating, has_floated}
-use Rattle.sig_tables.specs.Splits.{keeps_maximum}
+use Rattle.sig_tables.specs.Slots.{force_point}
+use Rattle.sig_tables.specs.Coordinating.{is_forced_off, extension_of, has_floated}
 use Rattle.sig_tables.specs.Modes.{bound}
 use Rattle.sig_tables.specs.Past.{Past, Moment}
-use Rattle.sig_tables.specs.Looking.{in_a_row, run, latched, runs_on, signal_run, signal_latched, signal_runs_on, lasts_now}
+use Rattle.sig_tables.specs.Looking.{in_a_row, run, latched, runs_on, signal_run, signal_latched, signal_runs_on}
 use Rattle.sig_tables.specs.Calls.{is_green}
 use Rattle.sig_tables.specs.Course.{course_of}
 use Rattle.sig_tables.specs.View.{is_served, is_done, is_forced, has_reason, is_reasoned, has_gap, has_maximum, is_open}
 use Rattle.sig_tables.specs.Moves.{ring_moves}
-use Rattle.sig_tables.specs.Seen.{frame_seen, mode_seen, quiet_seen, quiet_with, demand_seen, demand_with, opposed_seen, view_seen}
+use Rattle.sig_tables.specs.Seen.{frame_seen, mode_seen, quiet_seen, quiet_with, demand_with, opposed_seen, view_seen}
 use Rattle.sig_tables.proofs.Lasting.{lasts_now-counted}
 use Rattle.ped_clock.specs.Passed.{SignalLasts}
 use Rattle.ring_barrier.proofs.Entering.{idle-moves}
-use Rattle.controller.specs.Shows.{is_signalling}
-use Rattle.controller.specs.Lasting.{ColourLasts, StaysUnserved, HasNoGap, HasNoMaximum, ComesBefore, HasNoReason, StaysUnforced, PhaseLasts, opposed_with}
+use Rattle.controller.specs.Lasting.{ColourLasts, StaysUnserved, HasNoGap, HasNoMaximum, HasNoReason, StaysUnforced, PhaseLasts, opposed_with}
 use Rattle.controller.proofs.Causes.{held-reason, fill-reason}
 use Rattle.controller.proofs.Colours.{yellow-stays, clear-stays}
 use Rattle.controller.proofs.Resting.{resting, none-done}

@@ -18,7 +18,6 @@ use Rattle.sig_tables.specs.Decide.{past_at, ticked, decide, last_frame_of, with
 use Rattle.sig_tables.specs.Seen.{frame_seen}
 use Rattle.preempt_run.proofs.Goes.{same_mode-itself}
 use Rattle.controller.specs.declared.Controller.{Controller}
-use Rattle.controller.specs.declared.orders.Orders.{Orders}
 use Rattle.controller.specs.Even.{IsEven, OrdersPassed}
 use Rattle.controller.specs.StandsFor.{Keeps, StandsFor}
 use Rattle.controller.specs.Strides.{has_line, ticks_more, is_told}

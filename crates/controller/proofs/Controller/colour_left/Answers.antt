@@ -1,6 +1,6 @@
-use Rattle.std.proofs.Common.{◌≡◌, ◌≤◌, ◌+◌, ◌||◌, refl, sym, ◌∙◌, ap, arith}
+use Rattle.std.proofs.Common.{◌≡◌, ◌≤◌, ◌+◌, ◌||◌, sym, ◌∙◌, ap, arith}
 use Rattle.sig_types.specs.declared.frame.Colour.{Colour}
-use Rattle.sig_types.specs.declared.frame.Colour.TheVariants.{Green, Yellow, Clear, Red}
+use Rattle.sig_types.specs.declared.frame.Colour.TheVariants.{Yellow, Clear}
 use Rattle.sig_types.specs.declared.frame.Frame.{Frame}
 use Rattle.sig_types.specs.Colour.{same_colour, colour_of}
 use Rattle.sig_tables.specs.Seen.{frame_seen}

@@ -1,4 +1,4 @@
-use Rattle.std.proofs.Common.{◌≡◌, ◌<◌, ◌+◌, ◌-◌, get_or, ap, arith}
+use Rattle.std.proofs.Common.{◌≡◌, ◌-◌, get_or, ap, arith}
 use Rattle.sig_types.specs.declared.frame.Frame.{Frame}
 use Rattle.sig_tables.specs.Slots.{force_point}
 use Rattle.sig_tables.specs.Seen.{frame_seen}

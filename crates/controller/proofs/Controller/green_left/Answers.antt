@@ -1,4 +1,4 @@
-use Rattle.std.proofs.Common.{◌≡◌, ◌≤◌, ◌&&◌, Bool, true, false, inl, inr, sym, ◌∙◌, ap, arith}
+use Rattle.std.proofs.Common.{inl, inr, sym, ◌∙◌, arith}
 use Rattle.std.proofs.lemmas.Bool.{and_parts, false≢true}
 use Rattle.sig_tables.specs.Tables.{is_enabled}
 use Rattle.sig_tables.specs.Calls.{is_green}

@@ -1,4 +1,4 @@
-use Rattle.std.proofs.Common.{◌≤◌, ◌<◌, ◌≡◌, arith, true}
+use Rattle.std.proofs.Common.{arith}
 use Rattle.controller.proofs.Controller.lasting.Goals as goal
 
 pub returns-clause-lasts : goal.returns-clause-lasts

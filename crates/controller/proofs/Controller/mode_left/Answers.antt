@@ -1,6 +1,5 @@
-use Rattle.std.proofs.Common.{◌≡◌, ◌≤◌, ℕ, Bool, true, false, None, sym, ◌∙◌, ap, arith, subst}
+use Rattle.std.proofs.Common.{sym, subst}
 use Rattle.sig_types.specs.declared.frame.Mode.{Mode}
-use Rattle.sig_types.specs.declared.frame.Mode.TheVariants.{Free, Coord}
 use Rattle.sig_types.specs.Phases.{is_in}
 use Rattle.sig_tables.specs.Layout.{Has}
 use Rattle.sig_tables.specs.Modes.{bound}

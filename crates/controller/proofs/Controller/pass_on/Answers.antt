@@ -1,6 +1,5 @@
 use Rattle.std.proofs.Common.{◌<◌, ℕ, refl, arith}
 use Rattle.sig_tables.specs.Decide.{past_at, ticked}
-use Rattle.controller.specs.Lasting.{Lasts}
 use Rattle.controller.proofs.Striding.{keeps-by, lasts-plain}
 use Rattle.controller.proofs.Controller.pass_on.Goals as goal
 

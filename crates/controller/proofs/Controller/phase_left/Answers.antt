@@ -1,4 +1,4 @@
-use Rattle.std.proofs.Common.{◌≤◌, arith}
+use Rattle.std.proofs.Common.{arith}
 use Rattle.controller.proofs.Controller.phase_left.Goals as goal
 
 pub returns : goal.returns

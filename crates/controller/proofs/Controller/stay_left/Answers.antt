@@ -1,4 +1,4 @@
-use Rattle.std.proofs.Common.{◌≡◌, ◌<◌, ◌≤◌, nat_le, true, false, inl, inr, sym, ◌∙◌, ap, arith}
+use Rattle.std.proofs.Common.{◌<◌, nat_le, inl, inr, ◌∙◌, arith}
 use Rattle.std.proofs.lemmas.Bool.{cases_Bool, leb-true, leb-false}
 use Rattle.sig_tables.proofs.Below.{phase-is}
 use Rattle.controller.proofs.Seen.{active-is}

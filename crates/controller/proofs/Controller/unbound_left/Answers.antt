@@ -1,4 +1,4 @@
-use Rattle.std.proofs.Common.{◌≤◌, None, arith}
+use Rattle.std.proofs.Common.{None, arith}
 use Rattle.controller.proofs.Controller.unbound_left.Goals as goal
 
 pub returns : goal.returns
