@@ -46,16 +46,32 @@ impl Controller {
         ensures counted { tick_count self.new ≡ tick_count self.old + result }
         ensures installs { install_count self.new ≡ install_count self.old }
     {
+        let (ticks, _) = self.stride_told(n);
+        ticks
+    }
+
+    /// The same, and whether the frame of the last of these ticks has a line.
+    pub fn stride_told(&mut self, n: u32) -> (u32, bool)
+        requires some { 1 ≤ n }
+        requires few { tick_count self.old + n ≤ 4294967295 }
+        ensures least { (h : History) → StandsFor self.old h → IsStride h n result.0 }
+        ensures told { (h : History) → StandsFor self.old h → result.1 ≡ is_told h result.0 }
+        ensures stands { (h : History) → StandsFor self.old h → StandsFor self.new (ticks_more result.0 h) }
+        ensures some { 1 ≤ result.0 }
+        ensures within { result.0 ≤ n }
+        ensures counted { tick_count self.new ≡ tick_count self.old + result.0 }
+        ensures installs { install_count self.new ≡ install_count self.old }
+    {
         let mut done = 0;
         while done < n {
             let last = self.frame;
             let next = self.tick();
             done += 1;
             if has_line(&last, &next) {
-                return done;
+                return (done, true);
             }
             done += self.pass_on(n - done);
         }
-        done
+        (done, false)
     }
 }

@@ -3,7 +3,7 @@ use Rattle.sig_tables.specs.Past.{History}
 use Rattle.controller.specs.declared.Controller.{Controller}
 use Rattle.controller.specs.Strides.{is_told, ticks_more}
 use Rattle.controller.specs.StandsFor.{StandsFor, tick_count, install_count}
-use Rattle.controller.proofs.Controller.stride.Given as goal
+use Rattle.controller.proofs.Controller.stride_told.Given as goal
 
 -- so many ticks were taken, and all of them gave plain frames
 pub record Taken (old new : Controller) (done n : ℕ) : Type 0 where

@@ -5,7 +5,7 @@ use Rattle.sig_tables.specs.Decide.{decide, last_frame_of}
 use Rattle.controller.specs.Strides.{has_line, is_told, ticks_more}
 use Rattle.controller.specs.StandsFor.{StandsFor}
 use Rattle.controller.proofs.Striding.{more-more, plain-on}
-use Rattle.controller.proofs.Controller.stride.Goals as goal
+use Rattle.controller.proofs.Controller.stride_told.Goals as goal
 
 -- what the test of the two frames said of the tick
 told-by : (last next f g : Frame) (b : Bool) → b ≡ has_line last next → last ≡ f → next ≡ g → has_line f g ≡ b
@@ -81,3 +81,16 @@ returns-clause-least c = λ h s.
 
 pub returns-clause-stands : goal.returns-clause-stands
 returns-clause-stands c = λ h s. c.loop-done.invariant.stands h s
+
+pub returns-then-has_line-clause-told : goal.returns-then-has_line-clause-told
+returns-then-has_line-clause-told c = λ h s.
+    let done : ℕ = c.loop-done.done in
+    let next : done + 1 ≡ suc done = omega arith in
+    let before = c.loop-done.invariant.stands h s in
+    sym (ap (is_told h) next
+    ∙ told-by _ _ (last_frame_of (ticks_more done h)) (decide (ticks_more done h)) _ c.has_line.ensures before.frame
+    (c.tick-next.ensures.decided (ticks_more done h) before)
+    ∙ c.if-has_line.true)
+
+pub returns-clause-told : goal.returns-clause-told
+returns-clause-told c = λ h s. let few : c.loop-done.done ≤ c.loop-done.done = omega arith in sym (c.loop-done.invariant.plain h c.loop-done.done s few)
