@@ -1,5 +1,5 @@
 -- A round at its start: nothing was brought, and all items are left.
-use Rattle.std.proofs.Common.{◌≡◌, ◌≤◌, ℕ, zero, suc, ◌+◌, ◌∙◌, List, [], ◌∷◌, length, get_or, replicate, refl, sym, ap, subst, arith}
+use Rattle.std.proofs.Common.{◌≡◌, ◌≤◌, ◌<◌, ℕ, zero, suc, ◌+◌, ◌∙◌, List, [], ◌∷◌, length, get_or, replicate, refl, sym, ap, subst, arith}
 use Rattle.std.proofs.lemmas.List.{length-map, length-replicate}
 use Rattle.sig_types.specs.declared.frame.Frame.{Frame}
 use Rattle.round_streams.specs.declared.Streams.{Streams}
@@ -13,6 +13,7 @@ use Rattle.cab_book.specs.Stands.{CabinetStands}
 use Rattle.cab_book.specs.Happenings.{interleaved, replies_in, AreInOrder}
 use Rattle.cab_book.specs.Happened.{IsWritten, journal_in, written_of, answered_of}
 use Rattle.cab_book.proofs.Coming.{frames-many}
+use Rattle.cab_book.proofs.Parts.{past_end}
 use Rattle.cab_book.specs.Rounds.{CanBeTaken, ArePlaced, AreShort, AreTallied, acts_so_far, RoundStands}
 
 -- the round begins at the story that the cabinet stands for
@@ -51,19 +52,28 @@ taken-short streams can few (suc (suc (suc (suc (suc p))))) = omega arith
 -- all items are left
 pub all-left : (streams : Streams) (fields polls loads prios : ℕ) (h : Happened) → fields ≡ length streams.fields.items → polls ≡ length streams.polls.items
     → loads ≡ length streams.loads.items → prios ≡ length streams.prios.items → journal_in h ≡ []
-    → AreTallied streams (fields ∷ polls ∷ loads ∷ prios ∷ streams.ticks ∷ []) h
-all-left streams fields polls loads prios h a b d e journal = λ p.
-    let none : times p (journal_in h) ≡ 0 = ap (times p) journal in
-    all p none
+    → AreTallied streams (fields ∷ polls ∷ loads ∷ prios ∷ streams.ticks ∷ 0 ∷ 0 ∷ 0 ∷ []) h
+all-left streams fields polls loads prios h a b d e journal = record {
+  each = each;
+  ticks = omega (arith, none 4, none 5, none 6, none 7, length-replicate streams.ticks Ticked);
+  others = others;
+}
   where
-    all : (p : ℕ) → times p (journal_in h) ≡ 0
-        → get_or (fields ∷ polls ∷ loads ∷ prios ∷ streams.ticks ∷ []) p 0 + times p (journal_in h) ≡ length (get_or (items_of streams) p [])
-    all zero none = omega (arith, none, a, length-map streams.fields.items Told)
-    all (suc zero) none = omega (arith, none, b, frames-many streams.polls.items)
-    all (suc (suc zero)) none = omega (arith, none, d, frames-many streams.loads.items)
-    all (suc (suc (suc zero))) none = omega (arith, none, e, frames-many streams.prios.items)
-    all (suc (suc (suc (suc zero)))) none = omega (arith, none, length-replicate streams.ticks Ticked)
-    all (suc (suc (suc (suc (suc p))))) none = omega (arith, none)
+    none : (p : ℕ) → times p (journal_in h) ≡ 0
+    none p = ap (times p) journal
+
+    left : List ℕ
+    left = fields ∷ polls ∷ loads ∷ prios ∷ streams.ticks ∷ 0 ∷ 0 ∷ 0 ∷ []
+
+    each : (p : ℕ) → p < 4 → get_or left p 0 + times p (journal_in h) ≡ length (get_or (items_of streams) p [])
+    each zero low = omega (arith, none 0, a, length-map streams.fields.items Told)
+    each (suc zero) low = omega (arith, none 1, b, frames-many streams.polls.items)
+    each (suc (suc zero)) low = omega (arith, none 2, d, frames-many streams.loads.items)
+    each (suc (suc (suc zero))) low = omega (arith, none 3, e, frames-many streams.prios.items)
+    each (suc (suc (suc (suc p)))) low = absurd (omega (arith, low))
+
+    others : (p : ℕ) → 8 ≤ p → get_or left p 0 + times p (journal_in h) ≡ 0
+    others p high = omega (arith, none p, past_end left p high)
 
 -- streams of no items
 abbrev no_items : List Item
@@ -84,19 +94,24 @@ no-items streams none p =
 pub no-fields : (streams : Streams) → items_of streams ≡ replicate 5 [] → ArePlaced streams
 no-fields streams none k field less = absurd (omega (arith, less, no-items streams none 0, length-map streams.fields.items Told))
 
+-- nothing of any pass
 abbrev zeros : List ℕ
-zeros = 0 ∷ 0 ∷ 0 ∷ 0 ∷ 0 ∷ []
+zeros = replicate 8 0
 
-none_left : (p : ℕ) → get_or zeros p 0 ≡ 0
-none_left zero = refl
-none_left (suc zero) = refl
-none_left (suc (suc zero)) = refl
-none_left (suc (suc (suc zero))) = refl
-none_left (suc (suc (suc (suc zero)))) = refl
-none_left (suc (suc (suc (suc (suc p))))) = refl
+zeros-at : (p : ℕ) → get_or zeros p 0 ≡ 0
+zeros-at p = each 8 p
+  where
+    each : (many p : ℕ) → get_or {A = ℕ} (replicate many 0) p 0 ≡ 0
+    each zero p = refl
+    each (suc many) zero = refl
+    each (suc many) (suc p) = each many p
 
-pub none-left : (streams : Streams) (h : Happened) → items_of streams ≡ replicate 5 [] → journal_in h ≡ []
-    → AreTallied streams (0 ∷ 0 ∷ 0 ∷ 0 ∷ 0 ∷ []) h
-none-left streams h none journal p =
-    let never : times p (journal_in h) ≡ 0 = ap (times p) journal in
-    omega (arith, none_left p, never, no-items streams none p)
+pub none-left : (streams : Streams) (h : Happened) → items_of streams ≡ replicate 5 [] → journal_in h ≡ [] → AreTallied streams zeros h
+none-left streams h none journal = record {
+  each = λ p low. omega (arith, zeros-at p, never p, no-items streams none p);
+  ticks = omega (arith, never 4, never 5, never 6, never 7, no-items streams none 4);
+  others = λ p high. omega (arith, zeros-at p, never p);
+}
+  where
+    never : (p : ℕ) → times p (journal_in h) ≡ 0
+    never p = ap (times p) journal

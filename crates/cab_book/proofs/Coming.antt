@@ -12,16 +12,15 @@ use Rattle.round_streams.specs.Items.{Item, Told, Came, Ticked, items_of, texts_
 use Rattle.cabinet_story.specs.declared.Load.{Load}
 use Rattle.cabinet_story.specs.declared.Reply.{Reply}
 use Rattle.cabinet_story.specs.Story.{Story, with_item}
-use Rattle.cabinet_story.specs.Coming.{history_of}
-use Rattle.cabinet_story.specs.Frames.{tick_written}
 use Rattle.cabinet_story.specs.Journals.{times}
 use Rattle.cabinet_story.specs.Told.{item_replies, in_frame, reply_to, load_end}
 use Rattle.cab_book.specs.declared.cabinet.Cabinet.{Cabinet}
 use Rattle.cab_book.specs.declared.happened.Happened.{Happened}
 use Rattle.cab_book.specs.Stands.{CabinetStands}
-use Rattle.cab_book.specs.Happened.{GoesOn, journal_in}
+use Rattle.cab_book.specs.Happened.{GoesOn, TicksOn, journal_in}
+use Rattle.cab_book.specs.Ticks.{ticks_on, ticks_written}
 use Rattle.cab_book.specs.Rounds.{AreTallied, RoundStands, story_after}
-use Rattle.cab_book.proofs.Bringing.{round-more}
+use Rattle.cab_book.proofs.Bringing.{round-more, round-ticks}
 
 pub NamesPlace-prop : (field : Field) → IsProp (NamesPlace field)
 NamesPlace-prop (Veh p on) = Coded-set coded_bool _ _
@@ -32,7 +31,7 @@ NamesPlace-prop (PreemptInput i on) = ×_prop le_prop le_prop
 pub left-of-fields : (streams : Streams) (left : List ℕ) (h : Happened) → AreTallied streams left h → get_or left 0 0 ≤ length streams.fields.items
 left-of-fields streams left h tallied =
     let many : length (map Told streams.fields.items) ≡ length streams.fields.items = length-map streams.fields.items Told in
-    omega (arith, tallied 0, many)
+    omega (arith, tallied.each 0 (omega arith), many)
 
 -- an input was heard
 pub heard : (c next : Cabinet) (streams : Streams) (left : List ℕ) (old new : Happened) (field : Field) (place : ℕ) → AreTallied streams left old
@@ -41,7 +40,7 @@ pub heard : (c next : Cabinet) (streams : Streams) (left : List ℕ) (old new : 
     → RoundStands c streams old story → RoundStands next streams new story
 heard c next streams left old new field place tallied e some is stands goes story so =
     let many : length (map Told streams.fields.items) ≡ length streams.fields.items = length-map streams.fields.items Told in
-    let at : place ≡ times 0 (journal_in old) = omega (arith, tallied 0, e, many) in
+    let at : place ≡ times 0 (journal_in old) = omega (arith, tallied.each 0 (omega arith), e, many) in
     let less : place < length streams.fields.items = omega (arith, e, some) in
     let item : Told field ≡ get_or (map Told streams.fields.items) (times 0 (journal_in old)) Ticked =
     ap Told is ∙ sym (get_or-map Told streams.fields.items place field Ticked less)
@@ -53,24 +52,33 @@ ticked_at zero k = refl
 ticked_at (suc many) zero = refl
 ticked_at (suc many) (suc k) = ticked_at many k
 
--- a tick came, and its frame is kept where it has a line
-pub ticked : (c next : Cabinet) (streams : Streams) (old new : Happened) (frames : List (ℕ × Frame))
-    → ((story : Story) → CabinetStands c story → frames ≡ tick_written (history_of story))
-    → ((story : Story) → CabinetStands c story → CabinetStands next (with_item story Ticked)) → GoesOn old new 4 frames [] → (story : Story)
+-- each pass from the fourth on brings ticks
+pub tick_item : (streams : Streams) (pass place : ℕ) → 4 ≤ pass → get_or (get_or (items_of streams) pass []) place Ticked ≡ Ticked
+tick_item streams zero place above = absurd (omega (arith, above))
+tick_item streams (suc zero) place above = absurd (omega (arith, above))
+tick_item streams (suc (suc zero)) place above = absurd (omega (arith, above))
+tick_item streams (suc (suc (suc zero))) place above = absurd (omega (arith, above))
+tick_item streams (suc (suc (suc (suc zero)))) place above = ticked_at streams.ticks place
+tick_item streams (suc (suc (suc (suc (suc pass))))) place above = refl
+
+-- so many ticks came, and what they gave is kept
+pub strode : (c next : Cabinet) (streams : Streams) (old new : Happened) (pass many : ℕ) (frames : List (ℕ × Frame)) → 4 ≤ pass
+    → ((story : Story) → CabinetStands c story → frames ≡ ticks_written many story)
+    → ((story : Story) → CabinetStands c story → CabinetStands next (ticks_on many story)) → TicksOn old new pass many frames → (story : Story)
     → RoundStands c streams old story → RoundStands next streams new story
-ticked c next streams old new frames gives stands goes story so =
+strode c next streams old new pass many frames above gives stands goes story so =
     let now = story_after streams old story in
-    round-more c next streams old new story 4 Ticked (sym (ticked_at streams.ticks (times 4 (journal_in old)))) so (stands now so.cabinet)
-    (subst (λ (x : List (ℕ × Frame)). GoesOn old new 4 x []) (gives now so.cabinet) goes)
+    round-ticks c next streams old new story pass many (λ place. tick_item streams pass place above) so (stands now so.cabinet)
+    (subst (λ (x : List (ℕ × Frame)). TicksOn old new pass many x) (gives now so.cabinet) goes)
 
 pub frames-many : (frames : List (ArrayVec ℕ)) → length (map Came (texts_of frames)) ≡ length frames
 frames-many frames = length-map (texts_of frames) Came ∙ length-map frames (λ (x : ArrayVec ℕ). x.items)
 
 -- no more frames of a pass are left than its stream has
-pub left-of-frames : (streams : Streams) (left : List ℕ) (h : Happened) (pass : ℕ) (frames : List (ArrayVec ℕ)) → AreTallied streams left h
+pub left-of-frames : (streams : Streams) (left : List ℕ) (h : Happened) (pass : ℕ) (frames : List (ArrayVec ℕ)) → pass < 4 → AreTallied streams left h
     → map Came (texts_of frames) ≡ get_or (items_of streams) pass [] → (length frames - get_or left pass 0) + get_or left pass 0 ≡ length frames
-left-of-frames streams left h pass frames tallied own =
-    omega (arith, tallied pass, ap (λ (x : List Item). length x) own, frames-many frames)
+left-of-frames streams left h pass frames low tallied own =
+    omega (arith, tallied.each pass low, ap (λ (x : List Item). length x) own, frames-many frames)
 
 -- what is told of a frame
 abbrev pub reply_of : ℕ → Option (ArrayVec ℕ) → Option Load → Reply
@@ -78,17 +86,17 @@ reply_of pass text load = record { pass = pass; text = text; load = load }
 
 -- a frame came, and what is told of it is kept
 pub replied : (c next : Cabinet) (streams : Streams) (left : List ℕ) (old new : Happened) (pass place : ℕ) (frames : List (ArrayVec ℕ)) (octets : List ℕ)
-    (text : Option (ArrayVec ℕ)) (load : Option Load) → AreTallied streams left old
+    (text : Option (ArrayVec ℕ)) (load : Option Load) → pass < 4 → AreTallied streams left old
     → map Came (texts_of frames) ≡ get_or (items_of streams) pass [] → place + get_or left pass 0 ≡ length frames → 0 < get_or left pass 0
     → octets ≡ get_or (texts_of frames) place []
     → ((story : Story) → CabinetStands c story → text ≡ in_frame (reply_to story octets))
     → ((story : Story) → CabinetStands c story → load ≡ load_end story octets)
     → ((story : Story) → CabinetStands c story → CabinetStands next (with_item story (Came octets)))
     → GoesOn old new pass [] (reply_of pass text load ∷ []) → (story : Story) → RoundStands c streams old story → RoundStands next streams new story
-replied c next streams left old new pass place frames octets text load tallied own e some is texts loads stands goes story so =
+replied c next streams left old new pass place frames octets text load low tallied own e some is texts loads stands goes story so =
     let now = story_after streams old story in
     let items : length (get_or (items_of streams) pass []) ≡ length frames = ap (λ (x : List Item). length x) (sym own) ∙ frames-many frames in
-    let at : place ≡ times pass (journal_in old) = omega (arith, tallied pass, e, items) in
+    let at : place ≡ times pass (journal_in old) = omega (arith, tallied.each pass low, e, items) in
     let less : place < length frames = omega (arith, e, some) in
     let within : place < length (texts_of frames) = omega (arith, less, length-map frames (λ (x : ArrayVec ℕ). x.items)) in
     let item : Came octets ≡ get_or (get_or (items_of streams) pass []) (times pass (journal_in old)) Ticked =

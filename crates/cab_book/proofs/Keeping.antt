@@ -1,17 +1,20 @@
--- What is kept of a round, with one act more.
-use Rattle.std.proofs.Common.{◌≡◌, ℕ, ◌+◌, ◌∙◌, List, [], ◌∷◌, ◌++◌, length, map, refl, sym, ap, subst, append-nil, length-append, arith}
+-- What is kept of a round, with one act more, or with so many ticks.
+use Rattle.std.proofs.Common.{◌≡◌, ℕ, zero, suc, ◌+◌, ◌∙◌, List, [], ◌∷◌, ◌++◌, length, map, refl, sym, ap, subst, append-nil, append_assoc, length-append, arith}
 use Rattle.std.proofs.lemmas.List.{map-append}
 use Rattle.sig_types.specs.declared.frame.Frame.{Frame}
 use Rattle.round_streams.specs.Items.{Item, Told, Came, Ticked}
 use Rattle.cabinet_story.specs.declared.Reply.{Reply}
-use Rattle.cabinet_story.specs.Story.{Story, after}
+use Rattle.cabinet_story.specs.Story.{Story, with_item, after}
 use Rattle.cabinet_story.specs.Journals.{Act, items_in}
 use Rattle.cabinet_story.specs.Told.{item_replies, item_written, acts_replies, acts_written}
-use Rattle.cabinet_story.proofs.Growing.{told-more}
+use Rattle.cabinet_story.specs.Coming.{history_of}
+use Rattle.cabinet_story.specs.Frames.{tick_written}
+use Rattle.cabinet_story.proofs.Growing.{told-more, story-more}
 use Rattle.cab_book.specs.declared.happened.Answered.{Answered}
 use Rattle.cab_book.specs.declared.happened.Happened.{Happened}
 use Rattle.cab_book.specs.Happenings.{Happening, Wrote, item_happenings, acts_happenings, interleaved, replies_in, AreInOrder}
-use Rattle.cab_book.specs.Happened.{written_of, answered_of, behind, IsWritten, GoesOn}
+use Rattle.cab_book.specs.Happened.{written_of, answered_of, behind, IsWritten, GoesOn, TicksOn}
+use Rattle.cab_book.specs.Ticks.{ticks_on, ticks_written}
 use Rattle.cab_book.proofs.Interleaving.{interleaved-frames, interleaved-reply, in-order-frames, in-order-reply}
 
 written-more : (story : Story) (acts : List Act) (act : Act)
@@ -86,4 +89,78 @@ kept-more old new story acts act is goes =
           ∙ sym (happenings-more story acts act);
       counts = subst (λ (x : List (ℕ × Frame)). AreInOrder 0 (answered_of new) (length x)) (sym goes.written)
           (subst (λ (x : List Answered). AreInOrder 0 x (length (written_of old ++ item_written now act.item))) (sym goes.replies) o.counts);
+    }
+
+-- a pass brings a tick, and so many ticks
+abbrev pub tick_act : ℕ → Act
+tick_act pass = record { pass = pass; item = Ticked }
+
+abbrev pub tick_acts : ℕ → ℕ → List Act
+tick_acts pass zero = []
+tick_acts pass (suc many) = tick_acts pass many ++ tick_act pass ∷ []
+
+more-ticks : (acts : List Act) (pass many : ℕ) → acts ++ tick_acts pass (suc many) ≡ (acts ++ tick_acts pass many) ++ tick_act pass ∷ []
+more-ticks acts pass many = sym (append_assoc acts (tick_acts pass many) (tick_act pass ∷ []))
+
+pub story-ticks : (story : Story) (acts : List Act) (pass many : ℕ)
+    → after story (items_in (acts ++ tick_acts pass many)) ≡ ticks_on many (after story (items_in acts))
+story-ticks story acts pass zero = ap (λ (x : List Act). after story (items_in x)) (append-nil acts)
+story-ticks story acts pass (suc many) =
+    ap (λ (x : List Act). after story (items_in x)) (more-ticks acts pass many)
+    ∙ story-more story (acts ++ tick_acts pass many) (tick_act pass)
+    ∙ ap (λ (s : Story). with_item s Ticked) (story-ticks story acts pass many)
+
+written-ticks : (story : Story) (acts : List Act) (pass many : ℕ)
+    → acts_written story (acts ++ tick_acts pass many) ≡ acts_written story acts ++ ticks_written many (after story (items_in acts))
+written-ticks story acts pass zero = ap (acts_written story) (append-nil acts) ∙ sym (append-nil (acts_written story acts))
+written-ticks story acts pass (suc many) =
+    let now = after story (items_in acts) in
+    ap (acts_written story) (more-ticks acts pass many)
+    ∙ written-more story (acts ++ tick_acts pass many) (tick_act pass)
+    ∙ ap (λ (x : List (ℕ × Frame)). x ++ tick_written (history_of (after story (items_in (acts ++ tick_acts pass many))))) (written-ticks story acts pass many)
+    ∙ ap (λ (s : Story). (acts_written story acts ++ ticks_written many now) ++ tick_written (history_of s)) (story-ticks story acts pass many)
+    ∙ append_assoc (acts_written story acts) (ticks_written many now) (tick_written (history_of (ticks_on many now)))
+
+replies-ticks : (story : Story) (acts : List Act) (pass many : ℕ) → acts_replies story (acts ++ tick_acts pass many) ≡ acts_replies story acts
+replies-ticks story acts pass zero = ap (acts_replies story) (append-nil acts)
+replies-ticks story acts pass (suc many) =
+    ap (acts_replies story) (more-ticks acts pass many)
+    ∙ replies-more story (acts ++ tick_acts pass many) (tick_act pass)
+    ∙ append-nil (acts_replies story (acts ++ tick_acts pass many))
+    ∙ replies-ticks story acts pass many
+
+happenings-ticks : (story : Story) (acts : List Act) (pass many : ℕ)
+    → acts_happenings story (acts ++ tick_acts pass many) ≡ acts_happenings story acts ++ map Wrote (ticks_written many (after story (items_in acts)))
+happenings-ticks story acts pass zero = ap (acts_happenings story) (append-nil acts) ∙ sym (append-nil (acts_happenings story acts))
+happenings-ticks story acts pass (suc many) =
+    let now = after story (items_in acts) in
+    let before = acts_happenings story acts in
+    let given = ticks_written many now in
+    ap (acts_happenings story) (more-ticks acts pass many)
+    ∙ happenings-more story (acts ++ tick_acts pass many) (tick_act pass)
+    ∙ ap (λ (x : List Happening). acts_happenings story (acts ++ tick_acts pass many) ++ x)
+    (append-nil (map Wrote (tick_written (history_of (after story (items_in (acts ++ tick_acts pass many)))))))
+    ∙ ap (λ (s : Story). acts_happenings story (acts ++ tick_acts pass many) ++ map Wrote (tick_written (history_of s))) (story-ticks story acts pass many)
+    ∙ ap (λ (x : List Happening). x ++ map Wrote (tick_written (history_of (ticks_on many now)))) (happenings-ticks story acts pass many)
+    ∙ append_assoc before (map Wrote given) (map Wrote (tick_written (history_of (ticks_on many now))))
+    ∙ ap (λ (x : List Happening). before ++ x) (sym (map-append Wrote given (tick_written (history_of (ticks_on many now)))))
+
+-- what is kept goes on with what so many ticks give
+pub kept-ticks : (old new : Happened) (story : Story) (acts : List Act) (pass many : ℕ) → IsWritten old story acts
+    → TicksOn old new pass many (ticks_written many (after story (items_in acts))) → IsWritten new story (acts ++ tick_acts pass many)
+kept-ticks old new story acts pass many is goes =
+    let given = ticks_written many (after story (items_in acts)) in
+    let none : answered_of new ≡ answered_of old ++ [] = goes.replies ∙ sym (append-nil (answered_of old)) in
+    let q = quiet (written_of old) (answered_of old) given is.counts in
+    record {
+      frames = goes.written ∙ ap (λ (x : List (ℕ × Frame)). x ++ given) is.frames ∙ sym (written-ticks story acts pass many);
+      replies = ap replies_in goes.replies ∙ is.replies ∙ sym (replies-ticks story acts pass many);
+      order = ap (λ (x : List (ℕ × Frame)). interleaved 0 x (answered_of new)) goes.written
+          ∙ ap (interleaved 0 (written_of old ++ given)) none
+          ∙ q.0
+          ∙ ap (λ (x : List Happening). interleaved 0 (written_of old) (answered_of old) ++ x) (append-nil (map Wrote given))
+          ∙ ap (λ (x : List Happening). x ++ map Wrote given) is.order
+          ∙ sym (happenings-ticks story acts pass many);
+      counts = subst (λ (x : List (ℕ × Frame)). AreInOrder 0 (answered_of new) (length x)) (sym goes.written)
+          (subst (λ (x : List Answered). AreInOrder 0 x (length (written_of old ++ given))) (sym none) q.1);
     }

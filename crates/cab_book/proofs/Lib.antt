@@ -1,10 +1,13 @@
 pub mod Pairs
 pub mod Runs
+pub mod Parts
+mod Joins
 pub mod Showable
 pub mod Installing
 pub mod Ordering
 pub mod Wishes
 pub mod Ticking
+pub mod Striding
 pub mod Hearing
 pub mod Heeding
 pub mod Answering
@@ -16,4 +19,6 @@ pub mod Bringing
 pub mod Coming
 pub mod Beginning
 pub mod Texts
-pub mod Counting
+pub mod Rereading
+mod Same
+pub mod OnePart

@@ -1,13 +1,14 @@
 -- What a book stands for: the story at which its round began, the streams of the round, and the journal of what was taken from them.
-use Rattle.std.specs.Prelude.{ℕ, ◌+◌, ◌≡◌, ◌≢◌, List, [], ◌∷◌, ◌++◌, get_or}
+use Rattle.std.specs.Prelude.{ℕ, ◌+◌, ◌≡◌, ◌≢◌, ◌<◌, ◌≤◌, List, [], ◌∷◌, ◌++◌, length, get_or}
 use Rattle.sig_types.specs.declared.frame.Frame.{Frame}
 use Rattle.round_streams.specs.Items.{Item, items_of}
 use Rattle.cabinet_story.specs.Story.{Story}
-use Rattle.cabinet_story.specs.Journals.{Act}
+use Rattle.cabinet_story.specs.Journals.{Act, times}
 use Rattle.cab_book.specs.declared.book.Book.{Book}
 use Rattle.cab_book.specs.declared.happened.Answered.{Answered}
 use Rattle.cab_book.specs.Happened.{journal_in, written_of, answered_of}
 use Rattle.cab_book.specs.Rounds.{RoundStands, acts_so_far, story_after}
+use Rattle.cab_book.specs.Shares.{ticks_left}
 pub use Rattle.cab_book.specs.Rounds.{CanBeTaken}
 
 -- the streams of the round
@@ -39,11 +40,24 @@ story_now b story = story_after b.streams b.happened story
 
 -- how many ticks the cabinet will have had by the end of the round
 abbrev pub ticks_by_end : Book → ℕ
-ticks_by_end b = b.cabinet.ticks + left_of b 4
+ticks_by_end b = b.cabinet.ticks + ticks_left b.left
 
 -- the book's round began at this story, and what it has written and replied since is what the journal has brought
 abbrev pub BookStands : Book → Story → Type 0
 BookStands b story = RoundStands b.cabinet b.streams b.happened story
+
+-- all ticks of the round are those of pass 4: no pass above it has brought any, or has any left
+abbrev pub IsOnePart : Book → Type 0
+IsOnePart b = (p : ℕ) → 5 ≤ p → left_of b p + times p (journal_of b) ≡ 0
+
+-- the ticks of a book to which nothing was brought have been shared in some way, or all given to pass 4: nothing else was changed
+pub record Shares (old new : Book) : Type 0 where
+  pub wide : length old.left ≡ 8
+  pub cabinet : new.cabinet ≡ old.cabinet
+  pub streams : new.streams ≡ old.streams
+  pub happened : new.happened ≡ old.happened
+  pub others : (p : ℕ) → p < 4 → left_of new p ≡ left_of old p
+  pub ticks : ticks_left new.left ≡ ticks_left old.left
 
 -- a pass has brought the next item of its stream
 pub record IsBrought (old new : Book) (pass : ℕ) : Type 0 where

@@ -1,5 +1,5 @@
 -- What a round has come to so far, as it is kept: its journal, the frames that have a line, and the replies.
-use Rattle.std.specs.Prelude.{ℕ, ◌≡◌, ◌≤◌, ◌+◌, List, [], ◌∷◌, ◌++◌, length, map, vec_len, vec_capacity}
+use Rattle.std.specs.Prelude.{ℕ, ◌≡◌, ◌≤◌, ◌+◌, List, [], ◌∷◌, ◌++◌, length, replicate, map, vec_len, vec_capacity}
 use Rattle.sig_types.specs.declared.frame.Frame.{Frame}
 use Rattle.cabinet_story.specs.declared.Reply.{Reply}
 use Rattle.cabinet_story.specs.Story.{Story}
@@ -43,3 +43,9 @@ pub record GoesOn (old new : Happened) (pass : ℕ) (frames : List (ℕ × Frame
   pub journal : journal_in new ≡ journal_in old ++ pass ∷ []
   pub written : written_of new ≡ written_of old ++ frames
   pub replies : answered_of new ≡ answered_of old ++ behind (length (written_of old)) told
+
+-- a pass has brought so many ticks, which have given these frames
+pub record TicksOn (old new : Happened) (pass many : ℕ) (frames : List (ℕ × Frame)) : Type 0 where
+  pub journal : journal_in new ≡ journal_in old ++ replicate many pass
+  pub written : written_of new ≡ written_of old ++ frames
+  pub replies : answered_of new ≡ answered_of old

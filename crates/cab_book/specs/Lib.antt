@@ -1,5 +1,8 @@
 pub mod Stands
 pub mod Carried
+pub mod Ticks
+pub mod Shares
+pub mod Runs
 pub mod Happenings
 pub mod Happened
 pub mod Rounds

@@ -9,6 +9,7 @@ use Rattle.cabinet_story.specs.Journals.{Act, times, acts_of, items_in}
 use Rattle.cab_book.specs.declared.cabinet.Cabinet.{Cabinet}
 use Rattle.cab_book.specs.declared.happened.Happened.{Happened}
 use Rattle.cab_book.specs.Stands.{CabinetStands}
+use Rattle.cab_book.specs.Shares.{ticks_left, ticks_brought}
 use Rattle.cab_book.specs.Happened.{IsWritten, HasRoom, journal_in}
 
 -- each input has its place
@@ -27,20 +28,22 @@ pub record CanBeTaken (streams : Streams) : Type 0 where
 abbrev pub AreShort : Streams → Type 0
 AreShort streams = (p : ℕ) → length (get_or (items_of streams) p []) ≤ 4294967294
 
--- of each stream, what is left and what the journal has brought are all its items
-abbrev pub AreTallied : Streams → List ℕ → Happened → Type 0
-AreTallied streams left h = (p : ℕ) → get_or left p 0 + times p (journal_in h) ≡ length (get_or (items_of streams) p [])
+-- of each stream, what is left and what the journal has brought are all its items; of ticks so are those of passes 4 to 7 together
+pub record AreTallied (streams : Streams) (left : List ℕ) (h : Happened) : Type 0 where
+  pub each : (p : ℕ) → p < 4 → get_or left p 0 + times p (journal_in h) ≡ length (get_or (items_of streams) p [])
+  pub ticks : ticks_left left + ticks_brought (journal_in h) ≡ length (get_or (items_of streams) 4 [])
+  pub others : (p : ℕ) → 8 ≤ p → get_or left p 0 + times p (journal_in h) ≡ 0
 
 -- how many frames of messages are left, and how many items in all
 abbrev pub frames_left : List ℕ → ℕ
 frames_left left = get_or left 1 0 + get_or left 2 0 + get_or left 3 0
 
 abbrev pub items_left : List ℕ → ℕ
-items_left left = get_or left 0 0 + frames_left left + get_or left 4 0
+items_left left = get_or left 0 0 + frames_left left + ticks_left left
 
 -- there is room for what all that is left may give
 abbrev pub HasRoomFor : List ℕ → Happened → Type 0
-HasRoomFor left h = HasRoom h (get_or left 4 0) (frames_left left) (items_left left)
+HasRoomFor left h = HasRoom h (ticks_left left) (frames_left left) (items_left left)
 
 -- what has been brought so far
 abbrev pub acts_so_far : Streams → Happened → List Act

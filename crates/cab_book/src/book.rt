@@ -1,17 +1,20 @@
-//! The book of a cabinet: the cabinet, the streams of the round under way, how many items of each are left, and what the round has
+//! The book of a cabinet: the cabinet, the streams of the round under way, how many items of each pass are left, and what the round has
 //! come to so far. Any pass may bring the next item of its stream at any time; only the start of a round takes memory.
 
-ghost use Rattle.std.specs.Prelude.{◌≡◌, ◌≢◌, ◌<◌, ◌≤◌, ◌+◌, ◌-◌, ◌++◌, ◌∷◌, [], ℕ, OnOk, IfErr, length, replicate, map, get_or};
+ghost use Rattle.std.specs.Prelude.{◌≡◌, ◌≢◌, ◌<◌, ◌≤◌, ◌+◌, ◌-◌, ◌⊎◌, ◌++◌, ◌∷◌, [], ℕ, OnOk, IfErr, length, replicate, map, get_or};
 ghost use Rattle.sig_tables.specs.Decide.{last_frame_of, past_at};
 ghost use Rattle.round_streams.specs.Items.{Came, items_of, texts_of};
+ghost use Rattle.controller.specs.Strides.{IsStride};
 ghost use Rattle.cabinet_story.specs.Story.{Story};
 ghost use Rattle.cabinet_story.specs.Coming.{history_of};
 ghost use Rattle.cabinet_story.specs.Journals.{runs_of};
 ghost use Rattle.cab_book.specs.Stands.{CabinetStands};
 ghost use Rattle.cab_book.specs.Rounds.{ArePlaced, AreShort, AreTallied, HasRoomFor, RoundStands};
+ghost use Rattle.cab_book.specs.Shares.{read_journal, ticks_left, shares};
 
 use crate::cabinet::{Cabinet, Told};
 use crate::happened::{Answered, Happened};
+use crate::sharing::shares_of;
 use cabinet_story::Reply;
 use round_streams::Streams;
 use sig_tables::Tables;
@@ -60,11 +63,11 @@ fn next_of(frames: &[Octets], left: u32) -> &[u8]
 pub struct Book {
     cabinet: Cabinet,
     streams: Streams,
-    left: [u32; 5],
+    left: [u32; 8],
     happened: Happened,
     // what any next item needs: a place for an input, few ticks in all, and room for what it gives
     ghost placed: { ∥ ArePlaced streams ∥₁ },
-    ghost few: { cabinet.ticks + get_or left 4 0 ≤ 4294967294 },
+    ghost few: { cabinet.ticks + ticks_left left ≤ 4294967294 },
     ghost room: { HasRoomFor left happened },
     // what is left and what was brought are all items, and the streams are short
     ghost tallied: { AreTallied streams left happened },
@@ -74,7 +77,7 @@ pub struct Book {
 }
 
 impl Book {
-    ghost use Rattle.cab_book.specs.Books.{BookStands, CanBeTaken, IsBrought, Replays, streams_in, journal_of, left_of, story_now, ticks_by_end, written_in, answered_in};
+    ghost use Rattle.cab_book.specs.Books.{BookStands, CanBeTaken, IsBrought, IsOnePart, Replays, Shares, streams_in, journal_of, left_of, story_now, ticks_by_end, written_in, answered_in};
 
     /// The book of a cabinet before its first round.
     pub fn new(alloc: Global, cabinet: Cabinet) -> Book
@@ -88,7 +91,7 @@ impl Book {
         Book {
             cabinet,
             streams: no_streams(alloc),
-            left: [0; 5],
+            left: [0; 8],
             happened: Happened::none(alloc),
         }
     }
@@ -101,6 +104,7 @@ impl Book {
         ensures stands { OnOk result ((story : Story) → BookStands self.old story → BookStands self.new (story_now self.old story)) }
         ensures streams { OnOk result (streams_in self.new ≡ items_of streams) }
         ensures journal { OnOk result (journal_of self.new ≡ []) }
+        ensures one { OnOk result (IsOnePart self.new) }
         ensures ticks { OnOk result (ticks_by_end self.new ≤ ticks_by_end self.old + streams.ticks) }
         ensures no_memory { IfErr result (λ e. (e.0 ≡ streams) × (self.new ≡ self.old)) }
     {
@@ -120,17 +124,21 @@ impl Book {
             loads as u32,
             prios as u32,
             streams.ticks,
+            0,
+            0,
+            0,
         ];
         self.streams = streams;
         self.happened = happened;
         Ok(())
     }
 
-    /// How many items of a pass are left in the round: 0 brings inputs, 1 to 3 the frames of the three streams of messages, 4 ticks.
+    /// How many items of a pass are left in the round: 0 brings inputs, 1 to 3 the frames of the three streams of messages, 4 ticks, and
+    /// 5 to 7 too where these were shared.
     pub fn left(&self, pass: u32) -> u32
         ensures { result ≡ left_of self.now pass }
     {
-        if pass < 5 {
+        if pass < 8 {
             self.left[pass as usize]
         } else {
             0
@@ -150,9 +158,88 @@ impl Book {
     {
         match pass {
             0 => self.hear(),
-            4 => self.tick(),
-            _ => self.receive(pass),
+            1..=3 => self.receive(pass),
+            _ => self.tick(pass),
         }
+    }
+
+    /// The ticks of a round to which nothing was brought yet are shared in one, two or four parts among passes 4 to 7: the greater half
+    /// first, and of each half too. It takes no memory.
+    pub fn share(&mut self, parts: u32)
+        requires fresh { journal_of self.old ≡ [] }
+        requires parts { (parts ≡ 1) ⊎ (parts ≡ 2) ⊎ (parts ≡ 4) }
+        ensures parts { (k : ℕ) → k < 4 → left_of self.new (4 + k) ≡ get_or (shares parts (length (get_or (streams_in self.old) 4 []))) k 0 }
+        ensures shares { Shares self.old self.new }
+        ensures above { (p : ℕ) → 8 ≤ p → left_of self.new p ≡ 0 }
+    {
+        let parts = shares_of(parts, self.ticks_left());
+        self.left = [
+            self.left[0],
+            self.left[1],
+            self.left[2],
+            self.left[3],
+            parts[0],
+            parts[1],
+            parts[2],
+            parts[3],
+        ];
+    }
+
+    /// How many ticks are left in the round.
+    fn ticks_left(&self) -> u32
+        ensures { result ≡ ticks_left self.now.left }
+    {
+        self.left[4] + self.left[5] + self.left[6] + self.left[7]
+    }
+
+    /// All ticks of the round are those of pass 4 again: passes 5 to 7 are read as 4, in the journal too, which is told in its longest
+    /// runs. It takes no memory.
+    pub fn join_ticks(&mut self)
+        ensures stands { (story : Story) → BookStands self.old story → BookStands self.new story }
+        ensures streams { streams_in self.new ≡ streams_in self.old }
+        ensures journal { journal_of self.new ≡ read_journal (journal_of self.old) }
+        ensures one { IsOnePart self.new }
+        ensures own { left_of self.new 4 ≡ ticks_left self.old.left }
+        ensures others { (p : ℕ) → p < 4 → left_of self.new p ≡ left_of self.old p }
+        ensures ticks { ticks_by_end self.new ≡ ticks_by_end self.old }
+        ensures undone { (first : Book) → journal_of first ≡ [] → IsOnePart first → Shares first self.old → self.new ≡ first }
+    {
+        let ticks = self.ticks_left();
+        self.happened.join_ticks();
+        self.left = [
+            self.left[0],
+            self.left[1],
+            self.left[2],
+            self.left[3],
+            ticks,
+            0,
+            0,
+            0,
+        ];
+    }
+
+    /// A pass that brings ticks brings its next ones, up to the first whose frame has a line, but at most n: how many these are. It
+    /// takes no memory.
+    pub fn stride(&mut self, pass: u32, n: u32) -> u32
+        requires above { 4 ≤ pass }
+        requires below { pass ≤ 7 }
+        requires some { 1 ≤ n }
+        requires within { n ≤ left_of self.old pass }
+        ensures least { (story : Story) → BookStands self.old story → IsStride (history_of (story_now self.old story)) n result }
+        ensures stands { (story : Story) → BookStands self.old story → BookStands self.new story }
+        ensures streams { streams_in self.new ≡ streams_in self.old }
+        ensures journal { journal_of self.new ≡ journal_of self.old ++ replicate result pass }
+        ensures own { left_of self.new pass + result ≡ left_of self.old pass }
+        ensures others { (p : ℕ) → p ≢ pass → left_of self.new p ≡ left_of self.old p }
+        ensures ticks { ticks_by_end self.new ≡ ticks_by_end self.old }
+        ensures replays { (first : Book) → Replays first self.old → Replays first self.new }
+        ensures some { 1 ≤ result }
+        ensures within { result ≤ n }
+    {
+        let (ticks, written) = self.cabinet.stride(n);
+        self.happened.add_ticks(pass, ticks, written);
+        self.left[pass as usize] -= ticks;
+        ticks
     }
 
     /// The cabinet hears the next input from the street.
@@ -166,14 +253,16 @@ impl Book {
         self.left[0] -= 1;
     }
 
-    /// The cabinet has its next tick.
-    fn tick(&mut self)
-        requires { 0 < left_of self.old 4 }
-        ensures { IsBrought self.old self.new 4 }
+    /// The cabinet has its next tick, which a pass of 4 to 7 brings.
+    fn tick(&mut self, pass: u32)
+        requires above { 4 ≤ pass }
+        requires within { pass ≤ 7 }
+        requires some { 0 < left_of self.old pass }
+        ensures { IsBrought self.old self.new pass }
     {
         let written = self.cabinet.tick();
-        self.happened.add_tick(written);
-        self.left[4] -= 1;
+        self.happened.add_ticks(pass, 1, written);
+        self.left[pass as usize] -= 1;
     }
 
     /// The next frame of a pass, 1 to 3, comes to the cabinet.

@@ -4,6 +4,7 @@ ghost use Rattle.std.specs.Prelude.{◌≡◌, ◌<◌, ◌≤◌, ◌+◌, opti
 ghost use Rattle.sig_tables.specs.Past.{History};
 ghost use Rattle.sig_tables.specs.Decide.{last_frame_of, past_at};
 ghost use Rattle.controller.specs.StandsFor.{StandsFor, NamesPlace};
+ghost use Rattle.controller.specs.Strides.{IsStride};
 ghost use Rattle.agent.specs.Asks.{IsAsked, CanBeCarriedOut};
 ghost use Rattle.round_streams.specs.Items.{Told as ToldItem, Came, Ticked};
 ghost use Rattle.cabinet_story.specs.Story.{Story, opened, with_item};
@@ -39,6 +40,7 @@ pub struct Told {
 
 impl Cabinet {
     ghost use Rattle.cab_book.specs.Stands.{IsNew, Keeps, CabinetStands};
+    ghost use Rattle.cab_book.specs.Ticks.{ticks_on, ticks_written};
 
     /// A cabinet whose controller has just been opened, with the community of those who may ask it. Nothing was sent to its stage.
     pub fn new(controller: Controller, community: ArrayVec<u8, 32>) -> Cabinet
@@ -91,6 +93,28 @@ impl Cabinet {
             Some((self.ticks, next))
         } else {
             None
+        }
+    }
+
+    /// Ticks up to the first whose frame has a line, but at most n: how many there were, and the frame of the last with its number,
+    /// where it has a line.
+    pub fn stride(&mut self, n: u32) -> (u32, Option<(u32, Frame)>)
+        requires some { 1 ≤ n }
+        requires few { self.old.ticks + n ≤ 4294967294 }
+        requires stood { ∥ ((story : Story) × CabinetStands self.old story) ∥₁ }
+        ensures least { (story : Story) → CabinetStands self.old story → IsStride (history_of story) n result.0 }
+        ensures gives { (story : Story) → CabinetStands self.old story → option_to_list result.1 ≡ ticks_written result.0 story }
+        ensures stands { (story : Story) → CabinetStands self.old story → CabinetStands self.new (ticks_on result.0 story) }
+        ensures ticks { self.new.ticks ≡ self.old.ticks + result.0 }
+        ensures some { 1 ≤ result.0 }
+        ensures within { result.0 ≤ n }
+    {
+        let (ticks, told) = self.controller.stride_told(n);
+        self.ticks += ticks;
+        if told {
+            (ticks, Some((self.ticks, self.controller.frame())))
+        } else {
+            (ticks, None)
         }
     }
 

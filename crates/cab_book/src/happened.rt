@@ -3,6 +3,7 @@
 
 ghost use Rattle.std.specs.Prelude.{◌≡◌, ◌≤◌, ◌<◌, ◌+◌, ℕ, [], ◌∷◌, IfOk, option_to_list, vec_capacity};
 ghost use Rattle.cabinet_story.specs.Journals.{runs_of, times};
+ghost use Rattle.cab_book.specs.Shares.{read_journal};
 
 use crate::journal::Journal;
 use cabinet_story::Reply;
@@ -26,7 +27,7 @@ pub struct Happened {
 }
 
 impl Happened {
-    ghost use Rattle.cab_book.specs.Happened.{journal_in, written_of, answered_of, HasRoom, GoesOn};
+    ghost use Rattle.cab_book.specs.Happened.{journal_in, written_of, answered_of, HasRoom, GoesOn, TicksOn};
 
     /// No round: there is room for nothing.
     pub fn none(alloc: Global) -> Happened
@@ -84,17 +85,18 @@ impl Happened {
         self.journal.add(0);
     }
 
-    /// A tick gave a frame with its number, or one that has no line. It takes no memory.
-    pub fn add_tick(&mut self, written: Option<(u32, Frame)>)
+    /// A pass brought so many ticks, of which the last gave this frame with its number, or none has a line. It takes no memory.
+    pub fn add_ticks(&mut self, pass: u32, count: u32, written: Option<(u32, Frame)>)
+        requires some { 1 ≤ count }
         requires room { HasRoom self.old 1 0 1 }
-        requires few { times 4 (journal_in self.old) < 4294967295 }
-        ensures goes { GoesOn self.old self.new 4 (option_to_list written) [] }
-        ensures room { (ticks frames items : ℕ) → HasRoom self.old (ticks + 1) frames (items + 1) → HasRoom self.new ticks frames items }
+        requires few { times pass (journal_in self.old) + count ≤ 4294967295 }
+        ensures goes { TicksOn self.old self.new pass count (option_to_list written) }
+        ensures room { (ticks frames items : ℕ) → HasRoom self.old (ticks + count) frames (items + count) → HasRoom self.new ticks frames items }
     {
         if let Some(frame) = written {
             self.written.push_reserved(frame);
         }
-        self.journal.add(4);
+        self.journal.add_run(pass, count);
     }
 
     /// A frame came and was replied to, or met with silence. It takes no memory.
@@ -108,6 +110,18 @@ impl Happened {
         let behind = self.written.len() as u32;
         self.replies.push_reserved(Answered { reply, behind });
         self.journal.add(pass);
+    }
+
+    /// The journal's passes 5 to 7 are read as 4, which brings ticks too. It takes no memory.
+    pub fn join_ticks(&mut self)
+        requires few { (p : ℕ) → times p (read_journal (journal_in self.old)) ≤ 4294967295 }
+        ensures journal { journal_in self.new ≡ read_journal (journal_in self.old) }
+        ensures written { written_of self.new ≡ written_of self.old }
+        ensures replies { answered_of self.new ≡ answered_of self.old }
+        ensures room { (ticks frames items : ℕ) → HasRoom self.old ticks frames items → HasRoom self.new ticks frames items }
+        ensures none { journal_in self.old ≡ [] → self.new ≡ self.old }
+    {
+        self.journal.join_ticks();
     }
 
     /// The longest runs of the journal.

@@ -9,6 +9,7 @@ mod frames;
 mod happened;
 mod journal;
 mod logged;
+mod sharing;
 
 pub use book::Book;
 pub use cabinet::{Cabinet, Told};

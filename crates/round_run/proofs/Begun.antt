@@ -10,6 +10,7 @@ use Rattle.cabinet_story.specs.Journals.{times}
 use Rattle.run_lines.specs.Standing.{Standing, coming_streams}
 use Rattle.cab_book.specs.declared.book.Book.{Book}
 use Rattle.cab_book.specs.Books.{BookStands, CanBeTaken, streams_in, journal_of, left_of, ticks_by_end}
+use Rattle.cab_book.proofs.OnePart.{one-tally}
 use Rattle.cab_book.proofs.Beginning.{taken-small}
 use Rattle.round_run.specs.Standings.{IsAt, AreAt, HasRun, HaveRun, no_journals, TicksWithin}
 use Rattle.round_run.specs.Joined.{AreFresh, HaveFewLeft}
@@ -100,6 +101,7 @@ begins-run s cab t old new one at coming begins = record {
   stands = subst (BookStands new) at.now (begins.stands at.began at.stands);
   streams = begins.streams ∙ coming;
   journal_is = begins.journal;
+  one = begins.whole;
 }
 
 pub begun-run : (s : ScenarioContent) (ts : List Standing) (streams : List Streams) (old now : List Book) (k : ℕ) → length old ≤ k
@@ -127,7 +129,8 @@ pub begun-fresh : (streams : List Streams) (old now : List Book) (k : ℕ) → l
 begun-fresh streams old now k all many begun j b below =
     let one : Streams = some_of streams j (omega (arith, below, begun.many, many)) in
     let less : j < k = omega (arith, below, all, begun.many) in
-    ((begun.each b).done j less one).journal
+    let begins : Begins (get_or old j b) (get_or now j b) (get_or streams j one) = (begun.each b).done j less one in
+    (begins.journal, begins.whole)
 
 -- each book has few items left where its streams are short
 begins-small : (b new : Book) (one : Streams) → CanBeTaken one → one.ticks ≤ 2147483648 → Begins b new one → (p : ℕ) → left_of new p ≤ 2147483648
@@ -135,7 +138,7 @@ begins-small b new one can few begins p =
     let never : times p (journal_of new) ≡ 0 = ap (times p) begins.journal in
     let many : length (get_or (streams_in new) p []) ≡ length (get_or (items_of one) p []) =
     ap (λ (streams : List (List Item)). length (get_or streams p [])) begins.streams in
-    omega (arith, new.tallied p, never, many, taken-small one can few p)
+    omega (arith, one-tally new begins.whole p, never, many, taken-small one can few p)
 
 pub begun-small : (streams : List Streams) (old now : List Book) (k : ℕ) → length old ≤ k → CanOpen old streams → TicksAtMost 2147483648 streams
     → BegunTo streams old now k → HaveFewLeft now

@@ -1,7 +1,9 @@
 -- All that comes to a cabinet is brought, pass after pass; and so to one cabinet after another.
-use Rattle.std.proofs.Common.{◌≡◌, ◌≢◌, ◌<◌, ◌≤◌, ◌+◌, ◌∙◌, ℕ, zero, suc, List, [], ◌∷◌, ◌++◌, length, drop, replicate, get_or, slice_set, refl, sym, ap, subst, append_assoc, append-nil, drop-cons, add-one, arith}
-use Rattle.std.proofs.lemmas.List.{get_or_default, get_or-map, length-set}
-use Rattle.sig_types.proofs.InTurn.{InTurn, InTurn-set}
+use Rattle.std.proofs.Common.{◌≡◌, ◌≢◌, ◌<◌, ◌≤◌, ◌+◌, ◌∙◌, ℕ, zero, suc, inl, inr, List, [], ◌∷◌, ◌++◌, length, drop, replicate, get_or, slice_set, refl, sym, ap, subst, append_assoc, append-nil, drop-cons, add-one, arith}
+use Rattle.std.proofs.lemmas.List.{get_or_default, get_or-map, length-set, replicate-append-replicate}
+use Rattle.std.proofs.lemmas.Bool.{cases_lt}
+use Rattle.std.proofs.lemmas.Bool.Decides.{eqb_tells}
+use Rattle.sig_types.proofs.InTurn.{InTurn, InTurn-start, InTurn-set}
 use Rattle.scenario_data.specs.Content.{ScenarioContent}
 use Rattle.round_streams.specs.Items.{Item}
 use Rattle.cabinet_story.specs.Story.{Story}
@@ -9,16 +11,21 @@ use Rattle.cabinet_story.specs.Journals.{times, serial_from, serial}
 use Rattle.run_lines.specs.Standing.{Standing, coming_streams}
 use Rattle.run_lines.specs.Orders.{serial_round}
 use Rattle.cab_book.specs.declared.book.Book.{Book}
-use Rattle.cab_book.specs.Books.{BookStands, streams_in, journal_of, left_of, ticks_by_end}
+use Rattle.cab_book.specs.Books.{BookStands, IsOnePart, streams_in, journal_of, left_of, ticks_by_end}
+use Rattle.cab_book.specs.Shares.{read_journal}
+use Rattle.cab_book.proofs.OnePart.{one-tally, one-stays}
 use Rattle.round_run.specs.Standings.{HasRun, HaveRun, no_journals, TicksWithin}
+use Rattle.round_run.specs.Joined.{Finishes}
 
--- one item more of those of a pass: what is left of them comes behind it
-pub journal-more : (pass left more : ℕ) (before now whole : List ℕ) → now ≡ before ++ pass ∷ [] → left ≡ more + 1
-    → before ++ replicate left pass ≡ whole → now ++ replicate more pass ≡ whole
-journal-more pass left more before now whole is count so =
-    ap (λ (x : List ℕ). x ++ replicate more pass) is
-    ∙ append_assoc before (pass ∷ []) (replicate more pass)
-    ∙ ap (λ (n : ℕ). before ++ replicate n pass) (sym (count ∙ add-one more))
+-- so many items more of those of a pass: what is left of them comes behind these
+pub journal-more : (pass left many rest : ℕ) (before now whole : List ℕ) → now ≡ before ++ replicate many pass → rest + many ≡ left
+    → before ++ replicate left pass ≡ whole → now ++ replicate rest pass ≡ whole
+journal-more pass left many rest before now whole is count so =
+    let all : many + rest ≡ left = omega (arith, count) in
+    ap (λ (x : List ℕ). x ++ replicate rest pass) is
+    ∙ append_assoc before (replicate many pass) (replicate rest pass)
+    ∙ ap (λ (x : List ℕ). before ++ x) (replicate-append-replicate many rest pass)
+    ∙ ap (λ (n : ℕ). before ++ replicate n pass) all
     ∙ so
 
 -- what all passes before this one bring was brought
@@ -27,6 +34,7 @@ pub record BroughtTo (s : ScenarioContent) (cab : ℕ) (t : Standing) (pass : �
   pub streams : streams_in b ≡ coming_streams s cab t
   pub journal : journal_of b ++ serial_from pass (drop pass (coming_streams s cab t)) ≡ serial (coming_streams s cab t)
   pub left : (p : ℕ) → pass ≤ p → left_of b p ≡ length (get_or (coming_streams s cab t) p [])
+  pub one : IsOnePart b
 
 pub brought-none : (s : ScenarioContent) (cab : ℕ) (t : Standing) (b : Book) → HasRun s cab t [] b → BroughtTo s cab t 0 b
 brought-none s cab t b run = record {
@@ -37,7 +45,8 @@ brought-none s cab t b run = record {
       let none : times p (journal_of b) ≡ 0 = ap (times p) run.journal_is in
       let length_is : length (get_or (streams_in b) p []) ≡ length (get_or (coming_streams s cab t) p []) =
       ap (λ (streams : List (List Item)). length (get_or streams p [])) run.streams in
-      omega (arith, b.tallied p, none, length_is);
+      omega (arith, one-tally b run.one p, none, length_is);
+  one = run.one;
 }
 
 -- what a pass does where it brings all that is left of its stream
@@ -45,6 +54,7 @@ pub record BringsAll (old new : Book) (pass : ℕ) : Type 0 where
   pub stands : (story : Story) → BookStands old story → BookStands new story
   pub streams : streams_in new ≡ streams_in old
   pub journal : journal_of new ≡ journal_of old ++ replicate (left_of old pass) pass
+  pub own : left_of new pass ≡ 0
   pub others : (p : ℕ) → p ≢ pass → left_of new p ≡ left_of old p
 
 pub brought-more : (s : ScenarioContent) (cab : ℕ) (t : Standing) (pass : ℕ) (old new : Book) → pass < 5 → BringsAll old new pass
@@ -65,6 +75,7 @@ brought-more s cab t pass old new below brings so =
       left = λ p above.
           let other : p ≢ pass = omega (arith, above) in
           brings.others p other ∙ so.left p (omega (arith, above));
+      one = one-stays old new pass (left_of old pass) below brings.journal brings.others so.one;
     }
 
 pub brought-whole : (s : ScenarioContent) (cab : ℕ) (t : Standing) (pass : ℕ) (b : Book) → pass ≡ 5 → BroughtTo s cab t pass b
@@ -76,17 +87,66 @@ brought-whole s cab t pass b last so = record {
       sym (append-nil (journal_of b))
       ∙ ap (λ (n : ℕ). journal_of b ++ serial_from pass (drop n (coming_streams s cab t))) (sym last)
       ∙ so.journal;
+  one = so.one;
 }
 
--- a book has run its round in the serial order
+-- a book whose shares of ticks were joined has run what it had
+pub joined-first : (s : ScenarioContent) (cab : ℕ) (t : Standing) (old new : Book) → ((story : Story) → BookStands old story → BookStands new story)
+    → streams_in new ≡ streams_in old → journal_of new ≡ read_journal (journal_of old) → IsOnePart new → HasRun s cab t [] old → HasRun s cab t [] new
+joined-first s cab t old new stands streams journal one run = record {
+  stands = stands t.story run.stands;
+  streams = streams ∙ run.streams;
+  journal_is = journal ∙ ap read_journal run.journal_is;
+  one = one;
+}
+
+-- the passes before this one have brought all that was left of their streams
+pub record FinishedTo (old new : Book) (pass : ℕ) : Type 0 where
+  pub stands : (story : Story) → BookStands old story → BookStands new story
+  pub streams : streams_in new ≡ streams_in old
+  pub none : (p : ℕ) → p < pass → left_of new p ≡ 0
+  pub one : IsOnePart new
+
+pub finished-none : (old new : Book) → ((story : Story) → BookStands old story → BookStands new story) → streams_in new ≡ streams_in old → IsOnePart new
+    → FinishedTo old new 0
+finished-none old new stands streams one = record { stands = stands; streams = streams; none = λ p below. absurd (omega (arith, below)); one = one }
+
+pub finished-more : (old now new : Book) (pass : ℕ) → pass < 5 → BringsAll now new pass → FinishedTo old now pass → FinishedTo old new (pass + 1)
+finished-more old now new pass low brings so = record {
+  stands = λ story stood. brings.stands story (so.stands story stood);
+  streams = brings.streams ∙ so.streams;
+  none = λ p below. elim (eqb_tells p pass) [
+    | inl (t, same) ↦ subst (λ (q : ℕ). left_of new q ≡ 0) (sym same) brings.own
+    | inr (t, other) ↦ brings.others p other ∙ so.none p (omega (arith, below, other))
+  ];
+  one = one-stays now new pass (left_of now pass) low brings.journal brings.others so.one;
+}
+
+pub finished-whole : (old new : Book) (pass : ℕ) → pass ≡ 5 → ticks_by_end new ≡ ticks_by_end old → FinishedTo old new pass → Finishes old new
+finished-whole old new pass last ticks so = record {
+  stands = so.stands;
+  streams = so.streams;
+  merges = λ p. elim (cases_lt p 5) [
+    | inl less ↦ omega (arith, one-tally new so.one p, so.none p (omega (arith, less, last)))
+    | inr most ↦ omega (arith, one-tally new so.one p, so.one p most)
+  ];
+  one = so.one;
+  ticks = ticks;
+}
+
+-- a book has run what was left of its round in the serial order
 pub record BringsRound (old new : Book) : Type 0 where
   pub run : (s : ScenarioContent) (cab : ℕ) (t : Standing) → HasRun s cab t [] old → HasRun s cab t (serial (coming_streams s cab t)) new
+  pub finishes : Finishes old new
   pub ticks : ticks_by_end new ≡ ticks_by_end old
 
 -- the books so far have, and the others are as before
 pub record RunTo (old now : List Book) (k : ℕ) : Type 0 where
   pub many : length now ≡ length old
   pub each : (b : Book) → InTurn (λ j was is. BringsRound was is) b old now k
+
+pub run-none : (books : List Book) → RunTo books books 0
+run-none books = record { many = refl; each = λ b. InTurn-start (λ j was is. BringsRound was is) b books }
 
 pub run-more : (old now : List Book) (k : ℕ) (was new : Book) → k < length old → RunTo old now k → was ≡ get_or now k was → BringsRound was new
     → RunTo old (slice_set now k new) (k + 1)
@@ -132,3 +192,7 @@ pub run-ticks : (old now : List Book) (k most : ℕ) → length old ≤ k → Ru
 run-ticks old now k most all so few j b below =
     let less : j < k = omega (arith, below, all, so.many) in
     omega (arith, ((so.each b).done j less).ticks, few j b (omega (arith, below, so.many)))
+
+pub run-finishes : (old now : List Book) (k : ℕ) → length old ≤ k → RunTo old now k → (j : ℕ) (b : Book) → j < length old
+    → Finishes (get_or old j b) (get_or now j b)
+run-finishes old now k all so j b below = ((so.each b).done j (omega (arith, below, all))).finishes

@@ -1,20 +1,18 @@
 -- What a round by workers makes of the books is what a run with their journals makes of them.
-use Rattle.std.proofs.Common.{◌≡◌, ◌<◌, ◌≤◌, ◌+◌, ◌∙◌, ℕ, zero, suc, List, [], ◌∷◌, length, get_or, inl, inr, refl, sym, ap, subst, arith}
+use Rattle.std.proofs.Common.{◌≡◌, ◌<◌, ◌+◌, ◌∙◌, ℕ, zero, suc, List, [], ◌∷◌, length, get_or, refl, sym, ap, subst, arith}
 use Rattle.std.specs.List.{AllZip}
-use Rattle.std.proofs.lemmas.Bool.{cases_lt}
 use Rattle.std.proofs.lemmas.List.{get_or-map, length-map}
 use Rattle.scenario_data.specs.Content.{ScenarioContent}
-use Rattle.round_streams.specs.declared.Streams.{Streams}
-use Rattle.round_streams.specs.Items.{Item, items_of}
-use Rattle.cabinet_story.specs.Journals.{times, IsMerge}
+use Rattle.round_streams.specs.Items.{Item}
+use Rattle.cabinet_story.specs.Journals.{IsMerge}
 use Rattle.run_lines.specs.Standing.{Standing, coming_streams}
 use Rattle.run_lines.specs.Orders.{EachMerges}
-use Rattle.cab_workers.specs.Whole.{IsWhole}
+use Rattle.cab_workers.specs.Whole.{ComesFrom}
 use Rattle.cab_book.specs.declared.book.Book.{Book}
-use Rattle.cab_book.specs.Books.{Replays, streams_in, journal_of, left_of, ticks_by_end}
-use Rattle.cab_book.proofs.Counting.{times-same}
+use Rattle.cab_book.specs.Books.{Replays, journal_of, left_of}
 use Rattle.round_run.specs.Standings.{HasRun, HaveRun, no_journals, TicksWithin}
-use Rattle.round_run.specs.Joined.{journals_in, HaveMerged}
+use Rattle.round_run.specs.Joined.{journals_in, AreShared, HaveMerged, Finishes}
+use Rattle.round_run.proofs.Sharing.{shared-whole}
 
 -- lists that stand side by side
 module _ {A : Type 0} (R : A → A → Type 0) where
@@ -30,35 +28,27 @@ module _ {A : Type 0} (R : A → A → Type 0) where
   zip-at (x ∷ xs) (y ∷ ys) zero d below h = h.0
   zip-at (x ∷ xs) (y ∷ ys) (suc k) d below h = zip-at xs ys k d (omega (arith, below)) h.1
 
--- five passes have brought all that came to the first book
-abbrev pub IsWholeBook : Book → Book → Type 0
-IsWholeBook first now = IsWhole journal_of left_of Replays 5 first now
+-- a book that workers left comes from the first one
+abbrev pub BookComes : Book → Book → Type 0
+BookComes first left = ComesFrom journal_of left_of Replays first left
 
-no_sixth : (streams : Streams) (p : ℕ) → 5 ≤ p → length (get_or (items_of streams) p []) ≡ 0
-no_sixth streams zero most = absurd (omega (arith, most))
-no_sixth streams (suc zero) most = absurd (omega (arith, most))
-no_sixth streams (suc (suc zero)) most = absurd (omega (arith, most))
-no_sixth streams (suc (suc (suc zero))) most = absurd (omega (arith, most))
-no_sixth streams (suc (suc (suc (suc zero)))) most = absurd (omega (arith, most))
-no_sixth streams (suc (suc (suc (suc (suc p))))) most = refl
+-- once all that was left has been brought, all that came to the first one has
+pub whole-book : (first left now : Book) → BookComes first left → Finishes left now → Finishes first now
+whole-book first left now comes finishes = record {
+  stands = λ story stood. finishes.stands story (comes.replays.stories story stood);
+  streams = finishes.streams ∙ comes.replays.streams;
+  merges = finishes.merges;
+  one = finishes.one;
+  ticks = finishes.ticks ∙ comes.replays.ticks;
+}
 
--- then each pass stands in the journal just as often as its stream has items
-merged : (first now : Book) → journal_of first ≡ [] → IsWholeBook first now → IsMerge (streams_in now) (journal_of now)
-merged first now none whole p =
-    let never : times p (journal_of first) ≡ 0 = ap (times p) none in
-    let many : length (get_or (streams_in now) p []) ≡ length (get_or (streams_in first) p []) =
-    ap (λ (streams : List (List Item)). length (get_or streams p [])) whole.replays.streams in
-    elim (cases_lt p 5) [
-      | inl less ↦ omega (arith, times-same p (journal_of now), whole.each p less, first.tallied p, never, many)
-      | inr most ↦ omega (arith, now.tallied p, no_sixth now.streams p most)
-    ]
-
--- and the book has run the round to come by its journal
-run_whole : (s : ScenarioContent) (cab : ℕ) (t : Standing) (first now : Book) → HasRun s cab t [] first → IsWholeBook first now → HasRun s cab t (journal_of now) now
+-- it has run the round to come by its journal
+run_whole : (s : ScenarioContent) (cab : ℕ) (t : Standing) (first now : Book) → HasRun s cab t [] first → Finishes first now → HasRun s cab t (journal_of now) now
 run_whole s cab t first now run whole = record {
-  stands = whole.replays.stories t.story run.stands;
-  streams = whole.replays.streams ∙ run.streams;
+  stands = whole.stands t.story run.stands;
+  streams = whole.streams ∙ run.streams;
   journal_is = refl;
+  one = whole.one;
 }
 
 each_merges : (s : ScenarioContent) (first : ℕ) (ts : List Standing) (books : List Book) → length books ≡ length ts
@@ -82,20 +72,37 @@ own_round s ts books k b t below have =
     subst (λ (passes : List ℕ). HasRun s (k + 1) (get_or ts k t) passes (get_or books k b)) (get_or-map (λ (u : Standing). []) ts k t [] below)
     (have.each k b t [] below)
 
-pub joined-run : (s : ScenarioContent) (ts : List Standing) (old now : List Book) → AllZip IsWholeBook old now → HaveRun s ts (no_journals ts) old
+-- the books have brought all that came to the first ones
+pub record AreWhole (old now : List Book) : Type 0 where
+  pub many : length now ≡ length old
+  pub each : (k : ℕ) (b : Book) → k < length old → Finishes (get_or old k b) (get_or now k b)
+
+pub all-whole : (parts : ℕ) (old shared left now : List Book) → AreShared parts old shared → AllZip BookComes shared left → length now ≡ length left
+    → ((k : ℕ) (b : Book) → k < length left → Finishes (get_or left k b) (get_or now k b)) → AreWhole old now
+all-whole parts old shared left now so come many finishes =
+    let same : length left ≡ length shared = zip-length BookComes shared left come in
+    record {
+      many = many ∙ same ∙ so.many;
+      each = λ k b below.
+          let within : k < length shared = omega (arith, below, so.many) in
+          shared-whole parts (get_or old k b) (get_or shared k b) (get_or now k b) (so.each k b below)
+          (whole-book (get_or shared k b) (get_or left k b) (get_or now k b) (zip-at BookComes shared left k b within come)
+          (finishes k b (omega (arith, within, same))));
+    }
+
+pub joined-run : (s : ScenarioContent) (ts : List Standing) (old now : List Book) → AreWhole old now → HaveRun s ts (no_journals ts) old
     → HaveMerged s ts now
 joined-run s ts old now whole have =
-    let many : length now ≡ length ts = zip-length IsWholeBook old now whole ∙ have.many in
+    let many : length now ≡ length ts = whole.many ∙ have.many in
     let run : (k : ℕ) (b : Book) (t : Standing) → k < length ts → HasRun s (k + 1) (get_or ts k t) (journal_of (get_or now k b)) (get_or now k b) =
     λ k b t below. run_whole s (k + 1) (get_or ts k t) (get_or old k b) (get_or now k b) (own_round s ts old k b t below have)
-    (zip-at IsWholeBook old now k b (omega (arith, below, have.many)) whole) in
+    (whole.each k b (omega (arith, below, have.many))) in
     record {
       merges = each_merges s 1 ts now many (λ k t b below.
           let number : k + 1 ≡ 1 + k = omega arith in
           subst (λ (cab : ℕ). IsMerge (coming_streams s cab (get_or ts k t)) (journal_of (get_or now k b))) number
           (subst (λ (streams : List (List Item)). IsMerge streams (journal_of (get_or now k b))) (run k b t below).streams
-          (merged (get_or old k b) (get_or now k b) (own_round s ts old k b t below have).journal_is
-          (zip-at IsWholeBook old now k b (omega (arith, below, have.many)) whole))));
+          (whole.each k b (omega (arith, below, have.many))).merges));
       run = record {
         many = many;
         as_many = length-map now journal_of ∙ many;
@@ -105,7 +112,7 @@ joined-run s ts old now whole have =
       };
     }
 
-pub joined-ticks : (old now : List Book) (most : ℕ) → AllZip IsWholeBook old now → TicksWithin most old → TicksWithin most now
+pub joined-ticks : (old now : List Book) (most : ℕ) → AreWhole old now → TicksWithin most old → TicksWithin most now
 joined-ticks old now most whole few k b below =
-    let less : k < length old = omega (arith, below, zip-length IsWholeBook old now whole) in
-    omega (arith, (zip-at IsWholeBook old now k b less whole).replays.ticks, few k b less)
+    let less : k < length old = omega (arith, below, whole.many) in
+    omega (arith, (whole.each k b less).ticks, few k b less)

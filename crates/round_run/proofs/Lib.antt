@@ -4,3 +4,4 @@ pub mod Begun
 pub mod InSerial
 pub mod Texts
 pub mod Joining
+pub mod Sharing

@@ -11,7 +11,7 @@ use Rattle.cabinet_story.specs.Story.{Story, with_item}
 use Rattle.cabinet_story.specs.Journals.{Act, runs_of}
 use Rattle.cabinet_story.specs.Told.{item_written, item_replies}
 use Rattle.run_lines.specs.Standing.{Standing, round_acts}
-use Rattle.run_lines.specs.Lines.{shown_line, frame_lines, load_lines, reply_lines, item_lines, acts_lines, cabinet_lines}
+use Rattle.run_lines.specs.Lines.{frame_lines, load_lines, reply_lines, item_lines, acts_lines, cabinet_lines}
 use Rattle.cab_book.specs.declared.book.Book.{Book}
 use Rattle.cab_book.specs.declared.happened.Answered.{Answered}
 use Rattle.cab_book.specs.Happenings.{Happening, Wrote, Replied, item_happenings, acts_happenings, interleaved, AreInOrder}

@@ -1,15 +1,18 @@
 -- What workers in threads make of a round: each book has brought all that came to its cabinet, in an order that they settled.
-use Rattle.std.specs.Prelude.{ℕ, ◌≡◌, ◌≤◌, List, [], map, All}
+use Rattle.std.specs.Prelude.{ℕ, ◌≡◌, ◌≢◌, ◌<◌, ◌≤◌, ◌+◌, ◌++◌, List, [], length, get_or, map, replicate, All}
 use Rattle.scenario_data.specs.Content.{ScenarioContent}
 use Rattle.run_lines.specs.Standing.{Standing}
 use Rattle.run_lines.specs.Orders.{EachMerges}
 use Rattle.cab_book.specs.declared.book.Book.{Book}
-use Rattle.cab_book.specs.Books.{journal_of, left_of}
+use Rattle.cabinet_story.specs.Story.{Story}
+use Rattle.cabinet_story.specs.Journals.{IsMerge}
+use Rattle.cab_book.specs.Books.{BookStands, IsOnePart, Shares, streams_in, journal_of, left_of, ticks_by_end}
+use Rattle.cab_book.specs.Shares.{shares}
 use Rattle.round_run.specs.Standings.{HaveRun}
 
--- nothing of its round was brought to any book yet
+-- nothing of its round was brought to any book yet, and no ticks were shared
 abbrev pub AreFresh : List Book → Type 0
-AreFresh books = All (λ b. journal_of b ≡ []) books
+AreFresh books = All (λ b. (journal_of b ≡ []) × IsOnePart b) books
 
 -- no pass has more items left at a book than workers can share
 abbrev pub HaveFewLeft : List Book → Type 0
@@ -23,3 +26,32 @@ journals_in books = map journal_of books
 pub record HaveMerged (s : ScenarioContent) (ts : List Standing) (books : List Book) : Type 0 where
   pub merges : EachMerges s 1 ts (journals_in books)
   pub run : HaveRun s ts (journals_in books) books
+
+-- a pass has brought so many of the next items of its stream
+pub record BringsSome (old new : Book) (pass many : ℕ) : Type 0 where
+  pub stands : (story : Story) → BookStands old story → BookStands new story
+  pub streams : streams_in new ≡ streams_in old
+  pub journal : journal_of new ≡ journal_of old ++ replicate many pass
+  pub own : left_of new pass + many ≡ left_of old pass
+  pub others : (p : ℕ) → p ≢ pass → left_of new p ≡ left_of old p
+  pub ticks : ticks_by_end new ≡ ticks_by_end old
+
+-- all that was left of a book's round has been brought, whatever was brought before: its journal has each pass just as often as its
+-- stream has items
+pub record Finishes (old new : Book) : Type 0 where
+  pub stands : (story : Story) → BookStands old story → BookStands new story
+  pub streams : streams_in new ≡ streams_in old
+  pub merges : IsMerge (streams_in new) (journal_of new)
+  pub one : IsOnePart new
+  pub ticks : ticks_by_end new ≡ ticks_by_end old
+
+-- the ticks of a book's round are shared in so many parts, and nothing else of it is changed
+pub record IsShared (parts : ℕ) (old new : Book) : Type 0 where
+  pub parts_are : (k : ℕ) → k < 4 → left_of new (4 + k) ≡ get_or (shares parts (length (get_or (streams_in old) 4 []))) k 0
+  pub shares : Shares old new
+  pub above : (p : ℕ) → 8 ≤ p → left_of new p ≡ 0
+
+-- so are those of each book
+pub record AreShared (parts : ℕ) (old new : List Book) : Type 0 where
+  pub many : length new ≡ length old
+  pub each : (k : ℕ) (b : Book) → k < length old → IsShared parts (get_or old k b) (get_or new k b)

@@ -6,7 +6,7 @@ use Rattle.round_streams.specs.Items.{items_of}
 use Rattle.cabinet_story.specs.Story.{Story}
 use Rattle.run_lines.specs.Standing.{Standing, coming_streams}
 use Rattle.cab_book.specs.declared.book.Book.{Book}
-use Rattle.cab_book.specs.Books.{BookStands, CanBeTaken, streams_in, journal_of, story_now, ticks_by_end}
+use Rattle.cab_book.specs.Books.{BookStands, CanBeTaken, IsOnePart, streams_in, journal_of, story_now, ticks_by_end}
 
 -- there are streams for each book, a cabinet can take them, and it has had few ticks
 pub record CanOpen (books : List Book) (streams : List Streams) : Type 0 where
@@ -28,6 +28,7 @@ pub record Begins (old new : Book) (one : Streams) : Type 0 where
   pub stands : (story : Story) → BookStands old story → BookStands new (story_now old story)
   pub streams : streams_in new ≡ items_of one
   pub journal : journal_of new ≡ []
+  pub whole : IsOnePart new
   pub ticks : ticks_by_end new ≤ ticks_by_end old + one.ticks
 
 -- a round was begun on some of the books, and the others are as before

@@ -5,7 +5,7 @@ use Rattle.scenario_data.specs.Content.{ScenarioContent}
 use Rattle.cabinet_story.specs.Story.{Story}
 use Rattle.run_lines.specs.Standing.{Standing, coming_streams}
 use Rattle.cab_book.specs.declared.book.Book.{Book}
-use Rattle.cab_book.specs.Books.{BookStands, streams_in, journal_of, story_now, ticks_by_end}
+use Rattle.cab_book.specs.Books.{BookStands, IsOnePart, streams_in, journal_of, story_now, ticks_by_end}
 
 -- a book is at what its cabinet has come to
 pub record IsAt (b : Book) (t : Standing) : Type 0 where
@@ -18,11 +18,13 @@ pub record AreAt (books : List Book) (ts : List Standing) : Type 0 where
   pub many : length books ≡ length ts
   pub each : (k : ℕ) (b : Book) (t : Standing) → k < length ts → IsAt (get_or books k b) (get_or ts k t)
 
--- of the round to come at the cabinet with this number, which had come to this before it, a book has run a journal
+-- of the round to come at the cabinet with this number, which had come to this before it, a book has run a journal, whose ticks are
+-- those of one pass
 pub record HasRun (s : ScenarioContent) (cab : ℕ) (t : Standing) (journal : List ℕ) (b : Book) : Type 0 where
   pub stands : BookStands b t.story
   pub streams : streams_in b ≡ coming_streams s cab t
   pub journal_is : journal_of b ≡ journal
+  pub one : IsOnePart b
 
 -- so has each book its own
 pub record HaveRun (s : ScenarioContent) (ts : List Standing) (journals : List (List ℕ)) (books : List Book) : Type 0 where

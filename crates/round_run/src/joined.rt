@@ -1,26 +1,69 @@
 //! The order of a round that several workers settle, each in a thread of its own where one can be started.
 
-ghost use Rattle.std.specs.Prelude.{ℕ, ◌≡◌, ◌≤◌, List, length, vec_len, vec_capacity, IfOk, IfErr};
+ghost use Rattle.std.specs.Prelude.{ℕ, ◌≡◌, ◌≤◌, ◌⊎◌, List, [], All, length, vec_len, vec_capacity, IfOk, IfErr};
 ghost use Rattle.scenario_data.specs.Content.{ScenarioContent};
 ghost use Rattle.run_lines.specs.Standing.{Standing};
+ghost use Rattle.cab_book.specs.declared.book.Book.{Book as BookRow};
+ghost use Rattle.cab_book.specs.Books.{journal_of};
 ghost use Rattle.round_run.specs.Standings.{HaveRun, no_journals, TicksWithin};
-ghost use Rattle.round_run.specs.Joined.{AreFresh, HaveFewLeft, HaveMerged};
+ghost use Rattle.round_run.specs.Joined.{AreFresh, AreShared, HaveFewLeft, HaveMerged};
 
+use crate::serial::serial_round;
 use cab_book::Book;
-use cab_workers::joined;
+use cab_workers::worked;
 use io_edge::Gate;
 use sig_types::NoMemory;
 use std::alloc::Global;
 use std::thread::Threads;
 
-/// All that comes to 1 to 64 cabinets in a round that was just begun is brought by five passes, in the hands of so many workers:
-/// worker w has the passes p with p mod workers = w, and calls the gate before each act (no clause says so). Whatever the order of the threads, each item
-/// of each stream is brought once, in its stream's order, and each book's journal tells the order that came of it. All memory is taken
-/// first: where it is wanting, the books come back as they were.
+/// In how many parts so many workers share the ticks of a round: one for up to five, two for six, and four for more.
+fn parts_for(workers: u32) -> u32
+    ensures parts { (result ≡ 1) ⊎ (result ≡ 2) ⊎ (result ≡ 4) }
+    ensures one { workers ≤ 5 → result ≡ 1 }
+    ensures two { workers ≡ 6 → result ≡ 2 }
+    ensures four { 7 ≤ workers → result ≡ 4 }
+{
+    match workers {
+        0..=5 => 1,
+        6 => 2,
+        _ => 4,
+    }
+}
+
+/// Shares the ticks of each book's round, to which nothing was brought yet, in so many parts.
+fn share_ticks(books: &mut Vec<Book>, parts: u32)
+    requires parts { (parts ≡ 1) ⊎ (parts ≡ 2) ⊎ (parts ≡ 4) }
+    requires fresh { AreFresh books.old.items }
+    requires small { HaveFewLeft books.old.items }
+    ensures shared { AreShared parts books.old.items books.new.items }
+    ensures fresh { All (λ b. journal_of b ≡ []) books.new.items }
+    ensures small { HaveFewLeft books.new.items }
+    ensures room { vec_capacity books.new ≡ vec_capacity books.old }
+{
+    for k in 0..books.len() {
+        books[k].share(parts);
+    }
+}
+
+/// The ticks of each book's round are those of one pass again.
+fn join_ticks(books: &mut Vec<Book>)
+    ensures undone { (parts : ℕ) (first : List BookRow) → AreFresh first → AreShared parts first books.old.items → books.new.items ≡ first }
+    ensures room { vec_capacity books.new ≡ vec_capacity books.old }
+{
+    for k in 0..books.len() {
+        books[k].join_ticks();
+    }
+}
+
+/// All that comes to 1 to 64 cabinets in a round that was just begun is brought by passes in the hands of so many workers: the ticks are
+/// those of one pass for up to five workers, of two for six, and of four for more, and there are four other passes. Worker w has the
+/// passes p with p mod workers = w, and calls the gate before each act (no clause says so). What the workers leave is
+/// brought in the serial order. Whatever the order of the threads, each item of each stream is brought once, in its stream's order, and
+/// each book's journal tells the order that came of it. All memory is taken first: where it is wanting, the books come back as they were.
 pub fn joined_round<R: Threads + Sync, G: Gate + Sync>(
     rt: &R,
     alloc: Global,
-    books: Vec<Book>,
+    mut books: Vec<Book>,
     workers: u32,
     gate: &G,
 ) -> Result<Vec<Book>, (Vec<Book>, NoMemory)>
@@ -35,5 +78,16 @@ pub fn joined_round<R: Threads + Sync, G: Gate + Sync>(
     ensures room { IfOk result (λ v. vec_capacity v ≡ vec_capacity books) }
     ensures refused { IfErr result (λ e. (e.0.items ≡ books.items) × (vec_capacity e.0 ≡ vec_capacity books)) }
 {
-    joined(rt, alloc, books, 5, workers, gate)
+    let parts = parts_for(workers);
+    share_ticks(&mut books, parts);
+    match worked(rt, alloc, books, 4 + parts, workers, gate) {
+        Ok(mut books) => {
+            serial_round(&mut books);
+            Ok(books)
+        }
+        Err((mut books, NoMemory)) => {
+            join_ticks(&mut books);
+            Err((books, NoMemory))
+        }
+    }
 }

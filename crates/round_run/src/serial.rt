@@ -1,15 +1,32 @@
-//! The serial order of a round: cabinet after cabinet, at each pass after pass, all that comes.
+//! The serial order of a round: cabinet after cabinet, pass after pass, all that is left to come.
+//! Ticks are brought in strides.
 
-ghost use Rattle.std.specs.Prelude.{ℕ, ◌≡◌, ◌≢◌, ◌<◌, ◌++◌, List, [], length, replicate};
+ghost use Rattle.std.specs.Prelude.{ℕ, ◌≡◌, ◌≢◌, ◌<◌, ◌≤◌, ◌+◌, ◌++◌, List, [], length, replicate, get_or, vec_capacity};
 ghost use Rattle.scenario_data.specs.Content.{ScenarioContent};
 ghost use Rattle.cabinet_story.specs.Story.{Story};
 ghost use Rattle.cabinet_story.specs.Journals.{serial};
+ghost use Rattle.cab_book.specs.declared.book.Book.{Book as BookRow};
 ghost use Rattle.cab_book.specs.Books.{BookStands, streams_in, journal_of, left_of, ticks_by_end};
 ghost use Rattle.run_lines.specs.Standing.{Standing, coming_streams};
 ghost use Rattle.run_lines.specs.Orders.{serial_round as serial_journals};
 ghost use Rattle.round_run.specs.Standings.{HasRun, HaveRun, no_journals, TicksWithin};
+ghost use Rattle.round_run.specs.Joined.{BringsSome, Finishes};
 
 use cab_book::Book;
+
+/// A pass brings the next item of its stream, or of ticks the next ones up to the first whose frame has a line: how many these are.
+fn bring_some(book: &mut Book, pass: u32) -> u32
+    requires { 0 < left_of book.old pass }
+    ensures brings { BringsSome book.old book.new pass result }
+    ensures some { 1 ≤ result }
+{
+    if pass == 4 {
+        let left = book.left(pass);
+        return book.stride(pass, left);
+    }
+    book.apply(pass);
+    1
+}
 
 /// A pass brings all that is left of its stream.
 fn bring_all(book: &mut Book, pass: u32)
@@ -21,28 +38,32 @@ fn bring_all(book: &mut Book, pass: u32)
     ensures ticks { ticks_by_end book.new ≡ ticks_by_end book.old }
 {
     while book.left(pass) > 0 {
-        book.apply(pass);
+        bring_some(book, pass);
     }
 }
 
-/// Each pass in turn brings all that comes to a cabinet in a round that was just begun.
+/// Each pass in turn brings all that is left to come to a cabinet in a round, of whose passes of ticks one is made first.
 fn bring_round(book: &mut Book)
     ensures run { (s : ScenarioContent) (cab : ℕ) (t : Standing) → HasRun s cab t [] book.old
         → HasRun s cab t (serial (coming_streams s cab t)) book.new }
+    ensures finishes { Finishes book.old book.new }
     ensures ticks { ticks_by_end book.new ≡ ticks_by_end book.old }
 {
+    book.join_ticks();
     for pass in 0..5 {
         bring_all(book, pass);
     }
 }
 
-/// All that comes to the cabinets in a round that was just begun is brought, one cabinet after another: the inputs from the street,
-/// the frames of the three streams of messages, and the ticks. It takes no memory.
+/// All that is left to come to the cabinets in a round is brought, one cabinet after another: the inputs from the street, the frames
+/// of the three streams of messages, and the ticks. It takes no memory.
 pub fn serial_round(books: &mut Vec<Book>)
     ensures many { length books.new.items ≡ length books.old.items }
     ensures run { (s : ScenarioContent) (ts : List Standing) → HaveRun s ts (no_journals ts) books.old.items
         → HaveRun s ts (serial_journals s 1 ts) books.new.items }
+    ensures finishes { (k : ℕ) (b : BookRow) → k < length books.old.items → Finishes (get_or books.old.items k b) (get_or books.new.items k b) }
     ensures ticks { (most : ℕ) → TicksWithin most books.old.items → TicksWithin most books.new.items }
+    ensures room { vec_capacity books.new ≡ vec_capacity books.old }
 {
     for k in 0..books.len() {
         bring_round(&mut books[k]);

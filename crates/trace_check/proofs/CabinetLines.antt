@@ -1,5 +1,6 @@
 -- A cabinet's round: its journal's line, and the lines that come of it.
-use Rattle.std.proofs.Common.{◌≡◌, ◌<◌, ◌≤◌, ◌+◌, ◌∙◌, ℕ, List, [], ◌∷◌, ◌++◌, Result, Ok, Err, length, drop, get_or, append-nil, refl, sym, ap, subst, arith}
+use Rattle.std.proofs.Common.{◌≡◌, ◌<◌, ◌≤◌, ◌+◌, ◌∙◌, ℕ, inl, inr, List, [], ◌∷◌, ◌++◌, Result, Ok, Err, length, drop, get_or, append-nil, refl, sym, ap, subst, arith}
+use Rattle.std.proofs.lemmas.Bool.{cases_lt}
 use Rattle.std.proofs.lemmas.List.{at_drop_more}
 use Rattle.sig_types.specs.declared.frame.Frame.{Frame}
 use Rattle.trace_text.specs.declared.lines.Line.{Line}
@@ -13,8 +14,10 @@ use Rattle.cabinet_story.specs.Story.{Story}
 use Rattle.cabinet_story.specs.Journals.{times, passes_of, runs_of, IsMerge}
 use Rattle.cab_book.specs.declared.book.Book.{Book}
 use Rattle.cab_book.specs.declared.happened.Answered.{Answered}
-use Rattle.cab_book.specs.Books.{BookStands, streams_in, journal_of, left_of, written_in, answered_in}
+use Rattle.cab_book.specs.Books.{BookStands, IsOnePart, streams_in, journal_of, left_of, written_in, answered_in}
 use Rattle.cab_book.specs.Happenings.{AreInOrder}
+use Rattle.cab_book.proofs.OnePart.{one-tally}
+use Rattle.cab_book.proofs.Bringing.{pass-within}
 use Rattle.run_lines.specs.Standing.{Standing, coming_streams, round_acts}
 use Rattle.run_lines.specs.Lines.{shown_line, frame_lines, load_lines, acts_lines, cabinet_lines}
 use Rattle.round_run.specs.Lines.{frames_between, answer_lines, told_lines, book_lines}
@@ -76,17 +79,35 @@ all-left s cab t b run = λ p.
     let none : times p (journal_of b) ≡ 0 = ap (times p) run.journal_is in
     let same : length (get_or (streams_in b) p []) ≡ length (get_or (coming_streams s cab t) p []) =
     ap (λ (streams : List (List Item)). length (get_or streams p [])) run.streams in
-    omega (arith, b.tallied p, none, same)
+    omega (arith, one-tally b run.one p, none, same)
+
+-- a journal that names each pass as often as it had items brings all, and no pass above the fifth
+brought-one : (s : ScenarioContent) (cab : ℕ) (t : Standing) (runs : List (ℕ × ℕ)) (old new : Book) → HasRun s cab t [] old
+    → ((p : ℕ) → events_in p runs ≡ left_of old p) → streams_in new ≡ streams_in old → journal_of new ≡ passes_of runs → IsOnePart new
+brought-one s cab t runs old new run all streams journal p high =
+    let none : (q : ℕ) → times q (journal_of old) ≡ 0 = λ q. ap (times q) run.journal_is in
+    let each : (q : ℕ) → times q (journal_of new) ≡ left_of old q = λ q. ap (times q) journal ∙ added q runs ∙ all q in
+    let same : length (get_or (streams_in new) 4 []) ≡ length (get_or (streams_in old) 4 []) =
+    ap (λ (x : List (List Item)). length (get_or x 4 [])) streams in
+    let ticks : times 4 (journal_of new) ≡ length (get_or (streams_in new) 4 []) = omega (arith, each 4, none 4, one-tally old run.one 4, same) in
+    let own : times p (journal_of new) ≡ 0 = omega (arith, each p, run.one p high) in
+    elim (cases_lt p 8) [
+      | inl less ↦ omega (arith, own, pass-within new.left p (omega (arith, high)) (omega (arith, less)), new.tallied.ticks, ticks)
+      | inr most ↦ new.tallied.others p most
+    ]
 
 -- the book has run the journal of some runs
 pub has-brought : (s : ScenarioContent) (cab : ℕ) (t : Standing) (runs : List (ℕ × ℕ)) (old new : Book) → HasRun s cab t [] old
-    → ((story : Story) → BookStands old story → BookStands new story) → streams_in new ≡ streams_in old → journal_of new ≡ journal_of old ++ passes_of runs
-    → HasRun s cab t (passes_of runs) new
-has-brought s cab t runs old new run stands streams journal = record {
-  stands = stands t.story run.stands;
-  streams = streams ∙ run.streams;
-  journal_is = journal ∙ ap (λ (x : List ℕ). x ++ passes_of runs) run.journal_is;
-}
+    → ((p : ℕ) → events_in p runs ≡ left_of old p) → ((story : Story) → BookStands old story → BookStands new story) → streams_in new ≡ streams_in old
+    → journal_of new ≡ journal_of old ++ passes_of runs → HasRun s cab t (passes_of runs) new
+has-brought s cab t runs old new run all stands streams journal =
+    let only : journal_of new ≡ passes_of runs = journal ∙ ap (λ (x : List ℕ). x ++ passes_of runs) run.journal_is in
+    record {
+      stands = stands t.story run.stands;
+      streams = streams ∙ run.streams;
+      journal_is = only;
+      one = brought-one s cab t runs old new run all streams only;
+    }
 
 -- the passes of its runs are a merge of the streams
 pub is-merge : (s : ScenarioContent) (cab : ℕ) (t : Standing) (runs : List (ℕ × ℕ)) (b : Book) → HasRun s cab t [] b → ((p : ℕ) → events_in p runs ≡ left_of b p)

@@ -22,7 +22,7 @@ use Rattle.cabinet_story.proofs.Growing.{act_at, acts-more, story-more, told-mor
 use Rattle.cab_book.specs.declared.book.Book.{Book}
 use Rattle.cab_book.specs.declared.happened.Answered.{Answered}
 use Rattle.cab_book.specs.Happenings.{replies_in}
-use Rattle.cab_book.specs.Books.{BookStands, streams_in, journal_of, left_of, acts_in, story_now, ticks_by_end, written_in, answered_in}
+use Rattle.cab_book.specs.Books.{BookStands, IsOnePart, streams_in, journal_of, left_of, acts_in, story_now, ticks_by_end, written_in, answered_in}
 use Rattle.run_lines.specs.Standing.{Standing, opened_standings, next_standing, each_standing, HasComeTo}
 use Rattle.round_run.specs.Standings.{HaveRun, IsAt, AreAt}
 use Rattle.round_run.proofs.Following.{each-here, each-length, acts-run}
@@ -110,13 +110,13 @@ begun-now b story none = ap (λ (passes : List ℕ). after story (items_in (acts
 
 -- the watched cabinet's round: it was begun, and all was brought
 module _ (old new : Book) (story : Story) (stood : BookStands old story) (stands : BookStands new story) (none : journal_of old ≡ [])
-    (all : (p : ℕ) → left_of new p ≡ 0) (ticks : ticks_by_end new ≡ ticks_by_end old) where
+    (one : IsOnePart old) (all : (p : ℕ) → left_of new p ≡ 0) (ticks : ticks_by_end new ≡ ticks_by_end old) where
   pub ticks-grown : (seen : ℕ) → seen + 1 ≡ length (frames (history_of story)) → seen + left_of old 4 + 1 ≡ length (frames (history_of (story_now new story)))
   ticks-grown seen is =
       let before : old.cabinet.ticks + 1 ≡ length (frames (history_of story)) =
       stood.cabinet.keeps.sound.ticks ∙ ap (λ (s : Story). length (frames (history_of s))) (begun-now old story none) in
       let now : new.cabinet.ticks + 1 ≡ length (frames (history_of (story_now new story))) = stands.cabinet.keeps.sound.ticks in
-      omega (arith, before, now, is, ticks, all 4)
+      omega (arith, before, now, is, ticks, all 4, all 5, all 6, all 7, one 5 (omega arith), one 6 (omega arith), one 7 (omega arith))
 
   pub ticks-few : (seen : ℕ) → seen + 1 ≡ length (frames (history_of story)) → seen + left_of old 4 ≤ 4294967294
   ticks-few seen is =
@@ -134,10 +134,6 @@ module _ (old new : Book) (story : Story) (stood : BookStands old story) (stands
     tables = kept (subst (λ (s : Story). AreTablesOf was.tables.items (history_of s)) (sym (begun-now old story none)) is.tables);
     ticks = ap (λ (n : ℕ). n + 1) counted ∙ ticks-grown was.ticks is.ticks;
   }
-
--- nothing is left where all was brought
-pub none-left-of : (b : Book) (p : ℕ) → times p (journal_of b) ≡ length (get_or (streams_in b) p []) → left_of b p ≡ 0
-none-left-of b p all = omega (arith, b.tallied p, all)
 
 -- ---- one cabinet after another
 

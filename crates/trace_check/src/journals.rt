@@ -23,8 +23,8 @@ use cab_book::Book;
 use std::alloc::Global;
 use trace_text::{Line, Runs};
 
-/// Whether nothing is left of any stream.
-fn none_left(left: &[u32; 5]) -> bool
+/// Whether nothing is left of any pass.
+fn none_left(left: &[u32; 8]) -> bool
     ensures { IsTrue result ↔ ((p : ℕ) → get_or left.now p 0 ≡ 0) }
 {
     for n in left {
@@ -35,15 +35,15 @@ fn none_left(left: &[u32; 5]) -> bool
     true
 }
 
-/// Whether runs name each pass just as often as its stream has items.
-pub fn names_all(runs: &[(u32, u32)], items: [u32; 5]) -> bool
+/// Whether runs name each pass just as often as it has items.
+pub fn names_all(runs: &[(u32, u32)], items: [u32; 8]) -> bool
     requires { AreLongest runs.now }
     ensures { IsTrue result ↔ ((p : ℕ) → events_in p runs.now ≡ get_or items p 0) }
 {
     let mut left = items;
     for run in runs {
         let (pass, count) = *run;
-        if pass >= 5 {
+        if pass >= 8 {
             return false;
         }
         if left[pass as usize] < count {
@@ -54,8 +54,8 @@ pub fn names_all(runs: &[(u32, u32)], items: [u32; 5]) -> bool
     none_left(&left)
 }
 
-/// How many items each stream of a book's round has left.
-fn all_left(book: &Book) -> [u32; 5]
+/// How many items each pass of a book's round has left.
+fn all_left(book: &Book) -> [u32; 8]
     ensures { (p : ℕ) → get_or result p 0 ≡ left_of book.now p }
 {
     [
@@ -64,6 +64,9 @@ fn all_left(book: &Book) -> [u32; 5]
         book.left(2),
         book.left(3),
         book.left(4),
+        book.left(5),
+        book.left(6),
+        book.left(7),
     ]
 }
 

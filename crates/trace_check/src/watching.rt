@@ -5,7 +5,7 @@ ghost use Rattle.sig_tables.specs.Decide.{last_frame_of, past_at};
 ghost use Rattle.cabinet_story.specs.Story.{Story};
 ghost use Rattle.cabinet_story.specs.Journals.{passes_of};
 ghost use Rattle.cabinet_story.specs.Coming.{history_of};
-ghost use Rattle.cab_book.specs.Books.{BookStands, streams_in, journal_of, left_of, story_now, ticks_by_end};
+ghost use Rattle.cab_book.specs.Books.{BookStands, IsOnePart, streams_in, journal_of, left_of, story_now, ticks_by_end};
 ghost use Rattle.trace_laws.specs.Runs.{events_in};
 ghost use Rattle.scenario_data.specs.Content.{ScenarioContent};
 ghost use Rattle.run_lines.specs.Standing.{opened_standings};
@@ -169,7 +169,7 @@ fn see_round(book: &mut Book, runs: &[(u32, u32)], seen: &mut Seen) -> Result<()
     ensures streams { streams_in book.new ≡ streams_in book.old }
     ensures journal { OnOk result (journal_of book.new ≡ journal_of book.old ++ passes_of runs.now) }
     ensures ticks { ticks_by_end book.new ≡ ticks_by_end book.old }
-    ensures seen { OnOk result ((story : Story) → BookStands book.old story → journal_of book.old ≡ [] → IsSeenOf seen.old (history_of story)
+    ensures seen { OnOk result ((story : Story) → BookStands book.old story → journal_of book.old ≡ [] → IsOnePart book.old → IsSeenOf seen.old (history_of story)
         → IsSeenOf seen.new (history_of (story_now book.new story))) }
     ensures fails { IfErr result (λ fail. fail ≡ CheckFail.NoMemory) }
 {
@@ -194,7 +194,7 @@ pub fn bring_round(
     ensures streams { streams_in book.new ≡ streams_in book.old }
     ensures journal { OnOk result (journal_of book.new ≡ journal_of book.old ++ passes_of runs.now) }
     ensures ticks { ticks_by_end book.new ≡ ticks_by_end book.old }
-    ensures seen { OnOk result (IsTrue is_watched → (story : Story) → BookStands book.old story → journal_of book.old ≡ [] → IsSeenOf seen.old (history_of story)
+    ensures seen { OnOk result (IsTrue is_watched → (story : Story) → BookStands book.old story → journal_of book.old ≡ [] → IsOnePart book.old → IsSeenOf seen.old (history_of story)
         → IsSeenOf seen.new (history_of (story_now book.new story))) }
     ensures other { OnOk result ((IsTrue is_watched) ⊎ (seen.new ≡ seen.old)) }
     ensures fails { IfErr result (λ fail. fail ≡ CheckFail.NoMemory) }

@@ -1,26 +1,31 @@
-use Rattle.std.proofs.Common.{◌≡◌, ℕ, List, length}
-use Rattle.std.specs.List.{AllZip}
-use Rattle.std.proofs.lemmas.Result.{IfOk-weaker}
+use Rattle.std.proofs.Common.{◌∙◌, List, sym, subst}
 use Rattle.cab_book.specs.declared.book.Book.{Book}
-use Rattle.scenario_data.specs.Content.{ScenarioContent}
-use Rattle.run_lines.specs.Standing.{Standing}
-use Rattle.round_run.specs.Standings.{HaveRun, no_journals, TicksWithin}
-use Rattle.round_run.specs.Joined.{HaveMerged}
-use Rattle.round_run.proofs.Joining.{IsWholeBook, zip-length, joined-run, joined-ticks}
+use Rattle.round_run.specs.Joined.{AreShared}
+use Rattle.round_run.proofs.Joining.{all-whole, joined-run, joined-ticks}
 use Rattle.round_run.proofs.joined.joined_round.Goals as goal
 
-pub returns-clause-many : goal.returns-clause-many
-returns-clause-many g c = let old = c.args.books.items in
-    IfOk-weaker c.joined.result (λ v. AllZip IsWholeBook old v.items) (λ v. length v.items ≡ length old)
-    (λ v whole. zip-length IsWholeBook old v.items whole) c.joined.ensures.whole
+pub returns-in-Ok-clause-many : goal.returns-in-Ok-clause-many
+returns-in-Ok-clause-many g c =
+    (all-whole c.parts_for-parts.result c.args.books.items c.share_ticks.new.books.items c.in-Ok.books.items c.serial_round.new.books.items
+    c.share_ticks.ensures.shared c.in-Ok.ensures.come c.serial_round.ensures.many c.serial_round.ensures.finishes).many
 
-pub returns-clause-run : goal.returns-clause-run
-returns-clause-run g c = let old = c.args.books.items in
-    IfOk-weaker c.joined.result (λ v. AllZip IsWholeBook old v.items)
-    (λ v. (s : ScenarioContent) (ts : List Standing) → HaveRun s ts (no_journals ts) old → HaveMerged s ts v.items)
-    (λ v whole s ts have. joined-run s ts old v.items whole have) c.joined.ensures.whole
+pub returns-in-Ok-clause-run : goal.returns-in-Ok-clause-run
+returns-in-Ok-clause-run g c = λ s ts have. joined-run s ts c.args.books.items c.serial_round.new.books.items
+    (all-whole c.parts_for-parts.result c.args.books.items c.share_ticks.new.books.items c.in-Ok.books.items c.serial_round.new.books.items
+    c.share_ticks.ensures.shared c.in-Ok.ensures.come c.serial_round.ensures.many c.serial_round.ensures.finishes) have
 
-pub returns-clause-ticks : goal.returns-clause-ticks
-returns-clause-ticks g c = let old = c.args.books.items in
-    IfOk-weaker c.joined.result (λ v. AllZip IsWholeBook old v.items) (λ v. (most : ℕ) → TicksWithin most old → TicksWithin most v.items)
-    (λ v whole most few. joined-ticks old v.items most whole few) c.joined.ensures.whole
+pub returns-in-Ok-clause-ticks : goal.returns-in-Ok-clause-ticks
+returns-in-Ok-clause-ticks g c = λ most few. joined-ticks c.args.books.items c.serial_round.new.books.items most
+    (all-whole c.parts_for-parts.result c.args.books.items c.share_ticks.new.books.items c.in-Ok.books.items c.serial_round.new.books.items
+    c.share_ticks.ensures.shared c.in-Ok.ensures.come c.serial_round.ensures.many c.serial_round.ensures.finishes) few
+
+pub returns-in-Err-clause-refused : goal.returns-in-Err-clause-refused
+returns-in-Err-clause-refused g c =
+    let parts = c.parts_for-parts.result in
+    let books = c.args.books.items in
+    let same = c.in-Err.ensures.refused.0 in
+    let shared : AreShared parts books c.in-Err.books.items =
+    subst (λ (left : List Book). AreShared parts books left) (sym same) c.share_ticks.ensures.shared in (
+      c.join_ticks.ensures.undone parts books c.requires.fresh shared,
+      c.join_ticks.ensures.room ∙ c.in-Err.ensures.refused.1 ∙ c.share_ticks.ensures.room,
+    )

@@ -1,22 +1,35 @@
-use Rattle.std.proofs.Common.{◌∙◌, refl, arith}
-use Rattle.round_run.proofs.InSerial.{brought-none, brought-more, brought-whole}
+use Rattle.std.proofs.Common.{◌∙◌, arith}
+use Rattle.round_run.proofs.InSerial.{BringsAll, joined-first, brought-none, brought-more, brought-whole, finished-none, finished-more, finished-whole}
 use Rattle.round_run.proofs.serial.bring_round.Goals as goal
 
 pub loop-pass-init : goal.loop-pass-init
-loop-pass-init c = record { brought = λ s cab t run. brought-none s cab t c.args.book.now run; ticks = refl }
+loop-pass-init c =
+    let e = c.join_ticks.ensures in
+    let new = c.join_ticks.new.self in
+    record {
+      brought = λ s cab t run. brought-none s cab t new (joined-first s cab t c.args.book.now new e.stands e.streams e.journal e.one run);
+      finished = finished-none c.args.book.now new e.stands e.streams e.one;
+      ticks = e.ticks;
+    }
 
 pub loop-pass-preserved : goal.loop-pass-preserved
-loop-pass-preserved c = record {
-  brought = λ s cab t run. brought-more s cab t c.loop-pass.pass c.loop-pass.book c.bring_all.new.book (omega arith)
-      (record {
-        stands = c.bring_all.ensures.stands;
-        streams = c.bring_all.ensures.streams;
-        journal = c.bring_all.ensures.journal;
-        others = c.bring_all.ensures.others;
-      })
-      (c.loop-pass.invariant.brought s cab t run);
-  ticks = c.bring_all.ensures.ticks ∙ c.loop-pass.invariant.ticks;
-}
+loop-pass-preserved c =
+    let brings : BringsAll c.loop-pass.book c.bring_all.new.book c.loop-pass.pass = record {
+      stands = c.bring_all.ensures.stands;
+      streams = c.bring_all.ensures.streams;
+      journal = c.bring_all.ensures.journal;
+      own = c.bring_all.ensures.own;
+      others = c.bring_all.ensures.others;
+    } in
+    record {
+      brought = λ s cab t run. brought-more s cab t c.loop-pass.pass c.loop-pass.book c.bring_all.new.book (omega arith) brings
+          (c.loop-pass.invariant.brought s cab t run);
+      finished = finished-more c.args.book.now c.loop-pass.book c.bring_all.new.book c.loop-pass.pass (omega arith) brings c.loop-pass.invariant.finished;
+      ticks = c.bring_all.ensures.ticks ∙ c.loop-pass.invariant.ticks;
+    }
 
 pub returns-clause-run : goal.returns-clause-run
 returns-clause-run c = λ s cab t run. brought-whole s cab t c.loop-pass.pass c.loop-pass.book (omega arith) (c.loop-pass.invariant.brought s cab t run)
+
+pub returns-clause-finishes : goal.returns-clause-finishes
+returns-clause-finishes c = finished-whole c.args.book.now c.loop-pass.book c.loop-pass.pass (omega arith) c.loop-pass.invariant.ticks c.loop-pass.invariant.finished

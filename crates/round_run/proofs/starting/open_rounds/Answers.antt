@@ -26,6 +26,7 @@ loop-one-preserved c =
             stands = c.in-Ok.ensures.stands;
             streams = c.in-Ok.ensures.streams;
             journal = c.in-Ok.ensures.journal;
+            whole = c.in-Ok.ensures.one;
             ticks = c.in-Ok.ensures.ticks;
           });
     }

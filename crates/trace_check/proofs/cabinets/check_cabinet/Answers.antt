@@ -27,7 +27,7 @@ expect_told-requires c =
     let (s, t, begun) = c.requires.begun in
     let runs = c.in-Ok.found.0 in
     let new = c.bring_round.new.book in
-    let run = has-brought s c.args.cab t runs c.args.book.now new begun c.in-Ok-bring_round.ensures.stands c.in-Ok-bring_round.ensures.streams
+    let run = has-brought s c.args.cab t runs c.args.book.now new begun c.in-Ok.ensures.all c.in-Ok-bring_round.ensures.stands c.in-Ok-bring_round.ensures.streams
     (c.in-Ok-bring_round.ensures.journal ∙ ap (λ (x : List (ℕ × ℕ)). journal_of c.args.book.now ++ passes_of x) c.as_slice.ensures) in
     let order : AreInOrder 0 (answered_in new) (length (written_in new)) = c.books_follow_runs.ensures.order s c.args.cab t (passes_of runs) new run in
     subst (λ (replies : List Answered). AreInOrder 0 replies (length c.written.result.now)) (sym c.replies.ensures)
@@ -37,7 +37,7 @@ pub returns-in-Ok-bring_round-clause-reads : goal.returns-in-Ok-bring_round-clau
 returns-in-Ok-bring_round-clause-reads c = λ s t begun.
     let runs = c.in-Ok.found.0 in
     let new = c.bring_round.new.book in
-    let run = has-brought s c.args.cab t runs c.args.book.now new begun c.in-Ok-bring_round.ensures.stands c.in-Ok-bring_round.ensures.streams
+    let run = has-brought s c.args.cab t runs c.args.book.now new begun c.in-Ok.ensures.all c.in-Ok-bring_round.ensures.stands c.in-Ok-bring_round.ensures.streams
     (c.in-Ok-bring_round.ensures.journal ∙ ap (λ (x : List (ℕ × ℕ)). journal_of c.args.book.now ++ passes_of x) c.as_slice.ensures) in
     cabinet-reads s c.args.cab t runs c.args.book.now new c.args.at c.in-Ok.found.1 begun c.in-Ok.ensures.longest c.in-Ok.ensures.all c.in-Ok.ensures.line c.in-Ok.ensures.number run
     (c.books_follow_runs.ensures.lines s c.args.cab t) c.expect_told.result
@@ -50,7 +50,7 @@ returns-clause-reads c = λ s t begun rest. fails-none _ c.args.at c.in-Err-brin
 
 pub returns-in-Ok-bring_round-clause-seen : goal.returns-in-Ok-bring_round-clause-seen
 returns-in-Ok-bring_round-clause-seen c = when-ok c.expect_told.result (λ s t begun. record {
-  own = λ same is. c.in-Ok-bring_round.ensures.seen (eq-eqb c.args.cab c.args.watched (sym same)) t.story begun.stands begun.journal_is is;
+  own = λ same is. c.in-Ok-bring_round.ensures.seen (eq-eqb c.args.cab c.args.watched (sym same)) t.story begun.stands begun.journal_is begun.one is;
   other = λ apart. elim c.in-Ok-bring_round.ensures.other [
     | inl is ↦ absurd (apart (sym (eqb-true c.args.cab c.args.watched is)))
     | inr stays ↦ stays

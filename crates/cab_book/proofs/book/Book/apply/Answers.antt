@@ -8,16 +8,16 @@ returns-in-0-clause-replays c = λ first is. record {
   ticks = c.hear.ensures.ticks ∙ is.ticks;
 }
 
-pub returns-in-4-clause-replays : goal.returns-in-4-clause-replays
-returns-in-4-clause-replays c = λ first is. record {
-  streams = c.tick.ensures.streams ∙ is.streams;
-  stories = λ story so. c.tick.ensures.stands story (is.stories story so);
-  ticks = c.tick.ensures.ticks ∙ is.ticks;
+pub returns-in-1-to-3-clause-replays : goal.returns-in-1-to-3-clause-replays
+returns-in-1-to-3-clause-replays c = λ first is. record {
+  streams = c.receive.ensures.streams ∙ is.streams;
+  stories = λ story so. c.receive.ensures.stands story (is.stories story so);
+  ticks = c.receive.ensures.ticks ∙ is.ticks;
 }
 
 pub returns-in_default-clause-replays : goal.returns-in_default-clause-replays
 returns-in_default-clause-replays c = λ first is. record {
-  streams = c.receive.ensures.streams ∙ is.streams;
-  stories = λ story so. c.receive.ensures.stands story (is.stories story so);
-  ticks = c.receive.ensures.ticks ∙ is.ticks;
+  streams = c.tick.ensures.streams ∙ is.streams;
+  stories = λ story so. c.tick.ensures.stands story (is.stories story so);
+  ticks = c.tick.ensures.ticks ∙ is.ticks;
 }

@@ -1,8 +1,9 @@
 use Rattle.std.proofs.Common.{◌≡◌, ◌<◌, ◌+◌, ◌-◌, get_or, slice_set, length, refl, sym, subst, arith}
 use Rattle.std.proofs.Math.Logic.{∥∥₁_map, ∥∥₁_elim}
 use Rattle.controller.specs.StandsFor.{NamesPlace}
+use Rattle.cab_book.specs.Shares.{ticks_left}
 use Rattle.cab_book.specs.Rounds.{frames_left, items_left}
-use Rattle.cab_book.proofs.Bringing.{one-less, tallied-more, input-taken, room-less}
+use Rattle.cab_book.proofs.Bringing.{taken, tallied-more, input-taken, room-less}
 use Rattle.cab_book.proofs.Coming.{NamesPlace-prop, left-of-fields, heard}
 use Rattle.cab_book.proofs.book.Book.hear.Goals as goal
 
@@ -20,18 +21,18 @@ pub invariant_of-self : goal.invariant_of-self
 invariant_of-self c =
     let b = c.args.self.now in
     let rest = slice_set b.left 0 (get_or b.left 0 0 - 1) in
-    let o = one-less b.left 0 (get_or b.left 0 0 - 1) (omega (arith, c.requires)) in
+    let o = taken b.left 0 1 (get_or b.left 0 0 - 1) (omega arith) (omega (arith, c.requires)) in
     let t = input-taken b.left rest o in
     let place : (c.len.result - get_or b.left 0 0) + get_or b.left 0 0 ≡ length b.streams.fields.items =
     omega (arith, c.len.ensures, b.streams.fields.ok.0, left-of-fields b.streams b.left b.happened b.tallied) in
     record {
       placed = b.placed;
       short = b.short;
-      tallied = tallied-more b.streams b.left rest b.happened c.add_input.new.self 0 o c.add_input.ensures.goes.journal b.tallied;
-      few = omega (arith, b.few, c.hear.ensures.ticks, t.0);
-      room = c.add_input.ensures.room (get_or rest 4 0) (frames_left rest) (items_left rest)
-          (room-less b.happened (get_or b.left 4 0) (frames_left b.left) (items_left b.left) (get_or rest 4 0) (frames_left rest) (items_left rest + 1)
-          (omega (arith, t.0)) (omega (arith, t.1)) (omega (arith, t.2)) b.room);
+      tallied = tallied-more b.streams b.left rest b.happened c.add_input.new.self 0 1 o c.add_input.ensures.goes.journal b.tallied;
+      few = omega (arith, b.few, c.hear.ensures.ticks, t.ticks_are);
+      room = c.add_input.ensures.room (ticks_left rest) (frames_left rest) (items_left rest)
+          (room-less b.happened (ticks_left b.left) (frames_left b.left) (items_left b.left) (ticks_left rest) (frames_left rest) (items_left rest + 1)
+          (omega (arith, t.ticks_are)) (omega (arith, t.frames_are)) (omega (arith, t.items_are)) b.room);
       some = ∥∥₁_map b.some (λ some. (
         some.0,
         heard b.cabinet c.hear.new.self b.streams b.left b.happened c.add_input.new.self c.index.result.now (c.len.result - get_or b.left 0 0) b.tallied place
@@ -42,7 +43,7 @@ invariant_of-self c =
 pub returns : goal.returns
 returns c =
     let b = c.args.self.now in
-    let o = one-less b.left 0 (get_or b.left 0 0 - 1) (omega (arith, c.requires)) in
+    let o = taken b.left 0 1 (get_or b.left 0 0 - 1) (omega arith) (omega (arith, c.requires)) in
     let place : (c.len.result - get_or b.left 0 0) + get_or b.left 0 0 ≡ length b.streams.fields.items =
     omega (arith, c.len.ensures, b.streams.fields.ok.0, left-of-fields b.streams b.left b.happened b.tallied) in
     record {
@@ -52,5 +53,5 @@ returns c =
       journal = c.add_input.ensures.goes.journal;
       own = o.own;
       others = o.others;
-      ticks = omega (arith, c.hear.ensures.ticks, o.others 4 (omega arith));
+      ticks = omega (arith, c.hear.ensures.ticks, (input-taken b.left (slice_set b.left 0 (get_or b.left 0 0 - 1)) o).ticks_are);
     }

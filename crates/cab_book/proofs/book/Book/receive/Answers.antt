@@ -1,7 +1,8 @@
 use Rattle.std.proofs.Common.{◌+◌, ◌-◌, get_or, slice_set, length, refl, arith}
 use Rattle.std.proofs.Math.Logic.{∥∥₁_map}
+use Rattle.cab_book.specs.Shares.{ticks_left}
 use Rattle.cab_book.specs.Rounds.{frames_left, items_left, story_after}
-use Rattle.cab_book.proofs.Bringing.{one-less, tallied-more, frame-taken, room-less}
+use Rattle.cab_book.proofs.Bringing.{taken, tallied-more, frame-taken, room-less}
 use Rattle.cab_book.proofs.Coming.{left-of-frames, replied}
 use Rattle.cab_book.proofs.book.Book.receive.Goals as goal
 
@@ -14,9 +15,9 @@ pub add_reply-requires-clause-room : goal.add_reply-requires-clause-room
 add_reply-requires-clause-room c =
     let b = c.args.self.now in
     let rest = slice_set b.left c.args.pass (get_or b.left c.args.pass 0 - 1) in
-    let o = one-less b.left c.args.pass (get_or b.left c.args.pass 0 - 1) (omega (arith, c.requires.some)) in
+    let o = taken b.left c.args.pass 1 (get_or b.left c.args.pass 0 - 1) (omega arith) (omega (arith, c.requires.some)) in
     let t = frame-taken b.left rest c.args.pass c.requires.above c.requires.within o in
-    room-less b.happened (get_or b.left 4 0) (frames_left b.left) (items_left b.left) 0 1 1 (omega arith) (omega (arith, t.1)) (omega (arith, t.2)) b.room
+    room-less b.happened (ticks_left b.left) (frames_left b.left) (items_left b.left) 0 1 1 (omega arith) (omega (arith, t.frames_are)) (omega (arith, t.items_are)) b.room
 
 pub invariant_of-self : goal.invariant_of-self
 invariant_of-self c =
@@ -24,21 +25,21 @@ invariant_of-self c =
     let pass = c.args.pass in
     let frames = c.frames_of-frames.result.now in
     let rest = slice_set b.left pass (get_or b.left pass 0 - 1) in
-    let o = one-less b.left pass (get_or b.left pass 0 - 1) (omega (arith, c.requires.some)) in
+    let o = taken b.left pass 1 (get_or b.left pass 0 - 1) (omega arith) (omega (arith, c.requires.some)) in
     let t = frame-taken b.left rest pass c.requires.above c.requires.within o in
     record {
       placed = b.placed;
       short = b.short;
-      tallied = tallied-more b.streams b.left rest b.happened c.add_reply.new.self pass o c.add_reply.ensures.goes.journal b.tallied;
-      few = omega (arith, b.few, c.receive-text.ensures.ticks, t.0);
-      room = c.add_reply.ensures.room (get_or rest 4 0) (frames_left rest) (items_left rest)
-          (room-less b.happened (get_or b.left 4 0) (frames_left b.left) (items_left b.left) (get_or rest 4 0) (frames_left rest + 1) (items_left rest + 1)
-          (omega (arith, t.0)) (omega (arith, t.1)) (omega (arith, t.2)) b.room);
+      tallied = tallied-more b.streams b.left rest b.happened c.add_reply.new.self pass 1 o c.add_reply.ensures.goes.journal b.tallied;
+      few = omega (arith, b.few, c.receive-text.ensures.ticks, t.ticks_are);
+      room = c.add_reply.ensures.room (ticks_left rest) (frames_left rest) (items_left rest)
+          (room-less b.happened (ticks_left b.left) (frames_left b.left) (items_left b.left) (ticks_left rest) (frames_left rest + 1) (items_left rest + 1)
+          (omega (arith, t.ticks_are)) (omega (arith, t.frames_are)) (omega (arith, t.items_are)) b.room);
       some = ∥∥₁_map b.some (λ some. (
         some.0,
         replied b.cabinet c.receive-text.new.self b.streams b.left b.happened c.add_reply.new.self pass (length frames - get_or b.left pass 0) frames
-            c.next_of-octets.result.now c.receive-text.result.text c.receive-text.result.load b.tallied c.frames_of-frames.ensures
-            (left-of-frames b.streams b.left b.happened pass frames b.tallied c.frames_of-frames.ensures) c.requires.some c.next_of-octets.ensures c.receive-text.ensures.text c.receive-text.ensures.load c.receive-text.ensures.stands c.add_reply.ensures.goes some.0 some.1,
+            c.next_of-octets.result.now c.receive-text.result.text c.receive-text.result.load (omega (arith, c.requires.within)) b.tallied c.frames_of-frames.ensures
+            (left-of-frames b.streams b.left b.happened pass frames (omega (arith, c.requires.within)) b.tallied c.frames_of-frames.ensures) c.requires.some c.next_of-octets.ensures c.receive-text.ensures.text c.receive-text.ensures.load c.receive-text.ensures.stands c.add_reply.ensures.goes some.0 some.1,
       ));
     }
 
@@ -47,15 +48,19 @@ returns c =
     let b = c.args.self.now in
     let pass = c.args.pass in
     let frames = c.frames_of-frames.result.now in
-    let o = one-less b.left pass (get_or b.left pass 0 - 1) (omega (arith, c.requires.some)) in
+    let o = taken b.left pass 1 (get_or b.left pass 0 - 1) (omega arith) (omega (arith, c.requires.some)) in
     record {
       stands = replied b.cabinet c.receive-text.new.self b.streams b.left b.happened c.add_reply.new.self pass (length frames - get_or b.left pass 0) frames
-          c.next_of-octets.result.now c.receive-text.result.text c.receive-text.result.load b.tallied c.frames_of-frames.ensures
-          (left-of-frames b.streams b.left b.happened pass frames b.tallied c.frames_of-frames.ensures) c.requires.some c.next_of-octets.ensures
+          c.next_of-octets.result.now c.receive-text.result.text c.receive-text.result.load (omega (arith, c.requires.within)) b.tallied c.frames_of-frames.ensures
+          (left-of-frames b.streams b.left b.happened pass frames (omega (arith, c.requires.within)) b.tallied c.frames_of-frames.ensures) c.requires.some c.next_of-octets.ensures
           c.receive-text.ensures.text c.receive-text.ensures.load c.receive-text.ensures.stands c.add_reply.ensures.goes;
       streams = refl;
       journal = c.add_reply.ensures.goes.journal;
       own = o.own;
       others = o.others;
-      ticks = omega (arith, c.receive-text.ensures.ticks, o.others 4 (omega (arith, c.requires.within)));
+      ticks = omega (
+        arith,
+        c.receive-text.ensures.ticks,
+        (frame-taken b.left (slice_set b.left pass (get_or b.left pass 0 - 1)) pass c.requires.above c.requires.within o).ticks_are,
+      );
     }

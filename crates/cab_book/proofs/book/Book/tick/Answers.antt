@@ -1,8 +1,9 @@
 use Rattle.std.proofs.Common.{◌+◌, ◌-◌, get_or, slice_set, option_to_list, refl, arith}
 use Rattle.std.proofs.Math.Logic.{∥∥₁_map}
+use Rattle.cab_book.specs.Shares.{ticks_left}
 use Rattle.cab_book.specs.Rounds.{frames_left, items_left, story_after}
-use Rattle.cab_book.proofs.Bringing.{one-less, tallied-more, tick-taken, room-less}
-use Rattle.cab_book.proofs.Coming.{ticked}
+use Rattle.cab_book.proofs.Bringing.{taken, tallied-more, ticks-taken, room-less, few-shared}
+use Rattle.cab_book.proofs.Coming.{strode}
 use Rattle.cab_book.proofs.book.Book.tick.Goals as goal
 
 pub tick-written-requires-clause-some : goal.tick-written-requires-clause-some
@@ -10,37 +11,45 @@ tick-written-requires-clause-some c =
     let b = c.args.self.now in
     ∥∥₁_map b.some (λ some. (story_after b.streams b.happened some.0, some.1.cabinet))
 
+pub add_ticks-requires-clause-few : goal.add_ticks-requires-clause-few
+add_ticks-requires-clause-few c =
+    let b = c.args.self.now in
+    omega (arith, few-shared b.streams b.left b.happened c.args.pass b.tallied b.short c.requires.above c.requires.within, c.requires.some)
+
 pub invariant_of-self : goal.invariant_of-self
 invariant_of-self c =
     let b = c.args.self.now in
-    let rest = slice_set b.left 4 (get_or b.left 4 0 - 1) in
-    let o = one-less b.left 4 (get_or b.left 4 0 - 1) (omega (arith, c.requires)) in
-    let t = tick-taken b.left rest o in
+    let pass = c.args.pass in
+    let rest = slice_set b.left pass (get_or b.left pass 0 - 1) in
+    let o = taken b.left pass 1 (get_or b.left pass 0 - 1) (omega arith) (omega (arith, c.requires.some)) in
+    let t = ticks-taken b.left rest pass 1 c.requires.above c.requires.within o in
     record {
       placed = b.placed;
       short = b.short;
-      tallied = tallied-more b.streams b.left rest b.happened c.add_tick.new.self 4 o c.add_tick.ensures.goes.journal b.tallied;
-      few = omega (arith, b.few, c.tick-written.ensures.ticks, t.0);
-      room = c.add_tick.ensures.room (get_or rest 4 0) (frames_left rest) (items_left rest)
-          (room-less b.happened (get_or b.left 4 0) (frames_left b.left) (items_left b.left) (get_or rest 4 0 + 1) (frames_left rest) (items_left rest + 1)
-          (omega (arith, t.0)) (omega (arith, t.1)) (omega (arith, t.2)) b.room);
+      tallied = tallied-more b.streams b.left rest b.happened c.add_ticks.new.self pass 1 o c.add_ticks.ensures.goes.journal b.tallied;
+      few = omega (arith, b.few, c.tick-written.ensures.ticks, t.ticks_are);
+      room = c.add_ticks.ensures.room (ticks_left rest) (frames_left rest) (items_left rest)
+          (room-less b.happened (ticks_left b.left) (frames_left b.left) (items_left b.left) (ticks_left rest + 1) (frames_left rest) (items_left rest + 1)
+          (omega (arith, t.ticks_are)) (omega (arith, t.frames_are)) (omega (arith, t.items_are)) b.room);
       some = ∥∥₁_map b.some (λ some. (
         some.0,
-        ticked b.cabinet c.tick-written.new.self b.streams b.happened c.add_tick.new.self (option_to_list c.tick-written.result) c.tick-written.ensures.gives
-            c.tick-written.ensures.stands c.add_tick.ensures.goes some.0 some.1,
+        strode b.cabinet c.tick-written.new.self b.streams b.happened c.add_ticks.new.self pass 1 (option_to_list c.tick-written.result) c.requires.above
+            c.tick-written.ensures.gives c.tick-written.ensures.stands c.add_ticks.ensures.goes some.0 some.1,
       ));
     }
 
 pub returns : goal.returns
 returns c =
     let b = c.args.self.now in
-    let o = one-less b.left 4 (get_or b.left 4 0 - 1) (omega (arith, c.requires)) in
+    let pass = c.args.pass in
+    let rest = slice_set b.left pass (get_or b.left pass 0 - 1) in
+    let o = taken b.left pass 1 (get_or b.left pass 0 - 1) (omega arith) (omega (arith, c.requires.some)) in
     record {
-      stands = ticked b.cabinet c.tick-written.new.self b.streams b.happened c.add_tick.new.self (option_to_list c.tick-written.result)
-          c.tick-written.ensures.gives c.tick-written.ensures.stands c.add_tick.ensures.goes;
+      stands = strode b.cabinet c.tick-written.new.self b.streams b.happened c.add_ticks.new.self pass 1 (option_to_list c.tick-written.result)
+          c.requires.above c.tick-written.ensures.gives c.tick-written.ensures.stands c.add_ticks.ensures.goes;
       streams = refl;
-      journal = c.add_tick.ensures.goes.journal;
+      journal = c.add_ticks.ensures.goes.journal;
       own = o.own;
       others = o.others;
-      ticks = omega (arith, c.tick-written.ensures.ticks, o.own);
+      ticks = omega (arith, c.tick-written.ensures.ticks, (ticks-taken b.left rest pass 1 c.requires.above c.requires.within o).ticks_are);
     }
