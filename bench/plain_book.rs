@@ -50,6 +50,14 @@ mod measured {
     }
 
     #[inline(never)]
+    fn counted_strides(book: &mut Book, pass: u32) {
+        while book.left(pass) > 0 {
+            let left = book.left(pass);
+            book.stride(pass, left);
+        }
+    }
+
+    #[inline(never)]
     fn counted_answers(controller: &Controller, stage: &Stage, poll: &Octets) {
         let name = community();
         for _ in 0..POLLS {
@@ -73,14 +81,14 @@ mod measured {
         least.sum::<f64>() / ROUNDS as f64
     }
 
-    pub fn book_ticks(tables: &str, command: u8) -> f64 {
+    pub fn book_ticks(tables: &str, command: u8, counted: fn(&mut Book, u32)) -> f64 {
         let mut book = Book::new(Global, Cabinet::new(opened(tables, command), community()));
         let mut sum = 0.0;
         for _ in 0..ROUNDS {
             if book.open_round(Global, streams(Vec::new(Global), TICKS)).is_err() {
                 panic!("no memory");
             }
-            sum += took(TICKS as usize, || counted_passes(&mut book, 4));
+            sum += took(TICKS as usize, || counted(&mut book, 4));
         }
         sum / ROUNDS as f64
     }
@@ -109,11 +117,14 @@ mod measured {
     pub fn one(what: &str) -> f64 {
         match what {
             "controller-rest" => controller_ticks("std8", 0),
-            "book-rest" => book_ticks("std8", 0),
+            "book-rest" => book_ticks("std8", 0, counted_passes),
+            "strides-rest" => book_ticks("std8", 0, counted_strides),
             "controller-recall" => controller_ticks("max8", 0),
-            "book-recall" => book_ticks("max8", 0),
+            "book-recall" => book_ticks("max8", 0, counted_passes),
+            "strides-recall" => book_ticks("max8", 0, counted_strides),
             "controller-pattern" => controller_ticks("max8", 1),
-            "book-pattern" => book_ticks("max8", 1),
+            "book-pattern" => book_ticks("max8", 1, counted_passes),
+            "strides-pattern" => book_ticks("max8", 1, counted_strides),
             "answers" => answers(),
             "book-polls" => book_polls(),
             _ => panic!("nothing of that name is measured"),

@@ -36,6 +36,11 @@ pub mod plain_std {
         }
 
         #[inline]
+        pub fn as_mut_slice(&mut self) -> &mut [T] {
+            self.0.as_mut_slice()
+        }
+
+        #[inline]
         pub fn push(&mut self, item: T) -> Result<(), AllocError> {
             if self.0.len() == self.0.capacity() {
                 self.0.try_reserve(1).map_err(|_| AllocError)?;
