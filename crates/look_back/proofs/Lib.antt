@@ -1,0 +1,9 @@
+pub mod Same
+pub mod Spreads
+pub mod Runs
+pub mod Told
+pub mod Looks
+pub mod Adding
+pub mod Pushing
+pub mod Showing
+pub mod Pairs

@@ -1,0 +1,118 @@
+//! Stretches of frames of which the same is kept. The newest stands apart from the older ones, so that a frame like the last
+//! one is one more of it and nothing else. Of the older ones the last 4,096 are kept: they reach over 4,096 frames or more.
+
+ghost use Rattle.std.specs.Prelude.{◌≡◌, ◌≤◌, ◌+◌, ◌∷◌, [], ℕ, List, min, IfOk};
+ghost use Rattle.circular_buffer.specs.Buffer.{buffer};
+ghost use Rattle.look_back.specs.Spread.{more_of};
+ghost use Rattle.sig_tables.specs.Past.{Moment};
+ghost use Rattle.sig_tables.specs.Looking.{in_a_row};
+
+use crate::glance::{Glance, Look};
+use circular_buffer::HeapCircularBuffer;
+use sig_types::NoMemory;
+use std::alloc::Global;
+
+/// So many frames in a row of which the same is kept; 4,096 stand for so many or more.
+#[derive(Clone, Copy)]
+pub struct Stretch {
+    pub glance: Glance,
+    pub ticks: u16,
+}
+
+/// What is kept of the last frames, 4,096 of them or more.
+#[derive(Drop)]
+pub struct Stretches {
+    newest: Stretch,
+    older: HeapCircularBuffer<Stretch>,
+}
+
+/// One more of so many frames.
+fn one_more(ticks: u16) -> u16
+    ensures { result ≡ more_of ticks }
+{
+    if ticks < 4096 { ticks + 1 } else { ticks }
+}
+
+impl Stretches {
+    ghost use Rattle.look_back.specs.Look.{Tells, LooksAtPhase, is_so, is_told};
+    ghost use Rattle.look_back.specs.Spread.{told_run};
+    ghost use Rattle.look_back.specs.Keeps.{Keeps, newest_of};
+
+    /// Room for the stretches of frames, of which none has come; before them this is shown.
+    pub fn open(alloc: Global, before: Glance) -> Result<Stretches, NoMemory>
+        ensures keeps { IfOk result (λ kept. Keeps kept []) }
+        ensures newest { IfOk result (λ kept. newest_of kept ≡ before) }
+    {
+        match HeapCircularBuffer::with_capacity(alloc, 4096) {
+            Ok(older) => Ok(Stretches::of(older, before)),
+            Err(_) => Err(NoMemory),
+        }
+    }
+
+    /// No stretch in this room; before any frame this is shown.
+    fn of(older: HeapCircularBuffer<Stretch>, before: Glance) -> Stretches
+        requires { older ≡ buffer [] 4096 }
+        ensures keeps { Keeps result [] }
+        ensures newest { newest_of result ≡ before }
+    {
+        let newest = Stretch {
+            glance: before,
+            ticks: 0,
+        };
+        Stretches { newest, older }
+    }
+
+    /// What is kept of the last frame.
+    pub fn newest(&self) -> Glance
+        ensures { result ≡ newest_of self.now }
+    {
+        self.newest.glance
+    }
+
+    /// One more frame, of which this is kept. It takes no memory.
+    pub fn add(&mut self, glance: Glance)
+        ensures keeps { (past : List Moment) (m : Moment) → Keeps self.old past → Tells glance m → Keeps self.new (m ∷ past) }
+        ensures newest { newest_of self.new ≡ glance }
+    {
+        if glance.is_same(&self.newest.glance) {
+            self.newest.ticks = one_more(self.newest.ticks);
+        } else if self.newest.ticks == 0 {
+            self.newest = Stretch { glance, ticks: 1 };
+        } else {
+            self.older.push_front(self.newest);
+            self.newest = Stretch { glance, ticks: 1 };
+        }
+    }
+
+    /// For how many last frames in a row it was so, at most `most`.
+    pub fn look(&self, look: Look, most: u32) -> u32
+        requires phase { LooksAtPhase look }
+        requires within { most ≤ 4096 }
+        ensures { (past : List Moment) → Keeps self.now past → result ≡ min (in_a_row (is_so look) past) most }
+    {
+        if self.newest.glance.tells(look) {
+            self.continued(look, u32::from(self.newest.ticks), most)
+        } else {
+            0
+        }
+    }
+
+    /// So many frames, and those of the older stretches in a row in which it was so, at most `most`.
+    fn continued(&self, look: Look, start: u32, most: u32) -> u32
+        requires phase { LooksAtPhase look }
+        requires within { most ≤ 4096 }
+        ensures { result ≡ min (start + told_run (is_told look) self.now.older.items) most }
+    {
+        let mut frames = start;
+        for stretch in self.older.iter() {
+            if frames >= most {
+                return most;
+            }
+            if !stretch.glance.tells(look) {
+                return frames;
+            }
+            frames += u32::from(stretch.ticks);
+        }
+        frames.min(most)
+    }
+}
