@@ -7,3 +7,8 @@ pub mod Adding
 pub mod Pushing
 pub mod Showing
 pub mod Pairs
+pub mod Lasts
+pub mod Latching
+pub mod Overs
+pub mod Reaches
+pub mod Numbers

@@ -3,3 +3,11 @@ pub mod Look
 pub mod Spread
 pub mod Keeps
 pub mod Stands
+pub mod Reach
+pub mod Latched
+pub mod Latching
+pub mod Cuts
+pub mod Lookouts
+pub mod Rows
+pub mod LastOn
+pub mod Further

@@ -126,7 +126,7 @@ fn same_mode(a: Mode, b: Mode) -> bool
 }
 
 /// The preempt whose stage (entry, track or dwell) the mode is, or 0.
-fn stage_of(mode: Mode) -> u8
+pub fn stage_of(mode: Mode) -> u8
     ensures { result ≡ stage_of mode }
 {
     match mode {

@@ -3,12 +3,26 @@
 //! tick at which nothing changes does little.
 #![tactic(auto)]
 
+mod cuts;
+mod further;
 mod glance;
+mod lasting;
+mod latched;
+mod lookout;
+mod reach;
+mod row;
 mod shown;
 mod stretches;
+mod times;
 mod window;
 
+pub use cuts::Cut;
+pub use further::Further;
 pub use glance::{Glance, Look};
+pub use latched::Latched;
+pub use lookout::Lookout;
+pub use reach::{reach_decides, times_are_in_reach};
+pub use row::Row;
 pub use shown::Shown;
 pub use stretches::{Stretch, Stretches};
 pub use window::{Seen, Window};

@@ -1,0 +1,149 @@
+//! The lookout over a cabinet: the window, and the times that were latched. What colours and signals follow by themselves, and
+//! whether a green has had its least, are read off it.
+
+ghost use Rattle.std.specs.Prelude.{◌≡◌, ◌<◌, ◌≤◌, ◌==◌, ◌+◌, ◌∷◌, [], ℕ, List, min, nat_le, IfOk};
+ghost use Rattle.sig_types.specs.Colour.{colour_of, signal_of};
+ghost use Rattle.sig_tables.specs.declared.tables.Tables.{Tables};
+ghost use Rattle.sig_tables.specs.Past.{Moment};
+ghost use Rattle.sig_tables.specs.Looking.{last_frame, run, latched, signal_run, runs_on};
+ghost use Rattle.sig_tables.specs.Lesser.{signal_runs_within};
+ghost use Rattle.sig_tables.specs.View.{is_served};
+ghost use Rattle.look_back.specs.Latched.{colour_time};
+ghost use Rattle.look_back.specs.Cuts.{lesser_of};
+
+use crate::cuts::{Cut, after_walk, is_clearance_over, is_walk_over};
+use crate::latched::Latched;
+use crate::times::pedestrian_clear_time;
+use crate::window::{Seen, Window};
+use sig_tables::Tables;
+use sig_types::{Colour, NoMemory, Ped};
+use std::alloc::Global;
+
+/// What is kept of a cabinet to look back over.
+#[derive(Drop)]
+pub struct Lookout {
+    window: Window,
+    latched: Latched,
+}
+
+impl Lookout {
+    ghost use Rattle.look_back.specs.Stands.{WindowStands, Saw};
+    ghost use Rattle.look_back.specs.Lookouts.{LooksOver};
+
+    /// Before any frame.
+    pub fn open(alloc: Global) -> Result<Lookout, NoMemory>
+        ensures { IfOk result (λ lookout. LooksOver lookout []) }
+    {
+        match Window::open(alloc) {
+            Ok(window) => Ok(Lookout {
+                window,
+                latched: Latched::new(),
+            }),
+            Err(refused) => Err(refused),
+        }
+    }
+
+    /// One more frame, what its tick saw, and the tables in force at it. It takes no memory.
+    pub fn push(&mut self, seen: &Seen, t: &Tables)
+        ensures { (past : List Moment) (m : Moment) → LooksOver self.old past → Saw m seen.now past → m.tables ≡ t.now
+            → LooksOver self.new (m ∷ past) }
+    {
+        self.window.push(seen);
+        self.latched.step(&seen.frame, t);
+    }
+
+    /// The window.
+    pub fn window(&self) -> &Window
+        ensures { (past : List Moment) → LooksOver self.now past → WindowStands result.now past }
+    {
+        &self.window
+    }
+
+    /// The colour that follows by itself on a phase, 1 to 16, which shows this one in the last frame, under these tables.
+    pub fn runs_on(&self, t: &Tables, phase: u8, shown: Colour) -> Colour
+        requires above { 0 < phase }
+        requires below { phase ≤ 16 }
+        ensures { (past : List Moment) → LooksOver self.now past → shown ≡ colour_of (last_frame past) phase
+            → result ≡ runs_on phase t.now past shown }
+    {
+        match shown {
+            Colour::Green => Colour::Green,
+            Colour::Yellow => {
+                if !self.has_cleared(phase, Colour::Yellow) {
+                    Colour::Yellow
+                } else if t.phase(phase).red_clear == 0 {
+                    Colour::Red
+                } else {
+                    Colour::Clear
+                }
+            }
+            Colour::Clear => {
+                if self.has_cleared(phase, Colour::Clear) {
+                    Colour::Red
+                } else {
+                    Colour::Clear
+                }
+            }
+            Colour::Red => Colour::Red,
+        }
+    }
+
+    /// The signal that follows by itself on a phase, 1 to 16, which shows this one in the last frame, under these tables; walk and
+    /// pedestrian clearance last in full, or are cut short.
+    pub fn signal_runs_on(&self, t: &Tables, phase: u8, shown: Ped, cut: Option<Cut>) -> Ped
+        requires above { 0 < phase }
+        requires below { phase ≤ 16 }
+        ensures { (past : List Moment) → LooksOver self.now past → shown ≡ signal_of (last_frame past) phase
+            → result ≡ signal_runs_within (lesser_of cut) phase t.now past shown }
+    {
+        let time = self.latched.signal(phase, shown);
+        let frames = self.window.ped_run(phase, shown, time + 1);
+        match shown {
+            Ped::Walk => {
+                if is_walk_over(cut, time, frames) {
+                    after_walk(cut, pedestrian_clear_time(t, phase))
+                } else {
+                    Ped::Walk
+                }
+            }
+            Ped::Flash => {
+                if is_clearance_over(cut, time, frames) {
+                    Ped::Dont
+                } else {
+                    Ped::Flash
+                }
+            }
+            Ped::Dont => Ped::Dont,
+        }
+    }
+
+    /// Whether a phase, 1 to 16, which shows this colour and this signal in the last frame, has been green for the least green
+    /// that was in force when it began, and no walk or pedestrian clearance of it runs on.
+    pub fn is_served(&self, t: &Tables, phase: u8, shown: Colour, signal: Ped) -> bool
+        requires above { 0 < phase }
+        requires below { phase ≤ 16 }
+        ensures { (past : List Moment) → LooksOver self.now past → shown ≡ colour_of (last_frame past) phase
+            → signal ≡ signal_of (last_frame past) phase → result ≡ is_served t.now past phase }
+    {
+        if shown != Colour::Green {
+            return false;
+        }
+        let least = self.latched.colour(phase, Colour::Green);
+        if self.window.run(phase, Colour::Green, least) < least {
+            return false;
+        }
+        self.signal_runs_on(t, phase, signal, None) == Ped::Dont
+    }
+
+    /// Whether a phase, 1 to 16, which shows this colour in the last frame, has shown it for just the time that was in force when
+    /// it began.
+    fn has_cleared(&self, phase: u8, shown: Colour) -> bool
+        requires above { 0 < phase }
+        requires below { phase ≤ 16 }
+        ensures { (past : List Moment) (now : Tables) → LooksOver self.now past → shown ≡ colour_of (last_frame past) phase
+            → result ≡ (run phase shown past == colour_time (latched phase shown now past) phase shown) }
+    {
+        let time = self.latched.colour(phase, shown);
+        self.window.run(phase, shown, time + 1) == time
+    }
+}
