@@ -11,3 +11,4 @@ pub mod Lookouts
 pub mod Rows
 pub mod LastOn
 pub mod Further
+pub mod Counts

@@ -119,7 +119,7 @@ fn is_of(goal: &PhaseList, on: u8) -> bool
 }
 
 /// Whether two modes are the same, with the same pattern or preempt.
-fn same_mode(a: Mode, b: Mode) -> bool
+pub fn same_mode(a: Mode, b: Mode) -> bool
     ensures { result ≡ same_mode a b }
 {
     a == b

@@ -3,6 +3,8 @@
 //! tick at which nothing changes does little.
 #![tactic(auto)]
 
+mod counting;
+mod counts;
 mod cuts;
 mod further;
 mod glance;
@@ -16,6 +18,8 @@ mod stretches;
 mod times;
 mod window;
 
+pub use counting::Counting;
+pub use counts::Counts;
 pub use cuts::Cut;
 pub use further::Further;
 pub use glance::{Glance, Look};
