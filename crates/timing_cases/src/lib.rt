@@ -13,6 +13,8 @@ mod coord_gate_cases;
 #[cfg(test)]
 mod flash_mode_cases;
 #[cfg(test)]
+mod look_back_cases;
+#[cfg(test)]
 mod pattern_plan_cases;
 #[cfg(test)]
 mod ped_clock_cases;
