@@ -12,3 +12,4 @@ pub mod Latching
 pub mod Overs
 pub mod Reaches
 pub mod Numbers
+pub mod Filling

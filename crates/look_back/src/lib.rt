@@ -6,6 +6,7 @@
 mod counting;
 mod counts;
 mod cuts;
+mod following;
 mod further;
 mod glance;
 mod lasting;
