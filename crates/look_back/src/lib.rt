@@ -3,6 +3,7 @@
 //! tick at which nothing changes does little.
 #![tactic(auto)]
 
+mod calling;
 mod counting;
 mod counts;
 mod cuts;

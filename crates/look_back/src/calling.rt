@@ -1,0 +1,75 @@
+//! Whether a preempt is called, and whether its dwell is over: by its input, of which it is kept for how long it has been on, and by
+//! the frames of its stages.
+
+ghost use Rattle.std.specs.Prelude.{◌≡◌, ◌<◌, ◌≤◌, ◌+◌, ◌*◌, ◌==◌, ◌&&◌, ◌||◌, not, ℕ, List};
+ghost use Rattle.sig_types.specs.Phases.{is_in, has_some};
+ghost use Rattle.sig_tables.specs.declared.tables.Tables.{Tables};
+ghost use Rattle.sig_tables.specs.Tables.{listed};
+ghost use Rattle.sig_tables.specs.Past.{Moment};
+ghost use Rattle.sig_tables.specs.Preempts.{is_preempt_called, is_dwell_over};
+
+use crate::further::Further;
+use crate::window::Window;
+use sig_tables::{Preempt, Tables};
+
+/// Whether a preempt has phases in which it dwells.
+fn is_configured(row: &Preempt) -> bool
+    ensures { result ≡ has_some (listed row.now.dwell_phases) }
+{
+    !row.dwell_phases.phases().is_empty()
+}
+
+/// For how many ticks an input has to be on until its preempt is called.
+fn delay_time(row: &Preempt) -> u32
+    ensures { result ≡ 10 * row.now.delay + 1 }
+{
+    u32::from(row.delay) * 10 + 1
+}
+
+/// For how many ticks an input has to be on until its preempt is no longer called.
+fn presence_time(row: &Preempt) -> u32
+    ensures { result ≡ 10 * (row.now.delay + row.now.maximum_presence) + 1 }
+{
+    (u32::from(row.delay) + u32::from(row.maximum_presence)) * 10 + 1
+}
+
+/// Whether a preempt calls whose input is on and past its delay, and with a greatest presence not past that.
+fn calls(on: bool, is_configured: bool, is_delayed: bool, presence: u16, is_past: bool) -> bool
+    ensures { result ≡ (on && is_configured && is_delayed && (presence == 0 || not is_past)) }
+{
+    on && is_configured && is_delayed && (presence == 0 || !is_past)
+}
+
+impl Further {
+    ghost use Rattle.look_back.specs.Further.{FurtherStands};
+
+    /// Whether a preempt, 1 to 8, whose input is on at this tick or not, is called.
+    pub fn is_called(&self, t: &Tables, number: u8, on: bool) -> bool
+        requires above { 0 < number }
+        requires below { number ≤ 8 }
+        ensures { (inputs : List ℕ) (past : List Moment) → FurtherStands self.now past → on ≡ is_in inputs number
+            → result ≡ is_preempt_called t.now inputs past number }
+    {
+        let row = t.preempt(number);
+        let delayed = self.has_been_on(delay_time(row), number, on);
+        let past = self.has_been_on(presence_time(row), number, on);
+        calls(on, is_configured(row), delayed, row.maximum_presence, past)
+    }
+
+    /// Whether the dwell of a preempt, 1 to 8, whose input is on at this tick or not, is over: its phases have had their time in these
+    /// frames, its least time has passed, and it is not called.
+    pub fn is_dwell_over(&self, window: &Window, t: &Tables, number: u8, on: bool) -> bool
+        requires above { 0 < number }
+        requires below { number ≤ 8 }
+        ensures { (inputs : List ℕ) (past : List Moment) → FurtherStands self.now past → WindowStands window.now past
+            → on ≡ is_in inputs number → result ≡ is_dwell_over t.now number inputs past }
+    {
+        let row = t.preempt(number);
+        let called = self.is_called(t, number, on);
+        let dwelt = window.has_dwelt(number, row.dwell_green, &row.dwell_phases);
+        let lasted = self.has_lasted(number, row.minimum_duration);
+        !called && dwelt && lasted
+    }
+}
+
+ghost use Rattle.look_back.specs.Stands.{WindowStands};
