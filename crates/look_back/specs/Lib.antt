@@ -7,8 +7,8 @@ pub mod Reach
 pub mod Latched
 pub mod Latching
 pub mod Cuts
-pub mod Lookouts
 pub mod Rows
 pub mod LastOn
 pub mod Further
 pub mod Counts
+pub mod Lookouts

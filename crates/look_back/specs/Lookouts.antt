@@ -4,8 +4,12 @@ use Rattle.sig_tables.specs.Past.{Moment}
 use Rattle.look_back.specs.declared.lookout.Lookout.{Lookout}
 use Rattle.look_back.specs.Stands.{WindowStands}
 use Rattle.look_back.specs.Latching.{LatchedStands}
+use Rattle.look_back.specs.Further.{FurtherStands}
+use Rattle.look_back.specs.Counts.{CountingStands}
 
--- the window and the latched times are those of these moments
+-- the window, the latched times, the numbers that reach further and the counters are those of these moments
 pub record LooksOver (l : Lookout) (past : List Moment) : Type 0 where
   pub window : WindowStands l.window past
   pub latched : LatchedStands l.latched past
+  pub further : FurtherStands l.further past
+  pub counting : CountingStands l.counting past

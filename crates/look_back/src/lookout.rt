@@ -1,7 +1,9 @@
-//! The lookout over a cabinet: the window, and the times that were latched. What colours and signals follow by themselves, and
-//! whether a green has had its least, are read off it.
+//! The lookout over a cabinet: the window, the times that were latched, and what reaches further than the window. What colours and
+//! signals follow by themselves, and whether a green has had its least, are read off it.
 
 ghost use Rattle.std.specs.Prelude.{◌≡◌, ◌<◌, ◌≤◌, ◌==◌, ◌+◌, ◌∷◌, [], ℕ, List, min, nat_le, IfOk};
+ghost use Rattle.sig_types.specs.Phases.{is_in};
+ghost use Rattle.sig_types.specs.PhaseSet.{has};
 ghost use Rattle.sig_types.specs.Colour.{colour_of, signal_of};
 ghost use Rattle.sig_tables.specs.declared.tables.Tables.{Tables};
 ghost use Rattle.sig_tables.specs.Past.{Moment};
@@ -11,12 +13,14 @@ ghost use Rattle.sig_tables.specs.View.{is_served};
 ghost use Rattle.look_back.specs.Latched.{colour_time};
 ghost use Rattle.look_back.specs.Cuts.{lesser_of};
 
+use crate::counting::Counting;
 use crate::cuts::{Cut, after_walk, is_clearance_over, is_walk_over};
+use crate::further::Further;
 use crate::latched::Latched;
 use crate::times::pedestrian_clear_time;
 use crate::window::{Seen, Window};
 use sig_tables::Tables;
-use sig_types::{Colour, NoMemory, Ped};
+use sig_types::{Colour, NoMemory, Ped, PhaseSet};
 use std::alloc::Global;
 
 /// What is kept of a cabinet to look back over.
@@ -24,10 +28,14 @@ use std::alloc::Global;
 pub struct Lookout {
     window: Window,
     latched: Latched,
+    further: Further,
+    counting: Counting,
 }
 
 impl Lookout {
     ghost use Rattle.look_back.specs.Stands.{WindowStands, Saw};
+    ghost use Rattle.look_back.specs.Further.{FurtherStands};
+    ghost use Rattle.look_back.specs.Counts.{CountingStands};
     ghost use Rattle.look_back.specs.Lookouts.{LooksOver};
 
     /// Before any frame.
@@ -35,21 +43,35 @@ impl Lookout {
         ensures { IfOk result (λ lookout. LooksOver lookout []) }
     {
         match Window::open(alloc) {
-            Ok(window) => Ok(Lookout {
-                window,
-                latched: Latched::new(),
-            }),
+            Ok(window) => Ok(Lookout::over(window)),
             Err(refused) => Err(refused),
         }
     }
 
-    /// One more frame, what its tick saw, and the tables in force at it. It takes no memory.
-    pub fn push(&mut self, seen: &Seen, t: &Tables)
+    /// Over this window, which is over no frame.
+    fn over(window: Window) -> Lookout
+        requires { WindowStands window [] }
+        ensures { LooksOver result [] }
+    {
+        Lookout {
+            window,
+            latched: Latched::new(),
+            further: Further::new(),
+            counting: Counting::new(),
+        }
+    }
+
+    /// One more frame and what its tick saw; the tables in force at it, the preempt inputs that were on, 1 to 8 in a set as phases
+    /// are, and whether a pattern was commanded since the frame before. It takes no memory.
+    pub fn push(&mut self, seen: &Seen, t: &Tables, preempts: PhaseSet, is_commanded: bool)
         ensures { (past : List Moment) (m : Moment) → LooksOver self.old past → Saw m seen.now past → m.tables ≡ t.now
+            → ((i : ℕ) → 0 < i → i ≤ 8 → has preempts i ≡ is_in m.preempts i) → is_commanded ≡ m.is_commanded
             → LooksOver self.new (m ∷ past) }
     {
         self.window.push(seen);
         self.latched.step(&seen.frame, t);
+        self.further.step(&seen.frame, preempts, is_commanded);
+        self.counting = self.counting.step(&seen.frame);
     }
 
     /// The window.
@@ -57,6 +79,20 @@ impl Lookout {
         ensures { (past : List Moment) → LooksOver self.now past → WindowStands result.now past }
     {
         &self.window
+    }
+
+    /// What reaches further than the window.
+    pub fn further(&self) -> &Further
+        ensures { (past : List Moment) → LooksOver self.now past → FurtherStands result.now past }
+    {
+        &self.further
+    }
+
+    /// The counters that go on from the last frame.
+    pub fn counting(&self) -> Counting
+        ensures { (past : List Moment) → LooksOver self.now past → CountingStands result past }
+    {
+        self.counting
     }
 
     /// The colour that follows by itself on a phase, 1 to 16, which shows this one in the last frame, under these tables.
