@@ -1,5 +1,5 @@
-//! Whether a preempt is called, and whether its dwell is over: by its input, of which it is kept for how long it has been on, and by
-//! the frames of its stages.
+//! Whether a preempt is called, and whether its dwell is over: by its input, of which it is kept
+//! for how long it has been on, and by the frames of its stages.
 
 ghost use Rattle.std.specs.Prelude.{◌≡◌, ◌<◌, ◌≤◌, ◌+◌, ◌*◌, ◌==◌, ◌&&◌, ◌||◌, not, ℕ, List};
 ghost use Rattle.sig_types.specs.Phases.{is_in, has_some};

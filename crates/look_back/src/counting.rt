@@ -1,5 +1,5 @@
-//! The counters that go on from the last frame: those of the frames in a row in step with its pattern, under its version of the
-//! tables.
+//! The counters that go on from the last frame: those of the frames in a row in step with its
+//! pattern, under its version of the tables.
 
 ghost use Rattle.std.specs.Prelude.{◌≡◌, ◌∷◌, [], ℕ, List};
 ghost use Rattle.sig_types.specs.declared.frame.Mode.TheVariants.{Coord};

@@ -1,5 +1,6 @@
-//! The counters of the frames since the last pickup, as far as the correction of the next one asks for them: the last one, how often
-//! the counter stood and skipped since it last changed to 0, and whether the last step changed it.
+//! The counters of the frames since the last pickup, as far as the correction of the next one
+//! asks for them: the last one, how often the counter stood and skipped since it last changed to
+//! 0, and whether the last step changed it.
 
 ghost use Rattle.std.specs.Prelude.{◌≡◌, ◌≢◌, ◌+◌, ◌==◌, ◌∷◌, [], ℕ, List, if◌then◌else◌, min};
 

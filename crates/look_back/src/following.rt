@@ -1,5 +1,5 @@
-//! The colours and the signals of a tick, where the phases that end and begin, and those on which walk begins, are given: what
-//! follows by itself is looked back for.
+//! The colours and the signals of a tick, where the phases that end and begin, and those on which
+//! walk begins, are given: what follows by itself is looked back for.
 
 ghost use Rattle.std.specs.Prelude.{◌≡◌, ◌<◌, ◌≤◌, ◌&&◌, ℕ, Bool, true, not, List, map, if◌then◌else◌};
 ghost use Rattle.sig_types.specs.declared.frame.Colour.TheVariants.{Red};

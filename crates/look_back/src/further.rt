@@ -1,5 +1,6 @@
-//! What reaches further back than the window, as numbers: how long the stages of one preempt have lasted, each preempt input has
-//! been on and no pattern was commanded, and which phases were last on since start-up.
+//! What reaches further back than the window, as numbers: how long the stages of one preempt have
+//! lasted, each preempt input has been on and no pattern was commanded, and which phases were
+//! last on since start-up.
 
 ghost use Rattle.std.specs.Prelude.{◌≡◌, ◌<◌, ◌≤◌, ◌+◌, ◌-◌, ◌*◌, ◌==◌, ◌∷◌, [], ℕ, List, not, true, get_or, Bool, if◌then◌else◌};
 ghost use Rattle.sig_types.specs.declared.frame.Frame.{Frame};

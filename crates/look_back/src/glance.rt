@@ -1,4 +1,5 @@
-//! What one frame shows and what its tick saw, as far as a look back asks for it; and what is asked of it.
+//! What one frame shows and what its tick saw, as far as a look back asks for it; and what is
+//! asked of it.
 
 ghost use Rattle.std.specs.Prelude.{◌≡◌, ◌||◌, ◌==◌, IsTrue};
 ghost use Rattle.sig_types.specs.Phases.{is_in, every};

@@ -1,5 +1,6 @@
-//! What decides by a time, asked of the window: a gap, a maximum, a red revert, the end of start-up, of a track clearance and
-//! of a dwell. Each time of the tables is at most 2,550 ticks, so that the reach of the window decides each.
+//! What decides by a time, asked of the window: a gap, a maximum, a red revert, the end of start-
+//! up, of a track clearance and of a dwell. Each time of the tables is at most 2,550 ticks, so
+//! that the reach of the window decides each.
 
 ghost use Rattle.std.specs.Prelude.{◌≡◌, ◌<◌, ◌≤◌, List};
 ghost use Rattle.sig_types.specs.declared.frame.Colour.TheVariants.{Red};

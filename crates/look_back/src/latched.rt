@@ -1,5 +1,6 @@
-//! The times that were in force when the present colour and the present signal of each phase began. They are read once, at the
-//! first tick of the colour or the signal, and kept as the tables have them beside the window.
+//! The times that were in force when the present colour and the present signal of each phase
+//! began. They are read once, at the first tick of the colour or the signal, and kept as the
+//! tables have them beside the window.
 
 ghost use Rattle.std.specs.Prelude.{◌≡◌, ◌<◌, ◌≤◌, ◌+◌, ◌∷◌, [], ℕ, List, get_or};
 ghost use Rattle.sig_types.specs.declared.frame.Colour.TheVariants.{Green};

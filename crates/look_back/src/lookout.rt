@@ -1,5 +1,6 @@
-//! The lookout over a cabinet: the window, the times that were latched, and what reaches further than the window. What colours and
-//! signals follow by themselves, and whether a green has had its least, are read off it.
+//! The lookout over a cabinet: the window, the times that were latched, and what reaches further
+//! than the window. What colours and signals follow by themselves, and whether a green has had
+//! its least, are read off it.
 
 ghost use Rattle.std.specs.Prelude.{◌≡◌, ◌<◌, ◌≤◌, ◌==◌, ◌+◌, ◌∷◌, [], ℕ, List, min, nat_le, IfOk};
 ghost use Rattle.sig_types.specs.Phases.{is_in};

@@ -1,5 +1,6 @@
-//! Why a window of 4,096 frames is enough: every time of a phase that a run of frames is compared with is at most 2,550 ticks, and
-//! a run that is counted no further than 4,096 decides each such comparison.
+//! Why a window of 4,096 frames is enough: every time of a phase that a run of frames is compared
+//! with is at most 2,550 ticks, and a run that is counted no further than 4,096 decides each such
+//! comparison.
 
 ghost use Rattle.std.specs.Prelude.{◌≡◌, ◌≤◌, ℕ, min, nat_le, ◌==◌, ◌<◌};
 ghost use Rattle.sig_tables.specs.declared.tables.Tables.{Tables};

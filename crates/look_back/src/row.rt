@@ -1,4 +1,5 @@
-//! A row of last frames in which something was so, as a number: what is compared with times that reach further than the window.
+//! A row of last frames in which something was so, as a number: what is compared with times that
+//! reach further than the window.
 
 ghost use Rattle.std.specs.Prelude.{◌≡◌, [], List, Bool};
 ghost use Rattle.sig_tables.specs.Past.{Moment};

@@ -1,4 +1,5 @@
-//! The colours and the signals of a frame as sets of phases, one set for each colour and each signal.
+//! The colours and the signals of a frame as sets of phases, one set for each colour and each
+//! signal.
 
 ghost use Rattle.std.specs.Prelude.{◌≡◌, IsTrue, length};
 ghost use Rattle.sig_types.specs.declared.frame.Ped.TheVariants.{Walk};

@@ -1,4 +1,5 @@
-//! The times of the tables that are looked back for, in ticks. None is above 2,550, so that the reach of the window decides each.
+//! The times of the tables that are looked back for, in ticks. None is above 2,550, so that the
+//! reach of the window decides each.
 
 ghost use Rattle.std.specs.Prelude.{◌≡◌, ◌<◌, ◌≤◌, ◌*◌, max};
 ghost use Rattle.sig_tables.specs.Tables.{gap_time, maximum_time, pedestrian_clear_time, red_revert_time};

@@ -1,4 +1,5 @@
-//! The window over the last frames of a cabinet: what is pushed of each frame, and what looking back over them gives.
+//! The window over the last frames of a cabinet: what is pushed of each frame, and what looking
+//! back over them gives.
 
 ghost use Rattle.std.specs.Prelude.{◌≡◌, ◌<◌, ◌≤◌, ◌∷◌, [], ℕ, List, min, IsTrue, IfOk};
 ghost use Rattle.sig_tables.specs.Past.{Moment, first_frame};
