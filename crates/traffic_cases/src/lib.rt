@@ -5,4 +5,6 @@
 #[cfg(test)]
 mod bank_cases;
 #[cfg(test)]
+mod field_cases;
+#[cfg(test)]
 mod level_cases;

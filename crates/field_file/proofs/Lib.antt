@@ -1,0 +1,16 @@
+pub mod Newline
+pub mod Every
+pub mod Puts
+pub mod Listed
+pub mod Faultless
+pub mod Called
+pub mod Shape
+pub mod Ranges
+pub mod Entries
+pub mod Counts
+pub mod Leveling
+pub mod Putting
+pub mod Whole
+pub mod Sizes
+pub mod OneAnswer
+pub mod LimitNames

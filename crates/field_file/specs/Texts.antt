@@ -1,0 +1,11 @@
+-- The text that is written for a value.
+use Rattle.std.specs.Prelude.{ℕ, ◌≡◌, ◌≤◌, List, [], ◌∷◌, ◌++◌, false}
+use Rattle.serde_json.specs.Data.{Data, depth}
+use Rattle.serde_json.specs.Read.{max_depth}
+use Rattle.serde_json.specs.Written.{has_float, compact_text}
+use Rattle.scenario_read.specs.Answers.{Reads}
+
+-- of a value without floats its compact text and a newline; of one that is not too deep one that reads as it
+pub record IsTextOf (text : List ℕ) (d : Data) : Type 0 where
+  pub whole : has_float d ≡ false → text ≡ compact_text d ++ 10 ∷ []
+  pub reads : depth d ≤ max_depth → Reads text d
