@@ -39,7 +39,7 @@ def texts():
 
 
 def test_takes_every_scenario(schema):
-    files = [*ROOT.glob("scenarios/*.json"), *ROOT.glob("vectors/*/*.json")]
+    files = [file for file in ROOT.glob("scenarios/*.json") if not file.match("*.field.json")] + list(ROOT.glob("vectors/*/*.json"))
     assert files
     for file in files:
         errors = [error.message for error in schema.iter_errors(json.loads(file.read_text(encoding="utf-8")))]

@@ -5,7 +5,7 @@ use Rattle.gen_arterial.specs.Written.{CanMake}
 use Rattle.command_words.specs.declared.command.Seeding.{Seeding}
 use Rattle.command_words.specs.declared.command.Overlap.{Overlap}
 use Rattle.command_words.specs.declared.command.Command.{Command}
-use Rattle.command_words.specs.declared.command.Command.TheVariants.{Run, Check, Generate, Survey, Band, Overlaps, Help, Version}
+use Rattle.command_words.specs.declared.command.Command.TheVariants.{Run, Check, Generate, Survey, Band, Respond, Overlaps, Help, Version}
 
 -- to run a scenario by so many workers, 0 to 8; with no number it is by none
 abbrev pub IsRun : List (List ℕ) → ℕ → Type 0
@@ -36,6 +36,10 @@ IsSurvey words from = (words ≡ codes "survey" ∷ seeding_words from) × CanSe
 -- to tell the greatest bands of a street
 abbrev pub IsBand : List (List ℕ) → Type 0
 IsBand words = words ≡ codes "band" ∷ []
+
+-- to write the scenario of a field file
+abbrev pub IsRespond : List (List ℕ) → Type 0
+IsRespond words = words ≡ codes "respond" ∷ []
 
 -- the words that give an overlap, where this word gives its parents
 abbrev pub overlap_words : Overlap → List ℕ → List (List ℕ)
@@ -73,6 +77,7 @@ AskFor words Check = IsCheck words
 AskFor words (Generate from) = IsGenerate words from
 AskFor words (Survey from) = IsSurvey words from
 AskFor words Band = IsBand words
+AskFor words Respond = IsRespond words
 AskFor words (Overlaps overlap) = IsOverlaps words overlap
 AskFor words Help = IsHelp words
 AskFor words Version = IsVersion words

@@ -37,6 +37,8 @@ pub enum Command {
     Survey(Seeding),
     /// To tell the greatest bands of a street.
     Band,
+    /// To write the scenario that a field file makes of its detectors and its traffic.
+    Respond,
     /// To tell an overlap by a trace.
     Overlaps(Overlap),
     /// To write how the program is used.

@@ -123,6 +123,8 @@ pub fn command_of(words: &Vec<String>) -> Option<Command>
         Some(Command::Check)
     } else if is_lone(words, "band") {
         Some(Command::Band)
+    } else if is_lone(words, "respond") {
+        Some(Command::Respond)
     } else if is_lone(words, "--help") {
         Some(Command::Help)
     } else if is_lone(words, "--version") {

@@ -96,7 +96,7 @@ fn bytes_of(alloc: Global, text: &str) -> Result<Vec<u8>, Fail> {
 #[test]
 fn other_words_are_usage(rt: HostRuntime) -> Result<(), Fail> {
     let alloc = rt.alloc();
-    let cases: [&[&str]; 32] = [
+    let cases: [&[&str]; 33] = [
         &[],
         &["walk"],
         &["Run"],
@@ -113,6 +113,7 @@ fn other_words_are_usage(rt: HostRuntime) -> Result<(), Fail> {
         &["run", "--workers", "2", "2"],
         &["--workers", "2", "run"],
         &["check", "check"],
+        &["respond", "respond"],
         &["generate"],
         &["generate", "--seed", "0", "--cabinets", "1"],
         &[
@@ -384,7 +385,7 @@ fn help_and_version_write_their_text_and_read_nothing(rt: HostRuntime) -> Result
     let alloc = rt.alloc();
     for (word, text) in [
         ("--help", "arterial: a bench for"),
-        ("--version", "arterial 0.7\n"),
+        ("--version", "arterial 0.8\n"),
     ] {
         // The first read would fail.
         let (said, written) = answer(&rt, alloc, &[word], Vec::new(alloc), (1, 0), 10_000)?;

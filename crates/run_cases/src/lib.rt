@@ -12,6 +12,8 @@ mod check_cases;
 #[cfg(test)]
 mod overlap_cases;
 #[cfg(test)]
+mod respond_cases;
+#[cfg(test)]
 mod text_cases;
 #[cfg(test)]
 mod worker_cases;

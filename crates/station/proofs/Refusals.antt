@@ -7,7 +7,6 @@ use Rattle.scenario_data.specs.Content.{ScenarioContent}
 use Rattle.scenario_read.specs.Answers.{IsScenario, IsFirstFault}
 use Rattle.scenario_read.proofs.LimitNames.{limit-elsewhere}
 use Rattle.station.specs.Bytes.{AreInput, nothing_left}
-use Rattle.band_file.specs.Told.{IsFirstBandFault}
 use Rattle.station.specs.Answers.{IsRead, IsLengthLimit, IsRefused}
 
 -- a first fault is never that of the whole input's length
@@ -18,12 +17,13 @@ fault_elsewhere bytes (Limit path) fault limit = limit-elsewhere bytes path faul
 fault_elsewhere bytes (Broken cabinet rule row) fault limit = limit
 
 -- nor is one of another kind of input, whose limits have names
-pub band_elsewhere : ((bytes : List ℕ) → (path : String Global) → IsFirstBandFault bytes (Limit path) → string_bytes path ≡ codes "." → ⊥)
-    → (bytes : List ℕ) (refusal : Refusal) → IsFirstBandFault bytes refusal → IsLengthLimit refusal → ⊥
-band_elsewhere named bytes Syntax fault limit = limit
-band_elsewhere named bytes (Field path) fault limit = limit
-band_elsewhere named bytes (Limit path) fault limit = named bytes path fault limit
-band_elsewhere named bytes (Broken cabinet rule row) fault limit = limit
+pub named_elsewhere : (IsFirst : List ℕ → Refusal → Type 0)
+    → ((bytes : List ℕ) → (path : String Global) → IsFirst bytes (Limit path) → string_bytes path ≡ codes "." → ⊥)
+    → (bytes : List ℕ) (refusal : Refusal) → IsFirst bytes refusal → IsLengthLimit refusal → ⊥
+named_elsewhere IsFirst named bytes Syntax fault limit = limit
+named_elsewhere IsFirst named bytes (Field path) fault limit = limit
+named_elsewhere IsFirst named bytes (Limit path) fault limit = named bytes path fault limit
+named_elsewhere IsFirst named bytes (Broken cabinet rule row) fault limit = limit
 
 module _ (IsFirst : List ℕ → Refusal → Type 0) (elsewhere : (bytes : List ℕ) (refusal : Refusal) → IsFirst bytes refusal → IsLengthLimit refusal → ⊥) where
   -- all of the input was read, and this is its first fault

@@ -3,7 +3,7 @@ use Rattle.std.proofs.Common.{◌≡◌, ◌⊎◌, inl, inr, ◌↔◌, ℕ, Li
 use Rattle.scenario_data.specs.declared.refusal.Refusal.{Refusal}
 use Rattle.trace_check.specs.declared.faults.TraceFault.{TraceFault}
 use Rattle.command_words.specs.declared.command.Command.{Command}
-use Rattle.command_words.specs.declared.command.Command.TheVariants.{Run, Check, Generate, Survey, Band, Overlaps, Help, Version}
+use Rattle.command_words.specs.declared.command.Command.TheVariants.{Run, Check, Generate, Survey, Band, Respond, Overlaps, Help, Version}
 use Rattle.command_words.specs.declared.command.Overlap.{Overlap}
 use Rattle.command_words.specs.Words.{IsRun, IsCheck, IsOverlaps, AskFor, IsCommand}
 use Rattle.overlap_rules.specs.declared.faults.OverlapFault.{OverlapFault}
@@ -44,6 +44,7 @@ module _ (status : Status) (left ends : Option (List ℕ)) (unread : Type 0) (ol
       none (Generate from) is = is
       none (Survey from) is = is
       none Band is = is
+      none Respond is = is
       none (Overlaps o) is = is
       none Help is = is
       none Version is = is
@@ -69,6 +70,7 @@ module _ (status : Status) (left ends : Option (List ℕ)) (unread : Type 0) (ol
       from (Generate seeding) is so = inl so
       from (Survey seeding) is so = inl so
       from Band is so = inl so
+      from Respond is so = inl so
       from (Overlaps o) is so = inl so
       from Help is so = absurd so
       from Version is so = absurd so
@@ -82,6 +84,7 @@ module _ (status : Status) (left ends : Option (List ℕ)) (unread : Type 0) (ol
       from (Generate seeding) so = absurd so
       from (Survey seeding) so = absurd so
       from Band so = so
+      from Respond so = so
       from (Overlaps o) so = so
       from Help so = absurd so
       from Version so = absurd so
@@ -95,7 +98,8 @@ module _ (status : Status) (left ends : Option (List ℕ)) (unread : Type 0) (ol
       from Check is so = absurd so.1
       from (Generate seeding) is so = absurd so
       from (Survey seeding) is so = absurd so
-      from Band is so = (inr (is, so.0), so.1)
+      from Band is so = (inr (inl (is, so.0)), so.1)
+      from Respond is so = (inr (inr (is, so.0)), so.1)
       from (Overlaps o) is so = absurd so
       from Help is so = absurd so
       from Version is so = absurd so
@@ -110,6 +114,7 @@ module _ (status : Status) (left ends : Option (List ℕ)) (unread : Type 0) (ol
       from (Generate seeding) is so = absurd so
       from (Survey seeding) is so = absurd so
       from Band is so = absurd so
+      from Respond is so = absurd so
       from (Overlaps o) is so = inr (o, is)
       from Help is so = absurd so
       from Version is so = absurd so
@@ -124,6 +129,7 @@ module _ (status : Status) (left ends : Option (List ℕ)) (unread : Type 0) (ol
       from (Generate seeding) is so = absurd so
       from (Survey seeding) is so = absurd so
       from Band is so = absurd so
+      from Respond is so = absurd so
       from (Overlaps o) is so = (o, is)
       from Help is so = absurd so
       from Version is so = absurd so

@@ -3,14 +3,15 @@ use Rattle.std.specs.Prelude.{◌≡◌, ◌⊎◌, ℕ, List, Option}
 use Rattle.io_edge.specs.Edge.{Appends}
 use Rattle.trace_out.specs.Bytes.{AppendsFront}
 use Rattle.command_words.specs.declared.command.Command.{Command}
-use Rattle.command_words.specs.declared.command.Command.TheVariants.{Run, Check, Generate, Survey, Band, Overlaps, Help, Version}
+use Rattle.command_words.specs.declared.command.Command.TheVariants.{Run, Check, Generate, Survey, Band, Respond, Overlaps, Help, Version}
 use Rattle.gen_arterial.specs.Written.{generated, generated_text}
 use Rattle.run_survey.specs.Counting.{surveyed_text}
 use Rattle.station.specs.declared.status.Status.{Status}
 use Rattle.scenario_data.specs.declared.refusal.Refusal.{Refusal}
 use Rattle.scenario_read.specs.Answers.{IsFirstFault}
 use Rattle.band_file.specs.Told.{TellsBands, IsFirstBandFault}
-use Rattle.command_words.specs.Words.{IsRun, IsBand}
+use Rattle.field_file.specs.Told.{TellsResult, IsFirstResultFault}
+use Rattle.command_words.specs.Words.{IsRun, IsBand, IsRespond}
 use Rattle.station.specs.declared.status.Status.TheVariants.{Done, WriteFault, NoMemory}
 use Rattle.station.specs.declared.help.TheConstants.{HELP, VERSION}
 use Rattle.station.specs.Answers.{WritesText, Ran, IsRefused}
@@ -35,6 +36,7 @@ Answered (Generate from) status left ends unread old new unwritten =
 Answered (Survey from) status left ends unread old new unwritten =
     MakesText status (surveyed_text (generated from.seed from.cabinets from.rounds)) unwritten old new
 Answered Band status left ends unread old new unwritten = Replied TellsBands IsFirstBandFault status left ends unread old new unwritten
+Answered Respond status left ends unread old new unwritten = Replied TellsResult IsFirstResultFault status left ends unread old new unwritten
 Answered (Overlaps o) status left ends unread old new unwritten = Overlapped (asked_by o) status left ends unread old new unwritten
 Answered Help status left ends unread old new unwritten = WritesText status HELP.now unwritten old new
 Answered Version status left ends unread old new unwritten = WritesText status VERSION.now unwritten old new
@@ -44,10 +46,12 @@ abbrev pub ReadsNothing : Command → Type 0
 ReadsNothing (Run workers) = ⊥
 ReadsNothing Check = ⊥
 ReadsNothing Band = ⊥
+ReadsNothing Respond = ⊥
 ReadsNothing (Overlaps o) = ⊥
 ReadsNothing _ = Unit {0}
 
--- why a refusal comes: the words run a scenario or ask of bands, and it is that of such an input
+-- why a refusal comes: the words run a scenario, ask of bands or take a field file, and it is that of such an input
 abbrev pub IsRefusedFor : List (List ℕ) → Refusal → Option (List ℕ) → Option (List ℕ) → Type 0
 IsRefusedFor words refusal left ends =
-    (((workers : ℕ) × IsRun words workers) × IsRefused IsFirstFault refusal left ends) ⊎ (IsBand words × IsRefused IsFirstBandFault refusal left ends)
+    (((workers : ℕ) × IsRun words workers) × IsRefused IsFirstFault refusal left ends)
+    ⊎ ((IsBand words × IsRefused IsFirstBandFault refusal left ends) ⊎ (IsRespond words × IsRefused IsFirstResultFault refusal left ends))

@@ -1,4 +1,4 @@
-//! The commands that read an object and write a text of it.
+//! The command that reads what is asked of through bands and writes the greatest.
 
 ghost use Rattle.std.specs.Prelude.{◌≡◌, ◌≤◌, ◌⊎◌, IfSome};
 ghost use Rattle.io_edge.specs.Edge.{Rises};

@@ -35,6 +35,14 @@ and its trace is proved to be the one that is due.
       and inbound: when the greatest through band of the plan begins at the
       cabinet that is passed first, how wide it is, both in ticks, and the two
       cabinets that limit it; or none. A mistake is refused as a scenario's is.
+  arterial respond < FIELD > SCENARIO
+      Reads a field file (a JSON object of at most 16,777,216 bytes) from
+      standard input: a scenario, the vehicle detectors of its cabinets, when
+      each goes on or off, and at which traffic a section goes to which pattern.
+      Writes the scenario that comes of it, in one line, for run: behind its
+      inputs the calls of the detectors, by delay, extension and diagnostics,
+      and the patterns as the master's schedule. A mistake is refused as a
+      scenario's is.
   arterial generate --seed N --cabinets K --rounds M > SCENARIO
       Writes a scenario of K cabinets (1 to 64) and M rounds of 10 seconds (1 to
       86,400; K times M at most 100,000): traffic, polls, lost messages and a
@@ -55,9 +63,10 @@ Exit status: 0 done, 1 the words are no command, 2 the scenario is refused,
 and 6 of a run, what was written is a front of the whole, and not all of it.
 
 docs/SCENARIO.md says how a scenario is written, which rules its tables must
-keep, what is asked of bands, and what each refusal means; docs/TRACE.md how a
-trace is read; scenarios/ has examples to run; README.md says what is proved.
+keep, what is asked of bands, what a field file says, and what each refusal
+means; docs/TRACE.md how a trace is read; scenarios/ has examples to run;
+README.md says what is proved.
 ";
 
 /// Which program this is.
-pub const VERSION: &str = "arterial 0.7\n";
+pub const VERSION: &str = "arterial 0.8\n";

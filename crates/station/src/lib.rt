@@ -8,6 +8,7 @@ mod checking;
 mod help;
 mod input;
 mod overlapping;
+mod responding;
 mod status;
 mod texts;
 mod top;

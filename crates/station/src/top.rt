@@ -6,7 +6,7 @@ ghost use Rattle.scenario_data.specs.Content.{scenario_content};
 ghost use Rattle.scenario_data.specs.declared.refusal.Refusal.{Refusal};
 ghost use Rattle.runnable.specs.Runnable.{Runnable};
 ghost use Rattle.station.specs.Bytes.{nothing_left};
-ghost use Rattle.command_words.specs.Words.{IsRun, IsCheck, IsGenerate, IsSurvey, IsBand, IsOverlaps, IsHelp, IsVersion, IsCommand, AskFor};
+ghost use Rattle.command_words.specs.Words.{IsRun, IsCheck, IsGenerate, IsSurvey, IsBand, IsRespond, IsOverlaps, IsHelp, IsVersion, IsCommand, AskFor};
 ghost use Rattle.command_words.specs.declared.command.Seeding.{Seeding as SeedingRow};
 ghost use Rattle.command_words.specs.declared.command.Command.{Command as CommandRow};
 ghost use Rattle.command_words.specs.declared.command.Overlap.{Overlap as OverlapRow};
@@ -15,6 +15,7 @@ ghost use Rattle.gen_arterial.specs.Written.{generated, generated_text};
 ghost use Rattle.run_survey.specs.Counting.{surveyed_text};
 ghost use Rattle.scenario_read.specs.Answers.{IsFirstFault};
 ghost use Rattle.band_file.specs.Told.{AsksOfBands, TellsBands, IsFirstBandFault};
+ghost use Rattle.field_file.specs.Told.{HasResult, TellsResult, IsFirstResultFault};
 ghost use Rattle.station.specs.Answers.{WritesText, IsRead, IsRefused};
 ghost use Rattle.station.specs.Replied.{Replied, IsReplyDue};
 ghost use Rattle.station.specs.Answers.{RunsWhole, StopsShort, Ran, IsDue};
@@ -28,6 +29,7 @@ use crate::checking::check_input;
 use crate::help::{HELP, VERSION};
 use crate::input::{Unread, whole_input};
 use crate::overlapping::overlaps;
+use crate::responding::respond;
 use crate::status::Status;
 use crate::texts::{generate, survey, tell};
 use command_words::{Command, command_of};
@@ -106,6 +108,8 @@ fn answer<R: Threads + Sync, S: Source, K: Sink, G: Gate + Sync>(
         → IfSome (S.left source.old) (λ input. IsOverlapDue (asked_by o) result input (Rises (K.faults sink.old) (K.faults sink.new)) ⊎ (result ≡ Status.NoMemory)) }
     ensures band_due { command ≡ Command.Band → ¬ Rises (S.faults source.old) (S.faults source.new)
         → IfSome (S.left source.old) (λ input. IsReplyDue AsksOfBands IsFirstBandFault result input (Rises (K.faults sink.old) (K.faults sink.new)) ⊎ (result ≡ Status.NoMemory)) }
+    ensures respond_due { command ≡ Command.Respond → ¬ Rises (S.faults source.old) (S.faults source.new)
+        → IfSome (S.left source.old) (λ input. IsReplyDue HasResult IsFirstResultFault result input (Rises (K.faults sink.old) (K.faults sink.new)) ⊎ (result ≡ Status.NoMemory)) }
 {
     match command {
         Command::Run(workers) => run(&Crew { rt, workers, gate }, alloc, source, sink),
@@ -113,6 +117,7 @@ fn answer<R: Threads + Sync, S: Source, K: Sink, G: Gate + Sync>(
         Command::Generate(from) => generate(alloc, from, sink),
         Command::Survey(from) => survey(alloc, from, sink),
         Command::Band => band(alloc, source, sink),
+        Command::Respond => respond(alloc, source, sink),
         Command::Overlaps(overlap) => overlaps(alloc, overlap, source, sink),
         Command::Help => tell(sink, HELP.as_bytes()),
         Command::Version => tell(sink, VERSION.as_bytes()),
@@ -120,11 +125,12 @@ fn answer<R: Threads + Sync, S: Source, K: Sink, G: Gate + Sync>(
 }
 
 /// All that the program does: `run` reads a scenario from the source and writes its trace to the sink; `check` reads a text and tells
-/// whether it is a trace; `overlaps` reads a trace, and writes what an overlap shows over it; `band` reads what is asked of a street, and writes its greatest bands; `generate` writes a scenario, `survey` what a run of one comes to, `--help` and `--version` a text, and they read nothing.
+/// whether it is a trace; `overlaps` reads a trace, and writes what an overlap shows over it; `band` reads what is asked of a street, and writes its greatest bands; `respond` reads a field file, and writes
+/// the scenario that its detectors and its traffic make; `generate` writes a scenario, `survey` what a run of one comes to, `--help` and `--version` a text, and they read nothing.
 ///
 /// The words are those after the program's name. `run --workers N`, N 0 to 8, has so many workers bring the items of each round to the
 /// cabinets, each worker in a thread of its own where one can be started; with none, as without a number, they come in the serial order.
-/// Each worker calls the gate before each act. A scenario, or what `band` reads, has at most 16,777,216 bytes, a trace at most 67,108,864.
+/// Each worker calls the gate before each act. A scenario, or what `band` or `respond` reads, has at most 16,777,216 bytes, a trace at most 67,108,864.
 /// `NoMemory` may come wherever memory is taken; of every other answer the clauses say what it tells of the input and the faults.
 pub fn station<R: Threads + Sync, S: Source, K: Sink, G: Gate + Sync>(
     rt: &R,
@@ -173,8 +179,8 @@ pub fn station<R: Threads + Sync, S: Source, K: Sink, G: Gate + Sync>(
         ⊎ ((workers : ℕ) × IsRun (map string_bytes words.now.items) workers
         × StopsShort workers (S.left source.old) (S.left source.new) (K.written sink.old) (K.written sink.new)) }
 
-    // Why a failed read and each refusal come, and that nothing was written then. A refusal names the first fault of the input that `run` or
-    // `band` read; the path `.` with `Limit` is the input's length alone: no other fault has it.
+    // Why a failed read and each refusal come, and that nothing was written then. A refusal names the first fault of the input that `run`,
+    // `band` or `respond` read; the path `.` with `Limit` is the input's length alone: no other fault has it.
     ensures read_fault { result ≡ Status.ReadFault → Rises (S.faults source.old) (S.faults source.new) × (K.written sink.new ≡ K.written sink.old) }
     ensures refused { (r : Refusal) → result ≡ Status.Scenario r
         → IsRefusedFor (map string_bytes words.now.items) r (S.left source.old) (S.left source.new) × (K.written sink.new ≡ K.written sink.old) }
@@ -211,6 +217,14 @@ pub fn station<R: Threads + Sync, S: Source, K: Sink, G: Gate + Sync>(
         (Rises (S.faults source.old) (S.faults source.new)) (K.written sink.old) (K.written sink.new) (Rises (K.faults sink.old) (K.faults sink.new)) }
     ensures band_due { IsBand (map string_bytes words.now.items) → ¬ Rises (S.faults source.old) (S.faults source.new)
         → IfSome (S.left source.old) (λ input. IsReplyDue AsksOfBands IsFirstBandFault result input (Rises (K.faults sink.old) (K.faults sink.new)) ⊎ (result ≡ Status.NoMemory)) }
+
+    // Respond: the source was read to its end, its bytes are a field file that has a result, and the compact text of this scenario was written
+    // whole, with a newline; the reader of scenarios refuses nothing of it. Or a write failed, and a front of it was written; or the refusal
+    // names the first fault. And which answer comes where no read fails.
+    ensures respond { IsRespond (map string_bytes words.now.items) → Replied TellsResult IsFirstResultFault result (S.left source.old) (S.left source.new)
+        (Rises (S.faults source.old) (S.faults source.new)) (K.written sink.old) (K.written sink.new) (Rises (K.faults sink.old) (K.faults sink.new)) }
+    ensures respond_due { IsRespond (map string_bytes words.now.items) → ¬ Rises (S.faults source.old) (S.faults source.new)
+        → IfSome (S.left source.old) (λ input. IsReplyDue HasResult IsFirstResultFault result input (Rises (K.faults sink.old) (K.faults sink.new)) ⊎ (result ≡ Status.NoMemory)) }
 {
     match command_of(words) {
         Some(command) => answer(rt, alloc, command, source, sink, gate),

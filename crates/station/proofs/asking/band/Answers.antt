@@ -4,7 +4,7 @@ use Rattle.band_file.specs.Told.{AsksOfBands, TellsBands, IsFirstBandFault}
 use Rattle.station.specs.declared.status.Status.TheVariants.{Scenario, NoMemory}
 use Rattle.io_edge.specs.Edge.{Rises}
 use Rattle.station.specs.Replied.{IsReplyDue}
-use Rattle.station.proofs.Refusals.{band_elsewhere, refused_first}
+use Rattle.station.proofs.Refusals.{named_elsewhere, refused_first}
 use Rattle.station.proofs.Due.{reply_due, told_reply}
 use Rattle.station.proofs.asking.band.Goals as goal
 
@@ -46,7 +46,7 @@ pub returns-in-Err-Refused-report-clause-replied : goal.returns-in-Err-Refused-r
 returns-in-Err-Refused-report-clause-replied g c =
     let refusal = c.in-Err-Refused-report.refusal in
     let fault : IsFirstBandFault c.as_slice.result.now refusal = rw c.in-Err-Refused-report.field-0-is at c.in-Err-Refused-report.ensures.refused in (
-      refused_first IsFirstBandFault (band_elsewhere c.limits_have_names.ensures) _ _ c.in-Ok.input.items c.as_slice.result.now refusal
+      refused_first IsFirstBandFault (named_elsewhere IsFirstBandFault c.limits_have_names.ensures) _ _ c.in-Ok.input.items c.as_slice.result.now refusal
           c.in-Ok.ensures.input c.as_slice.ensures.value c.in-Ok.ensures.short fault c.in-Ok.ensures.ended,
       refl,
     )

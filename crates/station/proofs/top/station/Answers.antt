@@ -1,5 +1,5 @@
 use Rattle.std.proofs.Common.{map, string_bytes}
-use Rattle.command_words.specs.declared.command.Command.TheVariants.{Run, Check, Generate, Survey, Band, Overlaps, Help, Version}
+use Rattle.command_words.specs.declared.command.Command.TheVariants.{Run, Check, Generate, Survey, Band, Respond, Overlaps, Help, Version}
 use Rattle.station.proofs.Due.{due}
 use Rattle.station.proofs.Telling.{one_command, none_found, reads_nothing, to_same, never_usage, told_done, told_write_fault, told_no_memory, told_refused, told_no_trace, told_broken}
 use Rattle.station.proofs.top.station.Goals as goal
@@ -101,11 +101,26 @@ pub returns-in-Some-clause-band_due : goal.returns-in-Some-clause-band_due
 returns-in-Some-clause-band_due g c = λ is sound.
     c.answer.ensures.band_due (one_command _ c.in-Some.command Band c.in-Some.is ((c.command_of.ensures Band).1 is)) sound
 
+pub returns-in-Some-clause-respond : goal.returns-in-Some-clause-respond
+returns-in-Some-clause-respond g c = λ is.
+    let same = one_command _ c.in-Some.command Respond c.in-Some.is ((c.command_of.ensures Respond).1 is) in
+    to_same _ _ _ _ _ _ _ c.in-Some.command Respond same c.answer.ensures.answered
+
+pub returns-in-Some-clause-respond_due : goal.returns-in-Some-clause-respond_due
+returns-in-Some-clause-respond_due g c = λ is sound.
+    c.answer.ensures.respond_due (one_command _ c.in-Some.command Respond c.in-Some.is ((c.command_of.ensures Respond).1 is)) sound
+
 pub returns-in-None-clause-band : goal.returns-in-None-clause-band
 returns-in-None-clause-band g c = λ is. absurd (none_found _ Band c.in-None.is ((c.command_of.ensures Band).1 is))
 
 pub returns-in-None-clause-band_due : goal.returns-in-None-clause-band_due
 returns-in-None-clause-band_due g c = λ is sound. absurd (none_found _ Band c.in-None.is ((c.command_of.ensures Band).1 is))
+
+pub returns-in-None-clause-respond : goal.returns-in-None-clause-respond
+returns-in-None-clause-respond g c = λ is. absurd (none_found _ Respond c.in-None.is ((c.command_of.ensures Respond).1 is))
+
+pub returns-in-None-clause-respond_due : goal.returns-in-None-clause-respond_due
+returns-in-None-clause-respond_due g c = λ is sound. absurd (none_found _ Respond c.in-None.is ((c.command_of.ensures Respond).1 is))
 
 pub returns-in-None-clause-help : goal.returns-in-None-clause-help
 returns-in-None-clause-help g c = λ is. absurd (none_found _ Help c.in-None.is ((c.command_of.ensures Help).1 is))

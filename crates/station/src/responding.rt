@@ -1,0 +1,37 @@
+//! The command that reads a field file and writes the scenario that it comes to.
+
+ghost use Rattle.std.specs.Prelude.{◌≡◌, ◌≤◌, ◌⊎◌, IfSome};
+ghost use Rattle.io_edge.specs.Edge.{Rises};
+ghost use Rattle.field_file.specs.Told.{HasResult, TellsResult, IsFirstResultFault};
+ghost use Rattle.station.specs.Replied.{Replied, IsReplyDue};
+
+use crate::input::{Unread, whole_input};
+use crate::status::Status;
+use crate::texts::tell;
+use field_file::{bytes_have_one_answer, limits_have_names};
+use io_edge::{Sink, Source};
+use scenario_data::ReadFail;
+use std::alloc::Global;
+
+/// Reads a field file, and writes the scenario that it comes to, as compact text with a newline.
+pub fn respond<S: Source, K: Sink>(alloc: Global, source: &mut S, sink: &mut K) -> Status
+    ensures replied { Replied TellsResult IsFirstResultFault result (S.left source.old) (S.left source.new) (Rises (S.faults source.old) (S.faults source.new))
+        (K.written sink.old) (K.written sink.new) (Rises (K.faults sink.old) (K.faults sink.new)) }
+    ensures due { ¬ Rises (S.faults source.old) (S.faults source.new)
+        → IfSome (S.left source.old) (λ input. IsReplyDue HasResult IsFirstResultFault result input (Rises (K.faults sink.old) (K.faults sink.new)) ⊎ (result ≡ Status.NoMemory)) }
+    ensures kept { (S.faults source.old ≤ S.faults source.new) × (K.faults sink.old ≤ K.faults sink.new) }
+{
+    bytes_have_one_answer();
+    limits_have_names();
+    let input = match whole_input(alloc, source) {
+        Ok(input) => input,
+        Err(Unread::Fault) => return Status::ReadFault,
+        Err(Unread::Refused(refusal)) => return Status::Scenario(refusal),
+        Err(Unread::NoMemory) => return Status::NoMemory,
+    };
+    match field_file::respond(alloc, input.as_slice()) {
+        Ok(text) => tell(sink, text.as_slice()),
+        Err(ReadFail::Refused(refusal)) => Status::Scenario(refusal),
+        Err(ReadFail::NoMemory) => Status::NoMemory,
+    }
+}
