@@ -23,3 +23,6 @@ pub returns-clause-journal : goal.returns-clause-journal
 returns-clause-journal c =
     let all : c.loop-brought._brought ≡ c.args.count = omega arith in
     c.loop-brought.invariant.journal ∙ ap (λ (n : ℕ). journal_of c.args.book.now ++ replicate n c.args.pass) all
+
+pub returns-in-Err-clause-others : goal.returns-in-Err-clause-others
+returns-in-Err-clause-others c = λ p other. c.in-Err.ensures.others p other ∙ c.loop-brought.invariant.others p other
