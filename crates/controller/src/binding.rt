@@ -12,7 +12,7 @@ use split_options::SplitOptions;
 
 /// The pattern, 0 for none, and all that is kept of it. Phase p stands at place p - 1.
 #[derive(Clone, Copy)]
-pub(crate) struct Binding {
+pub struct Binding {
     pub pattern: u8,
     pub plan: Plan,
     pub options: SplitOptions,
@@ -64,7 +64,7 @@ fn services(tables: &Tables) -> [u32; 16]
 }
 
 /// The set of a phase alone; what is no phase gives none.
-pub(crate) fn lone(phase: u8) -> PhaseSet
+pub fn lone(phase: u8) -> PhaseSet
     ensures { Has result (λ p. p == phase) }
 {
     if phase == 0 {

@@ -12,7 +12,7 @@ use ring_barrier::Changes;
 use sig_types::{Colour, Frame, Mode, Ped, PhaseSet};
 
 /// What is shown before any tick: all red, in Start.
-pub(crate) fn first_frame() -> Frame
+pub fn first_frame() -> Frame
     ensures { result ≡ first_frame }
 {
     Frame {

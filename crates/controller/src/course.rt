@@ -11,7 +11,7 @@ use sig_types::{Mode, PhaseSet};
 
 /// What a tick is about.
 #[derive(Clone, Copy)]
-pub(crate) struct Course {
+pub struct Course {
     /// The pattern in command, and the clock in ticks of the day.
     pub command: u8,
     pub clock: u32,
@@ -170,7 +170,7 @@ impl Controller {
 }
 
 /// Whether a cabinet in this mode is in step with a pattern.
-pub(crate) fn is_coord(mode: Mode) -> bool
+pub fn is_coord(mode: Mode) -> bool
     ensures { result ≡ is_coord mode }
 {
     match mode {
@@ -180,7 +180,7 @@ pub(crate) fn is_coord(mode: Mode) -> bool
 }
 
 /// Whether a cabinet in this mode seeks a pattern or is in step with one.
-pub(crate) fn has_pattern(mode: Mode) -> bool
+pub fn has_pattern(mode: Mode) -> bool
     ensures { result ≡ has_pattern mode }
 {
     match mode {
@@ -191,7 +191,7 @@ pub(crate) fn has_pattern(mode: Mode) -> bool
 }
 
 /// Whether a cabinet in this mode flashes.
-pub(crate) fn is_flash(mode: Mode) -> bool
+pub fn is_flash(mode: Mode) -> bool
     ensures { result ≡ is_flash mode }
 {
     match mode {

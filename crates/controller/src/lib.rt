@@ -33,11 +33,12 @@ mod telling;
 mod ticking;
 mod walking;
 
-use binding::Binding;
+pub use binding::{Binding, lone};
 use by_colour::ByColour;
-use colouring::first_frame;
-use course::is_flash;
-use orders::Orders;
+pub use colouring::first_frame;
+pub use course::{Course, has_pattern, is_coord, is_flash};
+pub use orders::Orders;
+pub use seeing::Sight;
 pub use telling::has_line;
 
 /// What a controller keeps between ticks.

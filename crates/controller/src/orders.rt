@@ -11,7 +11,7 @@ const DAY: u32 = 864_000;
 /// The pattern in command, 0 for none; for how many ticks it has been that; the clock, in ticks of the day; how many ticks
 /// there were; and after how many ticks each time the clock gains one more, or loses one, 0 for never.
 #[derive(Clone, Copy)]
-pub(crate) struct Orders {
+pub struct Orders {
     command: u8,
     since: u32,
     clock: u32,

@@ -5,7 +5,7 @@ use Rattle.sig_types.specs.Colour.{colour_of}
 use Rattle.sig_tables.specs.Looking.{runs_on}
 use Rattle.sig_tables.specs.Seen.{frame_seen}
 use Rattle.call_store.proofs.Listed.{none-has}
-use Rattle.controller.proofs.Lone.{of-two}
+use Rattle.controller.proofs.Alone.{of-two}
 use Rattle.controller.proofs.Controller.clears_on.Goals as goal
 
 pub returns-then-is_empty : goal.returns-then-is_empty

@@ -6,7 +6,7 @@ use Rattle.sig_tables.specs.Modes.{bound}
 use Rattle.call_store.proofs.Listed.{none-has}
 use Rattle.controller.specs.Lasting.{PhaseLasts}
 use Rattle.controller.proofs.Left.{dark-lasts, neither-of}
-use Rattle.controller.proofs.Lone.{of-two}
+use Rattle.controller.proofs.Alone.{of-two}
 use Rattle.controller.proofs.Controller.phases_left.Goals as goal
 
 pub returns-then-is_empty : goal.returns-then-is_empty
