@@ -17,9 +17,8 @@ mod tally;
 pub use goals::{goal, lesser, lesser_green, stage_of};
 use goals::{phases_in, row_of, ticks};
 use reached::{due_green, dwelling_green, dwelling_off, is_dwell, shows_sixteen};
-use stages::{
-    after_entry, after_exit, began, breaks_in, calls, exit_from, holds_dwell, same_mode, same_stage,
-};
+pub use stages::{after_entry, after_exit, breaks_in, exit_from};
+use stages::{began, calls, holds_dwell, same_mode, same_stage};
 use tally::Tally;
 
 /// What is kept of the preempt inputs and of the frames so far. Preempts are 1 to 8; those whose input is on stand in a
