@@ -14,8 +14,8 @@ mod reached;
 mod stages;
 mod tally;
 
-pub use goals::{goal, lesser, lesser_green, stage_of};
-use goals::{phases_in, row_of, ticks};
+pub use goals::{goal, lesser, lesser_green, row_of, stage_of};
+use goals::{phases_in, ticks};
 use reached::{due_green, dwelling_green, dwelling_off, is_dwell, shows_sixteen};
 pub use stages::{after_entry, after_exit, breaks_in, exit_from};
 use stages::{began, calls, holds_dwell, same_mode, same_stage};
