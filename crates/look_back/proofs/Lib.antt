@@ -13,3 +13,6 @@ pub mod Overs
 pub mod Reaches
 pub mod Numbers
 pub mod Filling
+pub mod Counters
+pub mod Stages
+pub mod Clearing

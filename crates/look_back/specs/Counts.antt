@@ -1,21 +1,12 @@
 -- What is kept of the counters of the frames since the last pickup.
-use Rattle.std.specs.Prelude.{ℕ, ◌≡◌, min, List, []}
+use Rattle.std.specs.Prelude.{ℕ, ◌≡◌, List, []}
 use Rattle.sig_types.specs.declared.frame.Mode.{Mode}
 use Rattle.sig_types.specs.declared.frame.Mode.TheVariants.{Coord}
 use Rattle.sig_tables.specs.Past.{Moment}
 use Rattle.sig_tables.specs.Looking.{last_frame}
-use Rattle.sig_tables.specs.Counting.{last_counter, stands, skips, last_step_changed}
 use Rattle.sig_tables.specs.Counters.{counters_since}
-use Rattle.look_back.specs.declared.counts.Counts.{Counts}
+use Rattle.coord_count.specs.Stands.{CountStands}
 use Rattle.look_back.specs.declared.counting.Counting.{Counting}
-use Rattle.look_back.specs.Rows.{most}
-
--- the numbers are those of these counters
-pub record AreCounted (c : Counts) (counters : List ℕ) : Type 0 where
-  pub counter : c.counter ≡ last_counter counters
-  pub stands : c.stands ≡ min (stands counters) most
-  pub skips : c.skips ≡ min (skips counters) most
-  pub changed : c.changed ≡ last_step_changed counters
 
 -- the counters of the last frames in a row in step with the pattern of this mode, with this version; none where it is in step with none
 abbrev pub counters_in : Mode → ℕ → List Moment → List ℕ
@@ -26,4 +17,4 @@ counters_in _ version past = []
 pub record CountingStands (c : Counting) (past : List Moment) : Type 0 where
   pub mode : c.mode ≡ (last_frame past).mode
   pub version : c.version ≡ (last_frame past).version
-  pub counts : AreCounted c.counts (counters_in c.mode c.version past)
+  pub count : CountStands c.count (counters_in c.mode c.version past)

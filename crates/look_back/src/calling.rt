@@ -6,11 +6,13 @@ ghost use Rattle.sig_types.specs.Phases.{is_in, has_some};
 ghost use Rattle.sig_tables.specs.declared.tables.Tables.{Tables};
 ghost use Rattle.sig_tables.specs.Tables.{listed};
 ghost use Rattle.sig_tables.specs.Past.{Moment};
-ghost use Rattle.sig_tables.specs.Preempts.{is_preempt_called, is_dwell_over};
+ghost use Rattle.sig_types.specs.PhaseSet.{has};
+ghost use Rattle.sig_tables.specs.Preempts.{is_preempt_called, preempt_called, is_dwell_over};
 
 use crate::further::Further;
 use crate::window::Window;
 use sig_tables::{Preempt, Tables};
+use sig_types::PhaseSet;
 
 /// Whether a preempt has phases in which it dwells.
 fn is_configured(row: &Preempt) -> bool
@@ -54,6 +56,22 @@ impl Further {
         let delayed = self.has_been_on(delay_time(row), number, on);
         let past = self.has_been_on(presence_time(row), number, on);
         calls(on, is_configured(row), delayed, row.maximum_presence, past)
+    }
+
+    /// The least preempt that is called, or 0, where the inputs of these, 1 to 8 in a set as phases are, are on at this tick.
+    pub fn called(&self, t: &Tables, on: PhaseSet) -> u8
+        ensures { (inputs : List ℕ) (past : List Moment) → FurtherStands self.now past
+            → ((i : ℕ) → 0 < i → i ≤ 8 → has on i ≡ is_in inputs i) → result ≡ preempt_called t.now inputs past }
+    {
+        if on.is_empty() {
+            return 0;
+        }
+        for number in 1..9u8 {
+            if self.is_called(t, number, on.has(number)) {
+                return number;
+            }
+        }
+        0
     }
 
     /// Whether the dwell of a preempt, 1 to 8, whose input is on at this tick or not, is over: its phases have had their time in these

@@ -6,9 +6,10 @@ ghost use Rattle.sig_types.specs.declared.frame.Mode.TheVariants.{Coord};
 ghost use Rattle.sig_tables.specs.Past.{Moment};
 ghost use Rattle.sig_tables.specs.Looking.{last_frame};
 ghost use Rattle.sig_tables.specs.Counters.{counters_since};
+ghost use Rattle.coord_count.specs.Stands.{CountStands};
 
-use crate::counts::Counts;
 use crate::glance::same_mode;
+use coord_count::Count;
 use sig_types::{Frame, Mode};
 
 /// The mode and the version of the last frame, and what is kept of these counters.
@@ -16,11 +17,29 @@ use sig_types::{Frame, Mode};
 pub struct Counting {
     mode: Mode,
     version: u32,
-    counts: Counts,
+    count: Count,
+}
+
+/// What is kept of one counter, that of a pickup.
+fn picked_up(counter: u32) -> Count
+    ensures { CountStands result (counter ∷ []) }
+{
+    let mut count = Count::new();
+    count.pass(counter);
+    count
+}
+
+/// What is kept with one counter more.
+fn with(count: Count, counter: u32) -> Count
+    ensures { (last : ℕ) (before : List ℕ) → CountStands count (last ∷ before) → CountStands result (counter ∷ last ∷ before) }
+{
+    let mut more = count;
+    more.keep(counter);
+    more
 }
 
 impl Counting {
-    ghost use Rattle.look_back.specs.Counts.{AreCounted, CountingStands, counters_in};
+    ghost use Rattle.look_back.specs.Counts.{CountingStands, counters_in};
 
     /// Before any frame.
     pub fn new() -> Counting
@@ -29,7 +48,7 @@ impl Counting {
         Counting {
             mode: Mode::Start,
             version: 0,
-            counts: Counts::none(),
+            count: Count::new(),
         }
     }
 
@@ -37,42 +56,51 @@ impl Counting {
     pub fn step(self, shown: &Frame) -> Counting
         ensures { (past : List Moment) (m : Moment) → CountingStands self past → m.frame ≡ shown.now → CountingStands result (m ∷ past) }
     {
-        let counts = self.counts_after(shown);
+        let count = self.count_after(shown);
         Counting {
             mode: shown.mode,
             version: shown.version,
-            counts,
+            count,
         }
     }
 
     /// What is kept of the counters with those of one more frame.
-    fn counts_after(self, shown: &Frame) -> Counts
+    fn count_after(self, shown: &Frame) -> Count
         ensures { (past : List Moment) (m : Moment) → CountingStands self past → m.frame ≡ shown.now
-            → AreCounted result (counters_in shown.now.mode shown.now.version (m ∷ past)) }
+            → CountStands result (counters_in shown.now.mode shown.now.version (m ∷ past)) }
     {
         match shown.mode {
             Mode::Coord(_) => {
                 if !same_mode(self.mode, shown.mode) {
-                    Counts::first(shown.counter)
+                    picked_up(shown.counter)
                 } else if self.version == shown.version {
-                    self.counts.more(shown.counter)
+                    with(self.count, shown.counter)
                 } else {
-                    Counts::first(shown.counter)
+                    picked_up(shown.counter)
                 }
             }
-            _ => Counts::none(),
+            _ => Count::new(),
         }
     }
 
-    /// What is kept of the counters of the last frames in a row in step with a pattern, under the version of the last one.
-    pub fn counts(self, pattern: u8) -> Counts
+    /// What is kept of the counters of the last frames in a row in step with the pattern of the last one, under its version; of
+    /// these the counter of the next frame is `Count::next`.
+    pub fn count(self) -> Count
+        ensures { (past : List Moment) (n : ℕ) → CountingStands self past → (last_frame past).mode ≡ Coord n
+            → CountStands result (counters_since n (last_frame past).version past) }
+    {
+        self.count
+    }
+
+    /// What is kept of the counters of the last frames in a row in step with this pattern, under the version of the last one.
+    pub fn count_in(self, pattern: u8) -> Count
         ensures { (past : List Moment) → CountingStands self past
-            → AreCounted result (counters_since pattern (last_frame past).version past) }
+            → CountStands result (counters_since pattern (last_frame past).version past) }
     {
         if same_mode(self.mode, Mode::Coord(pattern)) {
-            self.counts
+            self.count
         } else {
-            Counts::none()
+            Count::new()
         }
     }
 }

@@ -6,7 +6,6 @@
 
 mod calling;
 mod counting;
-mod counts;
 mod cuts;
 mod following;
 mod further;
@@ -15,20 +14,22 @@ mod lasting;
 mod latched;
 mod lookout;
 mod reach;
+mod readiness;
 mod row;
 mod shown;
+mod staging;
 mod stretches;
 mod times;
 mod window;
 
 pub use counting::Counting;
-pub use counts::Counts;
 pub use cuts::Cut;
 pub use further::Further;
 pub use glance::{Glance, Look};
 pub use latched::Latched;
 pub use lookout::Lookout;
 pub use reach::{reach_decides, times_are_in_reach};
+pub use readiness::cut_in;
 pub use row::Row;
 pub use shown::Shown;
 pub use stretches::{Stretch, Stretches};

@@ -8,7 +8,7 @@ ghost use Rattle.sig_types.specs.PhaseSet.{has};
 ghost use Rattle.sig_types.specs.Colour.{colour_of, signal_of};
 ghost use Rattle.sig_tables.specs.declared.tables.Tables.{Tables};
 ghost use Rattle.sig_tables.specs.Past.{Moment};
-ghost use Rattle.sig_tables.specs.Looking.{last_frame, run, latched, signal_run, runs_on};
+ghost use Rattle.sig_tables.specs.Looking.{last_frame, run, latched, signal_run, start_run, runs_on};
 ghost use Rattle.sig_tables.specs.Lesser.{signal_runs_within};
 ghost use Rattle.sig_tables.specs.View.{is_served};
 ghost use Rattle.look_back.specs.Latched.{colour_time};
@@ -17,11 +17,12 @@ ghost use Rattle.look_back.specs.Cuts.{lesser_of};
 use crate::counting::Counting;
 use crate::cuts::{Cut, after_walk, is_clearance_over, is_walk_over};
 use crate::further::Further;
+use crate::glance::Look;
 use crate::latched::Latched;
 use crate::times::pedestrian_clear_time;
 use crate::window::{Seen, Window};
 use sig_tables::Tables;
-use sig_types::{Colour, NoMemory, Ped, PhaseSet};
+use sig_types::{Colour, Mode, NoMemory, Ped, PhaseSet};
 use std::alloc::Global;
 
 /// What is kept of a cabinet to look back over.
@@ -35,6 +36,7 @@ pub struct Lookout {
 
 impl Lookout {
     ghost use Rattle.look_back.specs.Stands.{WindowStands, Saw};
+    ghost use Rattle.look_back.specs.Latching.{LatchedStands};
     ghost use Rattle.look_back.specs.Further.{FurtherStands};
     ghost use Rattle.look_back.specs.Counts.{CountingStands};
     ghost use Rattle.look_back.specs.Lookouts.{LooksOver};
@@ -89,11 +91,25 @@ impl Lookout {
         &self.further
     }
 
+    /// The times of the present colours and signals.
+    pub fn latched(&self) -> &Latched
+        ensures { (past : List Moment) → LooksOver self.now past → LatchedStands result.now past }
+    {
+        &self.latched
+    }
+
     /// The counters that go on from the last frame.
     pub fn counting(&self) -> Counting
         ensures { (past : List Moment) → LooksOver self.now past → CountingStands result past }
     {
         self.counting
+    }
+
+    /// For how many last frames in a row the cabinet has been in start-up, where these are no more than 60.
+    pub fn start_run(&self) -> u32
+        ensures { (past : List Moment) → LooksOver self.now past → start_run past ≤ 60 → result ≡ start_run past }
+    {
+        self.window.look(Look::IsIn { mode: Mode::Start }, 61)
     }
 
     /// The colour that follows by itself on a phase, 1 to 16, which shows this one in the last frame, under these tables.

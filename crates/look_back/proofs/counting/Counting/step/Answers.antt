@@ -6,5 +6,5 @@ pub returns : goal.returns
 returns c = λ past m stands frame. record {
   mode = ap (λ (f : Frame). f.mode) (sym frame);
   version = ap (λ (f : Frame). f.version) (sym frame);
-  counts = c.counts_after-counts.ensures past m stands frame;
+  count = c.count_after-count.ensures past m stands frame;
 }
