@@ -16,3 +16,5 @@ pub mod Filling
 pub mod Counters
 pub mod Stages
 pub mod Clearing
+pub mod Again
+pub mod Counted

@@ -12,3 +12,4 @@ pub mod LastOn
 pub mod Further
 pub mod Counts
 pub mod Lookouts
+pub mod Again

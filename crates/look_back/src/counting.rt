@@ -1,12 +1,13 @@
 //! The counters that go on from the last frame: those of the frames in a row in step with its
 //! pattern, under its version of the tables.
 
-ghost use Rattle.std.specs.Prelude.{◌≡◌, ◌∷◌, [], ℕ, List};
+ghost use Rattle.std.specs.Prelude.{◌≡◌, ◌<◌, ◌≤◌, ◌+◌, ◌∷◌, ◌++◌, [], length, ℕ, List};
 ghost use Rattle.sig_types.specs.declared.frame.Mode.TheVariants.{Coord};
 ghost use Rattle.sig_tables.specs.Past.{Moment};
 ghost use Rattle.sig_tables.specs.Looking.{last_frame};
 ghost use Rattle.sig_tables.specs.Counters.{counters_since};
-ghost use Rattle.coord_count.specs.Stands.{CountStands};
+ghost use Rattle.coord_count.specs.Stands.{CountStands, counter_of};
+ghost use Rattle.coord_count.specs.Passed.{passed};
 
 use crate::glance::same_mode;
 use coord_count::Count;
@@ -38,8 +39,20 @@ fn with(count: Count, counter: u32) -> Count
     more
 }
 
+/// What is kept with so many counters more, each one more than the last, as far as there are numbers.
+fn gone_on(count: Count, ticks: u32) -> Count
+    ensures { counter_of count + ticks ≤ 4294967295 → result ≡ passed ticks count }
+{
+    let mut more = count;
+    let room = u32::MAX - count.counter();
+    more.pass(ticks.min(room));
+    more
+}
+
 impl Counting {
+    ghost use Rattle.sig_types.specs.declared.phase_set.PhaseSet.{PhaseSet};
     ghost use Rattle.look_back.specs.Counts.{CountingStands, counters_in};
+    ghost use Rattle.look_back.specs.Again.{AllGoOn};
 
     /// Before any frame.
     pub fn new() -> Counting
@@ -61,6 +74,23 @@ impl Counting {
             mode: shown.mode,
             version: shown.version,
             count,
+        }
+    }
+
+    /// So many more frames, one at least, that go on with the last one, as far as there are numbers for their counters.
+    pub fn step_again(self, ticks: u32) -> Counting
+        requires { 0 < ticks }
+        ensures { (active pressed : PhaseSet) (last : Moment) (before ms : List Moment) → CountingStands self (last ∷ before)
+            → length ms ≡ ticks → last.frame.counter + ticks ≤ 4294967295 → AllGoOn active pressed ms (last ∷ before)
+            → CountingStands result (ms ++ last ∷ before) }
+    {
+        match self.mode {
+            Mode::Coord(_) => Counting {
+                mode: self.mode,
+                version: self.version,
+                count: gone_on(self.count, ticks),
+            },
+            _ => self,
         }
     }
 

@@ -2,9 +2,10 @@
 //! lasted, each preempt input has been on and no pattern was commanded, and which phases were
 //! last on since start-up.
 
-ghost use Rattle.std.specs.Prelude.{◌≡◌, ◌<◌, ◌≤◌, ◌+◌, ◌-◌, ◌*◌, ◌==◌, ◌∷◌, [], ℕ, List, not, true, get_or, Bool, if◌then◌else◌};
+ghost use Rattle.std.specs.Prelude.{◌≡◌, ◌<◌, ◌≤◌, ◌+◌, ◌-◌, ◌*◌, ◌==◌, ◌∷◌, ◌++◌, [], length, ℕ, List, not, true, get_or, Bool, if◌then◌else◌};
 ghost use Rattle.sig_types.specs.declared.frame.Frame.{Frame};
 ghost use Rattle.sig_types.specs.Phases.{is_in};
+ghost use Rattle.sig_types.specs.declared.phase_set.PhaseSet.{PhaseSet};
 ghost use Rattle.sig_types.specs.PhaseSet.{has};
 ghost use Rattle.sig_types.specs.Colour.{on_in, is_start};
 ghost use Rattle.sig_tables.specs.declared.tables.Tables.{Tables};
@@ -94,6 +95,7 @@ fn step_inputs(inputs: &mut [Row; 8], on: PhaseSet)
 
 impl Further {
     ghost use Rattle.look_back.specs.Further.{FurtherStands};
+    ghost use Rattle.look_back.specs.Again.{AllGoOn};
 
     /// Before any frame.
     pub fn new() -> Further
@@ -128,6 +130,17 @@ impl Further {
             on_after(self.last_on[0], starts, first),
             on_after(self.last_on[1], starts, second),
         ];
+    }
+
+    /// So many more frames, one at least, that go on with the last one.
+    pub fn step_again(&mut self, ticks: u32)
+        requires { 0 < ticks }
+        ensures { (active pressed : PhaseSet) (past ms : List Moment) → FurtherStands self.old past → length ms ≡ ticks
+            → AllGoOn active pressed ms past → FurtherStands self.new (ms ++ past) }
+    {
+        self.stages = self.stages.more(ticks);
+        self.inputs = [Row::new(); 8];
+        self.orders = self.orders.more(ticks);
     }
 
     /// Whether a preempt has been served for its least time, of so many seconds.

@@ -2,7 +2,7 @@
 //! than the window. What colours and signals follow by themselves, and whether a green has had
 //! its least, are read off it.
 
-ghost use Rattle.std.specs.Prelude.{◌≡◌, ◌<◌, ◌≤◌, ◌==◌, ◌+◌, ◌∷◌, [], ℕ, List, min, nat_le, IfOk};
+ghost use Rattle.std.specs.Prelude.{◌≡◌, ◌<◌, ◌≤◌, ◌==◌, ◌+◌, ◌∷◌, ◌++◌, [], length, ℕ, List, min, nat_le, IfOk};
 ghost use Rattle.sig_types.specs.Phases.{is_in};
 ghost use Rattle.sig_types.specs.PhaseSet.{has};
 ghost use Rattle.sig_types.specs.Colour.{colour_of, signal_of};
@@ -40,6 +40,7 @@ impl Lookout {
     ghost use Rattle.look_back.specs.Further.{FurtherStands};
     ghost use Rattle.look_back.specs.Counts.{CountingStands};
     ghost use Rattle.look_back.specs.Lookouts.{LooksOver};
+    ghost use Rattle.look_back.specs.Again.{AllGoOn};
 
     /// Before any frame.
     pub fn open(alloc: Global) -> Result<Lookout, NoMemory>
@@ -75,6 +76,32 @@ impl Lookout {
         self.latched.step(&seen.frame, t);
         self.further.step(&seen.frame, preempts, is_commanded);
         self.counting = self.counting.step(&seen.frame);
+    }
+
+    /// So many more frames that go on with the last one, of which there is one: each shows what it shows, in step with a pattern
+    /// with a counter that is one more, as far as there are numbers for it. At their ticks these phases were active, and to these an
+    /// incompatible phase had demand; no preempt input was on, and no pattern was commanded. It takes no memory, and as long for
+    /// any number.
+    pub fn push_again(&mut self, active: PhaseSet, opposed: PhaseSet, ticks: u32)
+        ensures { (last : Moment) (before ms : List Moment) → LooksOver self.old (last ∷ before) → length ms ≡ ticks
+            → last.frame.counter + ticks ≤ 4294967295 → AllGoOn active opposed ms (last ∷ before)
+            → LooksOver self.new (ms ++ last ∷ before) }
+    {
+        if ticks > 0 {
+            self.go_on(active, opposed, ticks);
+        }
+    }
+
+    /// The same for one frame at least.
+    fn go_on(&mut self, active: PhaseSet, opposed: PhaseSet, ticks: u32)
+        requires { 0 < ticks }
+        ensures { (last : Moment) (before ms : List Moment) → LooksOver self.old (last ∷ before) → length ms ≡ ticks
+            → last.frame.counter + ticks ≤ 4294967295 → AllGoOn active opposed ms (last ∷ before)
+            → LooksOver self.new (ms ++ last ∷ before) }
+    {
+        self.window.push_again(active, opposed, ticks);
+        self.further.step_again(ticks);
+        self.counting = self.counting.step_again(ticks);
     }
 
     /// The window.

@@ -1,7 +1,7 @@
 //! A row of last frames in which something was so, as a number: what is compared with times that
 //! reach further than the window.
 
-ghost use Rattle.std.specs.Prelude.{◌≡◌, [], List, Bool};
+ghost use Rattle.std.specs.Prelude.{◌≡◌, ◌++◌, [], length, List, Bool};
 ghost use Rattle.sig_tables.specs.Past.{Moment};
 ghost use Rattle.sig_tables.specs.Looking.{lasts, lasts_now};
 
@@ -13,6 +13,7 @@ pub struct Row {
 
 impl Row {
     ghost use Rattle.look_back.specs.Rows.{RowStands, RowSteps};
+    ghost use Rattle.look_back.specs.Again.{AllPass};
 
     /// No frame has come.
     pub fn new() -> Row
@@ -31,6 +32,16 @@ impl Row {
             }
         } else {
             Row { frames: 0 }
+        }
+    }
+
+    /// So many frames more, in each of which it was so.
+    pub fn more(self, ticks: u32) -> Row
+        ensures { (test : Moment → Bool) (past ms : List Moment) → RowStands self test past → length ms ≡ ticks → AllPass test ms
+            → RowStands result test (ms ++ past) }
+    {
+        Row {
+            frames: self.frames.saturating_add(ticks),
         }
     }
 

@@ -2,9 +2,10 @@
 //! that a frame like the last one is one more of it and nothing else. Of the older ones the last
 //! 4,096 are kept: they reach over 4,096 frames or more.
 
-ghost use Rattle.std.specs.Prelude.{◌≡◌, ◌≤◌, ◌+◌, ◌∷◌, [], ℕ, List, min, IfOk};
+ghost use Rattle.std.specs.Prelude.{◌≡◌, ◌<◌, ◌≤◌, ◌+◌, ◌∷◌, ◌++◌, [], length, ℕ, List, min, IfOk};
 ghost use Rattle.circular_buffer.specs.Buffer.{buffer};
 ghost use Rattle.look_back.specs.Spread.{more_of};
+ghost use Rattle.look_back.specs.Again.{more_by};
 ghost use Rattle.sig_tables.specs.Past.{Moment};
 ghost use Rattle.sig_tables.specs.Looking.{in_a_row};
 
@@ -34,10 +35,22 @@ fn one_more(ticks: u16) -> u16
     if ticks < 4096 { ticks + 1 } else { ticks }
 }
 
+/// So many more of so many frames.
+fn more_by(ticks: u16, more: u32) -> u16
+    ensures { result ≡ more_by ticks more }
+{
+    if ticks < 4096 {
+        (u32::from(ticks).saturating_add(more)).min(4096) as u16
+    } else {
+        ticks
+    }
+}
+
 impl Stretches {
     ghost use Rattle.look_back.specs.Look.{Tells, LooksAtPhase, is_so, is_told};
     ghost use Rattle.look_back.specs.Spread.{told_run};
     ghost use Rattle.look_back.specs.Keeps.{Keeps, newest_of};
+    ghost use Rattle.look_back.specs.Again.{AllTell, lengthened};
 
     /// Room for the stretches of frames, of which none has come; before them this is shown.
     pub fn open(alloc: Global, before: Glance) -> Result<Stretches, NoMemory>
@@ -83,6 +96,24 @@ impl Stretches {
             self.older.push_front(self.newest);
             self.newest = Stretch { glance, ticks: 1 };
         }
+    }
+
+    /// So many more frames, one at least, of each of which this is kept. It takes no memory.
+    pub fn add_again(&mut self, glance: Glance, ticks: u32)
+        requires { 0 < ticks }
+        ensures keeps { (past ms : List Moment) → Keeps self.old past → length ms ≡ ticks → AllTell glance ms
+            → Keeps self.new (ms ++ past) }
+        ensures newest { newest_of self.new ≡ glance }
+    {
+        self.add(glance);
+        self.lengthen(ticks - 1);
+    }
+
+    /// So many more frames of the newest stretch.
+    fn lengthen(&mut self, ticks: u32)
+        ensures { self.new ≡ lengthened ticks self.old }
+    {
+        self.newest.ticks = more_by(self.newest.ticks, ticks);
     }
 
     /// For how many last frames in a row it was so, at most `most`.

@@ -1,7 +1,7 @@
 //! The window over the last frames of a cabinet: what is pushed of each frame, and what looking
 //! back over them gives.
 
-ghost use Rattle.std.specs.Prelude.{◌≡◌, ◌<◌, ◌≤◌, ◌∷◌, [], ℕ, List, min, IsTrue, IfOk};
+ghost use Rattle.std.specs.Prelude.{◌≡◌, ◌<◌, ◌≤◌, ◌∷◌, ◌++◌, [], length, ℕ, List, min, IsTrue, IfOk};
 ghost use Rattle.sig_tables.specs.Past.{Moment, first_frame};
 ghost use Rattle.sig_tables.specs.Looking.{in_a_row, run, signal_run};
 ghost use Rattle.look_back.specs.Shown.{IsShown};
@@ -33,6 +33,7 @@ impl Window {
     ghost use Rattle.look_back.specs.Look.{LooksAtPhase, is_so};
     ghost use Rattle.look_back.specs.Keeps.{Keeps, newest_of};
     ghost use Rattle.look_back.specs.Stands.{WindowStands, Saw};
+    ghost use Rattle.look_back.specs.Again.{AllGoOn};
 
     /// A window over no frame; before any, all is red.
     pub fn open(alloc: Global) -> Result<Window, NoMemory>
@@ -82,6 +83,26 @@ impl Window {
         self.kept.add(glance);
         self.veh = seen.frame.veh;
         self.ped = seen.frame.ped;
+    }
+
+    /// So many more frames, one at least, that go on with the last one, and at whose ticks these phases were active, and to these an
+    /// incompatible phase had demand. It takes no memory.
+    pub fn push_again(&mut self, active: PhaseSet, opposed: PhaseSet, ticks: u32)
+        requires { 0 < ticks }
+        ensures stands { (last : Moment) (before ms : List Moment) → WindowStands self.old (last ∷ before) → length ms ≡ ticks
+            → AllGoOn active opposed ms (last ∷ before) → WindowStands self.new (ms ++ last ∷ before) }
+    {
+        let newest = self.kept.newest();
+        let green = newest.shown.green;
+        let glance = Glance {
+            shown: newest.shown,
+            first: newest.first,
+            second: newest.second,
+            mode: newest.mode,
+            quiet: green.minus(active),
+            opposed: green.meet(opposed),
+        };
+        self.kept.add_again(glance, ticks);
     }
 
     /// For how many last frames in a row it was so, at most `most`.

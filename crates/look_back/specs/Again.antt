@@ -1,0 +1,56 @@
+-- Moments that go on with the last one: each shows what it showed, and of its ticks the same was seen.
+use Rattle.std.specs.Prelude.{ℕ, ◌≡◌, ◌<◌, ◌≤◌, ◌+◌, ◌&&◌, not, min, nat_lt, if◌then◌else◌, true, false, Bool, List, [], ◌∷◌, ◌++◌}
+use Rattle.sig_types.specs.declared.frame.Mode.TheVariants.{Coord}
+use Rattle.sig_types.specs.declared.frame.Frame.{Frame}
+use Rattle.sig_types.specs.declared.phase_set.PhaseSet.{PhaseSet}
+use Rattle.sig_types.specs.Phases.{is_phase, is_in}
+use Rattle.sig_types.specs.PhaseSet.{has}
+use Rattle.sig_tables.specs.Past.{Moment}
+use Rattle.sig_tables.specs.Looking.{last_frame}
+use Rattle.sig_tables.specs.Calls.{is_green}
+use Rattle.look_back.specs.declared.glance.Glance.{Glance}
+use Rattle.look_back.specs.declared.stretches.Stretches.{Stretches}
+use Rattle.look_back.specs.Look.{Tells}
+use Rattle.look_back.specs.Spread.{stretch}
+
+-- a frame shows what another shows: colours, signals, what is on, the mode and the version
+pub record ShowsAgain (f g : Frame) : Type 0 where
+  pub veh : f.veh ≡ g.veh
+  pub ped : f.ped ≡ g.ped
+  pub on : f.on ≡ g.on
+  pub mode : f.mode ≡ g.mode
+  pub version : f.version ≡ g.version
+
+-- the moment goes on with these: it shows what the last frame shows, in step with a pattern with a counter that is one more; of the
+-- phases that were Green before it those were not active that are not of the first set, and to those an incompatible phase had
+-- demand that are of the second; no preempt input was on, and no pattern was commanded
+pub record GoesOn (active pressed : PhaseSet) (m : Moment) (past : List Moment) : Type 0 where
+  pub shows : ShowsAgain m.frame (last_frame past)
+  pub counter : (n : ℕ) → m.frame.mode ≡ Coord n → m.frame.counter ≡ (last_frame past).counter + 1
+  pub quiet : (p : ℕ) → is_phase p ≡ true → is_in m.quiet p ≡ (is_green (last_frame past) p && not (has active p))
+  pub opposed : (p : ℕ) → is_phase p ≡ true → is_in m.opposed p ≡ (is_green (last_frame past) p && has pressed p)
+  pub preempts : (i : ℕ) → 0 < i → i ≤ 8 → is_in m.preempts i ≡ false
+  pub commanded : m.is_commanded ≡ false
+
+-- each of so many moments more goes on with those before it
+abbrev pub AllGoOn : PhaseSet → PhaseSet → List Moment → List Moment → Type 0
+AllGoOn active pressed [] past = Unit {0}
+AllGoOn active pressed (m ∷ ms) past = GoesOn active pressed m (ms ++ past) × AllGoOn active pressed ms past
+
+-- of each of the moments this is what is kept
+abbrev pub AllTell : Glance → List Moment → Type 0
+AllTell g [] = Unit {0}
+AllTell g (m ∷ ms) = Tells g m × AllTell g ms
+
+-- each of the moments passes the test
+abbrev pub AllPass : (Moment → Bool) → List Moment → Type 0
+AllPass test [] = Unit {0}
+AllPass test (m ∷ ms) = (test m ≡ true) × AllPass test ms
+
+-- so many more of so many frames; 4,096 stand for so many or more
+abbrev pub more_by : ℕ → ℕ → ℕ
+more_by ticks more = if nat_lt ticks 4096 then min (ticks + more) 4096 else ticks
+
+-- the stretches with so many frames more in the newest one
+abbrev pub lengthened : ℕ → Stretches → Stretches
+lengthened n s = record s { newest = stretch s.newest.glance (more_by s.newest.ticks n) }
