@@ -15,6 +15,8 @@ mod flash_mode_cases;
 #[cfg(test)]
 mod look_back_cases;
 #[cfg(test)]
+mod lookout_cases;
+#[cfg(test)]
 mod pattern_plan_cases;
 #[cfg(test)]
 mod ped_clock_cases;

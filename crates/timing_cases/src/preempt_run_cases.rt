@@ -92,7 +92,7 @@ fn mode_at(tick: u32, tables: &Tables, events: &[(u32, Event)]) -> Mode {
 }
 
 /// The standard tables with a preempt 1 that dwells in phases 2 and 6.
-fn railroad() -> Tables {
+pub fn railroad() -> Tables {
     let mut tables = Tables::std8();
     put(&mut tables, 5, 10);
     put(&mut tables, 6, 5);
