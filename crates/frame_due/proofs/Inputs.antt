@@ -1,0 +1,55 @@
+-- The preempts whose input is on, with one event more.
+use Rattle.std.proofs.Common.{◌≡◌, ◌<◌, ◌≤◌, ◌==◌, ℕ, Bool, if◌then◌else◌, List, refl, sym, ◌∙◌, ap}
+use Rattle.sig_types.specs.declared.frame.Field.{Field}
+use Rattle.sig_types.specs.declared.frame.Field.TheVariants.{Veh, Ped as Button, Preempt as PreemptInput}
+use Rattle.sig_types.specs.declared.phase_set.PhaseSet.{PhaseSet}
+use Rattle.sig_types.specs.Phases.{is_in}
+use Rattle.sig_types.specs.PhaseSet.{has}
+use Rattle.sig_tables.specs.Past.{Past, Moment, Input}
+use Rattle.sig_tables.specs.Decide.{with_event, with_moment}
+use Rattle.sig_tables.specs.Seen.{moment_seen}
+use Rattle.sig_tables.specs.Preempts.{preempt_on}
+use Rattle.preempt_run.specs.Stands.{preempts_seen}
+use Rattle.preempt_run.proofs.Least.{in-preempts}
+
+-- the set has the preempts whose input is on
+abbrev pub AreOn : PhaseSet → Past → Type 0
+AreOn s past = (i : ℕ) → 0 < i → i ≤ 8 → has s i ≡ is_in (preempts_seen past) i
+
+-- the input of preempt i at the next tick
+abbrev pub on_next : Past → ℕ → Bool
+on_next past i = preempt_on (is_in (moment_seen past).preempts i) past.heard i
+
+pub on-at : (past : Past) (i : ℕ) → 0 < i → i ≤ 8 → is_in (preempts_seen past) i ≡ on_next past i
+unfolding preempts_seen
+on-at past i above within = in-preempts (λ k. preempt_on (is_in (moment_seen past).preempts k) past.heard k) i above within
+
+-- what leaves each input as it was
+pub kept-on : (s : PhaseSet) (past next : Past) → ((i : ℕ) → on_next past i ≡ on_next next i) → AreOn s past → AreOn s next
+kept-on s past next same old i above within =
+    old i above within ∙ on-at past i above within ∙ same i ∙ sym (on-at next i above within)
+
+pub heard-vehicle : (s : PhaseSet) (past : Past) (field : Field) (q : ℕ) (on : Bool) → field ≡ Veh q on → AreOn s past
+    → AreOn s (with_event (Input field) past)
+heard-vehicle s past field q on e old = rw e (kept-on s past (with_event (Input (Veh q on)) past) (λ i. refl) old)
+
+pub heard-button : (s : PhaseSet) (past : Past) (field : Field) (q : ℕ) → field ≡ Button q → AreOn s past
+    → AreOn s (with_event (Input field) past)
+heard-button s past field q e old = rw e (kept-on s past (with_event (Input (Button q)) past) (λ i. refl) old)
+
+-- the input of preempt j
+turned-on : (s new : PhaseSet) (past : Past) (j : ℕ) (on : Bool) → AreOn s past
+    → ((i : ℕ) → 0 < i → i ≤ 8 → has new i ≡ (if j == i then on else has s i)) → AreOn new (with_event (Input (PreemptInput j on)) past)
+turned-on s new past j on old is i above within =
+    is i above within
+    ∙ ap (λ (b : Bool). if j == i then on else b) (old i above within ∙ on-at past i above within)
+    ∙ sym (on-at (with_event (Input (PreemptInput j on)) past) i above within)
+
+pub heard-preempt : (s new : PhaseSet) (past : Past) (field : Field) (j : ℕ) (on : Bool) → field ≡ PreemptInput j on → AreOn s past
+    → ((i : ℕ) → 0 < i → i ≤ 8 → has new i ≡ (if j == i then on else has s i)) → AreOn new (with_event (Input field) past)
+heard-preempt s new past field j on e old is = rw e (turned-on s new past j on old is)
+
+-- a tick leaves them on at its moment
+pub seen-on : (s : PhaseSet) (past : Past) (m : Moment) → m.preempts ≡ preempts_seen past → AreOn s past → AreOn s (with_moment past m)
+seen-on s past m e old i above within =
+    old i above within ∙ ap (λ (xs : List ℕ). is_in xs i) (sym e) ∙ sym (on-at (with_moment past m) i above within)

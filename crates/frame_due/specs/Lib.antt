@@ -1,0 +1,3 @@
+pub mod Remembers
+pub mod Runs
+pub mod Rests
