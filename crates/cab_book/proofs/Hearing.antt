@@ -3,8 +3,8 @@ use Rattle.std.proofs.Common.{◌≡◌, ℕ, arith}
 use Rattle.sig_types.specs.declared.frame.Field.{Field}
 use Rattle.sig_tables.specs.Past.{Input}
 use Rattle.sig_tables.specs.Decide.{with_one}
-use Rattle.controller.specs.declared.Controller.{Controller}
-use Rattle.controller.specs.StandsFor.{StandsFor, tick_count}
+use Rattle.cab_control.specs.declared.Control.{Control}
+use Rattle.cab_control.specs.Controls.{StandsFor, tick_count}
 use Rattle.round_streams.specs.Items.{Told}
 use Rattle.cabinet_story.specs.Story.{Story, with_item}
 use Rattle.cabinet_story.specs.Coming.{Coming, coming, history_of}
@@ -21,15 +21,15 @@ heard-sound n has field is = record {
   ids = is.ids;
 }
 
-abbrev pub with_controller : Cabinet → Controller → Cabinet
-with_controller c k = record { controller = k; stage = c.stage; community = c.community; ticks = c.ticks }
+abbrev pub with_control : Cabinet → Control → Cabinet
+with_control c k = record { control = k; stage = c.stage; community = c.community; ticks = c.ticks }
 
-pub hear-stands : (c : Cabinet) (k : Controller) (story : Story) (field : Field) → CabinetStands c story → StandsFor k (with_one (history_of story) (Input field))
-    → tick_count k ≡ tick_count c.controller → CabinetStands (with_controller c k) (with_item story (Told field))
+pub hear-stands : (c : Cabinet) (k : Control) (story : Story) (field : Field) → CabinetStands c story → StandsFor k (with_one (history_of story) (Input field))
+    → tick_count k ≡ tick_count c.control → CabinetStands (with_control c k) (with_item story (Told field))
 hear-stands c k story field is stands counted = record {
   community = is.community;
   keeps = record {
-    controller = stands;
+    control = stands;
     stage = is.keeps.stage;
     counted = omega (arith, counted, is.keeps.counted);
     sound = heard-sound c.ticks (coming story) field is.keeps.sound;

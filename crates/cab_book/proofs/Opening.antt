@@ -6,8 +6,9 @@ use Rattle.sig_tables.specs.Looking.{last_moment, last_frame}
 use Rattle.sig_tables.specs.Clock.{clock_told}
 use Rattle.sig_tables.specs.Decide.{past_of, past_at, frames_in, opening_orders}
 use Rattle.sig_tables.specs.Putting.{EachFits}
-use Rattle.controller.specs.declared.Controller.{Controller}
-use Rattle.controller.specs.StandsFor.{StandsFor, tick_count}
+use Rattle.cab_control.specs.declared.Control.{Control}
+use Rattle.cab_control.specs.Controls.{StandsFor, tick_count}
+use Rattle.cab_control.proofs.Facts.{first-ticks}
 use Rattle.cab_book.specs.Stands.{OnlyDrifts, IsNew, IsSound}
 
 -- what such a history has come to
@@ -50,10 +51,10 @@ new-sound h new =
       ids = omega arith;
     }
 
-pub new-ticks : (c : Controller) (h : History) → StandsFor c h → IsNew h → tick_count c ≡ 0
+pub new-ticks : (c : Control) (h : History) → StandsFor c h → IsNew h → tick_count c ≡ 0
 new-ticks c h k new =
     let p = past-is h new in
     let one : length (past_at h).moments ≡ 1 = ap (λ (ms : List Moment). length ms) p.moments in
     let number : (last_moment (past_at h).tables (past_at h).moments).number ≡ 0 =
     ap (λ (ms : List Moment). (last_moment (past_at h).tables ms).number) p.moments in
-    omega (arith, one, number, k.clocks.steps, k.signals.steps, k.preempts.steps, k.orders.ticks)
+    first-ticks c h k one number

@@ -18,8 +18,9 @@ use Rattle.sig_tables.specs.Past.{Past}
 use Rattle.sig_tables.specs.Seen.{mode_seen}
 use Rattle.sig_tables.specs.Decide.{next_moment, with_moment}
 use Rattle.sig_tables.proofs.Ranges.{in-range}
-use Rattle.controller.specs.declared.Controller.{Controller}
-use Rattle.controller.specs.StandsFor.{Keeps}
+use Rattle.cab_control.specs.declared.Control.{Control}
+use Rattle.cab_control.specs.Controls.{Keeps}
+use Rattle.cab_control.proofs.Facts.{within-cycle}
 use Rattle.controller.proofs.Steps.{coord-defined, seek-defined}
 use Rattle.controller.proofs.Counted.{some-cycle}
 use Rattle.cab_book.specs.Stands.{IsShowable}
@@ -34,23 +35,17 @@ cycle-few t n fits d =
     let few : (pattern_of t n).cycle ≤ 255 = ((in-range t fits).patterns n (leb-true 1 n place.0) (leb-true n 48 place.1)).cycle in
     omega (arith, few)
 
-head_counter : (b : Bool) (x : ℕ) (xs : List ℕ) → b ≡ true → last_counter (if b then x ∷ xs else []) ≡ x
-head_counter true x xs e = refl
-head_counter false x xs e = absurd (false≢true e)
-
 -- in step the counter is within the cycle
-in-step-few : (c : Controller) (past : Past) (n : ℕ) → Keeps c (with_moment past (next_moment past)) → EachFits past.tables
+in-step-few : (c : Control) (past : Past) (n : ℕ) → Keeps c (with_moment past (next_moment past)) → EachFits past.tables
     → mode_seen past ≡ Coord n → (next_moment past).frame.counter ≤ 2147483647
 in-step-few c past n k fits e =
     let f = (next_moment past).frame in
     let mode : f.mode ≡ Coord n = ap (λ (x : Mode). mode_reached x past.tables f.veh) e in
     let same : same_mode f.mode (Coord n) ≡ true = subst (λ (x : Mode). same_mode x (Coord n) ≡ true) (sym mode) (same_number n) in
     let version : (f.version == past.version) ≡ true = same_number past.version in
-    let on = k.counts n (and_from (same_mode f.mode (Coord n)) (f.version == past.version) same version) in
-    let listed : last_counter (counters_since n past.version (next_moment past ∷ past.moments)) ≡ f.counter =
-    head_counter (f.version == past.version && same_mode f.mode (Coord n)) f.counter (counters_since n past.version past.moments)
-    (and_from (f.version == past.version) (same_mode f.mode (Coord n)) version same) in
-    omega (arith, on.within, on.stands.counter, listed, cycle-few past.tables n fits (coord-defined past n e))
+    let within = within-cycle c (with_moment past (next_moment past)) n k
+    (and_from (same_mode f.mode (Coord n)) (f.version == past.version) same version) in
+    omega (arith, within, cycle-few past.tables n fits (coord-defined past n e))
 
 none : (past : Past) (mode : Mode) → mode_seen past ≡ mode
     → counter_in past.tables mode (target_in past.tables (mode_seen past) (clock_now past)) past.moments ≡ 0
@@ -60,7 +55,7 @@ none past mode e zero =
     ap (λ (x : Mode). counter_in past.tables x (target_in past.tables (mode_seen past) (clock_now past)) past.moments) e ∙ zero in
     omega (arith, given)
 
-counter-few : (c : Controller) (past : Past) → Keeps c (with_moment past (next_moment past)) → EachFits past.tables
+counter-few : (c : Control) (past : Past) → Keeps c (with_moment past (next_moment past)) → EachFits past.tables
     → (mode : Mode) → mode_seen past ≡ mode → (next_moment past).frame.counter ≤ 2147483647
 counter-few c past k fits (Coord n) e = in-step-few c past n k fits e
 counter-few c past k fits Start e = none past Start e refl
@@ -91,7 +86,7 @@ target-few past fits (Track i) e = omega arith
 target-few past fits (Dwell i) e = omega arith
 target-few past fits (Exit i) e = omega arith
 
-pub ticked-shows : (c : Controller) (past : Past) → Keeps c (with_moment past (next_moment past)) → EachFits past.tables
+pub ticked-shows : (c : Control) (past : Past) → Keeps c (with_moment past (next_moment past)) → EachFits past.tables
     → IsShowable (with_moment past (next_moment past))
 ticked-shows c past k fits = record {
   clock = mod_below _ 864000 (omega arith);

@@ -4,8 +4,8 @@ use Rattle.sig_types.specs.declared.frame.Frame.{Frame}
 use Rattle.sig_tables.specs.Past.{History}
 use Rattle.sig_tables.specs.Putting.{EachFits}
 use Rattle.sig_tables.specs.Decide.{decide, ticked, past_at, frames, last_frame_of}
-use Rattle.controller.specs.declared.Controller.{Controller}
-use Rattle.controller.specs.StandsFor.{StandsFor, tick_count}
+use Rattle.cab_control.specs.declared.Control.{Control}
+use Rattle.cab_control.specs.Controls.{StandsFor, tick_count}
 use Rattle.controller.specs.Strides.{ticks_more, is_told}
 use Rattle.stage_txn.specs.Answers.{answered, kept, standing}
 use Rattle.cabinet_story.specs.Installs.{FewInstalls}
@@ -70,18 +70,18 @@ version-on zero h = refl
 version-on (suc k) h = version-on k h
 
 -- the cabinet with what its controller has become by so many ticks
-abbrev pub with_ticks : Cabinet → Controller → ℕ → Cabinet
-with_ticks c k m = record { controller = k; stage = c.stage; community = c.community; ticks = c.ticks + m }
+abbrev pub with_ticks : Cabinet → Control → ℕ → Cabinet
+with_ticks c k m = record { control = k; stage = c.stage; community = c.community; ticks = c.ticks + m }
 
-stride-keeps : (c : Cabinet) (k : Controller) (m : ℕ) (has : Coming) → 1 ≤ m → Keeps c has → StandsFor k (ticks_more m has.history)
-    → tick_count k ≡ tick_count c.controller + m
+stride-keeps : (c : Cabinet) (k : Control) (m : ℕ) (has : Coming) → 1 ≤ m → Keeps c has → StandsFor k (ticks_more m has.history)
+    → tick_count k ≡ tick_count c.control + m
     → Keeps (with_ticks c k m) (record { history = ticks_more m has.history; calls = has.calls })
 stride-keeps c k zero has some is stands counted = absurd (omega (arith, some))
 stride-keeps c k (suc m) has some is stands counted =
     let fits : EachFits (past_at (ticks_more m has.history)).tables = subst EachFits (sym (tables-on m has.history)) is.sound.fits in
     let few : ℕ → Type 0 = λ v. FewInstalls v (kept (answered has.calls)) (standing (answered has.calls)) in
     record {
-      controller = stands;
+      control = stands;
       stage = is.stage;
       counted = omega (arith, counted, is.counted);
       sound = record {
@@ -94,8 +94,8 @@ stride-keeps c k (suc m) has some is stands counted =
       };
     }
 
-pub stride-stands : (c : Cabinet) (k : Controller) (m : ℕ) (story : Story) → 1 ≤ m → CabinetStands c story
-    → StandsFor k (ticks_more m (history_of story)) → tick_count k ≡ tick_count c.controller + m
+pub stride-stands : (c : Cabinet) (k : Control) (m : ℕ) (story : Story) → 1 ≤ m → CabinetStands c story
+    → StandsFor k (ticks_more m (history_of story)) → tick_count k ≡ tick_count c.control + m
     → CabinetStands (with_ticks c k m) (ticks_on m story)
 stride-stands c k m story some is stands counted = record {
   community = is.community ∙ sym (community-on m story);

@@ -3,8 +3,8 @@ use Rattle.std.proofs.Common.{◌≡◌, ℕ, ◌+◌, ◌∙◌, Bool, if◌the
 use Rattle.sig_types.specs.declared.frame.Frame.{Frame}
 use Rattle.sig_tables.specs.Past.{History}
 use Rattle.sig_tables.specs.Decide.{decide, ticked, past_at, frames, last_frame_of}
-use Rattle.controller.specs.declared.Controller.{Controller}
-use Rattle.controller.specs.StandsFor.{StandsFor, tick_count}
+use Rattle.cab_control.specs.declared.Control.{Control}
+use Rattle.cab_control.specs.Controls.{StandsFor, tick_count}
 use Rattle.round_streams.specs.Items.{Ticked}
 use Rattle.cabinet_story.specs.Story.{Story, with_item}
 use Rattle.cabinet_story.specs.Coming.{Coming, coming, history_of}
@@ -14,13 +14,13 @@ use Rattle.cab_book.specs.Stands.{Keeps, CabinetStands}
 use Rattle.cab_book.proofs.Showable.{ticked-shows}
 
 -- the cabinet with what its controller has become
-abbrev pub with_tick : Cabinet → Controller → Cabinet
-with_tick c k = record { controller = k; stage = c.stage; community = c.community; ticks = c.ticks + 1 }
+abbrev pub with_tick : Cabinet → Control → Cabinet
+with_tick c k = record { control = k; stage = c.stage; community = c.community; ticks = c.ticks + 1 }
 
-pub tick-keeps : (c : Cabinet) (k : Controller) (has : Coming) → Keeps c has → StandsFor k (ticked has.history) → tick_count k ≡ tick_count c.controller + 1
+pub tick-keeps : (c : Cabinet) (k : Control) (has : Coming) → Keeps c has → StandsFor k (ticked has.history) → tick_count k ≡ tick_count c.control + 1
     → Keeps (with_tick c k) (record { history = ticked has.history; calls = has.calls })
 tick-keeps c k has is stands counted = record {
-  controller = stands;
+  control = stands;
   stage = is.stage;
   counted = omega (arith, counted, is.counted);
   sound = record {
@@ -33,8 +33,8 @@ tick-keeps c k has is stands counted = record {
   };
 }
 
-pub tick-stands : (c : Cabinet) (k : Controller) (story : Story) → CabinetStands c story → StandsFor k (ticked (history_of story))
-    → tick_count k ≡ tick_count c.controller + 1 → CabinetStands (with_tick c k) (with_item story Ticked)
+pub tick-stands : (c : Cabinet) (k : Control) (story : Story) → CabinetStands c story → StandsFor k (ticked (history_of story))
+    → tick_count k ≡ tick_count c.control + 1 → CabinetStands (with_tick c k) (with_item story Ticked)
 tick-stands c k story is stands counted = record { community = is.community; keeps = tick-keeps c k (coming story) is.keeps stands counted }
 
 -- the frame is written where it has a line

@@ -4,8 +4,8 @@ use Rattle.sig_tables.specs.Past.{Past, History, Event, SetDrift}
 use Rattle.sig_tables.specs.Seen.{frame_seen}
 use Rattle.sig_tables.specs.Showing.{clock_shown}
 use Rattle.sig_tables.specs.Decide.{frames}
-use Rattle.controller.specs.StandsFor.{StandsFor, tick_count}
-use Rattle.controller.specs.declared.Controller.{Controller}
+use Rattle.cab_control.specs.Controls.{StandsFor, tick_count}
+use Rattle.cab_control.specs.declared.Control.{Control}
 use Rattle.stage_txn.specs.declared.Stage.{Stage}
 use Rattle.sig_types.specs.declared.notes.StageAnswer.{StageAnswer}
 use Rattle.agent.specs.declared.ask.Wish.{Wish}
@@ -35,9 +35,9 @@ pub record IsSound (n : ℕ) (has : Coming) : Type 0 where
 
 -- a controller and a stage stand for what a story has come to
 pub record Keeps (c : Cabinet) (has : Coming) : Type 0 where
-  pub controller : StandsFor c.controller has.history
+  pub control : StandsFor c.control has.history
   pub stage : StageStands c.stage has.calls
-  pub counted : tick_count c.controller ≡ c.ticks
+  pub counted : tick_count c.control ≡ c.ticks
   pub sound : IsSound c.ticks has
 
 -- and the cabinet is that of the story
@@ -46,8 +46,8 @@ pub record CabinetStands (c : Cabinet) (story : Story) : Type 0 where
   pub keeps : Keeps c (coming story)
 
 -- the stage has answered a wish, and the controller has not yet carried it out
-pub record IsAnswered (controller : Controller) (stage : Stage) (has : Coming) (wish : Wish) (answer : Option StageAnswer) : Type 0 where
-  pub controller_stands : StandsFor controller has.history
+pub record IsAnswered (control : Control) (stage : Stage) (has : Coming) (wish : Wish) (answer : Option StageAnswer) : Type 0 where
+  pub controller_stands : StandsFor control has.history
   pub stage_stands : StageStands stage (with_call has.calls (call_of has wish))
   pub answer_is : answer ≡ outcome has wish
   pub few : FewInstalls (past_of has).version (kept (answered has.calls)) (standing (answered has.calls))

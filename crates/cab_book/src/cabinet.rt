@@ -1,9 +1,10 @@
-//! A cabinet: its controller, its download stage, and the community of those who may ask it.
+//! A cabinet: what gives its frames, its download stage, and the community of those who may ask it.
 
 ghost use Rattle.std.specs.Prelude.{◌≡◌, ◌<◌, ◌≤◌, ◌+◌, option_to_list, Some};
 ghost use Rattle.sig_tables.specs.Past.{History};
 ghost use Rattle.sig_tables.specs.Decide.{last_frame_of, past_at};
-ghost use Rattle.controller.specs.StandsFor.{StandsFor, NamesPlace};
+ghost use Rattle.controller.specs.StandsFor.{NamesPlace};
+ghost use Rattle.cab_control.specs.Controls.{StandsFor};
 ghost use Rattle.controller.specs.Strides.{IsStride};
 ghost use Rattle.agent.specs.Asks.{IsAsked, CanBeCarriedOut};
 ghost use Rattle.round_streams.specs.Items.{Told as ToldItem, Came, Ticked};
@@ -16,8 +17,8 @@ use crate::carrying::{call_stage, carry_out, end_of};
 use crate::frames::has_line;
 use agent::{Ask, answer, decode_into};
 use arrayvec::ArrayVec;
+use cab_control::Control;
 use cabinet_story::Load;
-use controller::Controller;
 use sig_tables::Tables;
 use sig_types::{Field, Frame, Octets};
 use stage_txn::Stage;
@@ -25,7 +26,7 @@ use stage_txn::Stage;
 /// A cabinet, and the number of its ticks so far.
 #[derive(Drop)]
 pub struct Cabinet {
-    controller: Controller,
+    control: Control,
     stage: Stage,
     community: ArrayVec<u8, 32>,
     ticks: u32,
@@ -42,13 +43,13 @@ impl Cabinet {
     ghost use Rattle.cab_book.specs.Stands.{IsNew, Keeps, CabinetStands};
     ghost use Rattle.cab_book.specs.Ticks.{ticks_on, ticks_written};
 
-    /// A cabinet whose controller has just been opened, with the community of those who may ask it. Nothing was sent to its stage.
-    pub fn new(controller: Controller, community: ArrayVec<u8, 32>) -> Cabinet
-        requires new { (h : History) × StandsFor controller h × IsNew h }
-        ensures stands { (h : History) → StandsFor controller h → IsNew h → CabinetStands result (opened community.items h) }
+    /// A cabinet whose control has just been opened, with the community of those who may ask it. Nothing was sent to its stage.
+    pub fn new(control: Control, community: ArrayVec<u8, 32>) -> Cabinet
+        requires new { (h : History) × StandsFor control h × IsNew h }
+        ensures stands { (h : History) → StandsFor control h → IsNew h → CabinetStands result (opened community.items h) }
     {
         Cabinet {
-            controller,
+            control,
             stage: Stage::new(),
             community,
             ticks: 0,
@@ -59,14 +60,14 @@ impl Cabinet {
     pub fn frame(&self) -> Frame
         ensures { (story : Story) → CabinetStands self.now story → result ≡ last_frame_of (history_of story) }
     {
-        self.controller.frame()
+        self.control.frame()
     }
 
     /// The tables in force.
     pub fn tables(&self) -> &Tables
         ensures { (story : Story) → CabinetStands self.now story → result.now ≡ (past_at (history_of story)).tables }
     {
-        self.controller.tables()
+        self.control.tables()
     }
 
     /// It hears an input from the street.
@@ -75,7 +76,7 @@ impl Cabinet {
         ensures stands { (story : Story) → CabinetStands self.old story → CabinetStands self.new (with_item story (ToldItem field)) }
         ensures ticks { self.new.ticks ≡ self.old.ticks }
     {
-        self.controller.input(field);
+        self.control.input(field);
     }
 
     /// A tick of 0.1 s: its frame with its number, where that has a line.
@@ -86,8 +87,8 @@ impl Cabinet {
         ensures stands { (story : Story) → CabinetStands self.old story → CabinetStands self.new (with_item story Ticked) }
         ensures ticks { self.new.ticks ≡ self.old.ticks + 1 }
     {
-        let last = self.controller.frame();
-        let next = self.controller.tick();
+        let last = self.control.frame();
+        let next = self.control.tick();
         self.ticks += 1;
         if has_line(&last, &next) {
             Some((self.ticks, next))
@@ -109,10 +110,10 @@ impl Cabinet {
         ensures some { 1 ≤ result.0 }
         ensures within { result.0 ≤ n }
     {
-        let (ticks, told) = self.controller.stride_told(n);
+        let (ticks, told) = self.control.stride_told(n);
         self.ticks += ticks;
         if told {
-            (ticks, Some((self.ticks, self.controller.frame())))
+            (ticks, Some((self.ticks, self.control.frame())))
         } else {
             (ticks, None)
         }
@@ -131,7 +132,7 @@ impl Cabinet {
     {
         let mut ask = Ask::blank();
         let community = self.community.as_slice();
-        match decode_into(octets, community, self.controller.tables(), &mut ask) {
+        match decode_into(octets, community, self.control.tables(), &mut ask) {
             Some(()) => self.heed(&ask),
             None => Told {
                 text: None,
@@ -151,13 +152,13 @@ impl Cabinet {
         ensures community { self.new.community ≡ self.old.community }
         ensures ticks { self.new.ticks ≡ self.old.ticks }
     {
-        let shown = self.controller.shown();
+        let shown = self.control.shown();
         let state = self.stage.state();
         let last = self.stage.last();
-        let outcome = call_stage(&mut self.stage, &self.controller, &ask.wish);
-        let text = answer(ask, self.controller.tables(), &shown, state, last, outcome);
+        let outcome = call_stage(&mut self.stage, &self.control, &ask.wish);
+        let text = answer(ask, self.control.tables(), &shown, state, last, outcome);
         let load = end_of(shown.version, &ask.wish, outcome);
-        carry_out(&mut self.controller, &self.stage, &ask.wish, outcome);
+        carry_out(&mut self.control, &self.stage, &ask.wish, outcome);
         Told {
             text: Some(text),
             load,

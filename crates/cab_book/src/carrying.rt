@@ -3,7 +3,7 @@
 ghost use Rattle.std.specs.Prelude.{◌≡◌, ◌<◌, ◌≤◌, ◌+◌, All, map};
 ghost use Rattle.sig_tables.specs.Past.{History};
 ghost use Rattle.sig_tables.specs.Decide.{with_one};
-ghost use Rattle.controller.specs.StandsFor.{StandsFor, tick_count};
+ghost use Rattle.cab_control.specs.Controls.{StandsFor, tick_count};
 ghost use Rattle.stage_txn.specs.Stands.{StandsFor as StageStands};
 ghost use Rattle.agent.specs.Asks.{CanBeCarriedOut};
 ghost use Rattle.agent.specs.Orders.{IsFit};
@@ -13,29 +13,29 @@ ghost use Rattle.cab_book.specs.Stands.{IsAnswered};
 ghost use Rattle.cab_book.specs.Carried.{orders_in, is_accepted};
 
 use agent::{Order, Wish};
+use cab_control::Control;
 use cabinet_story::Load;
-use controller::Controller;
 use sig_types::StageAnswer;
 use stage_txn::Stage;
 
 /// The stage is called, where a wish is one for it.
-pub fn call_stage(stage: &mut Stage, controller: &Controller, wish: &Wish) -> Option<StageAnswer>
+pub fn call_stage(stage: &mut Stage, control: &Control, wish: &Wish) -> Option<StageAnswer>
     requires can { CanBeCarriedOut wish.now }
-    ensures outcome { (has : Coming) → StandsFor controller.now has.history → StageStands stage.old has.calls
+    ensures outcome { (has : Coming) → StandsFor control.now has.history → StageStands stage.old has.calls
         → result ≡ outcome_of has wish.now }
-    ensures stands { (has : Coming) → StandsFor controller.now has.history → StageStands stage.old has.calls
+    ensures stands { (has : Coming) → StandsFor control.now has.history → StageStands stage.old has.calls
         → StageStands stage.new (with_call has.calls (call_of has wish.now)) }
 {
     match wish {
-        Wish::Begin(id) => Some(stage.begin(*id, controller.tables())),
+        Wish::Begin(id) => Some(stage.begin(*id, control.tables())),
         Wish::Part(id, number, puts) => Some(stage.part(*id, *number, puts.as_slice())),
         Wish::Verify(id, total) => {
-            let flashing = controller.flashing();
-            Some(stage.verify(*id, *total, controller.tables(), flashing))
+            let flashing = control.flashing();
+            Some(stage.verify(*id, *total, control.tables(), flashing))
         }
         Wish::Finish(id) => {
-            let flashing = controller.flashing();
-            Some(stage.finish(*id, controller.tables(), flashing))
+            let flashing = control.flashing();
+            Some(stage.finish(*id, control.tables(), flashing))
         }
         Wish::Get | Wish::Next | Wish::Direct(_) | Wish::Bad { .. } => None,
     }
@@ -70,27 +70,27 @@ pub fn end_of(version: u32, wish: &Wish, outcome: Option<StageAnswer>) -> Option
 }
 
 /// The controller carries out an order.
-fn give_one(controller: &mut Controller, order: Order)
+fn give_one(control: &mut Control, order: Order)
     requires fit { IsFit order }
-    ensures stands { (h : History) → StandsFor controller.old h → StandsFor controller.new (with_one h (order_event order)) }
-    ensures counted { tick_count controller.new ≡ tick_count controller.old }
+    ensures stands { (h : History) → StandsFor control.old h → StandsFor control.new (with_one h (order_event order)) }
+    ensures counted { tick_count control.new ≡ tick_count control.old }
 {
     match order {
-        Order::Pattern(number) => controller.pattern(number),
-        Order::Clock(time) => controller.clock(time),
-        Order::Request(request) => controller.request(request),
-        Order::Cancel(number) => controller.cancel(number),
+        Order::Pattern(number) => control.pattern(number),
+        Order::Clock(time) => control.clock(time),
+        Order::Request(request) => control.request(request),
+        Order::Cancel(number) => control.cancel(number),
     }
 }
 
 /// The controller carries out orders, one after another.
-fn give(controller: &mut Controller, orders: &[Order])
+fn give(control: &mut Control, orders: &[Order])
     requires fit { All IsFit orders.now }
-    ensures stands { (h : History) → StandsFor controller.old h → StandsFor controller.new (with_events h (map order_event orders.now)) }
-    ensures counted { tick_count controller.new ≡ tick_count controller.old }
+    ensures stands { (h : History) → StandsFor control.old h → StandsFor control.new (with_events h (map order_event orders.now)) }
+    ensures counted { tick_count control.new ≡ tick_count control.old }
 {
     for order in orders {
-        give_one(controller, *order);
+        give_one(control, *order);
     }
 }
 
@@ -118,20 +118,15 @@ fn is_accepted(wish: &Wish, outcome: Option<StageAnswer>) -> bool
 }
 
 /// The controller carries out a wish, after the stage has answered: orders, or the tables of a download that was accepted.
-pub fn carry_out(
-    controller: &mut Controller,
-    stage: &Stage,
-    wish: &Wish,
-    outcome: Option<StageAnswer>,
-)
+pub fn carry_out(control: &mut Control, stage: &Stage, wish: &Wish, outcome: Option<StageAnswer>)
     requires can { CanBeCarriedOut wish.now }
-    requires answered { ∥ ((has : Coming) × IsAnswered controller.old stage.now has wish.now outcome) ∥₁ }
-    ensures stands { (has : Coming) → IsAnswered controller.old stage.now has wish.now outcome
-        → StandsFor controller.new (with_events has.history (events_of has wish.now)) }
-    ensures counted { tick_count controller.new ≡ tick_count controller.old }
+    requires answered { ∥ ((has : Coming) × IsAnswered control.old stage.now has wish.now outcome) ∥₁ }
+    ensures stands { (has : Coming) → IsAnswered control.old stage.now has wish.now outcome
+        → StandsFor control.new (with_events has.history (events_of has wish.now)) }
+    ensures counted { tick_count control.new ≡ tick_count control.old }
 {
-    give(controller, orders_of(wish));
+    give(control, orders_of(wish));
     if is_accepted(wish, outcome) {
-        controller.install(*stage.staged());
+        control.install(*stage.staged());
     }
 }

@@ -4,7 +4,7 @@ ghost use Rattle.std.specs.Prelude.{◌≡◌, [], IfOk, map};
 ghost use Rattle.scenario_data.specs.Content.{ScenarioContent, cabinet_content};
 ghost use Rattle.runnable.specs.Runnable.{CanOpen, AllOpen};
 ghost use Rattle.runnable.specs.Cabinets.{opening_history};
-ghost use Rattle.controller.specs.StandsFor.{StandsFor};
+ghost use Rattle.cab_control.specs.Controls.{StandsFor};
 ghost use Rattle.cabinet_story.specs.Story.{opened};
 ghost use Rattle.cab_book.specs.Books.{BookStands, journal_of, ticks_by_end};
 ghost use Rattle.run_lines.specs.Standing.{opened_standings};
@@ -12,7 +12,7 @@ ghost use Rattle.round_run.specs.Standings.{AreAt, TicksWithin};
 
 use arrayvec::ArrayVec;
 use cab_book::{Book, Cabinet};
-use controller::Controller;
+use cab_control::{Control, Way};
 use round_run::books_follow_runs;
 use scenario_data::{Cabinet as Setup, opening_tables, opening_tables_in_range};
 use sig_types::NoMemory;
@@ -28,31 +28,67 @@ fn same_community(community: &ArrayVec<u8, 32>) -> ArrayVec<u8, 32>
     same
 }
 
-/// The controller of a cabinet to which nothing has happened, but that its clock may drift.
-fn controller_of(setup: &Setup) -> Controller
+/// The control of a cabinet to which nothing has happened, but that its clock may drift.
+fn control_of(alloc: Global, way: Way, setup: &Setup) -> Result<Control, NoMemory>
     requires { CanOpen (cabinet_content setup.now) }
-    ensures { StandsFor result (opening_history (cabinet_content setup.now)) }
+    ensures { IfOk result (λ control. StandsFor control (opening_history (cabinet_content setup.now))) }
 {
-    let mut controller = Controller::open(opening_tables(setup), setup.pattern, setup.clock);
-    controller.drift(setup.gain, setup.lose);
-    controller
+    let opened = Control::open(
+        alloc,
+        way,
+        opening_tables(setup),
+        setup.pattern,
+        setup.clock,
+    );
+    match opened {
+        Ok(mut control) => {
+            control.drift(setup.gain, setup.lose);
+            Ok(control)
+        }
+        Err(NoMemory) => Err(NoMemory),
+    }
 }
 
-/// A cabinet to which nothing has come, in its book.
-fn book_of(alloc: Global, setup: &Setup, community: &ArrayVec<u8, 32>) -> Book
-    requires { CanOpen (cabinet_content setup.now) }
+/// The book of this cabinet, to which nothing has come.
+fn book_by(
+    alloc: Global,
+    control: Control,
+    setup: &Setup,
+    community: &ArrayVec<u8, 32>,
+) -> Book
+    requires can { CanOpen (cabinet_content setup.now) }
+    requires control { StandsFor control (opening_history (cabinet_content setup.now)) }
     ensures stands { BookStands result (opened community.now.items (opening_history (cabinet_content setup.now))) }
     ensures journal { journal_of result ≡ [] }
     ensures ticks { ticks_by_end result ≡ 0 }
 {
     opening_tables_in_range();
-    let cabinet = Cabinet::new(controller_of(setup), same_community(community));
+    let cabinet = Cabinet::new(control, same_community(community));
     Book::new(alloc, cabinet)
 }
 
-/// The books of all cabinets, to which nothing has come.
+/// A cabinet to which nothing has come, in its book.
+fn book_of(
+    alloc: Global,
+    way: Way,
+    setup: &Setup,
+    community: &ArrayVec<u8, 32>,
+) -> Result<Book, NoMemory>
+    requires { CanOpen (cabinet_content setup.now) }
+    ensures stands { IfOk result (λ book. BookStands book (opened community.now.items (opening_history (cabinet_content setup.now)))) }
+    ensures journal { IfOk result (λ book. journal_of book ≡ []) }
+    ensures ticks { IfOk result (λ book. ticks_by_end book ≡ 0) }
+{
+    match control_of(alloc, way, setup) {
+        Ok(control) => Ok(book_by(alloc, control, setup, community)),
+        Err(NoMemory) => Err(NoMemory),
+    }
+}
+
+/// The books of all cabinets, to which nothing has come, whose frames come about this way.
 pub fn open_books(
     alloc: Global,
+    way: Way,
     setups: &[Setup],
     community: &ArrayVec<u8, 32>,
 ) -> Result<Vec<Book>, NoMemory>
@@ -64,7 +100,11 @@ pub fn open_books(
     books_follow_runs();
     let mut books = Vec::new(alloc);
     for setup in setups {
-        if books.push(book_of(alloc, setup, community)).is_err() {
+        let book = match book_of(alloc, way, setup, community) {
+            Ok(book) => book,
+            Err(NoMemory) => return Err(NoMemory),
+        };
+        if books.push(book).is_err() {
             return Err(NoMemory);
         }
     }

@@ -11,6 +11,7 @@ ghost use Rattle.round_run.specs.Joined.{AreFresh, HaveFewLeft};
 
 use crate::books::open_books;
 use cab_book::Book;
+use cab_control::Way;
 use desk::{Begun, Desk};
 use round_run::{answers, books_follow_runs, open_rounds};
 use scenario_data::Scenario;
@@ -27,8 +28,8 @@ pub struct Corridor {
 impl Corridor {
     ghost use Rattle.corridor.specs.Corridor.{Between, InRound};
 
-    /// The corridor of a scenario before its first round.
-    pub fn open(alloc: Global, s: &Scenario) -> Result<Corridor, NoMemory>
+    /// The corridor of a scenario before its first round, in which the frames of the cabinets come about this way.
+    pub fn open(alloc: Global, way: Way, s: &Scenario) -> Result<Corridor, NoMemory>
         requires { Runnable (scenario_content s.now) }
         ensures { IfOk result (Between (scenario_content s.now) 0 (opened_standings (scenario_content s.now) (scenario_content s.now).cabinets)) }
     {
@@ -36,7 +37,7 @@ impl Corridor {
             Ok(desk) => desk,
             Err(NoMemory) => return Err(NoMemory),
         };
-        match open_books(alloc, s.cabinets.as_slice(), &s.community) {
+        match open_books(alloc, way, s.cabinets.as_slice(), &s.community) {
             Ok(books) => Ok(Corridor { desk, books }),
             Err(NoMemory) => Err(NoMemory),
         }

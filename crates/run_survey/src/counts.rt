@@ -9,6 +9,7 @@ ghost use Rattle.run_survey.specs.Counting.{counts_of};
 
 use crate::rounds::run_rounds;
 use crate::tally::Tally;
+use cab_control::Way;
 use corridor::Corridor;
 use scenario_data::Scenario;
 use sig_types::NoMemory;
@@ -63,7 +64,7 @@ pub fn survey(alloc: Global, s: &Scenario) -> Result<Counts, NoMemory>
     requires { Runnable (scenario_content s.now) }
     ensures { IfOk result (λ counts. counts ≡ counts_of (run_lines (scenario_content s.now) (serial_journals (scenario_content s.now)))) }
 {
-    let mut corridor = match Corridor::open(alloc, s) {
+    let mut corridor = match Corridor::open(alloc, Way::Registers, s) {
         Ok(corridor) => corridor,
         Err(NoMemory) => return Err(NoMemory),
     };

@@ -26,6 +26,7 @@ use crate::places::Place;
 use crate::rounds::check_round;
 use crate::watching::{first_seen, nothing_seen};
 use cab_book::Book;
+use cab_control::Way;
 use corridor::Corridor;
 use one_trace::run_texts_are_safe;
 use runnable_scenarios::scenarios_run;
@@ -106,7 +107,7 @@ fn check_rest(
     ensures reads { ReadsWhole (script_of (scenario_content s.now)) start.entry result }
     ensures seen { OnOk result (RestSeen (scenario_content s.now) start.entry.left.now watched seen.new) }
 {
-    let mut corridor = match Corridor::open(alloc, s) {
+    let mut corridor = match Corridor::open(alloc, Way::LookingBack, s) {
         Ok(corridor) => corridor,
         Err(NoMemory) => return Err(CheckFail::NoMemory),
     };

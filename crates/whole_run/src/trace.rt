@@ -16,6 +16,7 @@ use crate::crew::Crew;
 use crate::lines::{put_book, put_frame, put_notes};
 use crate::rounds::run_round;
 use cab_book::Book;
+use cab_control::Way;
 use corridor::Corridor;
 use io_edge::{Gate, Sink};
 use round_run::books_follow_runs;
@@ -127,7 +128,7 @@ fn put_rest<R: Threads + Sync, K: Sink, G: Gate + Sync>(
     ensures { InSomeOrder crew.now.workers (scenario_content s.now) (λ journals.
         HandsOver K.written K.faults result writer.old writer.new sink.old sink.new (lines_text (rest_lines (scenario_content s.now) journals))) }
 {
-    let mut corridor = match Corridor::open(alloc, s) {
+    let mut corridor = match Corridor::open(alloc, Way::Registers, s) {
         Ok(corridor) => corridor,
         Err(NoMemory) => return Err(Stop::NoMemory),
     };

@@ -4,7 +4,9 @@ use Rattle.std.proofs.Math.Logic.{∥∥₁_elim}
 use Rattle.sig_tables.specs.Past.{Event, Install}
 use Rattle.sig_tables.specs.declared.tables.Tables.{Tables}
 use Rattle.stage_txn.specs.Answers.{answered, kept, standing}
-use Rattle.controller.specs.StandsFor.{StandsFor, CanRun}
+use Rattle.controller.specs.StandsFor.{CanRun}
+use Rattle.cab_control.specs.Controls.{StandsFor}
+use Rattle.cab_control.proofs.Facts.{installs-are}
 use Rattle.agent.specs.declared.ask.Order.{Order}
 use Rattle.agent.specs.Orders.{IsFit}
 use Rattle.cabinet_story.specs.Coming.{Coming, past_of, outcome, order_event, events_of, with_events, with_call, call_of}
@@ -19,7 +21,7 @@ give-requires c = record { fit = subst (λ (xs : List Order). All IsFit xs) (sym
 
 pub install-requires-clause-tables : goal.install-requires-clause-tables
 install-requires-clause-tables c =
-    let runs = λ (some : (has : Coming) × IsAnswered c.args.controller.now c.args.stage.now has c.args.wish.now c.args.outcome).
+    let runs = λ (some : (has : Coming) × IsAnswered c.args.control.now c.args.stage.now has c.args.wish.now c.args.outcome).
     let has = some.0 in
     let is = some.1 in
     let yes : is_accepted c.args.wish.now (outcome has c.args.wish.now) ≡ true =
@@ -37,8 +39,8 @@ install-requires-clause-few c = ∥∥₁_elim c.requires.answered le_prop (λ s
     let yes : is_accepted c.args.wish.now (outcome has c.args.wish.now) ≡ true =
     ap (is_accepted c.args.wish.now) (sym is.answer_is) ∙ sym c.is_accepted.ensures ∙ c.if-is_accepted.true in
     let none : map order_event c.orders_of.result.now ≡ [] = ap (map order_event) c.orders_of.ensures ∙ (puts-staged has c.args.wish.now yes).orders in
-    let before = subst (λ (es : List Event). StandsFor c.give.new.controller (with_events has.history es)) none (c.give.ensures.stands has.history is.controller_stands) in
-    omega (arith, before.version, few-within (past_of has).version (kept (answered has.calls)) (standing (answered has.calls)) is.few, is.ids))
+    let before = subst (λ (es : List Event). StandsFor c.give.new.control (with_events has.history es)) none (c.give.ensures.stands has.history is.controller_stands) in
+    omega (arith, installs-are c.give.new.control has.history before, few-within (past_of has).version (kept (answered has.calls)) (standing (answered has.calls)) is.few, is.ids))
 
 pub returns-then-is_accepted-clause-stands : goal.returns-then-is_accepted-clause-stands
 returns-then-is_accepted-clause-stands c = λ has is.
@@ -46,7 +48,7 @@ returns-then-is_accepted-clause-stands c = λ has is.
     ap (is_accepted c.args.wish.now) (sym is.answer_is) ∙ sym c.is_accepted.ensures ∙ c.if-is_accepted.true in
     let puts = puts-staged has c.args.wish.now yes in
     let none : map order_event c.orders_of.result.now ≡ [] = ap (map order_event) c.orders_of.ensures ∙ puts.orders in
-    let before = subst (λ (es : List Event). StandsFor c.give.new.controller (with_events has.history es)) none (c.give.ensures.stands has.history is.controller_stands) in
+    let before = subst (λ (es : List Event). StandsFor c.give.new.control (with_events has.history es)) none (c.give.ensures.stands has.history is.controller_stands) in
     let same = c.staged.ensures (with_call has.calls (call_of has c.args.wish.now)) is.stage_stands in
     let installed = c.install.ensures.stands has.history before in
     subst (λ (es : List Event). StandsFor c.install.new.self (with_events has.history es)) (ap (λ (t : Tables). Install t ∷ []) same ∙ sym puts.events) installed
@@ -56,4 +58,4 @@ returns-else-is_accepted-clause-stands c = λ has is.
     let no : is_accepted c.args.wish.now (outcome has c.args.wish.now) ≡ false =
     ap (is_accepted c.args.wish.now) (sym is.answer_is) ∙ sym c.is_accepted.ensures ∙ c.if-is_accepted.false in
     let all : map order_event c.orders_of.result.now ≡ events_of has c.args.wish.now = ap (map order_event) c.orders_of.ensures ∙ orders-alone has c.args.wish.now no in
-    subst (λ (es : List Event). StandsFor c.give.new.controller (with_events has.history es)) all (c.give.ensures.stands has.history is.controller_stands)
+    subst (λ (es : List Event). StandsFor c.give.new.control (with_events has.history es)) all (c.give.ensures.stands has.history is.controller_stands)

@@ -13,11 +13,11 @@ book_of-requires c = next_opens c.args.setups.now c.loop-setup.setup-index _ (om
 
 pub loop-setup-preserved : goal.loop-setup-preserved
 loop-setup-preserved c =
-    let more : c.push.new.self.items ≡ c.loop-setup.books.items ++ c.book_of.result ∷ [] = search rules in
+    let more : c.push.new.self.items ≡ c.loop-setup.books.items ++ c.in-Ok.book ∷ [] = search rules in
     record {
       can_open = others_open c.args.setups.now c.loop-setup.setup-index _ (omega arith) c.setup-item.is c.loop-setup.invariant.can_open;
       each = rw more (opened_next c.args.community.now.items _ _ c.args.setups.now c.loop-setup.setup-index _ (omega arith) c.setup-item.is
-          (record { stands = c.book_of.ensures.stands; journal = c.book_of.ensures.journal; ticks = c.book_of.ensures.ticks }) c.loop-setup.invariant.each);
+          (record { stands = c.in-Ok.ensures.stands; journal = c.in-Ok.ensures.journal; ticks = c.in-Ok.ensures.ticks }) c.loop-setup.invariant.each);
     }
 
 pub returns-clause-at : goal.returns-clause-at

@@ -4,4 +4,4 @@ use Rattle.cab_book.proofs.cabinet.Cabinet.hear.Goals as goal
 
 pub returns-clause-stands : goal.returns-clause-stands
 returns-clause-stands c = λ story is.
-    hear-stands c.args.self.now c.input.new.self story c.args.field is (c.input.ensures.stands (history_of story) is.keeps.controller) c.input.ensures.counted
+    hear-stands c.args.self.now c.input.new.self story c.args.field is (c.input.ensures.stands (history_of story) is.keeps.control) c.input.ensures.counted

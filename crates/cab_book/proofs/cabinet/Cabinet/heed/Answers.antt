@@ -16,7 +16,7 @@ use Rattle.cab_book.proofs.cabinet.Cabinet.heed.Goals as goal
 pub answer-text-requires : goal.answer-text-requires
 answer-text-requires c =
     let within = λ (some : (has : Coming) × Keeps c.args.self.now has).
-    shown-within c.args.self.now.ticks some.0 c.shown-shown.result some.1.sound (c.shown-shown.ensures.shown some.0.history some.1.controller) in
+    shown-within c.args.self.now.ticks some.0 c.shown-shown.result some.1.sound (c.shown-shown.ensures.shown some.0.history some.1.control) in
     record {
       asked = c.requires.asked;
       within = record {
@@ -26,7 +26,7 @@ answer-text-requires c =
         target = ∥∥₁_elim c.requires.some le_prop (λ some. (within some).target);
       };
       outcome = ∥∥₁_elim c.requires.some (Coded-set coded_bool _ _) (λ some.
-          ap (λ (o : Option StageAnswer). is_some o) (c.call_stage-outcome.ensures.outcome some.0 some.1.controller some.1.stage)
+          ap (λ (o : Option StageAnswer). is_some o) (c.call_stage-outcome.ensures.outcome some.0 some.1.control some.1.stage)
           ∙ has-outcome some.0 c.args.ask.now.wish);
     }
 
@@ -35,7 +35,7 @@ end_of-load-requires c = record {
   few = ∥∥₁_elim c.requires.some le_prop (λ some.
       let has = some.0 in
       let is = some.1 in
-      let shown = c.shown-shown.ensures.shown has.history is.controller in
+      let shown = c.shown-shown.ensures.shown has.history is.control in
       omega (arith, shown.version, few-within (past_of has).version (kept (answered has.calls)) (standing (answered has.calls)) is.sound.few, is.sound.ids));
 }
 
@@ -46,9 +46,9 @@ carry_out-requires c =
       answered = ∥∥₁_map c.requires.some (λ some. (
         some.0,
         record {
-          controller_stands = some.1.controller;
-          stage_stands = c.call_stage-outcome.ensures.stands some.0 some.1.controller some.1.stage;
-          answer_is = c.call_stage-outcome.ensures.outcome some.0 some.1.controller some.1.stage;
+          controller_stands = some.1.control;
+          stage_stands = c.call_stage-outcome.ensures.stands some.0 some.1.control some.1.stage;
+          answer_is = c.call_stage-outcome.ensures.outcome some.0 some.1.control some.1.stage;
           few = some.1.sound.few;
           ids = some.1.sound.ids;
         },
@@ -60,28 +60,28 @@ returns-clause-text c = λ has is.
     let vehicle : c.shown-shown.result.veh_calls.0 < 65536 = omega (arith, c.shown-shown.type_inv.1.1.1.0) in
     let pedestrian : c.shown-shown.result.ped_calls.0 < 65536 = omega (arith, c.shown-shown.type_inv.1.1.1.1.0) in
     let shown = shown-is c.shown-shown.result (past_of has) vehicle pedestrian
-    (c.shown-shown.ensures.shown has.history is.controller) in
+    (c.shown-shown.ensures.shown has.history is.control) in
     text-is has c.args.ask.now _ c.call_stage-outcome.result c.answer-text.result
-    (seen-is has c.tables.result.now c.shown-shown.result c.state-state.result c.last-last.result (c.tables.ensures.tables has.history is.controller) shown
+    (seen-is has c.tables.result.now c.shown-shown.result c.state-state.result c.last-last.result (c.tables.ensures.tables has.history is.control) shown
     (c.state-state.ensures has.calls is.stage) (c.last-last.ensures has.calls is.stage))
-    (c.call_stage-outcome.ensures.outcome has is.controller is.stage) c.answer-text.ensures
+    (c.call_stage-outcome.ensures.outcome has is.control is.stage) c.answer-text.ensures
 
 pub returns-clause-load : goal.returns-clause-load
 returns-clause-load c = λ has is.
-    let shown = c.shown-shown.ensures.shown has.history is.controller in
-    let o = c.call_stage-outcome.ensures.outcome has is.controller is.stage in
+    let shown = c.shown-shown.ensures.shown has.history is.control in
+    let o = c.call_stage-outcome.ensures.outcome has is.control is.stage in
     c.end_of-load.ensures
     ∙ ap (λ v. wish_end v c.args.ask.now.wish c.call_stage-outcome.result) shown.version
     ∙ ap (λ (x : Option StageAnswer). wish_end (past_of has).version c.args.ask.now.wish x) o
 
 pub returns-clause-keeps : goal.returns-clause-keeps
 returns-clause-keeps c = λ has is.
-    let stands = c.call_stage-outcome.ensures.stands has is.controller is.stage in
+    let stands = c.call_stage-outcome.ensures.stands has is.control is.stage in
     record {
-      controller = c.carry_out.ensures.stands has (record {
-        controller_stands = is.controller;
+      control = c.carry_out.ensures.stands has (record {
+        controller_stands = is.control;
         stage_stands = stands;
-        answer_is = c.call_stage-outcome.ensures.outcome has is.controller is.stage;
+        answer_is = c.call_stage-outcome.ensures.outcome has is.control is.stage;
         few = is.sound.few;
         ids = is.sound.ids;
       });

@@ -6,6 +6,6 @@ pub returns : goal.returns
 returns c = record {
   stands = λ h k new. record {
     community = refl;
-    keeps = record { controller = k; stage = c.new.ensures.stands; counted = new-ticks c.args.controller h k new; sound = new-sound h new };
+    keeps = record { control = k; stage = c.new.ensures.stands; counted = new-ticks c.args.control h k new; sound = new-sound h new };
   };
 }

@@ -25,19 +25,19 @@ heed-requires c =
 pub returns-in-Some-clause-text : goal.returns-in-Some-clause-text
 returns-in-Some-clause-text c = λ story is.
     let e = asked (Some c.decode_into.new.ask) c.args.octets.now c.as_slice-community.result.now c.args.self.now.community.items c.tables.result.now story (sym c.in-Some.ensures.reads)
-    c.as_slice-community.ensures.value is.community (c.tables.ensures.tables (coming story).history is.keeps.controller) in
+    c.as_slice-community.ensures.value is.community (c.tables.ensures.tables (coming story).history is.keeps.control) in
     c.heed.ensures.text (coming story) is.keeps ∙ ap (λ (x : Option Ask). in_frame (replied (coming story) x)) e
 
 pub returns-in-Some-clause-load : goal.returns-in-Some-clause-load
 returns-in-Some-clause-load c = λ story is.
     let e = asked (Some c.decode_into.new.ask) c.args.octets.now c.as_slice-community.result.now c.args.self.now.community.items c.tables.result.now story (sym c.in-Some.ensures.reads)
-    c.as_slice-community.ensures.value is.community (c.tables.ensures.tables (coming story).history is.keeps.controller) in
+    c.as_slice-community.ensures.value is.community (c.tables.ensures.tables (coming story).history is.keeps.control) in
     c.heed.ensures.load (coming story) is.keeps ∙ ap (ask_end (coming story)) e
 
 pub returns-in-Some-clause-stands : goal.returns-in-Some-clause-stands
 returns-in-Some-clause-stands c = λ story is.
     let e = asked (Some c.decode_into.new.ask) c.args.octets.now c.as_slice-community.result.now c.args.self.now.community.items c.tables.result.now story (sym c.in-Some.ensures.reads)
-    c.as_slice-community.ensures.value is.community (c.tables.ensures.tables (coming story).history is.keeps.controller) in
+    c.as_slice-community.ensures.value is.community (c.tables.ensures.tables (coming story).history is.keeps.control) in
     record {
       community = ap (λ a. a.items) c.heed.ensures.community ∙ is.community;
       keeps = subst (λ (x : Option Ask). Keeps c.heed.new.self (heeded (coming story) x)) e (c.heed.ensures.keeps (coming story) is.keeps);
@@ -46,25 +46,25 @@ returns-in-Some-clause-stands c = λ story is.
 pub returns-in-Some-clause-nothing : goal.returns-in-Some-clause-nothing
 returns-in-Some-clause-nothing c = λ story is none.
     let e = asked (Some c.decode_into.new.ask) c.args.octets.now c.as_slice-community.result.now c.args.self.now.community.items c.tables.result.now story (sym c.in-Some.ensures.reads)
-    c.as_slice-community.ensures.value is.community (c.tables.ensures.tables (coming story).history is.keeps.controller) in
+    c.as_slice-community.ensures.value is.community (c.tables.ensures.tables (coming story).history is.keeps.control) in
     absurd (some-none c.decode_into.new.ask (e ∙ none))
 
 pub returns-in-None-clause-text : goal.returns-in-None-clause-text
 returns-in-None-clause-text c = λ story is.
     let e = asked None c.args.octets.now c.as_slice-community.result.now c.args.self.now.community.items c.tables.result.now story (sym c.in-None.ensures.reads)
-    c.as_slice-community.ensures.value is.community (c.tables.ensures.tables (coming story).history is.keeps.controller) in
+    c.as_slice-community.ensures.value is.community (c.tables.ensures.tables (coming story).history is.keeps.control) in
     ap (λ (x : Option Ask). in_frame (replied (coming story) x)) e
 
 pub returns-in-None-clause-load : goal.returns-in-None-clause-load
 returns-in-None-clause-load c = λ story is.
     let e = asked None c.args.octets.now c.as_slice-community.result.now c.args.self.now.community.items c.tables.result.now story (sym c.in-None.ensures.reads)
-    c.as_slice-community.ensures.value is.community (c.tables.ensures.tables (coming story).history is.keeps.controller) in
+    c.as_slice-community.ensures.value is.community (c.tables.ensures.tables (coming story).history is.keeps.control) in
     ap (ask_end (coming story)) e
 
 pub returns-in-None-clause-stands : goal.returns-in-None-clause-stands
 returns-in-None-clause-stands c = λ story is.
     let e = asked None c.args.octets.now c.as_slice-community.result.now c.args.self.now.community.items c.tables.result.now story (sym c.in-None.ensures.reads)
-    c.as_slice-community.ensures.value is.community (c.tables.ensures.tables (coming story).history is.keeps.controller) in
+    c.as_slice-community.ensures.value is.community (c.tables.ensures.tables (coming story).history is.keeps.control) in
     record {
       community = is.community;
       keeps = subst (λ (x : Option Ask). Keeps c.args.self.now (heeded (coming story) x)) e is.keeps;

@@ -2,4 +2,4 @@ use Rattle.cabinet_story.specs.Coming.{history_of}
 use Rattle.cab_book.proofs.cabinet.Cabinet.tables.Goals as goal
 
 pub returns : goal.returns
-returns c = λ story is. c.tables.ensures.tables (history_of story) is.keeps.controller
+returns c = λ story is. c.tables.ensures.tables (history_of story) is.keeps.control

@@ -4,25 +4,25 @@ use Rattle.runnable.specs.Cabinets.{opening_history}
 use Rattle.cabinet_story.specs.Story.{opened}
 use Rattle.cab_book.specs.Books.{BookStands}
 use Rattle.corridor.proofs.Opening.{is-new, no-ticks}
-use Rattle.corridor.proofs.books.book_of.Goals as goal
+use Rattle.corridor.proofs.books.book_by.Goals as goal
 
 pub new-cabinet-requires : goal.new-cabinet-requires
 new-cabinet-requires c =
     let s = cabinet_content c.args.setup.now in
-    record { new = (opening_history s, c.controller_of.ensures, is-new s c.requires (c.opening_tables_in_range.ensures s)) }
+    record { new = (opening_history s, c.requires.control, is-new s c.requires.can (c.opening_tables_in_range.ensures s)) }
 
 pub new-requires-clause-some : goal.new-requires-clause-some
 new-requires-clause-some c =
     let s = cabinet_content c.args.setup.now in (
       opened c.same_community.result.items (opening_history s),
-      c.new-cabinet.ensures.stands (opening_history s) c.controller_of.ensures (is-new s c.requires (c.opening_tables_in_range.ensures s)),
+      c.new-cabinet.ensures.stands (opening_history s) c.requires.control (is-new s c.requires.can (c.opening_tables_in_range.ensures s)),
     )
 
 pub new-requires-clause-few : goal.new-requires-clause-few
 new-requires-clause-few c =
     let s = cabinet_content c.args.setup.now in
     let none = no-ticks _ c.same_community.result.items s
-    (c.new-cabinet.ensures.stands (opening_history s) c.controller_of.ensures (is-new s c.requires (c.opening_tables_in_range.ensures s))) in
+    (c.new-cabinet.ensures.stands (opening_history s) c.requires.control (is-new s c.requires.can (c.opening_tables_in_range.ensures s))) in
     omega (arith, none)
 
 pub returns-clause-stands : goal.returns-clause-stands
@@ -30,10 +30,10 @@ returns-clause-stands c =
     let s = cabinet_content c.args.setup.now in
     subst (λ (community : List ℕ). BookStands c.new.result (opened community (opening_history s))) c.same_community.ensures
     (c.new.ensures.stands (opened c.same_community.result.items (opening_history s))
-    (c.new-cabinet.ensures.stands (opening_history s) c.controller_of.ensures (is-new s c.requires (c.opening_tables_in_range.ensures s))))
+    (c.new-cabinet.ensures.stands (opening_history s) c.requires.control (is-new s c.requires.can (c.opening_tables_in_range.ensures s))))
 
 pub returns-clause-ticks : goal.returns-clause-ticks
 returns-clause-ticks c =
     let s = cabinet_content c.args.setup.now in
     c.new.ensures.ticks ∙ no-ticks _ c.same_community.result.items s
-    (c.new-cabinet.ensures.stands (opening_history s) c.controller_of.ensures (is-new s c.requires (c.opening_tables_in_range.ensures s)))
+    (c.new-cabinet.ensures.stands (opening_history s) c.requires.control (is-new s c.requires.can (c.opening_tables_in_range.ensures s)))
