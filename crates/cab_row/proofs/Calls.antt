@@ -1,5 +1,5 @@
 -- What a pass knows between the steps of one call.
-use Rattle.std.proofs.Common.{◌≡◌, ℕ, ◌+◌, ◌%◌, ◌<◌, ◌≤◌, ◌≢◌, zero, suc, List, [], ◌∷◌, ◌++◌, length, map, get_or, set, sym, refl, ap, ◌∙◌, arith, eqb, cond, ne_eqb, Option, Some, None, ⊎_elim, inl, inr, subst, get_or-set_other, get_or-set_same}
+use Rattle.std.proofs.Common.{◌≡◌, ℕ, ◌+◌, ◌%◌, ◌<◌, ◌≤◌, ◌≢◌, zero, suc, List, [], ◌∷◌, ◌++◌, length, map, get_or, set, sym, refl, ap, ◌∙◌, arith, eqb, cond, ne_eqb, ⊎_elim, inl, inr, subst, get_or-set_other, get_or-set_same}
 use mathlib.Core.Logic.{dite}
 use native.Mathlib.Decide.{ℕ_discrete}
 use mathlib.Core.Option.{some}
@@ -21,17 +21,13 @@ not_odd n h = dite (ℕ_discrete (n % 2) 1) (λ e. absurd (h e)) (λ ne. omega a
 pub first_is : {S : Type 0} (l more : List (ℕ × S)) (x : ℕ × S) → l ≡ x ∷ more → l ≡ x ∷ rest l
 first_is l more x e = e ∙ ap (λ k. x ∷ rest k) (sym e)
 
-abbrev value_of : {B : Type 0} → B → Option B → B
-value_of d None = d
-value_of d (Some b) = b
-
-abbrev value : {B : Type 0} → B → List (ℕ × Option B) → B
+abbrev value : {B : Type 0} → B → List (ℕ × B) → B
 value d [] = d
-value d (x ∷ xs) = value_of d x.1
+value d (x ∷ xs) = x.1
 
 -- the book that is found in the slot is the one that was taken
-pub same_book : {B : Type 0} (i : ℕ) (l : List (ℕ × Option B)) (b x : B) (more more' : List (ℕ × Option B)) (o : Option B) → l ≡ (i, Some b) ∷ more → l ≡ (i, o) ∷ more' → o ≡ Some x → b ≡ x
-same_book i l b x more more' o e f g = ap (value b) (sym e ∙ f) ∙ ap (value_of b) g
+pub same_book : {B : Type 0} (i : ℕ) (l : List (ℕ × B)) (b x : B) (more more' : List (ℕ × B)) → l ≡ (i, b) ∷ more → l ≡ (i, x) ∷ more' → b ≡ x
+same_book i l b x more more' e f = ap (value b) (sym e ∙ f)
 
 pub any_default : {A : Type 0} (l : List A) (i : ℕ) (d d' : A) → i < length l → get_or l i d ≡ get_or l i d'
 any_default [] i d d' h = absurd (omega arith)
@@ -96,8 +92,8 @@ module _ (v w : View) (c word : ℕ) where
 
 module _ {B : Type 0} where
   -- the seat after the book was changed in its slot
-  pub changed : (i : ℕ) (w : View) (b x : Option B) (m m1 m2 : Sat B) → m ≡ (w, (i, b) ∷ []) → m1 ≡ (m.0, (i, None) ∷ rest m.1) → m2 ≡ (m1.0, (i, x) ∷ rest m1.1) → m2 ≡ (w, (i, x) ∷ [])
-  changed i w b x m m1 m2 e e1 e2 = e2 ∙ ap (λ (k : Sat B). (k.0, (i, x) ∷ rest k.1)) (e1 ∙ ap (λ (k : Sat B). (k.0, (i, None) ∷ rest k.1)) e)
+  pub changed : (i : ℕ) (w : View) (b x : B) (m m1 : Sat B) → m ≡ (w, (i, b) ∷ []) → m1.0 ≡ m.0 → m1.1 ≡ (i, x) ∷ [] → m1 ≡ (w, (i, x) ∷ [])
+  changed i w b x m m1 e e1 e2 = ap (λ v. (v, m1.1)) (e1 ∙ ap (λ (k : Sat B). k.0) e) ∙ ap (λ (l : List (ℕ × B)). (w, l)) e2
 
   pub done_within : (left_of : B → ℕ → ℕ) (books : List B) (done : List ℕ) (items : ℕ → ℕ) (n i x : ℕ) → length done ≡ 64 → i < 64 → x ≡ get_or done i 0 + 1 → get_or done i 0 < items i
       → ((c : ℕ) (first : B) → get_elem? books c ≡ some first → (get_or done c 0 ≤ left_of first n) × (items c ≡ left_of first n) × (left_of first n ≤ 2147483648))

@@ -1,7 +1,6 @@
 -- All passes come back.
-use Rattle.std.proofs.Common.{◌≡◌, ℕ, zero, suc, ◌+◌, ◌-◌, ◌<◌, ◌≤◌, List, [], ◌∷◌, ◌++◌, length, map, drop, sym, refl, ap, ◌∙◌, subst, arith, Option, Some, None, Bool, false, get_or, set, All}
-use Rattle.std.proofs.lemmas.Option.{none-some}
-use Rattle.std.proofs.lemmas.List.{map-append, append_assoc}
+use Rattle.std.proofs.Common.{◌≡◌, ℕ, zero, suc, ◌+◌, ◌-◌, ◌<◌, ◌≤◌, List, [], ◌∷◌, ◌++◌, length, drop, sym, refl, ap, ◌∙◌, subst, arith, Some, Bool, false, get_or, set, All}
+use Rattle.std.proofs.lemmas.List.{append_assoc}
 use Rattle.std.proofs.lemmas.List.Elements.{All-pop, All-head, All-tail}
 use Rattle.atomic_table.proofs.Lists.{drop_at}
 use mathlib.Core.Option.{some, some-injective, some-ne-none}
@@ -11,30 +10,9 @@ use Rattle.cab_row.specs.declared.view.View.{View}
 use Rattle.cab_row.specs.declared.row.Row.{Row}
 use Rattle.cab_row.specs.declared.pass.Pass.{Pass}
 use Rattle.cab_row.specs.Views.{total, is_one, is_pair, times, owns, count, joined}
-use Rattle.cab_row.specs.Moves.{AllSome}
 use Rattle.cab_row.specs.Passes.{IsPassOf, view_of, Sums, IsMerged}
 use Rattle.cab_row.proofs.Sums.{total-append, total-none, total-only, terms_le}
 use Rattle.cab_row.proofs.Calls.{own_one}
-
-abbrev value_of : {B : Type 0} → B → Option B → B
-value_of d None = d
-value_of d (Some b) = b
-
-pub all_at : {B : Type 0} (xs : List (Option B)) (k : ℕ) → AllSome xs → get_elem? xs k ≡ some None → ⊥
-all_at [] k h e = some-ne-none None (sym e)
-all_at (Some b ∷ xs) zero h e = none-some b (some-injective None (Some b) (sym e))
-all_at (Some b ∷ xs) (suc k) h e = all_at xs k h e
-all_at (None ∷ xs) k h e = h
-
-pub all_from : {B : Type 0} (xs : List (Option B)) → ((c : ℕ) → c < length xs → (b : B) × (get_elem? xs c ≡ some (Some b))) → AllSome xs
-all_from [] h = tt
-all_from (Some b ∷ xs) h = all_from xs (λ c less. h (suc c) (omega arith))
-all_from (None ∷ xs) h = let t = h 0 (omega arith) in none-some t.0 (some-injective None (Some t.0) t.1)
-
-pub map_some_at : {B : Type 0} (l : List B) (c : ℕ) (b : B) → get_elem? (map Some l) c ≡ some (Some b) → get_elem? l c ≡ some b
-map_some_at [] c b e = absurd (some-ne-none (Some b) (sym e))
-map_some_at (x ∷ xs) zero b e = ap some (ap (value_of x) (some-injective (Some x) (Some b) e))
-map_some_at (x ∷ xs) (suc c) b e = map_some_at xs c b e
 
 pub at_inside : {A : Type 0} (l : List A) (c : ℕ) (a : A) → get_elem? l c ≡ some a → c < length l
 at_inside [] c a e = absurd (some-ne-none a (sym e))
@@ -47,10 +25,9 @@ now_false (x ∷ xs) zero = refl
 now_false (x ∷ xs) (suc i) = now_false xs i
 
 -- one book more stands in the list
-pub one_taken : {B : Type 0} (room more : List B) (b : B) (items : List (Option B)) (c : ℕ) → more ≡ room ++ b ∷ [] → get_elem? items c ≡ some (Some b) → map Some room ++ drop c items ≡ items → map Some more ++ drop (c + 1) items ≡ items
+pub one_taken : {B : Type 0} (room more : List B) (b : B) (items : List B) (c : ℕ) → more ≡ room ++ b ∷ [] → get_elem? items c ≡ some b → room ++ drop c items ≡ items → more ++ drop (c + 1) items ≡ items
 one_taken room more b items c e at h = let n : c + 1 ≡ suc c = omega arith in
-    ap (λ l. map Some l ++ drop (c + 1) items) e ∙ (ap (λ l. l ++ drop (c + 1) items) (map-append Some room (b ∷ [])) ∙ (append_assoc (map Some room) (Some b ∷ []) (drop (c + 1) items)
-    ∙ (ap (λ l. map Some room ++ l) (ap (λ k. Some b ∷ drop k items) n ∙ sym (drop_at items c (Some b) at)) ∙ h)))
+    ap (λ l. l ++ drop (c + 1) items) e ∙ (append_assoc room (b ∷ []) (drop (c + 1) items) ∙ (ap (λ l. room ++ l) (ap (λ k. b ∷ drop k items) n ∙ sym (drop_at items c b at)) ∙ h))
 
 pub no_items : {A : Type 0} (l : List A) → length l ≡ 0 → l ≡ []
 no_items [] e = refl

@@ -1,5 +1,5 @@
 -- Seats are split and joined, and how a row begins and ends.
-use Rattle.std.proofs.Common.{◌≡◌, ℕ, zero, suc, ◌+◌, ◌*◌, ◌%◌, ◌<◌, ◌≤◌, ◌≢◌, List, [], ◌∷◌, ◌++◌, map, length, get_or, set, sym, refl, ap, ◌∙◌, subst, ⊎_elim, arith, Some, None}
+use Rattle.std.proofs.Common.{◌≡◌, ℕ, zero, suc, ◌+◌, ◌*◌, ◌%◌, ◌<◌, ◌≤◌, ◌≢◌, List, [], ◌∷◌, ◌++◌, map, length, get_or, set, sym, refl, ap, ◌∙◌, subst, ⊎_elim, arith, None}
 use Rattle.std.proofs.lemmas.List.{length-map}
 use mathlib.Core.Logic.{dite}
 use native.Mathlib.Decide.{ℕ_discrete, dec_le}
@@ -15,13 +15,10 @@ use Rattle.cab_row.proofs.Sums.{total-append, total-set, term_le, terms_le, tota
 use Rattle.cab_row.proofs.Steps.{given_yes, given_no, given_one, has_no, has_free, not_both, other_view, number_below, one_owner, own_count, none_yet}
 
 module _ {B : Type 0} (code : B → Gv) (journal : B → List ℕ) (left : B → ℕ → ℕ) (Replays : B → B → Type 0) where
-  abbrev Slot : Type 0
-  Slot = Rattle.std.specs.Prelude.Option B
-
   abbrev St : Type 0
-  St = State Slot View
+  St = State B View
 
-  abbrev board : List ℕ → List (Option Slot) → List View → St
+  abbrev board : List ℕ → List (Option B) → List View → St
   board ws hs vs = record { words = ws; homes = hs; views = vs }
 
   given_more : (p g : ℕ) → is_given p (g + 1) ≡ is_given p g + is_one p g
@@ -122,27 +119,27 @@ module _ {B : Type 0} (code : B → Gv) (journal : B → List ℕ) (left : B →
         gives = omega (arith, sums (λ x. x.given), k.gives);
       }
 
-  some_at : {A : Type 0} (f : A → Slot) (l : List A) (i : ℕ) → i < length l → (a : A) × (get_elem? l i ≡ some a) × (get_elem? (map some (map f l)) i ≡ some (some (f a)))
-  some_at f [] i h = absurd (omega arith)
-  some_at f (x ∷ xs) zero h = (x, refl, refl)
-  some_at f (x ∷ xs) (suc i) h = some_at f xs i (omega arith)
+  some_at : {A : Type 0} (l : List A) (i : ℕ) → i < length l → (a : A) × (get_elem? l i ≡ some a) × (get_elem? (map some l) i ≡ some (some a))
+  some_at [] i h = absurd (omega arith)
+  some_at (x ∷ xs) zero h = (x, refl, refl)
+  some_at (x ∷ xs) (suc i) h = some_at xs i (omega arith)
 
   -- a row begins
-  pub may_open : ((x y : B) → code x ≡ code y → x ≡ y) → (books : List B) (passes : ℕ) (ws : List ℕ) (xs : List Slot) → 0 < passes → passes ≤ 8 → IsSmall code journal left Replays books → length ws ≡ length books → ((c : ℕ) → get_or ws c 0 ≡ 0) → xs ≡ map Some books
+  pub may_open : ((x y : B) → code x ≡ code y → x ≡ y) → (books : List B) (passes : ℕ) (ws : List ℕ) → 0 < passes → passes ≤ 8 → IsSmall code journal left Replays books → length ws ≡ length books → ((c : ℕ) → get_or ws c 0 ≡ 0)
       → ((c : ℕ) (first : B) → get_elem? books c ≡ some first → (journal first ≡ []) × Replays first first)
-      → Keeps code journal left Replays books passes (opening ws xs (first_view (map code books) passes))
-  may_open inj books passes ws xs some_pass eight small wide quiet slots fresh = let v : View = first_view (map code books) passes in let s : St = opening ws xs v in
+      → Keeps code journal left Replays books passes (opening ws books (first_view (map code books) passes))
+  may_open inj books passes ws some_pass eight small wide quiet fresh = let v : View = first_view (map code books) passes in let s : St = opening ws books v in
       record {
         given = 1;
         few = some_pass;
         eight = eight;
         small = small;
         words = wide;
-        homes = length-map xs some ∙ (ap length slots ∙ length-map books Some);
+        homes = length-map books some;
         locks = λ c h. omega (arith, has_free c v refl, ap (λ n. n % 2) (quiet c));
-        even = λ c h e. let t = some_at Some books c h in let f = fresh c t.0 t.1 in (
+        even = λ c h e. let t = some_at books c h in let f = fresh c t.0 t.1 in (
           t.0,
-          ap (λ l. get_elem? (map some l) c) slots ∙ t.2,
+          t.2,
           omega (arith, quiet c, ap length f.0),
           (λ first there. let same : t.0 ≡ first = inj t.0 first (some-injective (code t.0) (code first) (sym (at_map code books c t.0 t.1) ∙ there)) in subst (λ x. Stands code journal left Replays x t.0) same (f.1, λ p. omega (arith, ap (times p) f.0))),
           (λ p. ap (times p) f.0),
@@ -168,10 +165,10 @@ module _ {B : Type 0} (code : B → Gv) (journal : B → List ℕ) (left : B →
       dite (ℕ_discrete p n) (λ e. omega (arith, h n, up, ap f e)) (λ ne. all_ones f n h (omega (arith, h n)) p (omega arith))
 
   -- a row ends: the seat that has as many numbers as were given counts what the journals have
-  pub closes : (books : List B) (passes id : ℕ) (v : View) (ws : List ℕ) (xs : List Slot) → Final (Seen (Keeps code journal left Replays books passes) id v) ws xs → v.holds ≡ None → length v.numbers ≡ passes
+  pub closes : (books : List B) (passes id : ℕ) (v : View) (ws : List ℕ) (xs : List B) → Final (Seen (Keeps code journal left Replays books passes) id v) ws xs → v.holds ≡ None → length v.numbers ≡ passes
       → (length xs ≡ length books)
       × ((p : ℕ) → owns p v ≤ 1)
-      × ((c : ℕ) → c < length books → (b : B) × (get_elem? xs c ≡ some (Some b)) × Since code journal left Replays (map code books) c b × ((p : ℕ) → times p (journal b) ≡ count p c v))
+      × ((c : ℕ) → c < length books → (b : B) × (get_elem? xs c ≡ some b) × Since code journal left Replays (map code books) c b × ((p : ℕ) → times p (journal b) ≡ count p c v))
   closes books passes id v ws xs final free full = let s : St = final.0 in let k = final.1.0 in let at = final.1.1 in
       let once : (p : ℕ) → owns p v ≤ 1 = λ p. omega (arith, term_le (owns p) s.views id v at, k.owned p, given_one p k.given) in
       let long : length v.numbers ≡ below (λ p. times p v.numbers) k.given = length_of v.numbers k.given (λ p h. omega (arith, term_le (owns p) s.views id v at, k.owned p, given_no p k.given h)) in
@@ -187,7 +184,7 @@ module _ {B : Type 0} (code : B → Gv) (journal : B → List ℕ) (left : B →
             (λ ne. omega (arith, one_owner code journal left Replays books passes s k id j u.number v u at ours ne there)))) in
             let t = k.even c inside (omega (arith, k.locks c inside)) in (
               t.0,
-              final.4 c (Some t.0) t.1,
+              final.4 c t.0 t.1,
               t.3,
               λ p. dite (dec_le k.given p)
                   (λ h. omega (arith, t.4 p, none_yet code journal left Replays books passes s k p c h, term_le (count p c) s.views id v at))

@@ -1,5 +1,5 @@
 -- New passes.
-use Rattle.std.proofs.Common.{◌≡◌, ℕ, zero, suc, ◌+◌, ◌<◌, ◌≤◌, List, [], ◌∷◌, ◌++◌, length, get_or, replicate, map, take, slice_index, slice_index_or, sym, refl, ap, ◌∙◌, subst, arith, Option, Some, All}
+use Rattle.std.proofs.Common.{◌≡◌, ℕ, zero, suc, ◌+◌, ◌<◌, ◌≤◌, List, [], ◌∷◌, ◌++◌, length, get_or, replicate, map, take, slice_index, slice_index_or, sym, refl, ap, ◌∙◌, subst, arith, All}
 use Rattle.std.proofs.lemmas.List.Elements.{All-nil, All-cons}
 use mathlib.Core.Option.{some, some-injective, some-ne-none}
 use Rattle.cab_row.specs.Moves.{items_row}
@@ -30,20 +30,6 @@ all_zeros zero m c = refl
 all_zeros (suc n) zero c = refl
 all_zeros (suc n) (suc m) zero = refl
 all_zeros (suc n) (suc m) (suc c) = all_zeros n m c
-
-abbrev value_of : {B : Type 0} → B → Option B → B
-value_of d Rattle.std.proofs.Common.None = d
-value_of d (Some b) = b
-
-abbrev head_of : {B : Type 0} → B → List (Option B) → B
-head_of d [] = d
-head_of d (x ∷ xs) = value_of d x
-
-pub map_some_same : {B : Type 0} (xs ys : List B) → map Some xs ≡ map Some ys → xs ≡ ys
-map_some_same [] [] e = refl
-map_some_same [] (y ∷ ys) e = absurd (omega (arith, ap length e))
-map_some_same (x ∷ xs) [] e = absurd (omega (arith, ap length e))
-map_some_same (x ∷ xs) (y ∷ ys) e = let same : x ≡ y = ap (λ l. head_of x l) e in let more : xs ≡ ys = map_some_same xs ys (ap (λ l. Rattle.std.proofs.Common.drop 1 l) e) in ap (λ z. z ∷ xs) same ∙ ap (λ l. y ∷ l) more
 
 module _ {B : Type 0} (code : B → Gv) (left_of : B → ℕ → ℕ) where
   pub new_pass : (row : Row B) (badge : Badge View) (n : ℕ) (done : List ℕ) (v : View) → badge.table_id ≡ row.table.shared.table_id → badge.views ≡ v ∷ [] → IsOwn (map code (books_of row)) row.passes n v → v.done ≡ [] → n < 8 → done ≡ replicate 64 0 → HasItems code left_of row

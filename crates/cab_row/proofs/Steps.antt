@@ -72,13 +72,10 @@ there_is (x ∷ xs) zero h = (x, refl)
 there_is (x ∷ xs) (suc i) h = there_is xs i (omega arith)
 
 module _ {B : Type 0} (code : B → Gv) (journal : B → List ℕ) (left : B → ℕ → ℕ) (Replays : B → B → Type 0) where
-  abbrev Slot : Type 0
-  Slot = Rattle.std.specs.Prelude.Option B
-
   abbrev St : Type 0
-  St = State Slot View
+  St = State B View
 
-  abbrev board : List ℕ → List (Option Slot) → List View → St
+  abbrev board : List ℕ → List (Option B) → List View → St
   board ws hs vs = record { words = ws; homes = hs; views = vs }
 
   -- what is known of a view that this step does not change
@@ -179,7 +176,7 @@ module _ {B : Type 0} (code : B → Gv) (journal : B → List ℕ) (left : B →
       → get_or s.words c 0 % 2 ≡ 0 → new ≡ get_or s.words c 0 + 1 → new ≡ 2 * length (journal b) + 1 → Counted c (journal b) s.views
       → Keeps code journal left Replays books passes (board (set s.words c new) (set s.homes c none) (set s.views id (holding v c (journal b))))
   taken_on books passes s k id c new v b at free one inside even next long counted =
-      let w : View = holding v c (journal b) in let vs : List View = set s.views id w in let ws : List ℕ = set s.words c new in let hs : List (Option Slot) = set s.homes c none in
+      let w : View = holding v c (journal b) in let vs : List View = set s.views id w in let ws : List ℕ = set s.words c new in let hs : List (Option B) = set s.homes c none in
       let counts : (p d : ℕ) → total (count p d) vs ≡ total (count p d) s.views = λ p d. total-same (count p d) s.views id v w at refl in
       let here : get_or ws c 0 ≡ new = get_or-set_same s.words c new 0 (omega (arith, k.words)) in
       let there : (d : ℕ) → d ≢ c → get_or ws d 0 ≡ get_or s.words d 0 = λ d ne. get_or-set_other s.words c d new 0 ne in
@@ -220,10 +217,10 @@ module _ {B : Type 0} (code : B → Gv) (journal : B → List ℕ) (left : B →
   may_take books passes slots id c old new v free one inside even next s k wide at _ =
       let single : IsAlone v c (get_or s.words c 0) = alone books passes s k id c v at free one inside in
       exchanged (get_or s.words c 0) old new
-      (λ n. (w : View) × (a : Rattle.atomic_table.specs.Table.Act Slot) × Valid s.homes [] a × Keeps code journal left Replays books passes (stepped s c n id [] w a) × takes_book code journal left Replays (step slots c old new none) (v, []) (get_or s.words c 0) (w, Rattle.atomic_table.specs.Table.carried_after [] a))
+      (λ n. (w : View) × (a : Rattle.atomic_table.specs.Table.Act B) × Valid s.homes [] a × Keeps code journal left Replays books passes (stepped s c n id [] w a) × takes_book code journal left Replays (step slots c old new none) (v, []) (get_or s.words c 0) (w, Rattle.atomic_table.specs.Table.carried_after [] a))
       (λ hit. let free_word : get_or s.words c 0 % 2 ≡ 0 = ap (λ n. n % 2) hit ∙ even in let t = k.even c inside free_word in let b : B = t.0 in (
         holding v c (journal b),
-        takes c (Some b),
+        takes c b,
         t.1,
         taken_on books passes s k id c new v b at free one inside free_word (omega (arith, next, hit)) (omega (arith, t.2, next, hit)) t.4,
         (
@@ -254,9 +251,9 @@ module _ {B : Type 0} (code : B → Gv) (journal : B → List ℕ) (left : B →
 
   given_on : (books : List B) (passes : ℕ) (s : St) (k : Keeps code journal left Replays books passes s) (id c new : ℕ) (v : View) (b : B) → get_elem? s.views id ≡ some v → v.holds ≡ Some c
       → journal b ≡ v.taken ++ v.number ∷ [] → Since code journal left Replays (map code books) c b → new ≡ 2 * length (journal b)
-      → Keeps code journal left Replays books passes (board (set s.words c new) (set s.homes c (some (Some b))) (set s.views id (finished v c)))
+      → Keeps code journal left Replays books passes (board (set s.words c new) (set s.homes c (some b)) (set s.views id (finished v c)))
   given_on books passes s k id c new v b at holds grown since long =
-      let w : View = finished v c in let vs : List View = set s.views id w in let ws : List ℕ = set s.words c new in let hs : List (Option Slot) = set s.homes c (some (Some b)) in
+      let w : View = finished v c in let vs : List View = set s.views id w in let ws : List ℕ = set s.words c new in let hs : List (Option B) = set s.homes c (some b) in
       let mine = k.knows id v at in let t = mine.held c holds in let inside : c < length books = t.0 in
       let own : owns v.number v ≡ 1 = mine.holder (λ e. not_both e holds) in
       let here : get_or ws c 0 ≡ new = get_or-set_same s.words c new 0 (omega (arith, k.words)) in
@@ -273,13 +270,13 @@ module _ {B : Type 0} (code : B → Gv) (journal : B → List ℕ) (left : B →
         eight = k.eight;
         small = k.small;
         words = length-set s.words c new ∙ k.words;
-        homes = length-set s.homes c (some (Some b)) ∙ k.homes;
+        homes = length-set s.homes c (some b) ∙ k.homes;
         locks = λ d h. dite (ℕ_discrete d c)
             (λ e. subst (λ x. total (has x) vs ≡ get_or ws x 0 % 2) (sym e) (omega (arith, total-set (has c) s.views id v w at, one_holds, has_free c w refl, has_yes c v holds, ap (λ n. n % 2) here, even)))
             (λ ne. omega (arith, total-set (has d) s.views id v w at, has_free d w refl, has_no d v (λ z. ne (one_cab z holds)), k.locks d h, ap (λ n. n % 2) (there d ne)));
         even = λ d h e. dite (ℕ_discrete d c)
-            (λ z. subst (IsHome code journal left Replays books (board ws hs vs)) (sym z) (b, set_here s.homes c (some (Some b)) (omega (arith, k.homes)), here ∙ long, since, counted))
-            (λ ne. let u = k.even d h (ap (λ n. n % 2) (sym (there d ne)) ∙ e) in (u.0, set_else s.homes c d (some (Some b)) ne ∙ u.1, there d ne ∙ u.2, u.3, λ p. u.4 p ∙ sym (others p d ne)));
+            (λ z. subst (IsHome code journal left Replays books (board ws hs vs)) (sym z) (b, set_here s.homes c (some b) (omega (arith, k.homes)), here ∙ long, since, counted))
+            (λ ne. let u = k.even d h (ap (λ n. n % 2) (sym (there d ne)) ∙ e) in (u.0, set_else s.homes c d (some b) ne ∙ u.1, there d ne ∙ u.2, u.3, λ p. u.4 p ∙ sym (others p d ne)));
         adds = adds_on books passes s k id c new v w at inside (omega (arith, t.1, long, longer)) (λ d. added_finished d c v holds);
         knows = λ j u e. ⊎_elim
             (λ (q : (j ≡ id) × (w ≡ u)). subst (Knows code journal left Replays books passes k.given (board ws hs vs)) q.1 (record {
@@ -298,7 +295,7 @@ module _ {B : Type 0} (code : B → Gv) (journal : B → List ℕ) (left : B →
 
   -- the `fetch_add` gives the book back, with one item more
   pub may_finish : (books : List B) (passes slots id c : ℕ) (v : View) (b : B) → v.holds ≡ Some c → journal b ≡ v.taken ++ v.number ∷ [] → Since code journal left Replays v.opening c b
-      → Allows (Keeps code journal left Replays books passes) slots id (v, (c, Some b) ∷ []) c (λ n. (n + 1) % 18446744073709551616) (finishes (step slots c 1 0 none) (v, (c, Some b) ∷ []))
+      → Allows (Keeps code journal left Replays books passes) slots id (v, (c, b) ∷ []) c (λ n. (n + 1) % 18446744073709551616) (finishes (step slots c 1 0 none) (v, (c, b) ∷ []))
   may_finish books passes slots id c v b holds grown since s k wide at _ = let mine = k.knows id v at in let t = mine.held c holds in
       let opening : v.opening ≡ map code books = (mine.opened (omega (arith, mine.holder (λ e. not_both e holds)))).0 in
       let since' : Since code journal left Replays (map code books) c b = subst (λ l. Since code journal left Replays l c b) opening since in
@@ -317,7 +314,7 @@ module _ {B : Type 0} (code : B → Gv) (journal : B → List ℕ) (left : B →
   may_take_at books passes slots id c old new m empty free one inside even next =
       subst (λ l. Allows (Keeps code journal left Replays books passes) slots id (m.0, l) c (λ n. either (eqb n old) new n) (takes_book code journal left Replays (step slots c old new none) (m.0, l))) (sym empty) (may_take books passes slots id c old new m.0 free one inside even next)
 
-  pub may_finish_at : (books : List B) (passes slots id c : ℕ) (m : Sat B) (b : B) → m.1 ≡ (c, Some b) ∷ [] → m.0.holds ≡ Some c → journal b ≡ m.0.taken ++ m.0.number ∷ [] → Since code journal left Replays m.0.opening c b
+  pub may_finish_at : (books : List B) (passes slots id c : ℕ) (m : Sat B) (b : B) → m.1 ≡ (c, b) ∷ [] → m.0.holds ≡ Some c → journal b ≡ m.0.taken ++ m.0.number ∷ [] → Since code journal left Replays m.0.opening c b
       → Allows (Keeps code journal left Replays books passes) slots id m c (λ n. (n + 1) % 18446744073709551616) (finishes (step slots c 1 0 none) m)
   may_finish_at books passes slots id c m b has_it holds grown since =
       subst (λ l. Allows (Keeps code journal left Replays books passes) slots id (m.0, l) c (λ n. (n + 1) % 18446744073709551616) (finishes (step slots c 1 0 none) (m.0, l))) (sym has_it) (may_finish books passes slots id c m.0 b holds grown since)

@@ -1,10 +1,5 @@
--- Slots that all have a book, and the items of eight passes.
-use Rattle.std.specs.Prelude.{ℕ, List, [], ◌∷◌, Option, Some, None}
-
-abbrev pub AllSome : {B : Type 0} → List (Option B) → Type 0
-AllSome [] = Unit {0}
-AllSome (Some b ∷ xs) = AllSome xs
-AllSome (None ∷ xs) = ⊥
+-- The items of eight passes.
+use Rattle.std.specs.Prelude.{ℕ, List, [], ◌∷◌}
 
 -- what the book has left of each of the passes 0 to 7
 abbrev pub items_row : {B : Type 0} → (B → ℕ → ℕ) → B → List ℕ

@@ -1,5 +1,5 @@
 -- The rule of a row, which holds between any two steps of any threads: of its words, the books at home and the views.
-use Rattle.std.specs.Prelude.{◌≡◌, ◌≢◌, ℕ, ◌+◌, ◌*◌, ◌%◌, ◌<◌, ◌≤◌, List, length, map, slice_index, Option, Some, None}
+use Rattle.std.specs.Prelude.{◌≡◌, ◌≢◌, ℕ, ◌+◌, ◌*◌, ◌%◌, ◌<◌, ◌≤◌, List, length, map, slice_index, Some, None}
 use mathlib.Core.Option.{some}
 use base.Stored.{Gv}
 use lib.ListN.{get_elem?}
@@ -21,11 +21,11 @@ module _ {B : Type 0} (code : B → Gv) (journal : B → List ℕ) (left : B →
   Since opening c b = (first : B) → get_elem? opening c ≡ some (code first) → Stands first b
 
   -- the book is at home, the word is twice its journal's length, and the views count what the journal has
-  abbrev pub IsHome : List B → State (Option B) View → ℕ → Type 0
-  IsHome books s c = (b : B) × (get_elem? s.homes c ≡ some (some (Some b))) × (slice_index s.words c ≡ 2 * length (journal b)) × Since (map code books) c b × Counted c (journal b) s.views
+  abbrev pub IsHome : List B → State B View → ℕ → Type 0
+  IsHome books s c = (b : B) × (get_elem? s.homes c ≡ some (some b)) × (slice_index s.words c ≡ 2 * length (journal b)) × Since (map code books) c b × Counted c (journal b) s.views
 
   -- what holds of one view
-  pub record Knows (books : List B) (passes given : ℕ) (s : State (Option B) View) (v : View) : Type 0 where
+  pub record Knows (books : List B) (passes given : ℕ) (s : State B View) (v : View) : Type 0 where
     -- unless it is spent, and owns no number, it knows what the row was opened with
     pub opened : 0 < owns v.number v → (v.opening ≡ map code books) × (v.passes ≡ passes)
     pub giver : 0 < v.given → v.given ≡ given
@@ -38,7 +38,7 @@ module _ {B : Type 0} (code : B → Gv) (journal : B → List ℕ) (left : B →
   abbrev pub IsSmall : List B → Type 0
   IsSmall books = (c p : ℕ) (first : B) → get_elem? books c ≡ some first → left first p ≤ 2147483648
 
-  pub record Keeps (books : List B) (passes : ℕ) (s : State (Option B) View) : Type 0 where
+  pub record Keeps (books : List B) (passes : ℕ) (s : State B View) : Type 0 where
     -- how many pass numbers were given
     pub given : ℕ
     pub few : given ≤ passes

@@ -1,8 +1,9 @@
 //! What a pass does at a cabinet: it looks, takes the book if nobody has it, applies one item and gives the book back. It never
-//! waits: where it meets another pass it says so.
+//! waits: where it meets another pass it says so. A book stays in its place the while, so an act costs no more for a long one.
 ghost use Rattle.std.specs.Prelude.{◌≡◌, ℕ, ◌+◌, ◌-◌, ◌<◌, ◌≤◌, [], ◌∷◌, length, map};
 ghost use Rattle.cab_row.specs.Passes.{IsPassOf, IsOwn, books_of, view_of, remains, done_by, HasActed, WasMet, SameCounts, HasSeen};
 ghost use Rattle.cab_row.specs.Views.{count};
+ghost use Rattle.cab_row.specs.Taken.{HasTaken, HasOneMore};
 ghost use mathlib.Core.Option.{some};
 ghost use lib.ListN.{get_elem?};
 
@@ -60,7 +61,7 @@ impl<B: Logged> Row<B> {
     }
 
     // One try of a pass that has an item left at the cabinet, which is counted from 0.
-    fn turn(&self, seat: &mut Seat<Option<B>, View>, number: u32, c: usize) -> Act
+    fn turn(&self, seat: &mut Seat<B, View>, number: u32, c: usize) -> Act
         requires seat { (seat.old.table_id ≡ self.now.table.shared.table_id) × (seat.old.me.1 ≡ []) × IsOwn (map B.row.coded.code (books_of self.now)) self.now.passes number seat.old.me.0 }
         requires cab { c < length (books_of self.now) }
         requires left { (first : B) → get_elem? (books_of self.now) c ≡ some first → count number c seat.old.me.0 < B.left_of first number }
@@ -78,13 +79,19 @@ impl<B: Logged> Row<B> {
         if found != seen {
             return Act::Busy(found);
         }
-        let mut book = shared.exchange(seat, c, None).unwrap();
-        book.apply(number);
-        match shared.exchange(seat, c, Some(book)) {
-            None => {}
-            Some(_) => unreachable!(),
-        }
+        self.bring(seat, number, c);
         shared.fetch_add::<Finish>(seat, c, 1);
         Act::Done
+    }
+
+    // The pass's next item comes to the book that its seat has taken, which has one left.
+    fn bring(&self, seat: &mut Seat<B, View>, number: u32, c: usize)
+        requires table { seat.old.table_id ≡ self.now.table.shared.table_id }
+        requires held { HasTaken seat.old.me c (λ b. 0 < B.left_of b number) }
+        ensures table { seat.new.table_id ≡ seat.old.table_id }
+        ensures brought { HasTaken seat.old.me c (λ b. HasTaken seat.new.me c (λ x. HasOneMore B.journal B.left_of B.replays number b x)) }
+        ensures view { seat.new.me.0 ≡ seat.old.me.0 }
+    {
+        seat.slot_mut(&self.table.shared, c).apply(number)
     }
 }

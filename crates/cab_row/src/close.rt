@@ -1,9 +1,8 @@
-//! A row closes: all its passes are gathered, and the books go back into the list that they came in. It takes no memory.
-ghost use Rattle.std.specs.Prelude.{◌≡◌, ℕ, ◌+◌, ◌≤◌, [], length, map, Some, None, All, vec_len, vec_capacity};
+//! A row closes: all its passes are gathered, and the books go into a list as roomy as the one that they came in. It takes no memory.
+ghost use Rattle.std.specs.Prelude.{◌≡◌, ℕ, ◌+◌, ◌≤◌, [], length, map, None, All, vec_len, vec_capacity};
 ghost use mathlib.Core.Option.{some};
 ghost use lib.ListN.{get_elem?};
 ghost use Rattle.std.specs.Slots.{slots_items, slots_len, IsFull};
-ghost use Rattle.cab_row.specs.Moves.{AllSome};
 ghost use Rattle.cab_row.specs.Passes.{books_of, room_of, IsPassOf, Sums, IsMerged};
 
 use crate::logged::Logged;
@@ -15,7 +14,7 @@ use atomic_table::{Closed, Seat};
 use std::alloc::Global;
 
 // One seat with the counts of all passes.
-fn gather<B: Logged>(row: &Row<B>, mut passes: Vec<Pass>) -> Seat<Option<B>, View>
+fn gather<B: Logged>(row: &Row<B>, mut passes: Vec<Pass>) -> Seat<B, View>
     requires passes { All (λ x. IsPassOf B.row.coded.code B.left_of row.now x) passes.items × (vec_len passes ≡ row.now.passes) }
     ensures seat { (result.table_id ≡ row.now.table.shared.table_id) × (result.me.1 ≡ []) }
     ensures view { (result.me.0.holds ≡ None) × (length result.me.0.numbers ≡ row.now.passes) × Sums passes.items result.me.0 }
@@ -42,19 +41,16 @@ fn gather<B: Logged>(row: &Row<B>, mut passes: Vec<Pass>) -> Seat<Option<B>, Vie
     seat
 }
 
-// The books of a closed table, in the list that they came in.
-fn taken<B>(mut closed: Closed<Option<B>, Global>, mut room: Vec<B>) -> Vec<B>
-    requires full { IsFull closed.slots × AllSome (slots_items closed.slots) × (length (slots_items closed.slots) ≡ slots_len closed.slots) }
+// The books of a closed table, in their order.
+fn taken<B>(mut closed: Closed<B, Global>, mut room: Vec<B>) -> Vec<B>
+    requires full { IsFull closed.slots × (length (slots_items closed.slots) ≡ slots_len closed.slots) }
     requires room { (vec_len room ≡ 0) × (slots_len closed.slots ≤ vec_capacity room) }
-    ensures books { map Some result.items ≡ slots_items closed.slots }
+    ensures books { result.items ≡ slots_items closed.slots }
     ensures room { vec_capacity result ≡ vec_capacity room }
 {
     let count = closed.slot_count();
     for c in 0..count {
-        let Some(book) = closed.take(c) else {
-            unreachable!()
-        };
-        room.push_reserved(book);
+        room.push_reserved(closed.take(c));
     }
     closed.free();
     room

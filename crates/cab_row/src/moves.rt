@@ -1,35 +1,21 @@
-//! Books move into the slots of a table and back, in their order and without memory; and what they have left when a row opens.
-ghost use Rattle.std.specs.Prelude.{◌≡◌, ◌≤◌, [], map, Some, vec_len, vec_capacity, IfOk};
-ghost use Rattle.cab_row.specs.Moves.{AllSome, items_row};
+//! Books move back into a list, in their order and without memory; and what they have left when a row opens.
+ghost use Rattle.std.specs.Prelude.{◌≡◌, ◌≤◌, [], map, vec_len, vec_capacity, IfOk};
+ghost use Rattle.cab_row.specs.Moves.{items_row};
 
 use crate::logged::Logged;
 use std::alloc::{AllocError, Global};
 
-// Moves the books into slots, in their order.
-pub(crate) fn wrap<B>(books: &mut Vec<B>, slots: &mut Vec<Option<B>>)
-    requires { (slots.old.items ≡ []) × (vec_len books.old ≤ vec_capacity slots.old) }
-    ensures slots { slots.new.items ≡ map Some books.old.items }
-    ensures room { (books.new.items ≡ []) × (vec_capacity books.new ≡ vec_capacity books.old) }
+// Moves the books into an empty list that has room for them.
+pub(crate) fn put_back<B>(mut books: Vec<B>, room: &mut Vec<B>)
+    requires { (room.old.items ≡ []) × (vec_len books ≤ vec_capacity room.old) }
+    ensures books { room.new.items ≡ books.items }
+    ensures room { vec_capacity room.new ≡ vec_capacity room.old }
 {
     while let Some(book) = books.pop() {
-        slots.push_reserved(Some(book));
+        room.push_reserved(book);
     }
-    slots.reverse();
-}
-
-// Moves the books back into the list that they came from.
-pub(crate) fn unwrap<B>(mut slots: Vec<Option<B>>, books: &mut Vec<B>)
-    requires slots { AllSome slots.items }
-    requires room { (books.old.items ≡ []) × (vec_len slots ≤ vec_capacity books.old) }
-    ensures books { map Some books.new.items ≡ slots.items }
-    ensures room { vec_capacity books.new ≡ vec_capacity books.old }
-{
-    while let Some(slot) = slots.pop() {
-        let Some(book) = slot else { unreachable!() };
-        books.push_reserved(book);
-    }
-    slots.destroy_empty();
-    books.reverse();
+    books.destroy_empty();
+    room.reverse();
 }
 
 // How many items each of eight passes has at each book.

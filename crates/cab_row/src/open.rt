@@ -6,7 +6,7 @@ ghost use Rattle.cab_row.specs.Views.{first_view};
 ghost use Rattle.cab_row.specs.Passes.{books_of, room_of, view_of, IsPassOf, HasItems, AreNew};
 
 use crate::logged::Logged;
-use crate::moves::{items_of, unwrap, wrap};
+use crate::moves::{items_of, put_back};
 use crate::pass::Pass;
 use crate::plays::{Deal, Opening};
 use crate::row::Row;
@@ -17,7 +17,7 @@ use std::alloc::Global;
 use std::snapshot::Snapshot;
 
 // Splits a seat off for each pass; the first seat is pass 0.
-fn deal<B: Logged>(row: &Row<B>, mut first: Seat<Option<B>, View>, list: &mut Vec<Pass>)
+fn deal<B: Logged>(row: &Row<B>, mut first: Seat<B, View>, list: &mut Vec<Pass>)
     requires seat { (first.table_id ≡ row.now.table.shared.table_id) × (first.me ≡ (first_view (map B.row.coded.code (books_of row.now)) row.now.passes, [])) }
     requires row { (1 ≤ row.now.passes) × (row.now.passes ≤ 8) × (0 < length (books_of row.now)) × HasItems B.row.coded.code B.left_of row.now }
     requires list { (list.old.items ≡ []) × (row.now.passes ≤ vec_capacity list.old) }
@@ -47,7 +47,7 @@ impl<B: Logged> Row<B> {
     /// pass p. Where memory is wanting, the books come back as they were.
     pub fn open(
         alloc: Global,
-        mut books: Vec<B>,
+        books: Vec<B>,
         passes: u32,
     ) -> Result<(Row<B>, Vec<Pass>), (Vec<B>, NoMemory)>
         requires books { (1 ≤ vec_len books) × (vec_len books ≤ 64) }
@@ -66,7 +66,7 @@ impl<B: Logged> Row<B> {
         let Ok(mut list) = Vec::with_capacity(alloc, passes as usize) else {
             return Err((books, NoMemory));
         };
-        let Ok(mut slots) = Vec::with_capacity(alloc, books.len()) else {
+        let Ok(mut room) = Vec::with_capacity(alloc, books.capacity()) else {
             return Err((books, NoMemory));
         };
         let words = [0u64; 64];
@@ -75,16 +75,15 @@ impl<B: Logged> Row<B> {
             books: Snapshot::of(&books),
             passes,
         };
-        wrap(&mut books, &mut slots);
-        match Table::new(alloc, &words[..count], slots, &about) {
+        match Table::new(alloc, &words[..count], books, &about) {
             Err(Refused { slots }) => {
-                unwrap(slots, &mut books);
-                Err((books, NoMemory))
+                put_back(slots, &mut room);
+                Err((room, NoMemory))
             }
             Ok((table, seat)) => {
                 let row = Row {
                     table,
-                    room: books,
+                    room,
                     items,
                     passes,
                 };

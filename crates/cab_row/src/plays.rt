@@ -20,7 +20,7 @@ pub struct Opening<B> {
 /// The rule of a row.
 pub struct RowRule;
 
-impl<B: Logged> TableRule<Option<B>, View, Opening<B>> for RowRule {
+impl<B: Logged> TableRule<B, View, Opening<B>> for RowRule {
     ghost holds = { λ key. Keeps B.row.coded.code B.journal B.left_of B.replays key.books.value.items key.passes };
 
     ghost first = { λ key. first_view (map B.row.coded.code key.books.value.items) key.passes };
@@ -29,21 +29,21 @@ impl<B: Logged> TableRule<Option<B>, View, Opening<B>> for RowRule {
 /// A pass looks at the word of a cabinet.
 pub struct Look;
 
-impl<B> Play<Option<B>, View> for Look {
+impl<B> Play<B, View> for Look {
     ghost then = { looks };
 }
 
 /// A pass takes the book of a cabinet, if the word is still the one that it saw.
 pub struct Take;
 
-impl<B: Logged> Play<Option<B>, View> for Take {
+impl<B: Logged> Play<B, View> for Take {
     ghost then = { takes_book B.row.coded.code B.journal B.left_of B.replays };
 }
 
 /// A pass gives the book back, with one item more.
 pub struct Finish;
 
-impl<B> Play<Option<B>, View> for Finish {
+impl<B> Play<B, View> for Finish {
     ghost then = { finishes };
 }
 

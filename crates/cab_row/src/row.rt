@@ -9,8 +9,8 @@ use std::alloc::Global;
 
 /// Books that passes change in turn. It may be shared by threads where its books may.
 pub struct Row<B: Logged> {
-    pub(crate) table: Table<Option<B>, View, Opening<B>, RowRule, Global>,
-    // The emptied list that the books came in.
+    pub(crate) table: Table<B, View, Opening<B>, RowRule, Global>,
+    // Room for the books as they leave, as much as the list had that they came in.
     pub(crate) room: Vec<B>,
     // How many items each pass had at each cabinet.
     pub(crate) items: Vec<[u32; 8]>,

@@ -1,9 +1,11 @@
-use Rattle.std.proofs.Common.{length, sym, ap, ◌∙◌, subst, arith, ℕ, ◌≤◌, ◌≡◌, [], replicate, map, Some, slice_index, slice_index_or}
+use Rattle.std.proofs.Common.{length, sym, ap, ◌∙◌, subst, arith, ℕ, ◌≤◌, ◌≡◌, [], replicate, map, take, slice_index, slice_index_or}
 use lib.ListN.{get_elem?}
-use Rattle.cab_row.specs.Moves.{AllSome, items_row}
+use Rattle.cab_row.specs.Moves.{items_row}
+use Rattle.atomic_table.specs.Table.{opening}
+use Rattle.cab_row.specs.Rule.{Keeps}
+use Rattle.cab_row.specs.Views.{first_view}
 use Rattle.cab_row.proofs.Ends.{may_open}
-use Rattle.cab_row.proofs.Moving.{all_map}
-use Rattle.cab_row.proofs.Opens.{some_zeros, all_zeros, map_some_same, items_there, all_new, new_at}
+use Rattle.cab_row.proofs.Opens.{some_zeros, all_zeros, items_there, all_new, new_at}
 use Rattle.cab_row.proofs.Closes.{one_of_all}
 use Rattle.cab_row.proofs.row.Row.open.Goals as goal
 
@@ -12,15 +14,12 @@ IsSmallBook left_of b = (p : ℕ) → left_of b p ≤ 2147483648
 
 pub new-requires : goal.new-requires
 new-requires g c = let L = g.B.Logged in let same = ap (λ v. v.items) c.of.ensures in
-    may_open g.row.B.coded.code L.journal L.left_of L.replays g.row.B.coded.inj _ _ _ _ (omega (arith, c.requires.passes.0)) c.requires.passes.1
-    (λ k p first there. one_of_all (IsSmallBook L.left_of) c.args.books.items k first c.requires.small (ap (λ l. get_elem? l k) (sym same) ∙ there) p)
-    (some_zeros c.len-count.result 64 (omega (arith, c.len-count.ensures, c.requires.books.1)) ∙ (c.len-count.ensures ∙ (c.args.books.ok.0 ∙ ap length (sym same))))
+    subst (λ l. Keeps g.row.B.coded.code L.journal L.left_of L.replays l c.args.passes (opening (take c.len-count.result (replicate 64 0)) c.args.books.items (first_view (map g.row.B.coded.code l) c.args.passes))) (sym same)
+    (may_open g.row.B.coded.code L.journal L.left_of L.replays g.row.B.coded.inj _ _ _ (omega (arith, c.requires.passes.0)) c.requires.passes.1
+    (λ k p first there. one_of_all (IsSmallBook L.left_of) c.args.books.items k first c.requires.small there p)
+    (some_zeros c.len-count.result 64 (omega (arith, c.len-count.ensures, c.requires.books.1)) ∙ (c.len-count.ensures ∙ c.args.books.ok.0))
     (λ k. all_zeros c.len-count.result 64 k)
-    (c.wrap.ensures.slots ∙ ap (λ l. map Some l) (sym same))
-    (λ k first there. let e = one_of_all (λ b. L.journal b ≡ []) c.args.books.items k first c.requires.empty (ap (λ l. get_elem? l k) (sym same) ∙ there) in (e, g.met.B.Logged.fresh first e))
-
-pub unwrap-requires-clause-slots : goal.unwrap-requires-clause-slots
-unwrap-requires-clause-slots g c = subst AllSome (sym (c.in-Err.ensures.err ∙ c.wrap.ensures.slots)) (all_map c.args.books.items)
+    (λ k first there. let e = one_of_all (λ b. L.journal b ≡ []) c.args.books.items k first c.requires.empty there in (e, g.met.B.Logged.fresh first e)))
 
 pub deal-requires-clause-row : goal.deal-requires-clause-row
 deal-requires-clause-row g c = let L = g.B.Logged in let same = ap (λ k. k.books.value.items) c.in-Ok-new.ensures.ok.5 ∙ ap (λ v. v.items) c.of.ensures in (
@@ -32,9 +31,6 @@ deal-requires-clause-row g c = let L = g.B.Logged in let same = ap (λ k. k.book
     one_of_all (IsSmallBook L.left_of) c.args.books.items k first c.requires.small e p,
   ),
 )
-
-pub returns-in-Err-clause-refused : goal.returns-in-Err-clause-refused
-returns-in-Err-clause-refused g c = (map_some_same c.unwrap.new.books.items c.args.books.items (c.unwrap.ensures.books ∙ (c.in-Err.ensures.err ∙ c.wrap.ensures.slots)), c.unwrap.ensures.room ∙ c.wrap.ensures.room.1)
 
 pub returns-in-Ok-new-clause-passes : goal.returns-in-Ok-new-clause-passes
 returns-in-Ok-new-clause-passes g c = (all_new g.row.B.coded.code g.B.Logged.left_of _ 0 _ c.deal.ensures.0, c.deal.ensures.1)

@@ -1,0 +1,12 @@
+-- A book that a pass has taken, and what it comes to by one item.
+use Rattle.std.specs.Prelude.{◌≡◌, ◌≢◌, ℕ, ◌+◌, List, [], ◌∷◌, ◌++◌}
+use Rattle.atomic_table.specs.Table.{Me}
+use Rattle.cab_row.specs.declared.view.View.{View}
+
+-- the seat has just the book of the cabinet c, and P holds of it
+abbrev pub HasTaken : {B : Type 0} → Me B View → ℕ → (B → Type 0) → Type 0
+HasTaken {B} m c P = (b : B) × (m.1 ≡ (c, b) ∷ []) × P b
+
+-- x is b with one item more of the pass n
+abbrev pub HasOneMore : {B : Type 0} → (B → List ℕ) → (B → ℕ → ℕ) → (B → B → Type 0) → ℕ → B → B → Type 0
+HasOneMore {B} journal left Replays n b x = (journal x ≡ journal b ++ n ∷ []) × (left x n + 1 ≡ left b n) × ((p : ℕ) → p ≢ n → left x p ≡ left b p) × ((first : B) → Replays first b → Replays first x)
