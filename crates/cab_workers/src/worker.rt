@@ -1,6 +1,6 @@
 //! What a worker does with its passes: sweep after sweep over the cabinets, at each of which every pass acts until it meets another
-//! or has nothing left.
-ghost use Rattle.std.specs.Prelude.{◌≡◌, ℕ, ◌≤◌, ◌<◌, All, length, vec_len, slice_index_or};
+//! or has nothing left. Each worker begins at a place of its own, so that they seldom meet.
+ghost use Rattle.std.specs.Prelude.{◌≡◌, ℕ, ◌≤◌, ◌<◌, ◌+◌, All, length, vec_len, slice_index_or};
 ghost use Rattle.cab_row.specs.Passes.{IsPassOf, books_of};
 ghost use Rattle.cab_workers.specs.Hands.{IsReady, passes_in};
 
@@ -30,13 +30,20 @@ fn act_on<B: Logged, G: Gate>(row: &Row<B>, pass: &mut Pass, cab: u32, gate: &G)
     false
 }
 
-// One sweep over the cabinets. Whether another pass was met.
-fn sweep<B: Logged, G: Gate>(row: &Row<B>, worker: &mut Worker, gate: &G) -> bool
-    requires { IsReady B.row.coded.code B.left_of row.now worker.old }
+// At each of these cabinets every pass acts. Whether another was met.
+fn go_over<B: Logged, G: Gate>(
+    row: &Row<B>,
+    worker: &mut Worker,
+    first: u32,
+    last: u32,
+    gate: &G,
+) -> bool
+    requires ready { IsReady B.row.coded.code B.left_of row.now worker.old }
+    requires cabs { (1 ≤ first) × (last ≤ length (books_of row.now)) }
     ensures { IsReady B.row.coded.code B.left_of row.now worker.new × (vec_len worker.new.passes ≡ vec_len worker.old.passes) }
 {
     let mut met = false;
-    for cab in 1..=row.cabinets() {
+    for cab in first..=last {
         for k in 0..worker.passes.len() {
             if act_on(row, &mut worker.passes[k], cab, gate) {
                 met = true;
@@ -46,13 +53,42 @@ fn sweep<B: Logged, G: Gate>(row: &Row<B>, worker: &mut Worker, gate: &G) -> boo
     met
 }
 
+// One sweep over the cabinets, from one of them on and then from the first. Whether another pass was met.
+fn sweep<B: Logged, G: Gate>(row: &Row<B>, worker: &mut Worker, from: u32, gate: &G) -> bool
+    requires ready { IsReady B.row.coded.code B.left_of row.now worker.old }
+    requires from { (1 ≤ from) × (from ≤ length (books_of row.now) + 1) }
+    ensures { IsReady B.row.coded.code B.left_of row.now worker.new × (vec_len worker.new.passes ≡ vec_len worker.old.passes) }
+{
+    let met = go_over(row, worker, from, row.cabinets(), gate);
+    go_over(row, worker, 1, from - 1, gate) || met
+}
+
+// Where in a row of cabinets the worker at this place begins: four workers side by side are a quarter of the row apart, and the next
+// four stand between these.
+fn begins_at(cabinets: u32, place: usize) -> u32
+    ensures { (1 ≤ result) × (result ≤ cabinets + 1) }
+{
+    let part = cabinets / 8;
+    match place % 8 {
+        0 => 1,
+        1 => part * 2 + 1,
+        2 => part * 4 + 1,
+        3 => part * 6 + 1,
+        4 => part + 1,
+        5 => part * 3 + 1,
+        6 => part * 5 + 1,
+        _ => part * 7 + 1,
+    }
+}
+
 // Up to 64 sweeps, until one meets no other pass: then nothing is left of the worker's own.
-fn work<B: Logged, G: Gate>(row: &Row<B>, worker: &mut Worker, gate: &G)
+fn work<B: Logged, G: Gate>(row: &Row<B>, worker: &mut Worker, place: usize, gate: &G)
     requires { IsReady B.row.coded.code B.left_of row.now worker.old }
     ensures { IsReady B.row.coded.code B.left_of row.now worker.new × (vec_len worker.new.passes ≡ vec_len worker.old.passes) }
 {
+    let from = begins_at(row.cabinets(), place);
     for _ in 0..64 {
-        if !sweep(row, worker, gate) {
+        if !sweep(row, worker, from, gate) {
             break;
         }
     }
@@ -76,10 +112,10 @@ fn work_each<R: Threads + Sync, B: Logged + Send + Sync, G: Gate + Sync>(
         rt,
         workers,
         threads,
-        &|_, worker: &mut Worker|
+        &|place, worker: &mut Worker|
             requires { IsReady B.row.coded.code B.left_of row.now worker.now }
             ensures { IsReady B.row.coded.code B.left_of row.entry.now worker.exit.now × (vec_len worker.exit.now.passes ≡ vec_len worker.entry.now.passes) }
-        { work(row, worker, gate) },
+        { work(row, worker, place, gate) },
     );
 }
 
