@@ -1,5 +1,6 @@
 -- Books that keep the same are the same: what holds of what they keep holds in one way.
 use Rattle.std.proofs.Common.{◌≡◌, ◌≤◌, ◌+◌, ◌∙◌, ℕ, List, ap, sym, subst}
+use Rattle.std.specs.Global.{Box}
 use Rattle.std.proofs.Props.{props}
 use Rattle.round_streams.specs.declared.Streams.{Streams}
 use Rattle.cabinet_story.specs.Story.{Story}
@@ -11,15 +12,15 @@ use Rattle.cab_book.specs.Rounds.{ArePlaced, AreShort, AreTallied, HasRoomFor, R
 
 -- what a book keeps, and what holds of it
 abbrev Kept : Type 0
-Kept = Cabinet × Streams × List ℕ × Happened
+Kept = Box Cabinet × Streams × List ℕ × Happened
 
 record Holds (k : Kept) : Type 0 where
   placed : ∥ ArePlaced k.1 ∥₁
-  few : k.0.ticks + ticks_left k.2 ≤ 4294967294
+  few : k.0.value.ticks + ticks_left k.2 ≤ 4294967294
   room : HasRoomFor k.2 k.3
   tallied : AreTallied k.1 k.2 k.3
   short : AreShort k.1
-  some : ∥ ((story : Story) × RoundStands k.0 k.1 k.3 story) ∥₁
+  some : ∥ ((story : Story) × RoundStands k.0.value k.1 k.3 story) ∥₁
 
 holds-one : (k : Kept) → IsProp (Holds k)
 holds-one k = hlevel props
@@ -47,7 +48,7 @@ holds b = record { placed = b.placed; few = b.few; room = b.room; tallied = b.ta
 pub book-same : (a b : Book) → a.cabinet ≡ b.cabinet → a.streams ≡ b.streams → a.left ≡ b.left → a.happened ≡ b.happened → a ≡ b
 book-same a b cabinet streams left happened =
     let path : kept b ≡ kept a =
-    sym (ap (λ (x : Cabinet). (x, a.streams, a.left, a.happened)) cabinet
+    sym (ap (λ (x : Box Cabinet). (x, a.streams, a.left, a.happened)) cabinet
     ∙ ap (λ (x : Streams). (b.cabinet, x, a.left, a.happened)) streams
     ∙ ap (λ (x : List ℕ). (b.cabinet, b.streams, x, a.happened)) left
     ∙ ap (λ (x : Happened). (b.cabinet, b.streams, b.left, x)) happened) in

@@ -40,11 +40,11 @@ story_now b story = story_after b.streams b.happened story
 
 -- how many ticks the cabinet will have had by the end of the round
 abbrev pub ticks_by_end : Book → ℕ
-ticks_by_end b = b.cabinet.ticks + ticks_left b.left
+ticks_by_end b = b.cabinet.value.ticks + ticks_left b.left
 
 -- the book's round began at this story, and what it has written and replied since is what the journal has brought
 abbrev pub BookStands : Book → Story → Type 0
-BookStands b story = RoundStands b.cabinet b.streams b.happened story
+BookStands b story = RoundStands b.cabinet.value b.streams b.happened story
 
 -- all ticks of the round are those of pass 4: no pass above it has brought any, or has any left
 abbrev pub IsOnePart : Book → Type 0

@@ -1,7 +1,7 @@
 //! The book of a cabinet: the cabinet, the streams of the round under way, how many items of each pass are left, and what the round has
 //! come to so far. Any pass may bring the next item of its stream at any time; only the start of a round takes memory.
 
-ghost use Rattle.std.specs.Prelude.{◌≡◌, ◌≢◌, ◌<◌, ◌≤◌, ◌+◌, ◌-◌, ◌⊎◌, ◌++◌, ◌∷◌, [], ℕ, OnOk, IfErr, length, replicate, map, get_or};
+ghost use Rattle.std.specs.Prelude.{◌≡◌, ◌≢◌, ◌<◌, ◌≤◌, ◌+◌, ◌-◌, ◌⊎◌, ◌++◌, ◌∷◌, [], ℕ, OnOk, IfOk, IfErr, length, replicate, map, get_or};
 ghost use Rattle.sig_tables.specs.Decide.{last_frame_of, past_at};
 ghost use Rattle.round_streams.specs.Items.{Came, items_of, texts_of};
 ghost use Rattle.controller.specs.Strides.{IsStride};
@@ -61,38 +61,42 @@ fn next_of(frames: &[Octets], left: u32) -> &[u8]
 /// A cabinet, and its round.
 #[derive(Drop)]
 pub struct Book {
-    cabinet: Cabinet,
+    // on the heap, so that a book that is handed on moves few octets
+    cabinet: Box<Cabinet>,
     streams: Streams,
     left: [u32; 8],
     happened: Happened,
     // what any next item needs: a place for an input, few ticks in all, and room for what it gives
     ghost placed: { ∥ ArePlaced streams ∥₁ },
-    ghost few: { cabinet.ticks + ticks_left left ≤ 4294967294 },
+    ghost few: { cabinet.value.ticks + ticks_left left ≤ 4294967294 },
     ghost room: { HasRoomFor left happened },
     // what is left and what was brought are all items, and the streams are short
     ghost tallied: { AreTallied streams left happened },
     ghost short: { AreShort streams },
     // the round began at some story that the cabinet stood for
-    ghost some: { ∥ ((story : Story) × RoundStands cabinet streams happened story) ∥₁ },
+    ghost some: { ∥ ((story : Story) × RoundStands cabinet.value streams happened story) ∥₁ },
 }
 
 impl Book {
     ghost use Rattle.cab_book.specs.Books.{BookStands, CanBeTaken, IsBrought, IsOnePart, Replays, Shares, streams_in, journal_of, left_of, story_now, ticks_by_end, written_in, answered_in};
 
     /// The book of a cabinet before its first round.
-    pub fn new(alloc: Global, cabinet: Cabinet) -> Book
+    pub fn new(alloc: Global, cabinet: Cabinet) -> Result<Book, NoMemory>
         requires some { (story : Story) × CabinetStands cabinet story }
         requires few { cabinet.ticks ≤ 4294967294 }
-        ensures stands { (story : Story) → CabinetStands cabinet story → BookStands result story }
-        ensures streams { streams_in result ≡ replicate 5 [] }
-        ensures journal { journal_of result ≡ [] }
-        ensures ticks { ticks_by_end result ≡ cabinet.ticks }
+        ensures stands { IfOk result (λ book. (story : Story) → CabinetStands cabinet story → BookStands book story) }
+        ensures streams { IfOk result (λ book. streams_in book ≡ replicate 5 []) }
+        ensures journal { IfOk result (λ book. journal_of book ≡ []) }
+        ensures ticks { IfOk result (λ book. ticks_by_end book ≡ cabinet.ticks) }
     {
-        Book {
-            cabinet,
-            streams: no_streams(alloc),
-            left: [0; 8],
-            happened: Happened::none(alloc),
+        match Box::new(alloc, cabinet) {
+            Ok(cabinet) => Ok(Book {
+                cabinet,
+                streams: no_streams(alloc),
+                left: [0; 8],
+                happened: Happened::none(alloc),
+            }),
+            Err(_) => Err(NoMemory),
         }
     }
 

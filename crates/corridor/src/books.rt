@@ -55,16 +55,19 @@ fn book_by(
     control: Control,
     setup: &Setup,
     community: &ArrayVec<u8, 32>,
-) -> Book
+) -> Result<Book, NoMemory>
     requires can { CanOpen (cabinet_content setup.now) }
     requires control { StandsFor control (opening_history (cabinet_content setup.now)) }
-    ensures stands { BookStands result (opened community.now.items (opening_history (cabinet_content setup.now))) }
-    ensures journal { journal_of result ≡ [] }
-    ensures ticks { ticks_by_end result ≡ 0 }
+    ensures stands { IfOk result (λ book. BookStands book (opened community.now.items (opening_history (cabinet_content setup.now)))) }
+    ensures journal { IfOk result (λ book. journal_of book ≡ []) }
+    ensures ticks { IfOk result (λ book. ticks_by_end book ≡ 0) }
 {
     opening_tables_in_range();
     let cabinet = Cabinet::new(control, same_community(community));
-    Book::new(alloc, cabinet)
+    match Book::new(alloc, cabinet) {
+        Ok(book) => Ok(book),
+        Err(NoMemory) => Err(NoMemory),
+    }
 }
 
 /// A cabinet to which nothing has come, in its book.
@@ -80,7 +83,10 @@ fn book_of(
     ensures ticks { IfOk result (λ book. ticks_by_end book ≡ 0) }
 {
     match control_of(alloc, way, setup) {
-        Ok(control) => Ok(book_by(alloc, control, setup, community)),
+        Ok(control) => match book_by(alloc, control, setup, community) {
+            Ok(book) => Ok(book),
+            Err(NoMemory) => Err(NoMemory),
+        },
         Err(NoMemory) => Err(NoMemory),
     }
 }

@@ -1,5 +1,6 @@
 -- Ticks of books that are shared among passes, and joined again.
 use Rattle.std.proofs.Common.{◌≡◌, ◌<◌, ◌≤◌, ◌+◌, ◌∙◌, ℕ, inl, inr, All, List, [], ◌∷◌, length, get_or, slice_set, refl, sym, ap, subst, arith}
+use Rattle.std.specs.Global.{Box}
 use Rattle.std.proofs.lemmas.Bool.{cases_lt}
 use Rattle.std.proofs.lemmas.List.{ext_get_or, get_or_default, length-set}
 use Rattle.sig_types.proofs.InTurn.{InTurn, InTurn-start, InTurn-set}
@@ -17,9 +18,9 @@ use Rattle.round_run.specs.Joined.{AreFresh, AreShared, HaveFewLeft, IsShared, F
 
 shared-stands : (old new : Book) → Shares old new → (story : Story) → BookStands old story → BookStands new story
 shared-stands old new is story so =
-    subst (λ (c : Cabinet). RoundStands c new.streams new.happened story) (sym is.cabinet)
-    (subst (λ (s : Streams). RoundStands old.cabinet s new.happened story) (sym is.streams)
-    (subst (λ (h : Happened). RoundStands old.cabinet old.streams h story) (sym is.happened) so))
+    subst (λ (c : Box Cabinet). RoundStands c.value new.streams new.happened story) (sym is.cabinet)
+    (subst (λ (s : Streams). RoundStands old.cabinet.value s new.happened story) (sym is.streams)
+    (subst (λ (h : Happened). RoundStands old.cabinet.value old.streams h story) (sym is.happened) so))
 
 shared-streams : (old new : Book) → Shares old new → streams_in new ≡ streams_in old
 shared-streams old new is = ap items_of is.streams
@@ -28,7 +29,7 @@ shared-journal : (old new : Book) → Shares old new → journal_of new ≡ jour
 shared-journal old new is = ap journal_in is.happened
 
 shared-ticks : (old new : Book) → Shares old new → ticks_by_end new ≡ ticks_by_end old
-shared-ticks old new is = let same = ap (λ (c : Cabinet). c.ticks) is.cabinet in omega (arith, same, is.ticks)
+shared-ticks old new is = let same = ap (λ (c : Box Cabinet). c.value.ticks) is.cabinet in omega (arith, same, is.ticks)
 
 shared-small : (old new : Book) → Shares old new → ((p : ℕ) → 8 ≤ p → left_of new p ≡ 0) → IsOnePart old → ((p : ℕ) → left_of old p ≤ 2147483648)
     → (p : ℕ) → left_of new p ≤ 2147483648

@@ -113,14 +113,14 @@ module _ (old new : Book) (story : Story) (stood : BookStands old story) (stands
     (one : IsOnePart old) (all : (p : ℕ) → left_of new p ≡ 0) (ticks : ticks_by_end new ≡ ticks_by_end old) where
   pub ticks-grown : (seen : ℕ) → seen + 1 ≡ length (frames (history_of story)) → seen + left_of old 4 + 1 ≡ length (frames (history_of (story_now new story)))
   ticks-grown seen is =
-      let before : old.cabinet.ticks + 1 ≡ length (frames (history_of story)) =
+      let before : old.cabinet.value.ticks + 1 ≡ length (frames (history_of story)) =
       stood.cabinet.keeps.sound.ticks ∙ ap (λ (s : Story). length (frames (history_of s))) (begun-now old story none) in
-      let now : new.cabinet.ticks + 1 ≡ length (frames (history_of (story_now new story))) = stands.cabinet.keeps.sound.ticks in
+      let now : new.cabinet.value.ticks + 1 ≡ length (frames (history_of (story_now new story))) = stands.cabinet.keeps.sound.ticks in
       omega (arith, before, now, is, ticks, all 4, all 5, all 6, all 7, one 5 (omega arith), one 6 (omega arith), one 7 (omega arith))
 
   pub ticks-few : (seen : ℕ) → seen + 1 ≡ length (frames (history_of story)) → seen + left_of old 4 ≤ 4294967294
   ticks-few seen is =
-      let before : old.cabinet.ticks + 1 ≡ length (frames (history_of story)) =
+      let before : old.cabinet.value.ticks + 1 ≡ length (frames (history_of story)) =
       stood.cabinet.keeps.sound.ticks ∙ ap (λ (s : Story). length (frames (history_of s))) (begun-now old story none) in
       omega (arith, before, is, old.few)
 

@@ -25,15 +25,15 @@ new-requires-clause-few c =
     (c.new-cabinet.ensures.stands (opening_history s) c.requires.control (is-new s c.requires.can (c.opening_tables_in_range.ensures s))) in
     omega (arith, none)
 
-pub returns-clause-stands : goal.returns-clause-stands
-returns-clause-stands c =
+pub returns-in-Ok-clause-stands : goal.returns-in-Ok-clause-stands
+returns-in-Ok-clause-stands c =
     let s = cabinet_content c.args.setup.now in
-    subst (λ (community : List ℕ). BookStands c.new.result (opened community (opening_history s))) c.same_community.ensures
-    (c.new.ensures.stands (opened c.same_community.result.items (opening_history s))
+    subst (λ (community : List ℕ). BookStands c.in-Ok.book (opened community (opening_history s))) c.same_community.ensures
+    (c.in-Ok.ensures.stands (opened c.same_community.result.items (opening_history s))
     (c.new-cabinet.ensures.stands (opening_history s) c.requires.control (is-new s c.requires.can (c.opening_tables_in_range.ensures s))))
 
-pub returns-clause-ticks : goal.returns-clause-ticks
-returns-clause-ticks c =
+pub returns-in-Ok-clause-ticks : goal.returns-in-Ok-clause-ticks
+returns-in-Ok-clause-ticks c =
     let s = cabinet_content c.args.setup.now in
-    c.new.ensures.ticks ∙ no-ticks _ c.same_community.result.items s
+    c.in-Ok.ensures.ticks ∙ no-ticks _ c.same_community.result.items s
     (c.new-cabinet.ensures.stands (opening_history s) c.requires.control (is-new s c.requires.can (c.opening_tables_in_range.ensures s)))

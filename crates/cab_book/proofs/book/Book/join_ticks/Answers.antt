@@ -27,7 +27,7 @@ invariant_of-self c =
       room = e.room (ticks_left left) (frames_left left) (items_left left)
           (room-less b.happened (ticks_left b.left) (frames_left b.left) (items_left b.left) (ticks_left left) (frames_left left) (items_left left)
           (omega (arith, all)) (omega arith) (omega (arith, all)) b.room);
-      some = ∥∥₁_map b.some (λ some. (some.0, round-reread b.cabinet b.streams b.happened c.join_ticks.new.self some.0 e.journal e.written e.replies some.1));
+      some = ∥∥₁_map b.some (λ some. (some.0, round-reread b.cabinet.value b.streams b.happened c.join_ticks.new.self some.0 e.journal e.written e.replies some.1));
     }
 
 pub returns : goal.returns
@@ -37,7 +37,7 @@ returns c =
     let ticks : ℕ = c.ticks_left-ticks.result in
     let all : ticks ≡ ticks_left b.left = c.ticks_left-ticks.ensures in
     record {
-      stands = λ story so. round-reread b.cabinet b.streams b.happened c.join_ticks.new.self story e.journal e.written e.replies so;
+      stands = λ story so. round-reread b.cabinet.value b.streams b.happened c.join_ticks.new.self story e.journal e.written e.replies so;
       streams = refl;
       journal = e.journal;
       one = λ p from. joined-one b.streams b.left ticks b.happened c.join_ticks.new.self p b.tallied e.journal from;

@@ -26,7 +26,7 @@ invariant_of-self c =
           (items_left left) (omega arith) (omega arith) (omega arith) c.in-Ok.ensures.room;
       some = ∥∥₁_map b.some (λ some. (
         story_after b.streams b.happened some.0,
-        round-begins b.cabinet streams happened (story_after b.streams b.happened some.0) c.in-Ok.ensures.journal c.in-Ok.ensures.none.0 c.in-Ok.ensures.none.1
+        round-begins b.cabinet.value streams happened (story_after b.streams b.happened some.0) c.in-Ok.ensures.journal c.in-Ok.ensures.none.0 c.in-Ok.ensures.none.1
             some.1.cabinet,
       ));
     }

@@ -1,7 +1,9 @@
-use Rattle.std.proofs.Common.{◌+◌, ◌-◌, get_or, slice_set, length, refl, arith}
+use Rattle.std.proofs.Common.{◌+◌, ◌-◌, get_or, slice_set, length, refl, sym, ap, subst, arith}
 use Rattle.std.proofs.Math.Logic.{∥∥₁_map}
 use Rattle.cab_book.specs.Shares.{ticks_left}
-use Rattle.cab_book.specs.Rounds.{frames_left, items_left, story_after}
+use Rattle.cab_book.specs.declared.cabinet.Cabinet.{Cabinet}
+use Rattle.cab_book.specs.Stands.{CabinetStands}
+use Rattle.cab_book.specs.Rounds.{frames_left, items_left, story_after, RoundStands}
 use Rattle.cab_book.proofs.Bringing.{taken, tallied-more, frame-taken, room-less}
 use Rattle.cab_book.proofs.Coming.{left-of-frames, replied}
 use Rattle.cab_book.proofs.book.Book.receive.Goals as goal
@@ -9,7 +11,12 @@ use Rattle.cab_book.proofs.book.Book.receive.Goals as goal
 pub receive-text-requires : goal.receive-text-requires
 receive-text-requires c =
     let b = c.args.self.now in
-    record { some = ∥∥₁_map b.some (λ some. (story_after b.streams b.happened some.0, some.1.cabinet)) }
+    record {
+      some = ∥∥₁_map b.some (λ some. (
+        story_after b.streams b.happened some.0,
+        subst (λ (k : Cabinet). CabinetStands k (story_after b.streams b.happened some.0)) (sym c.deref_mut.ensures.value) some.1.cabinet,
+      ));
+    }
 
 pub add_reply-requires-clause-room : goal.add_reply-requires-clause-room
 add_reply-requires-clause-room c =
@@ -22,6 +29,7 @@ add_reply-requires-clause-room c =
 pub invariant_of-self : goal.invariant_of-self
 invariant_of-self c =
     let b = c.args.self.now in
+    let same = c.deref_mut.ensures.value in
     let pass = c.args.pass in
     let frames = c.frames_of-frames.result.now in
     let rest = slice_set b.left pass (get_or b.left pass 0 - 1) in
@@ -31,35 +39,39 @@ invariant_of-self c =
       placed = b.placed;
       short = b.short;
       tallied = tallied-more b.streams b.left rest b.happened c.add_reply.new.self pass 1 o c.add_reply.ensures.goes.journal b.tallied;
-      few = omega (arith, b.few, c.receive-text.ensures.ticks, t.ticks_are);
+      few = omega (arith, b.few, ap (λ (k : Cabinet). k.ticks) same, c.receive-text.ensures.ticks, t.ticks_are);
       room = c.add_reply.ensures.room (ticks_left rest) (frames_left rest) (items_left rest)
           (room-less b.happened (ticks_left b.left) (frames_left b.left) (items_left b.left) (ticks_left rest) (frames_left rest + 1) (items_left rest + 1)
           (omega (arith, t.ticks_are)) (omega (arith, t.frames_are)) (omega (arith, t.items_are)) b.room);
       some = ∥∥₁_map b.some (λ some. (
         some.0,
-        replied b.cabinet c.receive-text.new.self b.streams b.left b.happened c.add_reply.new.self pass (length frames - get_or b.left pass 0) frames
+        replied c.deref_mut.result.now c.receive-text.new.self b.streams b.left b.happened c.add_reply.new.self pass (length frames - get_or b.left pass 0) frames
             c.next_of-octets.result.now c.receive-text.result.text c.receive-text.result.load (omega (arith, c.requires.within)) b.tallied c.frames_of-frames.ensures
-            (left-of-frames b.streams b.left b.happened pass frames (omega (arith, c.requires.within)) b.tallied c.frames_of-frames.ensures) c.requires.some c.next_of-octets.ensures c.receive-text.ensures.text c.receive-text.ensures.load c.receive-text.ensures.stands c.add_reply.ensures.goes some.0 some.1,
+            (left-of-frames b.streams b.left b.happened pass frames (omega (arith, c.requires.within)) b.tallied c.frames_of-frames.ensures) c.requires.some c.next_of-octets.ensures c.receive-text.ensures.text c.receive-text.ensures.load c.receive-text.ensures.stands c.add_reply.ensures.goes some.0
+            (subst (λ (k : Cabinet). RoundStands k b.streams b.happened some.0) (sym same) some.1),
       ));
     }
 
 pub returns : goal.returns
 returns c =
     let b = c.args.self.now in
+    let same = c.deref_mut.ensures.value in
     let pass = c.args.pass in
     let frames = c.frames_of-frames.result.now in
     let o = taken b.left pass 1 (get_or b.left pass 0 - 1) (omega arith) (omega (arith, c.requires.some)) in
     record {
-      stands = replied b.cabinet c.receive-text.new.self b.streams b.left b.happened c.add_reply.new.self pass (length frames - get_or b.left pass 0) frames
+      stands = λ story so. replied c.deref_mut.result.now c.receive-text.new.self b.streams b.left b.happened c.add_reply.new.self pass (length frames - get_or b.left pass 0) frames
           c.next_of-octets.result.now c.receive-text.result.text c.receive-text.result.load (omega (arith, c.requires.within)) b.tallied c.frames_of-frames.ensures
           (left-of-frames b.streams b.left b.happened pass frames (omega (arith, c.requires.within)) b.tallied c.frames_of-frames.ensures) c.requires.some c.next_of-octets.ensures
-          c.receive-text.ensures.text c.receive-text.ensures.load c.receive-text.ensures.stands c.add_reply.ensures.goes;
+          c.receive-text.ensures.text c.receive-text.ensures.load c.receive-text.ensures.stands c.add_reply.ensures.goes story
+          (subst (λ (k : Cabinet). RoundStands k b.streams b.happened story) (sym same) so);
       streams = refl;
       journal = c.add_reply.ensures.goes.journal;
       own = o.own;
       others = o.others;
       ticks = omega (
         arith,
+        ap (λ (k : Cabinet). k.ticks) same,
         c.receive-text.ensures.ticks,
         (frame-taken b.left (slice_set b.left pass (get_or b.left pass 0 - 1)) pass c.requires.above c.requires.within o).ticks_are,
       );

@@ -1,7 +1,11 @@
-use Rattle.std.proofs.Common.{◌+◌, ◌-◌, ℕ, get_or, slice_set, option_to_list, refl, arith}
+use Rattle.std.proofs.Common.{◌+◌, ◌-◌, ℕ, get_or, slice_set, option_to_list, refl, sym, ap, subst, arith}
 use Rattle.std.proofs.Math.Logic.{∥∥₁_map}
+use Rattle.cabinet_story.specs.Story.{Story}
+use Rattle.cab_book.specs.Books.{BookStands}
 use Rattle.cab_book.specs.Shares.{ticks_left}
-use Rattle.cab_book.specs.Rounds.{frames_left, items_left, story_after}
+use Rattle.cab_book.specs.declared.cabinet.Cabinet.{Cabinet}
+use Rattle.cab_book.specs.Stands.{CabinetStands}
+use Rattle.cab_book.specs.Rounds.{frames_left, items_left, story_after, RoundStands}
 use Rattle.cab_book.proofs.Bringing.{taken, tallied-more, ticks-taken, room-less, few-shared, pass-within}
 use Rattle.cab_book.proofs.Coming.{strode}
 use Rattle.cab_book.proofs.book.Book.stride.Goals as goal
@@ -11,8 +15,11 @@ stride-ticks-requires c =
     let b = c.args.self.now in
     record {
       some = c.requires.some;
-      few = omega (arith, b.few, pass-within b.left c.args.pass c.requires.above c.requires.below, c.requires.within);
-      stood = ∥∥₁_map b.some (λ some. (story_after b.streams b.happened some.0, some.1.cabinet));
+      few = omega (arith, b.few, ap (λ (k : Cabinet). k.ticks) c.deref_mut.ensures.value, pass-within b.left c.args.pass c.requires.above c.requires.below, c.requires.within);
+      stood = ∥∥₁_map b.some (λ some. (
+        story_after b.streams b.happened some.0,
+        subst (λ (k : Cabinet). CabinetStands k (story_after b.streams b.happened some.0)) (sym c.deref_mut.ensures.value) some.1.cabinet,
+      ));
     }
 
 pub add_ticks-requires : goal.add_ticks-requires
@@ -34,6 +41,7 @@ add_ticks-requires c =
 pub invariant_of-self : goal.invariant_of-self
 invariant_of-self c =
     let b = c.args.self.now in
+    let same = c.deref_mut.ensures.value in
     let pass = c.args.pass in
     let m : ℕ = c.stride-ticks.result.0 in
     let e = c.stride-ticks.ensures in
@@ -44,40 +52,44 @@ invariant_of-self c =
       placed = b.placed;
       short = b.short;
       tallied = tallied-more b.streams b.left rest b.happened c.add_ticks.new.self pass m o c.add_ticks.ensures.goes.journal b.tallied;
-      few = omega (arith, b.few, e.ticks, t.ticks_are);
+      few = omega (arith, b.few, ap (λ (k : Cabinet). k.ticks) same, e.ticks, t.ticks_are);
       room = c.add_ticks.ensures.room (ticks_left rest) (frames_left rest) (items_left rest)
           (room-less b.happened (ticks_left b.left) (frames_left b.left) (items_left b.left) (ticks_left rest + m) (frames_left rest) (items_left rest + m)
           (omega (arith, t.ticks_are)) (omega (arith, t.frames_are)) (omega (arith, t.items_are)) b.room);
       some = ∥∥₁_map b.some (λ some. (
         some.0,
-        strode b.cabinet c.stride-ticks.new.self b.streams b.happened c.add_ticks.new.self pass m (option_to_list c.stride-ticks.result.1) c.requires.above
-            e.gives e.stands c.add_ticks.ensures.goes some.0 some.1,
+        strode c.deref_mut.result.now c.stride-ticks.new.self b.streams b.happened c.add_ticks.new.self pass m (option_to_list c.stride-ticks.result.1) c.requires.above
+            e.gives e.stands c.add_ticks.ensures.goes some.0
+            (subst (λ (k : Cabinet). RoundStands k b.streams b.happened some.0) (sym same) some.1),
       ));
     }
 
 pub returns : goal.returns
 returns c =
     let b = c.args.self.now in
+    let same = c.deref_mut.ensures.value in
     let pass = c.args.pass in
     let m : ℕ = c.stride-ticks.result.0 in
     let e = c.stride-ticks.ensures in
     let rest = slice_set b.left pass (get_or b.left pass 0 - m) in
     let o = taken b.left pass m (get_or b.left pass 0 - m) e.some (omega (arith, e.within, c.requires.within)) in
     let t = ticks-taken b.left rest pass m c.requires.above c.requires.below o in
-    let stands = strode b.cabinet c.stride-ticks.new.self b.streams b.happened c.add_ticks.new.self pass m (option_to_list c.stride-ticks.result.1)
-    c.requires.above e.gives e.stands c.add_ticks.ensures.goes in
+    let stands : (story : Story) → BookStands b story → RoundStands c.stride-ticks.new.self b.streams c.add_ticks.new.self story = λ story so.
+    strode c.deref_mut.result.now c.stride-ticks.new.self b.streams b.happened c.add_ticks.new.self pass m (option_to_list c.stride-ticks.result.1)
+    c.requires.above e.gives e.stands c.add_ticks.ensures.goes story (subst (λ (k : Cabinet). RoundStands k b.streams b.happened story) (sym same) so) in
     record {
-      least = λ story so. e.least (story_after b.streams b.happened story) so.cabinet;
+      least = λ story so. e.least (story_after b.streams b.happened story)
+          (subst (λ (k : Cabinet). CabinetStands k (story_after b.streams b.happened story)) (sym same) so.cabinet);
       stands = stands;
       streams = refl;
       journal = c.add_ticks.ensures.goes.journal;
       own = o.own;
       others = o.others;
-      ticks = omega (arith, e.ticks, t.ticks_are);
+      ticks = omega (arith, ap (λ (k : Cabinet). k.ticks) same, e.ticks, t.ticks_are);
       replays = λ first is. record {
         streams = is.streams;
         stories = λ story so. stands story (is.stories story so);
-        ticks = omega (arith, e.ticks, t.ticks_are, is.ticks);
+        ticks = omega (arith, ap (λ (k : Cabinet). k.ticks) same, e.ticks, t.ticks_are, is.ticks);
       };
       some = e.some;
       within = e.within;

@@ -1,7 +1,9 @@
-use Rattle.std.proofs.Common.{◌+◌, ◌-◌, get_or, slice_set, option_to_list, refl, arith}
+use Rattle.std.proofs.Common.{◌+◌, ◌-◌, get_or, slice_set, option_to_list, refl, sym, ap, subst, arith}
 use Rattle.std.proofs.Math.Logic.{∥∥₁_map}
 use Rattle.cab_book.specs.Shares.{ticks_left}
-use Rattle.cab_book.specs.Rounds.{frames_left, items_left, story_after}
+use Rattle.cab_book.specs.declared.cabinet.Cabinet.{Cabinet}
+use Rattle.cab_book.specs.Stands.{CabinetStands}
+use Rattle.cab_book.specs.Rounds.{frames_left, items_left, story_after, RoundStands}
 use Rattle.cab_book.proofs.Bringing.{taken, tallied-more, ticks-taken, room-less, few-shared}
 use Rattle.cab_book.proofs.Coming.{strode}
 use Rattle.cab_book.proofs.book.Book.tick.Goals as goal
@@ -9,7 +11,10 @@ use Rattle.cab_book.proofs.book.Book.tick.Goals as goal
 pub tick-written-requires-clause-some : goal.tick-written-requires-clause-some
 tick-written-requires-clause-some c =
     let b = c.args.self.now in
-    ∥∥₁_map b.some (λ some. (story_after b.streams b.happened some.0, some.1.cabinet))
+    ∥∥₁_map b.some (λ some. (
+      story_after b.streams b.happened some.0,
+      subst (λ (k : Cabinet). CabinetStands k (story_after b.streams b.happened some.0)) (sym c.deref_mut.ensures.value) some.1.cabinet,
+    ))
 
 pub add_ticks-requires-clause-few : goal.add_ticks-requires-clause-few
 add_ticks-requires-clause-few c =
@@ -19,6 +24,7 @@ add_ticks-requires-clause-few c =
 pub invariant_of-self : goal.invariant_of-self
 invariant_of-self c =
     let b = c.args.self.now in
+    let same = c.deref_mut.ensures.value in
     let pass = c.args.pass in
     let rest = slice_set b.left pass (get_or b.left pass 0 - 1) in
     let o = taken b.left pass 1 (get_or b.left pass 0 - 1) (omega arith) (omega (arith, c.requires.some)) in
@@ -27,29 +33,32 @@ invariant_of-self c =
       placed = b.placed;
       short = b.short;
       tallied = tallied-more b.streams b.left rest b.happened c.add_ticks.new.self pass 1 o c.add_ticks.ensures.goes.journal b.tallied;
-      few = omega (arith, b.few, c.tick-written.ensures.ticks, t.ticks_are);
+      few = omega (arith, b.few, ap (λ (k : Cabinet). k.ticks) same, c.tick-written.ensures.ticks, t.ticks_are);
       room = c.add_ticks.ensures.room (ticks_left rest) (frames_left rest) (items_left rest)
           (room-less b.happened (ticks_left b.left) (frames_left b.left) (items_left b.left) (ticks_left rest + 1) (frames_left rest) (items_left rest + 1)
           (omega (arith, t.ticks_are)) (omega (arith, t.frames_are)) (omega (arith, t.items_are)) b.room);
       some = ∥∥₁_map b.some (λ some. (
         some.0,
-        strode b.cabinet c.tick-written.new.self b.streams b.happened c.add_ticks.new.self pass 1 (option_to_list c.tick-written.result) c.requires.above
-            c.tick-written.ensures.gives c.tick-written.ensures.stands c.add_ticks.ensures.goes some.0 some.1,
+        strode c.deref_mut.result.now c.tick-written.new.self b.streams b.happened c.add_ticks.new.self pass 1 (option_to_list c.tick-written.result) c.requires.above
+            c.tick-written.ensures.gives c.tick-written.ensures.stands c.add_ticks.ensures.goes some.0
+            (subst (λ (k : Cabinet). RoundStands k b.streams b.happened some.0) (sym same) some.1),
       ));
     }
 
 pub returns : goal.returns
 returns c =
     let b = c.args.self.now in
+    let same = c.deref_mut.ensures.value in
     let pass = c.args.pass in
     let rest = slice_set b.left pass (get_or b.left pass 0 - 1) in
     let o = taken b.left pass 1 (get_or b.left pass 0 - 1) (omega arith) (omega (arith, c.requires.some)) in
     record {
-      stands = strode b.cabinet c.tick-written.new.self b.streams b.happened c.add_ticks.new.self pass 1 (option_to_list c.tick-written.result)
-          c.requires.above c.tick-written.ensures.gives c.tick-written.ensures.stands c.add_ticks.ensures.goes;
+      stands = λ story so. strode c.deref_mut.result.now c.tick-written.new.self b.streams b.happened c.add_ticks.new.self pass 1 (option_to_list c.tick-written.result)
+          c.requires.above c.tick-written.ensures.gives c.tick-written.ensures.stands c.add_ticks.ensures.goes story
+          (subst (λ (k : Cabinet). RoundStands k b.streams b.happened story) (sym same) so);
       streams = refl;
       journal = c.add_ticks.ensures.goes.journal;
       own = o.own;
       others = o.others;
-      ticks = omega (arith, c.tick-written.ensures.ticks, (ticks-taken b.left rest pass 1 c.requires.above c.requires.within o).ticks_are);
+      ticks = omega (arith, ap (λ (k : Cabinet). k.ticks) same, c.tick-written.ensures.ticks, (ticks-taken b.left rest pass 1 c.requires.above c.requires.within o).ticks_are);
     }
