@@ -1,43 +1,15 @@
 -- The sets of called phases, and the changes from one round to the next.
-use Rattle.std.proofs.Common.{◌≡◌, ℕ, zero, suc, ◌+◌, ◌<◌, ◌≤◌, ◌||◌, ◌&&◌, ◌==◌, Bool, true, false, nat_le, nat_lt, List, [], ◌∷◌, ◌++◌, length, drop, get_or, refl, sym, ap, ap₂, ◌∙◌, append_assoc, add-one, arith}
-use Rattle.std.proofs.lemmas.Bool.{ltb-true, leb-true}
-use Rattle.std.proofs.lemmas.List.{drop_more, drop_all}
-use Rattle.sig_types.specs.declared.phase_set.PhaseSet.{PhaseSet}
+use Rattle.std.proofs.Common.{◌≡◌, ℕ, zero, suc, ◌+◌, ◌-◌, ◌<◌, ◌≤◌, ◌||◌, ◌&&◌, ◌==◌, Bool, true, false, if◌then◌else◌, nat_le, nat_lt, List, [], ◌∷◌, ◌++◌, length, get_or, refl, sym, ap, ap₂, ◌∙◌, append_assoc, add-one, arith}
+use Rattle.std.proofs.lemmas.Bool.{ltb-true, leb-true, lt-ltb}
 use Rattle.sig_types.specs.PhaseSet.{has}
 use Rattle.detector_bank.specs.declared.bank.Detector.{Detector}
 use Rattle.detector_bank.specs.declared.bank.Pulse.{Pulse}
 use Rattle.detector_bank.specs.declared.bank.Call.{Call}
+use Rattle.detector_bank.specs.declared.post.Post.{Post}
+use Rattle.detector_bank.specs.declared.changes.Calling.{Calling}
+use Rattle.detector_bank.specs.Watching.{tally, Tallies, AreCalled}
 use Rattle.detector_bank.specs.Bank.{calls, called}
 use Rattle.detector_bank.specs.Lists.{change, phase_changes, all_phases_changes, cabinet_changes, round_changes, calls_until}
-
-or-assoc : (a b c : Bool) → ((a || b) || c) ≡ (a || (b || c))
-or-assoc true b c = refl
-or-assoc false b c = refl
-
-or-none : (b : Bool) → (b || false) ≡ b
-or-none true = refl
-or-none false = refl
-
--- the detectors before a place have called, those from it on have yet to
-abbrev pub CalledSoFar : List PhaseSet → List Detector → List Pulse → ℕ → ℕ → Type 0
-CalledSoFar sets ds ps j i =
-    (c p : ℕ) (s : PhaseSet) → c < 64 → 1 ≤ p → p ≤ 16 → (has (get_or sets c s) p || called (drop i ds) ps (c + 1) p j) ≡ called ds ps (c + 1) p j
-
-pub called-next : (old new : List PhaseSet) (ds : List Detector) (ps : List Pulse) (j i : ℕ) (d : Detector) (b : Bool) → i < length ds → b ≡ calls (get_or ds i d) ps j
-    → ((c p : ℕ) (s : PhaseSet) → c < 64 → 1 ≤ p → p ≤ 16 → has (get_or new c s) p ≡ (has (get_or old c s) p || (((get_or ds i d).cabinet == c + 1) && (((get_or ds i d).phase == p) && b))))
-    → CalledSoFar old ds ps j i → CalledSoFar new ds ps j (i + 1)
-called-next old new ds ps j i d b within is more before = λ c p s few some most.
-    let t : Bool = ((get_or ds i d).cabinet == c + 1) && (((get_or ds i d).phase == p) && calls (get_or ds i d) ps j) in
-    let rest : Bool = called (drop (i + 1) ds) ps (c + 1) p j in
-    let here : called (drop i ds) ps (c + 1) p j ≡ (t || rest) = ap (λ xs. called xs ps (c + 1) p j) (drop_more ds i d within) in
-    let now : has (get_or new c s) p ≡ (has (get_or old c s) p || t) =
-    more c p s few some most ∙ ap (λ x. has (get_or old c s) p || (((get_or ds i d).cabinet == c + 1) && (((get_or ds i d).phase == p) && x))) is in
-    ap (λ x. x || rest) now ∙ or-assoc (has (get_or old c s) p) t rest ∙ ap (λ x. has (get_or old c s) p || x) (sym here) ∙ before c p s few some most
-
-pub called-all : (sets : List PhaseSet) (ds : List Detector) (ps : List Pulse) (j i : ℕ) → length ds ≤ i → CalledSoFar sets ds ps j i
-    → (c p : ℕ) (s : PhaseSet) → c < 64 → 1 ≤ p → p ≤ 16 → has (get_or sets c s) p ≡ called ds ps (c + 1) p j
-called-all sets ds ps j i past so c p s few some most =
-    sym (or-none (has (get_or sets c s) p)) ∙ ap (λ xs. has (get_or sets c s) p || called xs ps (c + 1) p j) (sym (drop_all i ds past)) ∙ so c p s few some most
 
 -- a phase that is called as before changes nothing
 same-change : (round cabinet phase : ℕ) (a b : Bool) → a ≡ b → change round cabinet phase a b ≡ []
@@ -94,7 +66,7 @@ never-above n = at (nat_lt 0 n) (nat_lt n 0) refl
 none-of : (a b c : Bool) → a ≡ false → b ≡ false → c ≡ false → ((a || (b || c)) || false) ≡ false
 none-of a b c p q r = rw (p, q, r) refl
 
-none-calls : (d : Detector) (ps : List Pulse) → calls d ps 0 ≡ false
+pub none-calls : (d : Detector) (ps : List Pulse) → calls d ps 0 ≡ false
 none-calls d ps =
     none-of (nat_lt 0 d.no_activity && nat_le d.no_activity 0) (nat_lt 0 d.max_presence && nat_le d.max_presence 0) (nat_lt 0 d.erratic && nat_lt d.erratic 0)
     (never d.no_activity) (never d.max_presence) (never-above d.erratic)
@@ -111,3 +83,31 @@ none-called (d ∷ ds) ps cabinet phase =
 
 pub calls-more : (ds : List Detector) (ps : List Pulse) (j : ℕ) → calls_until ds ps j ++ round_changes ds ps j ≡ calls_until ds ps (j + 1)
 calls-more ds ps j = ap (λ n. calls_until ds ps n) (sym (add-one j))
+
+-- where as many detectors as are kept call, a phase is called if and only if some of its detectors call
+pub called-tally : (ds : List Detector) (posts : List Post) (ps : List Pulse) (cabinet phase j : ℕ) → length posts ≡ length ds
+    → ((k : ℕ) (p : Post) (d : Detector) → k < length ds → (get_or posts k p).calls ≡ calls (get_or ds k d) ps j)
+    → called ds ps cabinet phase j ≡ nat_lt 0 (tally ds posts cabinet phase)
+called-tally [] posts ps cabinet phase j same h = refl
+called-tally (d ∷ ds) [] ps cabinet phase j same h = absurd (omega (arith, same))
+called-tally (d ∷ ds) (p ∷ posts) ps cabinet phase j same h =
+    ap (λ b. ((d.cabinet == cabinet) && ((d.phase == phase) && b)) || called ds ps cabinet phase j) (sym (h 0 p d (omega arith)))
+    ∙ ap (λ b. ((d.cabinet == cabinet) && ((d.phase == phase) && p.calls)) || b)
+    (called-tally ds posts ps cabinet phase j (omega (arith, same)) (λ k q e low. h (suc k) q e (omega (arith, low))))
+    ∙ some ((d.cabinet == cabinet) && ((d.phase == phase) && p.calls)) (tally ds posts cabinet phase)
+  where
+    some : (b : Bool) (n : ℕ) → (b || nat_lt 0 n) ≡ nat_lt 0 ((if b then 1 else 0) + n)
+    some true n = sym (lt-ltb 0 (1 + n) (omega arith))
+    some false n = ap (λ m. nat_lt 0 m) (zero-plus n)
+      where
+        zero-plus : (n : ℕ) → n ≡ 0 + n
+        zero-plus n = omega arith
+
+pub sets-called : (c : Calling) (ds : List Detector) (posts : List Post) (ps : List Pulse) (j : ℕ) → length posts ≡ length ds
+    → ((k : ℕ) (p : Post) (d : Detector) → k < length ds → (get_or posts k p).calls ≡ calls (get_or ds k d) ps j) → Tallies c ds posts → AreCalled c.sets ds ps j
+sets-called c ds posts ps j same h t = record {
+  each = λ k p s low some most.
+      let before : p - 1 + 1 ≡ p = omega (arith, some) in
+      ap (λ n. has (get_or c.sets k s) n) (sym before) ∙ t.sets k (p - 1) s low (omega (arith, some, most)) ∙ sym (called-tally ds posts ps (k + 1) (p - 1 + 1) j same h)
+      ∙ ap (λ n. called ds ps (k + 1) n j) before;
+}

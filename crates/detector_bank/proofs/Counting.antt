@@ -1,30 +1,24 @@
--- Counts over rounds: the edges of the latest rounds, and where a round's number falls modulo sixty.
-use Rattle.std.proofs.Common.{◌≡◌, ◌≢◌, ℕ, zero, suc, ◌+◌, ◌-◌, ◌*◌, ◌%◌, ◌<◌, ◌≤◌, ◌&&◌, Bool, true, false, not, if◌then◌else◌, nat_lt, List, [], ◌∷◌, length, replicate, get_or, refl, sym, ap, ◌∙◌, arith}
-use Rattle.std.proofs.lemmas.Bool.{lt-ltb, le-ltb}
+-- Counts over rounds: the edges of the latest rounds, and the place of a round's edges modulo sixty.
+use Rattle.std.proofs.Common.{◌≡◌, ◌≢◌, ℕ, zero, suc, ◌+◌, ◌-◌, ◌*◌, ◌%◌, ◌^◌, ◌<◌, ◌≤◌, ◌&&◌, Bool, true, false, not, if◌then◌else◌, min, List, [], ◌∷◌, length, replicate, get_or, refl, sym, ap, ◌∙◌, add-one, arith}
 use Rattle.detector_bank.specs.declared.bank.Detector.{Detector}
 use Rattle.detector_bank.specs.declared.bank.Pulse.{Pulse}
 use Rattle.detector_bank.specs.Pulses.{in_round, is_of, flags_of, flags, edges_from, edges_in, state}
-use Rattle.detector_bank.specs.Bank.{latest_edges, lately_past, past_delay}
+use Rattle.detector_bank.specs.Bank.{latest_edges}
 
-pub slot-now : (j : ℕ) → (suc j + 60 - 0) % 60 ≡ suc j % 60
-slot-now j = omega arith
-
-pub slot-back : (j m : ℕ) → m < 59 → (suc j + 60 - suc m) % 60 ≢ suc j % 60
-slot-back j m h = λ e. omega (arith, e, h)
-
-pub slot-same : (j m : ℕ) → m < 59 → (suc j + 60 - suc m) % 60 ≡ (j + 60 - m) % 60
-slot-same j m h = ap (λ n. n % 60) (omega arith)
-
-pub slot-first : (j : ℕ) → (j + 60 - 59) % 60 ≡ suc j % 60
-slot-first j = ap (λ n. n % 60) (omega arith)
-
-pub slot-round : (j : ℕ) → (j + 60 - 0) % 60 ≡ j % 60
-slot-round j = omega arith
+-- two rounds of the latest sixty have two places
+pub slot-other : (j r : ℕ) → r < suc j → suc j < r + 60 → r % 60 ≢ suc j % 60
+slot-other j r less near = λ e. omega (arith, e, less, near)
 
 pub zeros : (n i z : ℕ) → get_or (replicate n z) i z ≡ z
 zeros zero i z = refl
 zeros (suc n) zero z = refl
 zeros (suc n) (suc i) z = zeros n i z
+
+-- an item of a list, whatever stands for one past its end
+pub same-item : {A : Type 0} (xs : List A) (k : ℕ) (a b : A) → k < length xs → get_or xs k a ≡ get_or xs k b
+same-item [] k a b h = absurd (omega (arith, h))
+same-item (x ∷ xs) zero a b h = refl
+same-item (x ∷ xs) (suc k) a b h = same-item xs k a b (omega (arith, h))
 
 -- the edges of one round more, the earliest
 pub one-more : (d : Detector) (ps : List Pulse) (n j : ℕ) → latest_edges d ps (suc n) j ≡ latest_edges d ps n j + edges_in d ps (j - n)
@@ -80,15 +74,22 @@ latest-few d ps few (suc n) (suc j) =
     sums : (a b c : ℕ) → a ≤ c → c ≤ 1000000 → b ≤ 1000000 * n → a + b ≤ 1000000 * suc n
     sums a b c h few k = omega arith
 
--- a detector is held for its extension after it was past its delay
-pub held-next : (d : Detector) (ps : List Pulse) (j held : ℕ) (past : Bool) → past ≡ past_delay d ps (suc j) → held ≤ d.extend + 1
-    → ((n : ℕ) → n ≤ d.extend → lately_past d ps n j ≡ nat_lt d.extend (held + n))
-    → (n : ℕ) → n ≤ d.extend → lately_past d ps n (suc j) ≡ nat_lt d.extend ((if past then d.extend + 1 else held - 1) + n)
-held-next d ps j held true is few before zero low = sym is ∙ sym (lt-ltb d.extend (d.extend + 1 + 0) (omega arith))
-held-next d ps j held true is few before (suc n) low = rw (← is) (sym (lt-ltb d.extend (d.extend + 1 + suc n) (omega arith)))
-held-next d ps j held false is few before zero low = sym is ∙ sym (le-ltb d.extend (held - 1 + 0) (omega arith))
-held-next d ps j held false is few before (suc n) low = rw (← is) (before n (omega arith) ∙ same held few)
+-- fewer rounds have no more edges
+pub fewer : (d : Detector) (ps : List Pulse) (j : ℕ) → latest_edges d ps 59 j ≤ latest_edges d ps 60 j
+fewer d ps j = at (latest_edges d ps 60 j) (latest_edges d ps 59 j) (edges_in d ps (j - 59)) (one-more d ps 59 j)
   where
-    same : (held : ℕ) → held ≤ d.extend + 1 → nat_lt d.extend (held + n) ≡ nat_lt d.extend (held - 1 + suc n)
-    same zero k = le-ltb d.extend (0 + n) (omega arith) ∙ sym (le-ltb d.extend (0 - 1 + suc n) (omega arith))
-    same (suc h) k = ap (λ m. nat_lt d.extend m) (omega arith)
+    at : (a b c : ℕ) → a ≡ b + c → b ≤ a
+    at a b c e = omega (arith, e)
+
+-- the count of the latest edges goes from round to round
+pub counted-next : (d : Detector) (ps : List Pulse) (n j sum edges place : ℕ) → length ps ≤ 1000000 → n < 60 → place ≡ j - n → edges ≡ edges_in d ps place
+    → sum ≡ latest_edges d ps n j → min (sum + edges) (2 ^ 32 - 1) ≡ latest_edges d ps (n + 1) j
+counted-next d ps n j sum edges place few low at own is =
+    at-most sum edges (latest_edges d ps n j) (edges_in d ps (j - n)) (latest_edges d ps (suc n) j) is (own ∙ ap (λ k. edges_in d ps k) at) (one-more d ps n j)
+    (latest-few d ps few (suc n) j) low ∙ ap (λ m. latest_edges d ps m j) (sym (add-one n))
+  where
+    small : (x : ℕ) → x ≤ 60000000 → min x (2 ^ 32 - 1) ≡ x
+    small x h = grind arith
+
+    at-most : (s e a b x : ℕ) → s ≡ a → e ≡ b → x ≡ a + b → x ≤ 1000000 * suc n → n < 60 → min (s + e) (2 ^ 32 - 1) ≡ x
+    at-most s e a b x p q r few less = let bound : x ≤ 60000000 = omega (arith, few, less) in let sums : x ≡ s + e = omega (arith, p, q, r) in rw (← sums) (small x bound)

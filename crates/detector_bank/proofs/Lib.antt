@@ -1,7 +1,11 @@
 pub mod Taking
 pub mod Counting
+pub mod Reaching
 pub mod Watched
+pub mod Due
 pub mod Sorting
 pub mod Ordering
 pub mod Calling
+pub mod Tallying
+pub mod Posting
 pub mod Walking

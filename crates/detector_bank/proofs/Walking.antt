@@ -1,39 +1,126 @@
--- A loop that takes each watch one round further.
-use Rattle.std.proofs.Common.{◌≡◌, ◌≢◌, ℕ, zero, suc, ◌+◌, ◌<◌, Bool, true, false, nat_lt, List, [], ◌∷◌, ◌++◌, length, get_or, get_or-set_same, get_or-set_other, refl, sym, subst, arith}
-use Rattle.std.specs.Prelude.{slice_set}
+-- A round of a walk: each detector is looked at in turn, those before a place were, and those from it on are as before the round.
+use Rattle.std.proofs.Common.{◌≡◌, ◌≢◌, ℕ, zero, suc, ◌+◌, ◌<◌, ◌≤◌, ◌==◌, ◌||◌, Bool, true, false, if◌then◌else◌, nat_lt, List, [], ◌∷◌, ◌++◌, length, get_or, refl, sym, ap, ◌∙◌, subst, add-one, arith}
 use Rattle.std.proofs.lemmas.Bool.{ltb-true, ltb-false}
 use Rattle.detector_bank.specs.declared.bank.Detector.{Detector}
 use Rattle.detector_bank.specs.declared.bank.Pulse.{Pulse}
-use Rattle.detector_bank.specs.declared.watch.Watch.{Watch}
-use Rattle.detector_bank.specs.Watching.{Watches}
+use Rattle.detector_bank.specs.declared.post.Post.{Post}
+use Rattle.detector_bank.specs.declared.walk.Walk.{Walk}
+use Rattle.detector_bank.specs.declared.bank.Edge.{Edge}
+use Rattle.detector_bank.specs.Pulses.{flags, state, edges_in, edges_from}
+use Rattle.detector_bank.specs.Bank.{failed}
+use Rattle.detector_bank.specs.Lists.{edge_of}
+use Rattle.detector_bank.specs.Watching.{Sorts, Posted, WalkFits, WalkStands, Looks}
+use Rattle.detector_bank.proofs.Counting.{same-item}
+use Rattle.detector_bank.proofs.Posting.{posted-quiet}
 
--- an item of a list, whatever stands for one past its end
-pub same-item : {A : Type 0} (xs : List A) (k : ℕ) (a b : A) → k < length xs → get_or xs k a ≡ get_or xs k b
-same-item [] k a b h = absurd (omega (arith, h))
-same-item (x ∷ xs) zero a b h = refl
-same-item (x ∷ xs) (suc k) a b h = same-item xs k a b (omega (arith, h))
+pub record Walked (old now : Walk) (ds : List Detector) (round k : ℕ) : Type 0 where
+  pub fits : WalkFits now ds
+  pub sorted : now.sorted.items ≡ old.sorted.items
+  pub done : (ps : List Pulse) (j i : ℕ) (p : Post) (d : Detector) → round ≡ j + 1 → WalkStands old ds ps j → i < k → i < length ds
+      → Posted (get_or now.posts.items i p) (get_or now.dues.items i 0) old.sorted.items (get_or ds i d) ps (j + 1)
+  pub posts : (i : ℕ) (p : Post) → k ≤ i → get_or now.posts.items i p ≡ get_or old.posts.items i p
+  pub dues : (i : ℕ) → k ≤ i → get_or now.dues.items i 0 ≡ get_or old.dues.items i 0
 
--- what holds of each item and of one more
-pub each-more : {A : Type 0} (P : A → Type 0) (xs : List A) (x : A) → ((k : ℕ) (a : A) → k < length xs → P (get_or xs k a)) → P x
-    → (k : ℕ) (a : A) → k < length xs + 1 → P (get_or (xs ++ x ∷ []) k a)
+pub walked-start : (old : Walk) (ds : List Detector) (round : ℕ) → WalkFits old ds → Walked old old ds round 0
+walked-start old ds round fits = record {
+  fits = fits;
+  sorted = refl;
+  done = λ ps j i p d is h low inside. absurd (omega (arith, low));
+  posts = λ i p low. refl;
+  dues = λ i low. refl;
+}
+
+-- the detector at the place is as before the round
+pub walked-before : (old now : Walk) (ds : List Detector) (round k : ℕ) (e : Detector) → k < length ds → e ≡ get_or ds k e → Walked old now ds round k
+    → (ps : List Pulse) (j : ℕ) (p : Post) → WalkStands old ds ps j → Posted (get_or now.posts.items k p) (get_or now.dues.items k 0) now.sorted.items e ps j
+walked-before old now ds round k e inside own w ps j p h =
+    subst (λ (xs : List Pulse). Posted (get_or now.posts.items k p) (get_or now.dues.items k 0) xs e ps j) (sym w.sorted)
+    (subst (λ (f : Detector). Posted (get_or now.posts.items k p) (get_or now.dues.items k 0) old.sorted.items f ps j) (sym own)
+    (subst (λ (q : Post). Posted q (get_or now.dues.items k 0) old.sorted.items (get_or ds k e) ps j) (sym (w.posts k p (omega arith)))
+    (subst (λ n. Posted (get_or old.posts.items k p) n old.sorted.items (get_or ds k e) ps j) (sym (w.dues k (omega arith))) (h.each k p e inside))))
+
+pub walked-sorts : (old now : Walk) (ds : List Detector) (round k : ℕ) → Walked old now ds round k → (ps : List Pulse) (j : ℕ) → WalkStands old ds ps j → Sorts now.sorted.items ps
+walked-sorts old now ds round k w ps j h = subst (λ (xs : List Pulse). Sorts xs ps) (sym w.sorted) h.sorts
+
+pub walked-next : (old now new : Walk) (ds : List Detector) (round k : ℕ) (e : Detector) → k < length ds → e ≡ get_or ds k e → Walked old now ds round k → Looks now new e k round
+    → Walked old new ds round (k + 1)
+walked-next old now new ds round k e inside own w l = record {
+  fits = record {
+    few = rw l.sorted w.fits.few;
+    posts = l.many ∙ w.fits.posts;
+    dues = l.as_many ∙ w.fits.dues;
+  };
+  sorted = l.sorted ∙ w.sorted;
+  done = λ ps j i p d is h low within. at ps j i p d is h low within (nat_lt i k) refl;
+  posts = λ i p above. l.posts i p (λ e. omega (arith, e, above)) ∙ w.posts i p (omega (arith, above));
+  dues = λ i above. l.dues i (λ e. omega (arith, e, above)) ∙ w.dues i (omega (arith, above));
+}
+  where
+    here : (ps : List Pulse) (j : ℕ) (p : Post) (d : Detector) → round ≡ j + 1 → WalkStands old ds ps j
+        → Posted (get_or new.posts.items k p) (get_or new.dues.items k 0) old.sorted.items (get_or ds k d) ps (j + 1)
+    here ps j p d is h =
+        subst (λ (f : Detector). Posted (get_or new.posts.items k p) (get_or new.dues.items k 0) old.sorted.items f ps (j + 1)) (own ∙ same-item ds k e d inside)
+        (subst (λ (xs : List Pulse). Posted (get_or new.posts.items k p) (get_or new.dues.items k 0) xs e ps (j + 1)) w.sorted
+        (l.here ps j p is (walked-sorts old now ds round k w ps j h) (walked-before old now ds round k e inside own w ps j p h)))
+
+    at : (ps : List Pulse) (j i : ℕ) (p : Post) (d : Detector) → round ≡ j + 1 → WalkStands old ds ps j → i < k + 1 → i < length ds → (b : Bool) → nat_lt i k ≡ b
+        → Posted (get_or new.posts.items i p) (get_or new.dues.items i 0) old.sorted.items (get_or ds i d) ps (j + 1)
+    at ps j i p d is h low within true e =
+        let less = ltb-true i k e in
+        let ne : i ≢ k = λ e. omega (arith, e, less) in
+        subst (λ (q : Post). Posted q (get_or new.dues.items i 0) old.sorted.items (get_or ds i d) ps (j + 1)) (sym (l.posts i p ne))
+        (subst (λ n. Posted (get_or now.posts.items i p) n old.sorted.items (get_or ds i d) ps (j + 1)) (sym (l.dues i ne)) (w.done ps j i p d is h less within))
+    at ps j i p d is h low within false e =
+        let more = ltb-false i k e in
+        let same : i ≡ k = omega (arith, more, low) in
+        subst (λ m. Posted (get_or new.posts.items m p) (get_or new.dues.items m 0) old.sorted.items (get_or ds m d) ps (j + 1)) (sym same) (here ps j p d is h)
+
+pub walked-all : (old now : Walk) (ds : List Detector) (round k : ℕ) → length ds ≤ k → Walked old now ds round k
+    → (ps : List Pulse) (j : ℕ) → round ≡ j + 1 → WalkStands old ds ps j → WalkStands now ds ps (j + 1)
+walked-all old now ds round k past w ps j is h = record {
+  sorts = subst (λ (xs : List Pulse). Sorts xs ps) (sym w.sorted) h.sorts;
+  each = λ i p d low.
+      subst (λ (xs : List Pulse). Posted (get_or now.posts.items i p) (get_or now.dues.items i 0) xs (get_or ds i d) ps (j + 1)) (sym w.sorted)
+      (w.done ps j i p d is h (omega (arith, past, low)) low);
+}
+
+-- what stands for a post past the end
+pub no-post : Post
+no-post = record { watch = record { on = false; pulsed = 0; lit = 0; idle = 0; past = 0; most = 0; rounds = []; edges = [] }; next = 0; calls = false }
+
+-- a detector that isn't due stays as it is
+pub looks-quiet : (w : Walk) (d : Detector) (k round due : ℕ) → k < length w.dues.items → due ≡ get_or w.dues.items k due → round < due → Looks w w d k round
+looks-quiet w d k round due inside is soon = record {
+  sorted = refl;
+  many = refl;
+  as_many = refl;
+  posts = λ i p ne. refl;
+  dues = λ i ne. refl;
+  here = λ ps j p now sorts h.
+      let later = is ∙ same-item w.dues.items k due 0 inside in
+      posted-quiet (get_or w.posts.items k p) (get_or w.dues.items k 0) w.sorted.items d ps j (omega (arith, later, now, soon)) h;
+}
+
+-- and has no edges
+pub quiet-edge : (w : Walk) (d : Detector) (k round due : ℕ) → k < length w.dues.items → due ≡ get_or w.dues.items k due → round < due
+    → (ps : List Pulse) (j : ℕ) (p : Post) → round ≡ j + 1 → Posted (get_or w.posts.items k p) (get_or w.dues.items k 0) w.sorted.items d ps j → edge_of ps round d ≡ []
+quiet-edge w d k round due inside is soon ps j p now h =
+    let later = is ∙ same-item w.dues.items k due 0 inside in
+    let none : flags d ps (suc j) ≡ [] = h.none (suc j) (omega arith) (omega (arith, later, now, soon)) in
+    ap (λ n. edge_of ps n d) (now ∙ add-one j)
+    ∙ no-edge (failed d ps (suc j)) (edges_in d ps (suc j)) (suc j) d (ap (λ fs. edges_from (state d ps j) fs) none)
+  where
+    told : Bool → ℕ → ℕ → Detector → List Edge
+    told b n i d = if b || (n == 0) then [] else record { round = i; cabinet = d.cabinet; detector = d.detector; count = n } ∷ []
+
+    no-edge : (b : Bool) (n i : ℕ) (d : Detector) → n ≡ 0 → told b n i d ≡ []
+    no-edge true n i d e = refl
+    no-edge false n i d e = ap (λ m. told false m i d) e
+
+-- what holds of each item of a list at its place, and of one more
+pub each-more : {A : Type 0} (P : ℕ → A → Type 0) (xs : List A) (x : A) → ((k : ℕ) (a : A) → k < length xs → P k (get_or xs k a)) → P (length xs) x
+    → (k : ℕ) (a : A) → k < length xs + 1 → P k (get_or (xs ++ x ∷ []) k a)
 each-more P [] x h p zero a l = p
 each-more P [] x h p (suc k) a l = absurd (omega (arith, l))
 each-more P (y ∷ xs) x h p zero a l = h 0 a (omega arith)
-each-more P (y ∷ xs) x h p (suc k) a l = each-more P xs x (λ m b low. h (suc m) b (omega (arith, low))) p k a (omega (arith, l))
-
--- the watch at a place is taken further, those before it were
-pub done-next : (ds : List Detector) (ps : List Pulse) (j i : ℕ) (now : List Watch) (v : Watch) (e : Detector) → i < length now → i < length ds → Watches v (get_or ds i e) ps j
-    → ((k : ℕ) (w : Watch) (d : Detector) → k < i → Watches (get_or now k w) (get_or ds k d) ps j)
-    → (k : ℕ) (w : Watch) (d : Detector) → k < i + 1 → Watches (get_or (slice_set now i v) k w) (get_or ds k d) ps j
-done-next ds ps j i now v e within inside here before k w d low = at (nat_lt k i) refl
-  where
-    at : (b : Bool) → nat_lt k i ≡ b → Watches (get_or (slice_set now i v) k w) (get_or ds k d) ps j
-    at true is =
-        let less = ltb-true k i is in
-        let ne : k ≢ i = omega arith in
-        subst (λ (x : Watch). Watches x (get_or ds k d) ps j) (sym (get_or-set_other now i k v w ne)) (before k w d less)
-    at false is =
-        let not_less = ltb-false k i is in
-        let same : k ≡ i = omega (arith, not_less, low) in
-        subst (λ (m : ℕ). Watches (get_or (slice_set now i v) m w) (get_or ds m d) ps j) (sym same)
-        (subst (λ (x : Watch). Watches x (get_or ds i d) ps j) (sym (get_or-set_same now i v w within)) (subst (λ (f : Detector). Watches v f ps j) (same-item ds i e d inside) here))
+each-more P (y ∷ xs) x h p (suc k) a l = each-more (λ n. P (suc n)) xs x (λ m b low. h (suc m) b (omega (arith, low))) p k a (omega (arith, l))

@@ -1,49 +1,111 @@
--- What is kept of a detector from round to round stands for what its pulses say.
-use Rattle.std.specs.Prelude.{ℕ, ◌+◌, ◌-◌, ◌%◌, ◌≡◌, ◌<◌, ◌≤◌, nat_lt, List, length, get_or}
+-- What is kept of a detector stands for what its pulses say; nothing of it changes in a round without a pulse of the detector.
+use Rattle.std.specs.Prelude.{ℕ, ◌+◌, ◌-◌, ◌*◌, ◌%◌, ◌≡◌, ◌≢◌, ◌<◌, ◌≤◌, ◌==◌, ◌||◌, ◌&&◌, nat_lt, nat_le, Bool, true, false, if◌then◌else◌, List, [], ◌∷◌, length, get_or}
+use Rattle.std.specs.List.{filter}
+use Rattle.std.specs.List.Sorted.{IsNonDecreasingBy}
 use Rattle.sig_types.specs.declared.phase_set.PhaseSet.{PhaseSet}
 use Rattle.sig_types.specs.PhaseSet.{has}
 use Rattle.detector_bank.specs.declared.bank.Detector.{Detector}
 use Rattle.detector_bank.specs.declared.bank.Pulse.{Pulse}
-use Rattle.std.specs.List.Sorted.{IsNonDecreasingBy}
 use Rattle.detector_bank.specs.declared.watch.Watch.{Watch}
+use Rattle.detector_bank.specs.declared.post.Post.{Post}
 use Rattle.detector_bank.specs.declared.walk.Walk.{Walk}
-use Rattle.detector_bank.specs.Pulses.{in_round, state, edges_in}
-use Rattle.detector_bank.specs.Bank.{quiet, present, latest_edges, lately_past, called}
+use Rattle.detector_bank.specs.declared.changes.Calling.{Calling}
+use Rattle.detector_bank.specs.Pulses.{flags, state, edges_in}
+use Rattle.detector_bank.specs.Bank.{quiet, present, latest_edges, lately_past, calls, called}
 
--- after round j: the round of the last pulse and the last round in which it was not active; for how many rounds, this one among them, it
--- still calls because it was past its delay; and the edges of the latest sixty rounds, each round's at its number modulo 60
+-- for how many rounds in a row the detector has been active in round j
+abbrev pub present_at : Watch → ℕ → ℕ
+present_at w j = if w.on || (w.lit == j) then j - w.idle else 0
+
+-- it was past its delay in some of the rounds j - n to j
+abbrev pub lately_at : Watch → ℕ → ℕ → ℕ → Bool
+lately_at w delay n j = nat_lt delay (present_at w j) || (nat_lt 0 w.past && nat_le j (w.past + n))
+
+-- its edges in a round, one of the latest sixty
+abbrev pub edges_at : Watch → ℕ → ℕ
+edges_at w r = if get_or w.rounds (r % 60) 0 == r then get_or w.edges (r % 60) 0 else 0
+
+-- after round j the edges of the latest sixty rounds are kept, each with its round
+pub record Counts (w : Watch) (d : Detector) (ps : List Pulse) (j : ℕ) : Type 0 where
+  pub past : (i : ℕ) → get_or w.rounds i 0 ≤ j
+  pub edges : (r : ℕ) → r ≤ j → j < r + 60 → edges_in d ps r ≡ edges_at w r
+
+-- after round j: its state, the round of the last pulse, since when it is active, when it was last past its delay, and its edges
 pub record Watches (w : Watch) (d : Detector) (ps : List Pulse) (j : ℕ) : Type 0 where
+  pub few : length ps ≤ 1000000
   pub on : w.on ≡ state d ps j
   pub pulsed : w.pulsed + quiet d ps j ≡ j
-  pub idle : w.idle + present d ps j ≡ j
-  pub few : w.held ≤ d.extend + 1
-  pub held : (n : ℕ) → n ≤ d.extend → lately_past d ps n j ≡ nat_lt d.extend (w.held + n)
-  pub lately : w.lately ≡ latest_edges d ps 60 j
-  pub edges : (n : ℕ) → n < 60 → get_or w.edges ((j + 60 - n) % 60) 0 ≡ edges_in d ps (j - n)
+  pub present : present d ps j ≡ present_at w j
+  pub lit : w.lit ≤ j
+  pub idle : w.idle ≤ j
+  pub past : w.past ≤ j
+  pub lately : (n : ℕ) → lately_past d ps n j ≡ lately_at w d.delay n j
+  pub ended : w.on ≡ false → nat_lt d.delay (present_at w j) ≡ true → w.past ≡ j
+  pub most : latest_edges d ps 60 j ≤ w.most
+  pub counts : Counts w d ps j
 
--- the same of each detector of a bank
-pub record WatchesAll (ws : List Watch) (ds : List Detector) (ps : List Pulse) (j : ℕ) : Type 0 where
-  pub count : length ws ≡ length ds
-  pub each : (k : ℕ) (w : Watch) (d : Detector) → k < length ds → Watches (get_or ws k w) (get_or ds k d) ps j
+-- the number by which pulses are sorted: those of a detector stand together, by rounds
+abbrev pub key_of : ℕ → ℕ → ℕ → ℕ
+key_of cabinet detector round = (cabinet % 1024 * 256 + detector) * 4294967296 + round
+
+abbrev pub key : Pulse → ℕ
+key p = key_of p.cabinet p.detector p.round
+
+-- the pulses of a number
+abbrev pub at_key : ℕ → List Pulse → List Pulse
+at_key n ps = filter (λ p. key p == n) ps
+
+-- the pulses of a list, sorted
+pub record Sorts (sorted ps : List Pulse) : Type 0 where
+  pub few : length ps ≤ 1000000
+  pub rises : IsNonDecreasingBy key sorted
+  pub same : (n : ℕ) → at_key n sorted ≡ at_key n ps
+
+-- the numbers of those before a place are below this one
+abbrev pub Before : List Pulse → ℕ → ℕ → Type 0
+Before sorted place n = (k : ℕ) (p : Pulse) → k < place → key (get_or sorted k p) < n
+
+-- after round j, until the round that is due: the detector has no pulse, and it calls if and only if it does in round j
+pub record Posted (p : Post) (due : ℕ) (sorted : List Pulse) (d : Detector) (ps : List Pulse) (j : ℕ) : Type 0 where
+  pub watch : Watches p.watch d ps j
+  pub before : Before sorted p.next (key_of d.cabinet d.detector (j + 1))
+  pub none : (i : ℕ) → j < i → i < due → flags d ps i ≡ []
+  pub told : p.calls ≡ calls d ps j
+  pub still : (i : ℕ) → j ≤ i → i < due → Watches p.watch d ps i → calls d ps i ≡ calls d ps j
+
+-- the walk has a post and a round that is due for each detector
+pub record WalkFits (w : Walk) (ds : List Detector) : Type 0 where
+  pub few : length w.sorted.items ≤ 1000000
+  pub posts : length w.posts.items ≡ length ds
+  pub dues : length w.dues.items ≡ length ds
+
+-- after round j it stands for what the pulses of each detector say
+pub record WalkStands (w : Walk) (ds : List Detector) (ps : List Pulse) (j : ℕ) : Type 0 where
+  pub sorts : Sorts w.sorted.items ps
+  pub each : (k : ℕ) (p : Post) (d : Detector) → k < length ds → Posted (get_or w.posts.items k p) (get_or w.dues.items k 0) w.sorted.items (get_or ds k d) ps j
+
+-- a detector was looked at in a round, and the others were not
+pub record Looks (old new : Walk) (d : Detector) (k round : ℕ) : Type 0 where
+  pub sorted : new.sorted.items ≡ old.sorted.items
+  pub many : length new.posts.items ≡ length old.posts.items
+  pub as_many : length new.dues.items ≡ length old.dues.items
+  pub posts : (i : ℕ) (p : Post) → i ≢ k → get_or new.posts.items i p ≡ get_or old.posts.items i p
+  pub dues : (i : ℕ) → i ≢ k → get_or new.dues.items i 0 ≡ get_or old.dues.items i 0
+  pub here : (ps : List Pulse) (j : ℕ) (p : Post) → round ≡ j + 1 → Sorts old.sorted.items ps
+      → Posted (get_or old.posts.items k p) (get_or old.dues.items k 0) old.sorted.items d ps j
+      → Posted (get_or new.posts.items k p) (get_or new.dues.items k 0) old.sorted.items d ps (j + 1)
+
+-- how many of these detectors stand at a cabinet, have this phase, and call
+abbrev pub tally : List Detector → List Post → ℕ → ℕ → ℕ
+tally [] posts cabinet phase = 0
+tally (d ∷ ds) [] cabinet phase = 0
+tally (d ∷ ds) (p ∷ posts) cabinet phase = (if (d.cabinet == cabinet) && ((d.phase == phase) && p.calls) then 1 else 0) + tally ds posts cabinet phase
+
+-- the counts of detectors that call, and the sets of phases that some detector calls
+pub record Tallies (c : Calling) (ds : List Detector) (posts : List Post) : Type 0 where
+  pub counts : (k p : ℕ) → k < 64 → p < 16 → get_or c.counts (k * 16 + p) 0 ≡ tally ds posts (k + 1) (p + 1)
+  pub sets : (k p : ℕ) (s : PhaseSet) → k < 64 → p < 16 → has (get_or c.sets k s) (p + 1) ≡ nat_lt 0 (tally ds posts (k + 1) (p + 1))
 
 -- the sets of called phases, one for each cabinet, are those of round j
 pub record AreCalled (sets : List PhaseSet) (ds : List Detector) (ps : List Pulse) (j : ℕ) : Type 0 where
   pub each : (c p : ℕ) (s : PhaseSet) → c < 64 → 1 ≤ p → p ≤ 16 → has (get_or sets c s) p ≡ called ds ps (c + 1) p j
-
--- a place in sorted pulses: those before it are of earlier rounds than this one, and those from it on are not
-pub record Reached (sorted : List Pulse) (next round : ℕ) : Type 0 where
-  pub within : next ≤ length sorted
-  pub before : (k : ℕ) (p : Pulse) → k < next → (get_or sorted k p).round < round
-  pub behind : (k : ℕ) (p : Pulse) → next ≤ k → k < length sorted → round ≤ (get_or sorted k p).round
-
--- the walk is about to take this round, with a watch for each detector
-pub record WalkFits (w : Walk) (ds : List Detector) (round : ℕ) : Type 0 where
-  pub few : length w.sorted.items ≤ 1000000
-  pub rises : IsNonDecreasingBy (λ (p : Pulse). p.round) w.sorted.items
-  pub reached : Reached w.sorted.items w.next round
-  pub count : length w.watches.items ≡ length ds
-
--- after round j it has the pulses of each round, and stands for what they say
-pub record WalkStands (w : Walk) (ds : List Detector) (ps : List Pulse) (j : ℕ) : Type 0 where
-  pub same : (i : ℕ) → in_round i w.sorted.items ≡ in_round i ps
-  pub watches : WatchesAll w.watches.items ds ps j

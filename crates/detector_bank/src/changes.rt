@@ -1,16 +1,15 @@
 //! The phases that are called in a round, a set for each cabinet, and what changes from one round to the next.
 
-ghost use Rattle.std.specs.Prelude.{ℕ, ◌≡◌, ◌+◌, ◌<◌, ◌≤◌, ◌++◌, ◌||◌, ◌&&◌, ◌==◌, false, List, length, get_or, OnOk};
+ghost use Rattle.std.specs.Prelude.{ℕ, ◌≡◌, ◌+◌, ◌-◌, ◌^◌, ◌<◌, ◌≤◌, ◌++◌, ◌==◌, false, if◌then◌else◌, min, List, length, get_or, OnOk};
 ghost use Rattle.sig_types.specs.declared.phase_set.PhaseSet.{PhaseSet as PhaseRow};
 ghost use Rattle.sig_types.specs.PhaseSet.{has};
 ghost use Rattle.detector_bank.specs.declared.bank.Detector.{Detector as DetectorRow};
 ghost use Rattle.detector_bank.specs.declared.bank.Pulse.{Pulse as PulseRow};
 ghost use Rattle.detector_bank.specs.Bank.{called};
-ghost use Rattle.detector_bank.specs.Lists.{EachStands, change, all_phases_changes, round_changes};
-ghost use Rattle.detector_bank.specs.Watching.{WatchesAll, AreCalled};
+ghost use Rattle.detector_bank.specs.Lists.{change, all_phases_changes, round_changes};
+ghost use Rattle.detector_bank.specs.Watching.{AreCalled};
 
 use crate::bank::{Call, Detector};
-use crate::watch::Watch;
 use sig_types::{NoMemory, PhaseSet};
 
 /// No phase of the 64 cabinets.
@@ -21,31 +20,72 @@ pub(crate) fn none_called() -> [PhaseSet; 64]
     [none; 64]
 }
 
-/// The sets of called phases, with that of a detector where it calls.
-fn add_call(sets: &mut [PhaseSet; 64], detector: &Detector, calls: bool)
-    requires some { 1 ≤ detector.now.cabinet }
-    requires few { detector.now.cabinet ≤ 64 }
-    requires least { 1 ≤ detector.now.phase }
-    requires most { detector.now.phase ≤ 16 }
-    ensures { (c p : ℕ) (s : PhaseRow) → c < 64 → 1 ≤ p → p ≤ 16 → has (get_or sets.new c s) p ≡ (has (get_or sets.old c s) p || ((detector.now.cabinet == c + 1) && ((detector.now.phase == p) && calls))) }
-{
-    let place = (detector.cabinet - 1) as usize;
-    sets[place] = sets[place].with_if(detector.phase, calls);
+/// How many detectors call each phase of each cabinet, and the sets of those phases that some detector calls.
+#[derive(Drop)]
+pub struct Calling {
+    /// Sixteen for each cabinet.
+    pub counts: [usize; 1024],
+    pub sets: [PhaseSet; 64],
 }
 
-/// The phases that are called in a round, a set for each of the 64 cabinets.
-pub(crate) fn called_in(bank: &Vec<Detector>, watches: &Vec<Watch>, round: u32) -> [PhaseSet; 64]
-    requires stands { EachStands bank.now.items }
-    requires count { length watches.now.items ≡ length bank.now.items }
-    ensures { (ps : List PulseRow) → WatchesAll watches.now.items bank.now.items ps round → AreCalled result bank.now.items ps round }
+/// A set of phases, with this one or without it.
+fn with_or_without(set: PhaseSet, phase: u8, within: bool) -> PhaseSet
+    requires some { 1 ≤ phase }
+    requires most { phase ≤ 16 }
+    ensures { (p : ℕ) → p < 16 → has result (p + 1) ≡ (if p + 1 == phase then within else has set (p + 1)) }
 {
-    let mut sets = none_called();
-    for k in 0..bank.len() {
-        let detector = bank[k];
-        let calls = watches[k].calls(&detector, round);
-        add_call(&mut sets, &detector, calls);
+    let only = PhaseSet::empty().with(phase);
+    if within {
+        set.union(only)
+    } else {
+        set.minus(only)
     }
-    sets
+}
+
+/// A count of detectors, of which one more or one less calls.
+fn count_after(count: usize, more: bool) -> usize
+    ensures { result ≡ (if more then min (count + 1) (2 ^ 64 - 1) else count - 1) }
+{
+    if more {
+        count.saturating_add(1)
+    } else {
+        count.saturating_sub(1)
+    }
+}
+
+impl Calling {
+    ghost use Rattle.std.specs.Prelude.{slice_set};
+    ghost use Rattle.detector_bank.specs.declared.post.Post.{Post as PostRow};
+    ghost use Rattle.detector_bank.specs.Watching.{Tallies};
+
+    /// No detector calls.
+    pub fn new() -> Calling
+        ensures { (ds : List DetectorRow) (posts : List PostRow) → ((k : ℕ) (p : PostRow) → k < length posts → (get_or posts k p).calls ≡ false) → Tallies result ds posts }
+    {
+        Calling {
+            counts: [0; 1024],
+            sets: none_called(),
+        }
+    }
+
+    /// A detector calls or calls no more, and was calling or not before.
+    pub fn turn(&mut self, detector: &Detector, before: bool, now: bool)
+        requires some { 1 ≤ detector.now.cabinet }
+        requires few { detector.now.cabinet ≤ 64 }
+        requires least { 1 ≤ detector.now.phase }
+        requires most { detector.now.phase ≤ 16 }
+        ensures { (ds : List DetectorRow) (posts : List PostRow) (k : ℕ) (p q : PostRow) (d : DetectorRow) → k < length ds → length ds ≡ length posts → length ds < 2 ^ 63
+            → detector.now ≡ get_or ds k d → (get_or posts k p).calls ≡ before → q.calls ≡ now → Tallies self.old ds posts → Tallies self.new ds (slice_set posts k q) }
+    {
+        if before == now {
+            return;
+        }
+        let cabinet = (detector.cabinet - 1) as usize;
+        let place = cabinet * 16 + (detector.phase - 1) as usize;
+        let count = count_after(self.counts[place], now);
+        self.counts[place] = count;
+        self.sets[cabinet] = with_or_without(self.sets[cabinet], detector.phase, count > 0);
+    }
 }
 
 /// The change of a phase, where there is one.

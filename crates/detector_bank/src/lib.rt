@@ -6,6 +6,7 @@
 mod bank;
 mod changes;
 mod order;
+mod post;
 mod pulses;
 mod rounds;
 mod walk;

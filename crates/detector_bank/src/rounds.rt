@@ -4,15 +4,15 @@ ghost use Rattle.std.specs.Prelude.{◌≡◌, ◌≤◌, length, IfOk};
 ghost use Rattle.detector_bank.specs.Lists.{EachStands, calls_until, in_order, edges_until};
 
 use crate::bank::{Call, Detector, Edge, Pulse};
-use crate::changes::{called_in, none_called, push_changes};
-use crate::order::{in_order, push_edges};
-use crate::walk::{start, take_round};
+use crate::changes::{Calling, push_changes};
+use crate::order::in_order;
+use crate::walk::{call_round, edge_round, start};
 use sig_types::NoMemory;
 use std::alloc::Global;
 
 /// The calls of a bank in so many rounds: one for each round, cabinet and phase at which the phase is called and was not in
 /// the round before, or the other way round, by round, cabinet and phase. A pulse whose detector is not in the bank counts
-/// for none. The time grows with rounds times detectors, and with pulses times detectors.
+/// for none. A detector is looked at in those rounds alone in which it has a pulse or may call otherwise.
 pub fn bank_calls(
     alloc: Global,
     bank: &Vec<Detector>,
@@ -28,16 +28,16 @@ pub fn bank_calls(
         Ok(walk) => walk,
         Err(NoMemory) => return Err(NoMemory),
     };
-    let mut before = none_called();
+    let mut calling = Calling::new();
+    let mut before = calling.sets;
     let mut calls = Vec::new(alloc);
     for done in 0..rounds {
-        take_round(&mut walk, bank, done + 1);
-        let now = called_in(bank, &walk.watches, done + 1);
-        match push_changes(&mut calls, done + 1, &now, &before) {
+        call_round(&mut walk, &mut calling, bank, done + 1);
+        match push_changes(&mut calls, done + 1, &calling.sets, &before) {
             Ok(()) => {}
             Err(NoMemory) => return Err(NoMemory),
         }
-        before = now;
+        before = calling.sets;
     }
     Ok(calls)
 }
@@ -64,8 +64,7 @@ pub fn edges(
     };
     let mut edges = Vec::new(alloc);
     for done in 0..rounds {
-        take_round(&mut walk, &ordered, done + 1);
-        match push_edges(&mut edges, &ordered, &walk.watches, done + 1) {
+        match edge_round(&mut walk, &mut edges, &ordered, done + 1) {
             Ok(()) => {}
             Err(NoMemory) => return Err(NoMemory),
         }

@@ -1,17 +1,18 @@
-use Rattle.std.proofs.Common.{◌+◌, ◌++◌, refl, sym, ap, ◌∙◌}
+use Rattle.std.proofs.Common.{◌+◌, ◌++◌, refl, ap, ◌∙◌}
 use Rattle.detector_bank.specs.Lists.{round_changes}
-use Rattle.detector_bank.proofs.Calling.{none-called, calls-more}
+use Rattle.detector_bank.proofs.Calling.{calls-more, sets-called}
 use Rattle.detector_bank.proofs.rounds.bank_calls.Goals as goal
 
 pub loop-done-init : goal.loop-done-init
 loop-done-init c =
     let ds = c.args.bank.now.items in
-    let ps = c.args.pulses.now.items in record {
-      fits = c.in-Ok.ensures.fits;
-      stands = c.in-Ok.ensures.stands;
-      before = record {
-        each = λ k p s few some most. c.none_called-before.ensures k p s few ∙ sym (none-called ds ps (k + 1) p);
-      };
+    let ps = c.args.pulses.now.items in
+    let w = c.in-Ok.ensures in
+    let tallies = c.new-calling.ensures ds c.in-Ok.walk.posts.items w.none in record {
+      fits = w.fits;
+      stands = w.stands;
+      tallies = tallies;
+      before = sets-called c.new-calling.result ds c.in-Ok.walk.posts.items ps 0 w.fits.posts (λ k p d low. (w.stands.each k p d low).told) tallies;
       calls = c.new-calls.ensures.items;
     }
 
@@ -20,10 +21,14 @@ loop-done-preserved c =
     let l = c.loop-done in
     let ps = c.args.pulses.now.items in
     let ds = c.args.bank.now.items in
-    let stands = c.take_round.ensures.stands ps l.done c.requires.few refl l.invariant.stands in
-    let now = c.called_in-now.ensures ps stands.watches in record {
-      fits = c.take_round.ensures.fits;
+    let posts = c.call_round.new.walk.posts.items in
+    let fits = c.call_round.ensures.fits in
+    let stands = c.call_round.ensures.stands ps l.done refl l.invariant.stands in
+    let tallies = c.call_round.ensures.tallies l.invariant.tallies in
+    let now = sets-called c.call_round.new.calling ds posts ps (l.done + 1) fits.posts (λ k p d low. (stands.each k p d low).told) tallies in record {
+      fits = fits;
       stands = stands;
+      tallies = tallies;
       before = now;
       calls = c.in-Ok-push_changes.ensures ds ps l.done refl now l.invariant.before ∙ ap (λ cs. cs ++ round_changes ds ps l.done) l.invariant.calls ∙ calls-more ds ps l.done;
     }

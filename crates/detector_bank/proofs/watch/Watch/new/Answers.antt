@@ -2,4 +2,4 @@ use Rattle.detector_bank.proofs.Watched.{watch-start}
 use Rattle.detector_bank.proofs.watch.Watch.new.Goals as goal
 
 pub returns : goal.returns
-returns c = λ d ps. watch-start d ps
+returns c = λ d ps few. watch-start d ps few
