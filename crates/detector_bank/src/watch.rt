@@ -187,7 +187,8 @@ impl Watch {
     fn count(&mut self, detector: &Detector, round: u32)
         ensures { (ps : List PulseRow) → Watches self.old detector.now ps round → Watches self.new detector.now ps round }
     {
-        if self.most > u32::from(detector.erratic) {
+        let limit = u32::from(detector.erratic);
+        if limit > 0 && self.most > limit {
             self.most = self.latest(round);
         }
     }
