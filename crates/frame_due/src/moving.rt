@@ -1,18 +1,20 @@
 //! What the rings do at a tick: by the rules of actuated control, within the room that a pattern leaves, or on the way to a
 //! goal.
 
-ghost use Rattle.std.specs.Prelude.{◌≡◌, ◌<◌, ◌≤◌, ◌&&◌, ◌==◌, ◌||◌, [], ℕ, List};
+ghost use Rattle.std.specs.Prelude.{◌≡◌, ◌<◌, ◌≤◌, ◌&&◌, ◌==◌, ◌||◌, [], ℕ, List, IsTrue};
 ghost use Rattle.sig_types.specs.Phases.{is_in};
 ghost use Rattle.sig_types.specs.PhaseSet.{phases_of};
 ghost use Rattle.sig_tables.specs.Past.{Moment};
 ghost use Rattle.sig_tables.specs.Layout.{Has};
-ghost use Rattle.sig_tables.specs.View.{ended_of};
+ghost use Rattle.sig_tables.specs.View.{View as Scene, ended_of, is_forced};
+ghost use Rattle.sig_tables.specs.Moves.{ring_moves};
+ghost use Rattle.ring_barrier.specs.Shows.{Opens};
 ghost use Rattle.controller.specs.StandsFor.{AreMoves};
 
 use crate::Observer;
 use controller::{Course, Sight, is_coord};
 use flash_mode::Turn;
-use ring_barrier::{Changes, RingView, View, changes, changes_toward};
+use ring_barrier::{Changes, RingView, View, changes, changes_toward, is_idle};
 use sig_tables::Layout;
 use sig_types::PhaseSet;
 
@@ -36,6 +38,21 @@ fn is_open(on: u8, ended: PhaseSet) -> bool
         false
     } else {
         ended.has(on)
+    }
+}
+
+/// Whether the rings rest: neither is open, no phase has demand and none is forced off, so that what is on stays on.
+fn is_resting(opening: [bool; 2], demand: PhaseSet, forced: PhaseSet) -> bool
+    ensures { (w : Scene) → Opens opening w → phases_of demand ≡ w.demand → Has forced (is_forced w) → IsTrue result
+        → ring_moves w ≡ record { ends = []; begins = [] } }
+{
+    if opening[0] || opening[1] {
+        return false;
+    }
+    if demand.is_empty() {
+        forced.is_empty()
+    } else {
+        false
     }
 }
 
@@ -167,6 +184,15 @@ impl Observer {
         ensures changes { (past : Past) → Runs self.now course.now past → Sees sight.now past → turn_seen past ≡ Rings
             → AreMoves result (ring_moves (view_seen past)) }
     {
+        let opening = self.opening();
+        let forced = self.forced(course);
+        if is_resting(opening, sight.demand, forced) {
+            return no_changes();
+        }
+        let done = self.done(course, sight);
+        if is_idle(opening, done, forced) {
+            return no_changes();
+        }
         if is_coord(course.mode) {
             self.looking(course, sight, &self.binding.layout)
         } else {

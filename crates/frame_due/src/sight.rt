@@ -4,7 +4,7 @@ ghost use Rattle.std.specs.Prelude.{◌≡◌, ◌<◌, ◌≤◌, ℕ, List};
 
 use crate::Observer;
 use controller::{Course, Sight, is_coord};
-use sig_types::{Colour, PhaseSet, showing};
+use sig_types::{Colour, PhaseSet};
 use split_options::SplitOptions;
 
 impl Observer {
@@ -26,14 +26,14 @@ impl Observer {
     pub(crate) fn green(&self) -> PhaseSet
         ensures green { (past : Past) → Remembers self.now past → Has result (is_green (frame_seen past)) }
     {
-        showing(&self.frame.veh, Colour::Green)
+        self.lookout.shown().in_colour(Colour::Green)
     }
 
     /// The phases that the last frame shows in red.
     pub(crate) fn red(&self) -> PhaseSet
         ensures red { (past : Past) → Remembers self.now past → Has result (λ p. same_colour (colour_of (frame_seen past) p) Red) }
     {
-        showing(&self.frame.veh, Colour::Red)
+        self.lookout.shown().in_colour(Colour::Red)
     }
 
     /// What the split of the pattern that binds asks; none where no pattern does.

@@ -19,6 +19,7 @@ use crate::cuts::{Cut, after_walk, is_clearance_over, is_walk_over};
 use crate::further::Further;
 use crate::glance::Look;
 use crate::latched::Latched;
+use crate::shown::Shown;
 use crate::times::pedestrian_clear_time;
 use crate::window::{Seen, Window};
 use sig_tables::Tables;
@@ -35,6 +36,7 @@ pub struct Lookout {
 }
 
 impl Lookout {
+    ghost use Rattle.look_back.specs.Shown.{IsShown};
     ghost use Rattle.look_back.specs.Stands.{WindowStands, Saw};
     ghost use Rattle.look_back.specs.Latching.{LatchedStands};
     ghost use Rattle.look_back.specs.Further.{FurtherStands};
@@ -102,6 +104,13 @@ impl Lookout {
         self.window.push_again(active, opposed, ticks);
         self.further.step_again(ticks);
         self.counting = self.counting.step_again(ticks);
+    }
+
+    /// What the last frame shows, as sets of phases.
+    pub fn shown(&self) -> Shown
+        ensures { (past : List Moment) → LooksOver self.now past → IsShown result (last_frame past).veh (last_frame past).ped }
+    {
+        self.window.shown()
     }
 
     /// The window.
@@ -176,10 +185,10 @@ impl Lookout {
         ensures { (past : List Moment) → LooksOver self.now past → shown ≡ signal_of (last_frame past) phase
             → result ≡ signal_runs_within (lesser_of cut) phase t.now past shown }
     {
-        let time = self.latched.signal(phase, shown);
-        let frames = self.window.ped_run(phase, shown, time + 1);
         match shown {
             Ped::Walk => {
+                let time = self.latched.signal(phase, shown);
+                let frames = self.window.ped_run(phase, shown, time + 1);
                 if is_walk_over(cut, time, frames) {
                     after_walk(cut, pedestrian_clear_time(t, phase))
                 } else {
@@ -187,6 +196,8 @@ impl Lookout {
                 }
             }
             Ped::Flash => {
+                let time = self.latched.signal(phase, shown);
+                let frames = self.window.ped_run(phase, shown, time + 1);
                 if is_clearance_over(cut, time, frames) {
                     Ped::Dont
                 } else {

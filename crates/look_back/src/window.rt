@@ -3,7 +3,7 @@
 
 ghost use Rattle.std.specs.Prelude.{◌≡◌, ◌<◌, ◌≤◌, ◌∷◌, ◌++◌, [], length, ℕ, List, min, IsTrue, IfOk};
 ghost use Rattle.sig_tables.specs.Past.{Moment, first_frame};
-ghost use Rattle.sig_tables.specs.Looking.{in_a_row, run, signal_run};
+ghost use Rattle.sig_tables.specs.Looking.{last_frame, in_a_row, run, signal_run};
 ghost use Rattle.look_back.specs.Shown.{IsShown};
 
 use crate::glance::{Glance, Look};
@@ -103,6 +103,13 @@ impl Window {
             opposed: green.meet(opposed),
         };
         self.kept.add_again(glance, ticks);
+    }
+
+    /// What the last frame shows, as sets of phases.
+    pub fn shown(&self) -> Shown
+        ensures { (past : List Moment) → WindowStands self.now past → IsShown result (last_frame past).veh (last_frame past).ped }
+    {
+        self.kept.newest().shown
     }
 
     /// For how many last frames in a row it was so, at most `most`.

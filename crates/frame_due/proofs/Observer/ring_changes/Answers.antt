@@ -1,11 +1,31 @@
-use Rattle.std.proofs.Common.{◌≡◌, ℕ, sym, subst}
+use Rattle.std.proofs.Common.{◌≡◌, ℕ, [], sym, subst}
 use Rattle.sig_types.specs.declared.frame.Mode.{Mode}
+use Rattle.sig_tables.specs.Moves.{Moves, ring_moves}
 use Rattle.sig_tables.specs.Layout.{Ordered}
 use Rattle.sig_tables.specs.Modes.{sequence_in}
-use Rattle.sig_tables.specs.Seen.{mode_seen}
+use Rattle.sig_tables.specs.Seen.{mode_seen, view_seen}
+use Rattle.controller.specs.StandsFor.{AreMoves}
 use Rattle.controller.proofs.Binds.{in-coord, first-sequence}
 use Rattle.frame_due.proofs.Bound.{binding-in, coord-of}
 use Rattle.frame_due.proofs.Observer.ring_changes.Goals as goal
+
+pub returns-then-is_resting : goal.returns-then-is_resting
+returns-then-is_resting c = record {
+  changes = λ past r s t.
+      let still : ring_moves (view_seen past) ≡ record { ends = []; begins = [] } =
+      c.is_resting.ensures (view_seen past) (c.opening-opening.ensures.opening past r.keeps) s.demand
+      (c.forced-forced.ensures.forced past r) c.if-is_resting.true in
+      subst (λ (w : Moves). AreMoves c.no_changes.result w) (sym still) c.no_changes.ensures;
+}
+
+pub returns-then-is_idle : goal.returns-then-is_idle
+returns-then-is_idle c = record {
+  changes = λ past r s t.
+      let still : ring_moves (view_seen past) ≡ record { ends = []; begins = [] } =
+      c.is_idle.ensures.idle (view_seen past) (c.opening-opening.ensures.opening past r.keeps) (c.done-done.ensures.done past r s)
+      (c.forced-forced.ensures.forced past r) c.if-is_idle.true in
+      subst (λ (w : Moves). AreMoves c.no_changes-then-is_idle.result w) (sym still) c.no_changes-then-is_idle.ensures;
+}
 
 pub returns-then-is_coord : goal.returns-then-is_coord
 returns-then-is_coord c = record {
