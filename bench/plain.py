@@ -87,7 +87,7 @@ def module(crate, crates, left_out):
 
 def built(main, crates, program, left_out=()):
     """Builds a program, which is the text of its own functions, over these crates."""
-    names = [*crates, "arrayvec"]
+    names = [*crates, "arrayvec", "circular_buffer"]
     standard = (TOP / "bench/plain_std.rs").read_text(encoding="utf-8")
     modules = "".join(module(crate, names, left_out) for crate in crates)
     text = f"#![allow(warnings)]\n{standard}{modules}{main}"
