@@ -81,8 +81,15 @@ mod measured {
         least.sum::<f64>() / ROUNDS as f64
     }
 
+    fn book_of(tables: &str, command: u8) -> Book {
+        match Book::new(Global, Cabinet::new(opened(tables, command), community())) {
+            Ok(book) => book,
+            Err(_) => panic!("no memory"),
+        }
+    }
+
     pub fn book_ticks(tables: &str, command: u8, counted: fn(&mut Book, u32)) -> f64 {
-        let mut book = Book::new(Global, Cabinet::new(opened(tables, command), community()));
+        let mut book = book_of(tables, command);
         let mut sum = 0.0;
         for _ in 0..ROUNDS {
             if book.open_round(Global, streams(Vec::new(Global), TICKS)).is_err() {
@@ -99,7 +106,7 @@ mod measured {
     }
 
     pub fn book_polls() -> f64 {
-        let mut book = Book::new(Global, Cabinet::new(opened("std8", 1), community()));
+        let mut book = book_of("std8", 1);
         let mut sum = 0.0;
         for _ in 0..POLLS / 100 {
             let mut polls = Vec::new(Global);

@@ -12,6 +12,29 @@ pub mod plain_std {
     #[derive(Clone, Copy, Debug)]
     pub struct Global;
 
+    /// A value on the heap, whose place may be refused.
+    pub struct Box<T>(std::boxed::Box<T>);
+
+    impl<T> Box<T> {
+        pub fn new(_: Global, item: T) -> Result<Self, AllocError> {
+            Ok(Box(std::boxed::Box::new(item)))
+        }
+    }
+
+    impl<T> Deref for Box<T> {
+        type Target = T;
+
+        fn deref(&self) -> &T {
+            &self.0
+        }
+    }
+
+    impl<T> DerefMut for Box<T> {
+        fn deref_mut(&mut self) -> &mut T {
+            &mut self.0
+        }
+    }
+
     /// A vector whose growth may be refused.
     #[derive(Debug, PartialEq)]
     pub struct Vec<T>(std::vec::Vec<T>);

@@ -1,5 +1,5 @@
 //! The book of a cabinet: the cabinet, the streams of the round under way, how many items of each pass are left, and what the round has
-//! come to so far. Any pass may bring the next item of its stream at any time; only the start of a round takes memory.
+//! come to so far. Any pass may bring the next item of its stream at any time; only a new book and the start of a round take memory.
 
 ghost use Rattle.std.specs.Prelude.{◌≡◌, ◌≢◌, ◌<◌, ◌≤◌, ◌+◌, ◌-◌, ◌⊎◌, ◌++◌, ◌∷◌, [], ℕ, OnOk, IfOk, IfErr, length, replicate, map, get_or};
 ghost use Rattle.sig_tables.specs.Decide.{last_frame_of, past_at};
