@@ -23,7 +23,7 @@ ghost use Rattle.field_read.specs.Content.{FieldContent};
 ghost use Rattle.field_read.specs.Answers.{IsField, IsFirstFieldFault};
 
 pub use named::Field;
-pub use reading::read;
+pub use reading::{Source, read, read_source};
 pub use respond::Respond;
 
 /// A law: bytes are one field file and no more, or have one first fault and no other, and never both.

@@ -1,13 +1,13 @@
 //! The field file: bytes in, what it says or the first fault out.
 
-ghost use Rattle.std.specs.Prelude.{◌≡◌, ◌≤◌, IfOk, IfErr};
+ghost use Rattle.std.specs.Prelude.{◌≡◌, ◌≤◌, [], IfOk, IfErr};
 ghost use Rattle.serde_json.specs.Data.{depth};
 ghost use Rattle.serde_json.specs.Read.{max_depth};
 ghost use Rattle.serde_json.specs.View.{view};
 ghost use Rattle.scenario_data.specs.Content.{scenario_content};
 ghost use Rattle.scenario_read.specs.Sorted.{Sorted};
 ghost use Rattle.scenario_read.specs.Readers.{Answers};
-ghost use Rattle.scenario_read.specs.Answers.{IsScenario, OnRefusal};
+ghost use Rattle.scenario_read.specs.Answers.{Reads, IsScenario, OnRefusal};
 ghost use Rattle.field_read.specs.Content.{field_content, field_of};
 ghost use Rattle.field_read.specs.Checks.{file_faults};
 ghost use Rattle.field_read.specs.Answers.{IsField, IsFirstFieldFault};
@@ -35,6 +35,35 @@ fn field_in(alloc: Global, value: &Value) -> Result<Field, ReadFail>
     }
 }
 
+/// A field file with the JSON value that it was read from.
+#[derive(Drop)]
+pub struct Source {
+    pub field: Field,
+    pub value: Value,
+}
+
+/// Reads a field file as `read` does, and keeps its value.
+pub fn read_source(alloc: Global, bytes: &[u8]) -> Result<Source, ReadFail>
+    ensures value { IfOk result (λ s. Reads bytes.now (view s.value)) }
+    ensures nests { IfOk result (λ s. depth (view s.value) ≤ max_depth) }
+    ensures clean { IfOk result (λ s. file_faults (view s.value) ≡ []) }
+    ensures told { IfOk result (λ s. field_content s.field ≡ field_of (view s.value)) }
+    ensures refused { IfErr result (λ fail. OnRefusal fail (IsFirstFieldFault bytes.now)) }
+    ensures scenario { IfOk result (λ s. IsScenario s.field.scenario.compact.items (scenario_content s.field.scenario)) }
+{
+    match Value::from_slice(alloc, bytes) {
+        Ok(value) => match field_in(alloc, &value) {
+            Ok(field) => Ok(Source { field, value }),
+            Err(fail) => Err(fail),
+        },
+        Err(e) => Err(if e.is_memory() {
+            ReadFail::NoMemory
+        } else {
+            ReadFail::Refused(Refusal::Syntax)
+        }),
+    }
+}
+
 /// Reads a field file, in time and memory that grow with its bytes. The refusal is the first fault in the order of the checks:
 /// the JSON reading, the names and values in the order of their table, those of the scenario with their paths behind `scenario.`,
 /// and then what lies across the lists. The compact text of its scenario reads as that scenario.
@@ -43,15 +72,12 @@ pub fn read(alloc: Global, bytes: &[u8]) -> Result<Field, ReadFail>
     ensures refused { IfErr result (λ fail. OnRefusal fail (IsFirstFieldFault bytes.now)) }
     ensures scenario { IfOk result (λ f. IsScenario f.scenario.compact.items (scenario_content f.scenario)) }
 {
-    match Value::from_slice(alloc, bytes) {
-        Ok(value) => match field_in(alloc, &value) {
-            Ok(field) => Ok(field),
-            Err(fail) => Err(fail),
-        },
-        Err(e) => Err(if e.is_memory() {
-            ReadFail::NoMemory
-        } else {
-            ReadFail::Refused(Refusal::Syntax)
-        }),
+    match read_source(alloc, bytes) {
+        Ok(source) => {
+            let Source { field, value } = source;
+            drop(value);
+            Ok(field)
+        }
+        Err(fail) => Err(fail),
     }
 }
