@@ -140,15 +140,6 @@ all-told d n m text nests fits is whole k long none =
           (result-clean d (names-clean d fits.clean) (subst (λ (j : ℕ). j ≤ 1000000) fits.inputs fits.few_inputs) (subst (λ (j : ℕ). j ≤ 1000) fits.entries fits.few_entries)) whole is,
     )
 
--- bytes that are a field file have no other value
-pub field-at : (bytes : List ℕ) (content : FieldContent) (d : Data) → IsField bytes content → read bytes ≡ Some d → (file_faults d ≡ []) × (content ≡ field_of d)
-field-at bytes content d (e, reads, none, is) here =
-    let same : e ≡ d = one-value (read bytes) e d reads.1 here in
-    (subst (λ (x : Data). file_faults x ≡ []) same none, is ∙ ap field_of same)
-  where
-    one-value : (o : Option Data) (d e : Data) → o ≡ Some d → o ≡ Some e → d ≡ e
-    one-value o d e p q = cc
-
 -- the first fault of the file is that of the result, and the first fault of the value that of its bytes
 first-more : (a b : List Cause) (cause : Cause) → first_cause a ≡ Some cause → first_cause (a ++ b) ≡ Some cause
 first-more [] b cause e = absurd (cc)

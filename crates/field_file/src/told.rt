@@ -19,7 +19,7 @@ ghost use Rattle.field_file.specs.Texts.{IsTextOf};
 use crate::schedule::schedule_of;
 use crate::written::result_in;
 use detector_bank::{Call, bank_calls};
-use field_read::{Field, read};
+use field_read::{Field, Source, read_source};
 use scenario_data::{Entry, ReadFail};
 use scenario_read::{Place, Unfit, refuse_member};
 use serde_json::Value;
@@ -128,14 +128,9 @@ pub fn respond(alloc: Global, bytes: &[u8]) -> Result<Vec<u8>, ReadFail>
     ensures told { IfOk result (λ text. TellsResult bytes.now text.items) }
     ensures refused { IfErr result (λ fail. OnRefusal fail (IsFirstResultFault bytes.now)) }
 {
-    let field = match read(alloc, bytes) {
-        Ok(field) => field,
+    let Source { field, value } = match read_source(alloc, bytes) {
+        Ok(source) => source,
         Err(fail) => return Err(fail),
-    };
-    let value = match Value::from_slice(alloc, bytes) {
-        Ok(value) => value,
-        // The bytes were read before, so memory is short.
-        Err(_) => return Err(ReadFail::NoMemory),
     };
     match told_of(alloc, value, field) {
         Ok(text) => Ok(text),
