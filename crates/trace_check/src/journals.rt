@@ -70,8 +70,8 @@ fn all_left(book: &Book) -> [u32; 8]
     ]
 }
 
-/// A pass brings so many items of its stream.
-fn bring(book: &mut Book, pass: u32, count: u32)
+/// A pass brings so many items of its stream, one after another.
+fn bring_items(book: &mut Book, pass: u32, count: u32)
     requires { count ≤ left_of book.old pass }
     ensures stands { (story : Story) → BookStands book.old story → BookStands book.new story }
     ensures streams { streams_in book.new ≡ streams_in book.old }
@@ -82,6 +82,42 @@ fn bring(book: &mut Book, pass: u32, count: u32)
 {
     for _brought in 0..count {
         book.apply(pass);
+    }
+}
+
+/// A pass of ticks brings so many of them, by strides.
+fn bring_ticks(book: &mut Book, pass: u32, count: u32)
+    requires above { 4 ≤ pass }
+    requires below { pass ≤ 7 }
+    requires within { count ≤ left_of book.old pass }
+    ensures stands { (story : Story) → BookStands book.old story → BookStands book.new story }
+    ensures streams { streams_in book.new ≡ streams_in book.old }
+    ensures journal { journal_of book.new ≡ journal_of book.old ++ replicate count pass }
+    ensures own { left_of book.new pass + count ≡ left_of book.old pass }
+    ensures others { (p : ℕ) → p ≢ pass → left_of book.new p ≡ left_of book.old p }
+    ensures ticks { ticks_by_end book.new ≡ ticks_by_end book.old }
+{
+    let mut rest = count;
+    while rest > 0 {
+        let taken = book.stride(pass, rest);
+        rest -= taken;
+    }
+}
+
+/// A pass brings so many items of its stream.
+fn bring(book: &mut Book, pass: u32, count: u32)
+    requires { count ≤ left_of book.old pass }
+    ensures stands { (story : Story) → BookStands book.old story → BookStands book.new story }
+    ensures streams { streams_in book.new ≡ streams_in book.old }
+    ensures journal { journal_of book.new ≡ journal_of book.old ++ replicate count pass }
+    ensures own { left_of book.new pass + count ≡ left_of book.old pass }
+    ensures others { (p : ℕ) → p ≢ pass → left_of book.new p ≡ left_of book.old p }
+    ensures ticks { ticks_by_end book.new ≡ ticks_by_end book.old }
+{
+    if pass < 4 || pass > 7 {
+        bring_items(book, pass, count);
+    } else {
+        bring_ticks(book, pass, count);
     }
 }
 

@@ -1,7 +1,7 @@
 use Rattle.std.proofs.Common.{◌≡◌, ◌++◌, ◌∙◌, ℕ, replicate, ap, arith}
 use Rattle.cab_book.specs.Books.{journal_of}
 use Rattle.trace_check.proofs.Counting.{brought-one}
-use Rattle.trace_check.proofs.journals.bring.Goals as goal
+use Rattle.trace_check.proofs.journals.bring_items.Goals as goal
 
 pub loop-brought-preserved : goal.loop-brought-preserved
 loop-brought-preserved c =

@@ -1,15 +1,18 @@
 use Rattle.std.proofs.Common.{◌≡◌, ◌≢◌, ◌+◌, ◌++◌, ℕ, replicate}
 use Rattle.cabinet_story.specs.Story.{Story}
 use Rattle.cab_book.specs.Books.{BookStands, streams_in, journal_of, left_of, ticks_by_end}
-use Rattle.trace_check.proofs.journals.bring.Given as goal
+use Rattle.trace_check.proofs.journals.bring_ticks.Given as goal
 
--- so many items were brought
-abbrev pub invariant-loop-brought : goal.invariant-loop-brought
-invariant-loop-brought l = record {
+-- what is left of so many ticks is still to come behind the journal so far
+abbrev pub invariant-loop-rest : goal.invariant-loop-rest
+invariant-loop-rest l = record {
   stands : (story : Story) → BookStands l.fn.book story → BookStands l.book story;
   streams : streams_in l.book ≡ streams_in l.fn.book;
-  journal : journal_of l.book ≡ journal_of l.fn.book ++ replicate l._brought l.pass;
-  own : left_of l.book l.pass + l._brought ≡ left_of l.fn.book l.pass;
+  journal : journal_of l.book ++ replicate l.rest l.pass ≡ journal_of l.fn.book ++ replicate l.count l.pass;
+  own : left_of l.book l.pass + l.count ≡ left_of l.fn.book l.pass + l.rest;
   others : (p : ℕ) → p ≢ l.pass → left_of l.book p ≡ left_of l.fn.book p;
   ticks : ticks_by_end l.book ≡ ticks_by_end l.fn.book;
 }
+
+abbrev pub decreases-loop-rest : goal.decreases-loop-rest
+decreases-loop-rest l = l.rest
