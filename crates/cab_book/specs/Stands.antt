@@ -33,7 +33,7 @@ pub record IsSound (n : ℕ) (has : Coming) : Type 0 where
   pub few : FewInstalls (past_of has).version (kept (answered has.calls)) (standing (answered has.calls))
   pub ids : kept (answered has.calls) ≤ 2147483647
 
--- a controller and a stage stand for what a story has come to
+-- a control and a stage stand for what a story has come to
 pub record Keeps (c : Cabinet) (has : Coming) : Type 0 where
   pub control : StandsFor c.control has.history
   pub stage : StageStands c.stage has.calls
@@ -45,7 +45,7 @@ pub record CabinetStands (c : Cabinet) (story : Story) : Type 0 where
   pub community : c.community.items ≡ story.community
   pub keeps : Keeps c (coming story)
 
--- the stage has answered a wish, and the controller has not yet carried it out
+-- the stage has answered a wish, and the control has not yet carried it out
 pub record IsAnswered (control : Control) (stage : Stage) (has : Coming) (wish : Wish) (answer : Option StageAnswer) : Type 0 where
   pub controller_stands : StandsFor control has.history
   pub stage_stands : StageStands stage (with_call has.calls (call_of has wish))

@@ -99,8 +99,8 @@ impl Control {
         }
     }
 
-    /// Tables that a download puts in force: at once, and the next tick runs by them. The version of a history's tables is at
-    /// most 4,294,967,294 before it.
+    /// Tables that a download puts in force: at once, and the next tick runs by them. Their limits of adding and subtracting
+    /// are at least one tick.
     pub fn install(&mut self, tables: Tables)
         requires tables { CanRun tables }
         requires few { install_count self.old < 4294967295 }
