@@ -94,20 +94,52 @@ fn work<B: Logged, G: Gate>(row: &Row<B>, worker: &mut Worker, place: usize, gat
     }
 }
 
-// All workers, each in a thread of its own where one can be started.
+// Whether a pass of the worker has something left at a cabinet.
+fn has_work<B: Logged>(row: &Row<B>, worker: &Worker) -> bool
+    requires { IsReady B.row.coded.code B.left_of row.now worker.now }
+{
+    for cab in 1..=row.cabinets() {
+        for k in 0..worker.passes.len() {
+            if row.remaining(&worker.passes[k], cab) > 0 {
+                return true;
+            }
+        }
+    }
+    false
+}
+
+// How many workers stand before the first that has something to do, and how many from there to the last one.
+fn busy_span<B: Logged>(row: &Row<B>, workers: &[Worker]) -> (usize, usize)
+    requires { All (λ w. IsReady B.row.coded.code B.left_of row.now w) workers.now }
+    ensures { result.0 + result.1 ≤ length workers.now }
+{
+    let mut first = 0;
+    while first < workers.len() && !has_work(row, &workers[first]) {
+        first += 1;
+    }
+    let mut behind = workers.len();
+    while behind > first && !has_work(row, &workers[behind - 1]) {
+        behind -= 1;
+    }
+    (first, behind - first)
+}
+
+// Each of these workers in a thread of its own where one can be started.
 fn work_each<R: Threads + Sync, B: Logged + Send + Sync, G: Gate + Sync>(
     rt: &R,
     row: &Row<B>,
     workers: &mut [Worker],
     gate: &G,
 )
-    requires count { 0 < length workers.old }
     requires ready { All (λ w. IsReady B.row.coded.code B.left_of row.now w) workers.old }
     ensures ready { All (λ w. IsReady B.row.coded.code B.left_of row.now w) workers.new }
     ensures count { length workers.new ≡ length workers.old }
     ensures sizes { (k : ℕ) (d : Worker) → k < length workers.old → vec_len (slice_index_or workers.new k d).passes ≡ vec_len (slice_index_or workers.old k d).passes }
 {
     let threads = workers.len();
+    if threads == 0 {
+        return;
+    }
     thread::for_each_mut(
         rt,
         workers,
@@ -119,17 +151,20 @@ fn work_each<R: Threads + Sync, B: Logged + Send + Sync, G: Gate + Sync>(
     );
 }
 
-/// All workers go over the cabinets of the row, each in a thread of its own where one can be started, until all are done.
+/// All workers go over the cabinets of the row until all are done, each in a thread of its own where one can be started. None is
+/// started for workers at either end of the list that have nothing to do.
 pub(crate) fn work_all<R: Threads + Sync, B: Logged + Send + Sync, G: Gate + Sync>(
     rt: &R,
     row: &Row<B>,
     workers: &mut Vec<Worker>,
     gate: &G,
 )
-    requires count { 0 < vec_len workers.old }
     requires ready { All (λ w. IsReady B.row.coded.code B.left_of row.now w) workers.old.items }
     ensures ready { All (λ w. IsReady B.row.coded.code B.left_of row.now w) workers.new.items }
     ensures count { passes_in workers.new.items ≡ passes_in workers.old.items }
 {
-    work_each(rt, row, workers.as_mut_slice(), gate)
+    let (before, count) = busy_span(row, workers.as_slice());
+    let (_, rest) = workers.as_mut_slice().split_at_mut(before);
+    let (busy, _) = rest.split_at_mut(count);
+    work_each(rt, row, busy, gate)
 }
