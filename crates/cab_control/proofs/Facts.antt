@@ -14,18 +14,18 @@ use Rattle.sig_tables.specs.Seen.{frame_seen, moment_seen}
 use Rattle.controller.specs.declared.Controller.{Controller}
 use Rattle.controller.specs.StandsFor.{Keeps as Keeps_kept}
 use Rattle.cab_control.specs.declared.Control.{Control}
-use Rattle.cab_control.specs.declared.Control.TheVariants.{Kept, Looked}
+use Rattle.cab_control.specs.declared.Control.TheVariants.{Registers, LookingBack}
 use Rattle.cab_control.specs.Controls.{Keeps, StandsFor, tick_count, install_count}
 
 -- as many tables were put in force as the version says
 pub installs-are : (c : Control) (h : History) → StandsFor c h → install_count c ≡ (past_at h).version
-installs-are (Kept c) h k = k.version
-installs-are (Looked o) h k = k.version
+installs-are (Registers c) h k = k.version
+installs-are (LookingBack o) h k = k.version
 
 -- before any tick none is counted
 pub first-ticks : (c : Control) (h : History) → StandsFor c h → length (past_at h).moments ≡ 1 → (moment_seen (past_at h)).number ≡ 0 → tick_count c ≡ 0
-first-ticks (Kept c) h k one number = omega (arith, one, number, k.clocks.steps, k.signals.steps, k.preempts.steps, k.orders.ticks)
-first-ticks (Looked o) h k one number = omega (arith, number, k.orders.ticks)
+first-ticks (Registers c) h k one number = omega (arith, one, number, k.clocks.steps, k.signals.steps, k.preempts.steps, k.orders.ticks)
+first-ticks (LookingBack o) h k one number = omega (arith, number, k.orders.ticks)
 
 head_counter : (b : Bool) (x : ℕ) (xs : List ℕ) → b ≡ true → last_counter (if b then x ∷ xs else []) ≡ x
 head_counter true x xs e = refl
@@ -49,5 +49,5 @@ kept-within c past n k on =
 -- in step with a pattern the counter is within its cycle
 pub within-cycle : (c : Control) (past : Past) (n : ℕ) → Keeps c past → is_in_step (frame_seen past) past.version n ≡ true
     → (frame_seen past).counter < cycle_time past.tables n
-within-cycle (Kept c) past n k on = kept-within c past n k on
-within-cycle (Looked o) past n k on = k.within n on
+within-cycle (Registers c) past n k on = kept-within c past n k on
+within-cycle (LookingBack o) past n k on = k.within n on

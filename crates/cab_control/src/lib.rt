@@ -21,8 +21,8 @@ pub enum Way {
 /// A controller, or an observer.
 #[derive(Drop)]
 pub enum Control {
-    Kept(Controller),
-    Looked(Observer),
+    Registers(Controller),
+    LookingBack(Observer),
 }
 
 impl Control {
@@ -48,9 +48,9 @@ impl Control {
         ensures stands { IfOk result (λ control. StandsFor control (opening tables command clock)) }
     {
         match way {
-            Way::Registers => Ok(Control::Kept(Controller::open(tables, command, clock))),
+            Way::Registers => Ok(Control::Registers(Controller::open(tables, command, clock))),
             Way::LookingBack => match Observer::open(alloc, tables, command, clock) {
-                Ok(observer) => Ok(Control::Looked(observer)),
+                Ok(observer) => Ok(Control::LookingBack(observer)),
                 Err(NoMemory) => Err(NoMemory),
             },
         }
@@ -64,8 +64,8 @@ impl Control {
         ensures counted { tick_count self.new ≡ tick_count self.old + 1 }
     {
         match self {
-            Control::Kept(controller) => controller.tick(),
-            Control::Looked(observer) => observer.tick(),
+            Control::Registers(controller) => controller.tick(),
+            Control::LookingBack(observer) => observer.tick(),
         }
     }
 
@@ -82,8 +82,8 @@ impl Control {
         ensures counted { tick_count self.new ≡ tick_count self.old + result.0 }
     {
         match self {
-            Control::Kept(controller) => controller.stride_told(n),
-            Control::Looked(observer) => observer.stride_told(n),
+            Control::Registers(controller) => controller.stride_told(n),
+            Control::LookingBack(observer) => observer.stride_told(n),
         }
     }
 
@@ -94,8 +94,8 @@ impl Control {
         ensures counted { tick_count self.new ≡ tick_count self.old }
     {
         match self {
-            Control::Kept(controller) => controller.input(field),
-            Control::Looked(observer) => observer.input(field),
+            Control::Registers(controller) => controller.input(field),
+            Control::LookingBack(observer) => observer.input(field),
         }
     }
 
@@ -108,8 +108,8 @@ impl Control {
         ensures counted { tick_count self.new ≡ tick_count self.old }
     {
         match self {
-            Control::Kept(controller) => controller.install(tables),
-            Control::Looked(observer) => observer.install(tables),
+            Control::Registers(controller) => controller.install(tables),
+            Control::LookingBack(observer) => observer.install(tables),
         }
     }
 
@@ -119,8 +119,8 @@ impl Control {
         ensures counted { tick_count self.new ≡ tick_count self.old }
     {
         match self {
-            Control::Kept(controller) => controller.pattern(command),
-            Control::Looked(observer) => observer.pattern(command),
+            Control::Registers(controller) => controller.pattern(command),
+            Control::LookingBack(observer) => observer.pattern(command),
         }
     }
 
@@ -131,8 +131,8 @@ impl Control {
         ensures counted { tick_count self.new ≡ tick_count self.old }
     {
         match self {
-            Control::Kept(controller) => controller.clock(time),
-            Control::Looked(observer) => observer.clock(time),
+            Control::Registers(controller) => controller.clock(time),
+            Control::LookingBack(observer) => observer.clock(time),
         }
     }
 
@@ -143,8 +143,8 @@ impl Control {
         ensures counted { tick_count self.new ≡ tick_count self.old }
     {
         match self {
-            Control::Kept(controller) => controller.drift(gain, lose),
-            Control::Looked(observer) => observer.drift(gain, lose),
+            Control::Registers(controller) => controller.drift(gain, lose),
+            Control::LookingBack(observer) => observer.drift(gain, lose),
         }
     }
 
@@ -156,8 +156,8 @@ impl Control {
         ensures counted { tick_count self.new ≡ tick_count self.old }
     {
         match self {
-            Control::Kept(controller) => controller.request(request),
-            Control::Looked(observer) => observer.request(request),
+            Control::Registers(controller) => controller.request(request),
+            Control::LookingBack(observer) => observer.request(request),
         }
     }
 
@@ -169,8 +169,8 @@ impl Control {
         ensures counted { tick_count self.new ≡ tick_count self.old }
     {
         match self {
-            Control::Kept(controller) => controller.cancel(number),
-            Control::Looked(observer) => observer.cancel(number),
+            Control::Registers(controller) => controller.cancel(number),
+            Control::LookingBack(observer) => observer.cancel(number),
         }
     }
 
@@ -179,8 +179,8 @@ impl Control {
         ensures tables { (h : History) → StandsFor self.now h → result.now ≡ (past_at h).tables }
     {
         match self {
-            Control::Kept(controller) => controller.tables(),
-            Control::Looked(observer) => observer.tables(),
+            Control::Registers(controller) => controller.tables(),
+            Control::LookingBack(observer) => observer.tables(),
         }
     }
 
@@ -189,8 +189,8 @@ impl Control {
         ensures frame { (h : History) → StandsFor self.now h → result ≡ last_frame_of h }
     {
         match self {
-            Control::Kept(controller) => controller.frame(),
-            Control::Looked(observer) => observer.frame(),
+            Control::Registers(controller) => controller.frame(),
+            Control::LookingBack(observer) => observer.frame(),
         }
     }
 
@@ -199,8 +199,8 @@ impl Control {
         ensures flashing { (h : History) → StandsFor self.now h → result ≡ is_flash (last_frame_of h).mode }
     {
         match self {
-            Control::Kept(controller) => controller.flashing(),
-            Control::Looked(observer) => observer.flashing(),
+            Control::Registers(controller) => controller.flashing(),
+            Control::LookingBack(observer) => observer.flashing(),
         }
     }
 
@@ -209,8 +209,8 @@ impl Control {
         ensures shown { (h : History) → StandsFor self.now h → ShownAfter result (past_at h) }
     {
         match self {
-            Control::Kept(controller) => controller.shown(),
-            Control::Looked(observer) => observer.shown(),
+            Control::Registers(controller) => controller.shown(),
+            Control::LookingBack(observer) => observer.shown(),
         }
     }
 }

@@ -3,8 +3,8 @@ use Rattle.cab_control.specs.declared.Control.{Control}
 use Rattle.cab_control.specs.Controls.{StandsFor}
 use Rattle.cab_control.proofs.Control.install.Goals as goal
 
-pub returns-in-Kept-clause-stands : goal.returns-in-Kept-clause-stands
-returns-in-Kept-clause-stands c = λ h k. c.install.ensures.stands h (subst (λ (x : Control). StandsFor x h) c.in-Kept.is k)
+pub returns-in-Registers-clause-stands : goal.returns-in-Registers-clause-stands
+returns-in-Registers-clause-stands c = λ h k. c.install.ensures.stands h (subst (λ (x : Control). StandsFor x h) c.in-Registers.is k)
 
-pub returns-in-Looked-clause-stands : goal.returns-in-Looked-clause-stands
-returns-in-Looked-clause-stands c = λ h k. c.install-in-Looked.ensures.stands h (subst (λ (x : Control). StandsFor x h) c.in-Looked.is k)
+pub returns-in-LookingBack-clause-stands : goal.returns-in-LookingBack-clause-stands
+returns-in-LookingBack-clause-stands c = λ h k. c.install-in-LookingBack.ensures.stands h (subst (λ (x : Control). StandsFor x h) c.in-LookingBack.is k)

@@ -3,14 +3,14 @@ use Rattle.cab_control.specs.declared.Control.{Control}
 use Rattle.cab_control.specs.Controls.{StandsFor}
 use Rattle.cab_control.proofs.Control.tick.Goals as goal
 
-pub returns-in-Kept-clause-decided : goal.returns-in-Kept-clause-decided
-returns-in-Kept-clause-decided c = λ h k. c.tick.ensures.decided h (subst (λ (x : Control). StandsFor x h) c.in-Kept.is k)
+pub returns-in-Registers-clause-decided : goal.returns-in-Registers-clause-decided
+returns-in-Registers-clause-decided c = λ h k. c.tick.ensures.decided h (subst (λ (x : Control). StandsFor x h) c.in-Registers.is k)
 
-pub returns-in-Kept-clause-stands : goal.returns-in-Kept-clause-stands
-returns-in-Kept-clause-stands c = λ h k. c.tick.ensures.stands h (subst (λ (x : Control). StandsFor x h) c.in-Kept.is k)
+pub returns-in-Registers-clause-stands : goal.returns-in-Registers-clause-stands
+returns-in-Registers-clause-stands c = λ h k. c.tick.ensures.stands h (subst (λ (x : Control). StandsFor x h) c.in-Registers.is k)
 
-pub returns-in-Looked-clause-decided : goal.returns-in-Looked-clause-decided
-returns-in-Looked-clause-decided c = λ h k. c.tick-in-Looked.ensures.decided h (subst (λ (x : Control). StandsFor x h) c.in-Looked.is k)
+pub returns-in-LookingBack-clause-decided : goal.returns-in-LookingBack-clause-decided
+returns-in-LookingBack-clause-decided c = λ h k. c.tick-in-LookingBack.ensures.decided h (subst (λ (x : Control). StandsFor x h) c.in-LookingBack.is k)
 
-pub returns-in-Looked-clause-stands : goal.returns-in-Looked-clause-stands
-returns-in-Looked-clause-stands c = λ h k. c.tick-in-Looked.ensures.stands h (subst (λ (x : Control). StandsFor x h) c.in-Looked.is k)
+pub returns-in-LookingBack-clause-stands : goal.returns-in-LookingBack-clause-stands
+returns-in-LookingBack-clause-stands c = λ h k. c.tick-in-LookingBack.ensures.stands h (subst (λ (x : Control). StandsFor x h) c.in-LookingBack.is k)
