@@ -2,7 +2,7 @@
 //! back over it. A run takes the one and the check of a trace the other, and by these contracts nobody can tell them apart.
 #![tactic(auto)]
 
-ghost use Rattle.std.specs.Prelude.{◌≡◌, ◌<◌, ◌≤◌, ◌+◌, IfOk};
+ghost use Rattle.std.specs.Prelude.{◌≡◌, ◌<◌, ◌≤◌, ◌+◌, IfOk, IfErr};
 
 use controller::Controller;
 use frame_due::Observer;
@@ -32,6 +32,7 @@ impl Control {
     ghost use Rattle.controller.specs.Modes.{is_flash};
     ghost use Rattle.controller.specs.StandsFor.{CanRun, NamesPlace};
     ghost use Rattle.controller.specs.Strides.{IsStride, is_told, ticks_more};
+    ghost use Rattle.cab_control.specs.declared.Way.{Way};
     ghost use Rattle.cab_control.specs.Controls.{StandsFor, tick_count};
 
     /// A cabinet that is opened with these tables, in Start, with a pattern in command, 0 to 255, and a clock in ticks of the
@@ -46,6 +47,7 @@ impl Control {
         requires tables { CanRun tables }
         requires of_day { clock < 864000 }
         ensures stands { IfOk result (λ control. StandsFor control (opening tables command clock)) }
+        ensures memory { IfErr result (λ _. way ≡ Way.LookingBack) }
     {
         match way {
             Way::Registers => Ok(Control::Registers(Controller::open(tables, command, clock))),
