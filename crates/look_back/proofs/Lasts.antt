@@ -1,5 +1,5 @@
 -- How long a test has held, by a row that is counted no further than it is compared with.
-use Rattle.std.proofs.Common.{◌≡◌, ◌≢◌, inl, inr, ◌≤◌, ◌<◌, ◌-◌, ℕ, zero, suc, min, nat_le, Bool, true, false, List, [], ◌∷◌, refl, sym, ◌∙◌, ap, arith, ◌&&◌, subst}
+use Rattle.std.proofs.Common.{◌≡◌, ◌≢◌, inl, inr, ◌≤◌, ◌<◌, ◌-◌, ℕ, zero, suc, min, nat_le, Bool, true, false, List, [], ◌∷◌, refl, sym, ◌∙◌, arith, ◌&&◌, subst}
 use Rattle.std.proofs.lemmas.Bool.{cases_Bool, leb-true, leb-false, le-leb}
 use Rattle.std.proofs.Math.Nat.{min-eq_left}
 use Rattle.sig_types.specs.declared.frame.Mode.{Mode}
@@ -12,7 +12,6 @@ use Rattle.sig_tables.specs.Past.{Moment}
 use Rattle.look_back.specs.declared.glance.Look.TheVariants.{Dwells}
 use Rattle.look_back.specs.Look.{is_so}
 use Rattle.sig_tables.specs.Looking.{in_a_row, lasts, lasts_now, start_run}
-use Rattle.sig_tables.specs.Choosing.{leaves_start}
 use Rattle.sig_tables.proofs.Lasting.{lasts-counted}
 
 -- a row that is counted no further than `most` has reached n where the whole row has
@@ -63,11 +62,6 @@ start-row past = row-same (λ m. same_mode m.frame.mode Start) (λ m. is_start m
 pub row-lasts : (n most : ℕ) (test : Moment → Bool) (past : List Moment) → n ≤ most
     → nat_le n (min (in_a_row test past) most) ≡ lasts n test past
 row-lasts n most test past le = reached n most (in_a_row test past) le ∙ sym (lasts-counted n test past)
-
--- Start has lasted
-pub start-lasts : (past : List Moment) → lasts 60 (λ m. same_mode m.frame.mode Start) past ≡ leaves_start past
-start-lasts past =
-    lasts-counted 60 (λ m. same_mode m.frame.mode Start) past ∙ ap (λ (n : ℕ). nat_le 60 n) (start-row past)
 
 -- a preempt dwells in the phases of a list as in those of a set that has them
 pub dwelt-is : (n i : ℕ) (goal : PhaseList) (set : List ℕ) (past : List Moment) → listed goal ≡ set

@@ -1,5 +1,5 @@
-//! Whether a preempt is called, and whether its dwell is over: by its input, of which it is kept
-//! for how long it has been on, and by the frames of its stages.
+//! Whether a preempt is called: by its input, of which it is kept for how long it has been on, and by the frames of its
+//! stages.
 
 ghost use Rattle.std.specs.Prelude.{◌≡◌, ◌<◌, ◌≤◌, ◌+◌, ◌*◌, ◌==◌, ◌&&◌, ◌||◌, not, ℕ, List};
 ghost use Rattle.sig_types.specs.Phases.{is_in, has_some};
@@ -7,10 +7,9 @@ ghost use Rattle.sig_tables.specs.declared.tables.Tables.{Tables};
 ghost use Rattle.sig_tables.specs.Tables.{listed};
 ghost use Rattle.sig_tables.specs.Past.{Moment};
 ghost use Rattle.sig_types.specs.PhaseSet.{has};
-ghost use Rattle.sig_tables.specs.Preempts.{is_preempt_called, preempt_called, is_dwell_over};
+ghost use Rattle.sig_tables.specs.Preempts.{is_preempt_called, preempt_called};
 
 use crate::further::Further;
-use crate::window::Window;
 use sig_tables::{Preempt, Tables};
 use sig_types::PhaseSet;
 
@@ -73,21 +72,4 @@ impl Further {
         }
         0
     }
-
-    /// Whether the dwell of a preempt, 1 to 8, whose input is on at this tick or not, is over: its phases have had their time in these
-    /// frames, its least time has passed, and it is not called.
-    pub fn is_dwell_over(&self, window: &Window, t: &Tables, number: u8, on: bool) -> bool
-        requires above { 0 < number }
-        requires below { number ≤ 8 }
-        ensures { (inputs : List ℕ) (past : List Moment) → FurtherStands self.now past → WindowStands window.now past
-            → on ≡ is_in inputs number → result ≡ is_dwell_over t.now number inputs past }
-    {
-        let row = t.preempt(number);
-        let called = self.is_called(t, number, on);
-        let dwelt = window.has_dwelt(number, row.dwell_green, &row.dwell_phases);
-        let lasted = self.has_lasted(number, row.minimum_duration);
-        !called && dwelt && lasted
-    }
 }
-
-ghost use Rattle.look_back.specs.Stands.{WindowStands};

@@ -121,16 +121,4 @@ impl Counting {
     {
         self.count
     }
-
-    /// What is kept of the counters of the last frames in a row in step with this pattern, under the version of the last one.
-    pub fn count_in(self, pattern: u8) -> Count
-        ensures { (past : List Moment) → CountingStands self past
-            → CountStands result (counters_since pattern (last_frame past).version past) }
-    {
-        if same_mode(self.mode, Mode::Coord(pattern)) {
-            self.count
-        } else {
-            Count::new()
-        }
-    }
 }

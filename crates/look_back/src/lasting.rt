@@ -10,7 +10,6 @@ ghost use Rattle.sig_tables.specs.Tables.{listed, red_revert_time};
 ghost use Rattle.sig_tables.specs.Cells.{preempt_of};
 ghost use Rattle.sig_tables.specs.Past.{Moment};
 ghost use Rattle.sig_tables.specs.Looking.{lasts, lasts_now, shows};
-ghost use Rattle.sig_tables.specs.Choosing.{leaves_start};
 ghost use Rattle.sig_tables.specs.Preempts.{is_track_over, has_dwelt, dwell_set};
 ghost use Rattle.sig_tables.specs.Modes.{bound};
 ghost use Rattle.sig_tables.specs.Splits.{keeps_maximum};
@@ -85,13 +84,6 @@ impl Window {
     {
         let colour = Colour::Red;
         self.lasts(Look::Shows { phase, colour }, red_revert_time(t, phase))
-    }
-
-    /// Whether start-up is over: it has lasted six seconds.
-    pub fn leaves_start(&self) -> bool
-        ensures { (past : List Moment) → WindowStands self.now past → result ≡ leaves_start past }
-    {
-        self.lasts(Look::IsIn { mode: Mode::Start }, 60)
     }
 
     /// Whether the track clearance of a preempt has lasted its time, of so many seconds.
