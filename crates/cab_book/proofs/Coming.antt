@@ -6,7 +6,7 @@ use Rattle.arrayvec.specs.ArrayVec.{ArrayVec}
 use Rattle.sig_types.specs.declared.frame.Field.{Field}
 use Rattle.sig_types.specs.declared.frame.Field.TheVariants.{Veh, Ped as Button, Preempt as PreemptInput}
 use Rattle.sig_types.specs.declared.frame.Frame.{Frame}
-use Rattle.controller.specs.StandsFor.{NamesPlace}
+use Rattle.tick_sight.specs.Told.{NamesPlace}
 use Rattle.round_streams.specs.declared.Streams.{Streams}
 use Rattle.round_streams.specs.Items.{Item, Told, Came, Ticked, items_of, texts_of}
 use Rattle.cabinet_story.specs.declared.Load.{Load}

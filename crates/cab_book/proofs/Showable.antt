@@ -21,8 +21,8 @@ use Rattle.sig_tables.proofs.Ranges.{in-range}
 use Rattle.cab_control.specs.declared.Control.{Control}
 use Rattle.cab_control.specs.Controls.{Keeps}
 use Rattle.cab_control.proofs.Facts.{within-cycle}
-use Rattle.controller.proofs.Steps.{coord-defined, seek-defined}
-use Rattle.controller.proofs.Counted.{some-cycle}
+use Rattle.tick_sight.proofs.Steps.{coord-defined, seek-defined}
+use Rattle.tick_sight.proofs.Counted.{some-cycle}
 use Rattle.cab_book.specs.Stands.{IsShowable}
 
 same_number : (n : ℕ) → (n == n) ≡ true

@@ -6,7 +6,7 @@ use Rattle.sig_tables.specs.Putting.{EachFits}
 use Rattle.sig_tables.specs.Decide.{decide, ticked, past_at, frames, last_frame_of}
 use Rattle.cab_control.specs.declared.Control.{Control}
 use Rattle.cab_control.specs.Controls.{StandsFor, tick_count}
-use Rattle.controller.specs.Strides.{ticks_more, is_told}
+use Rattle.tick_sight.specs.Strides.{ticks_more, is_told}
 use Rattle.stage_txn.specs.Answers.{answered, kept, standing}
 use Rattle.cabinet_story.specs.Installs.{FewInstalls}
 use Rattle.cabinet_story.specs.Story.{Story}

@@ -8,7 +8,7 @@ use Rattle.sig_types.specs.Colour.{same_mode}
 use Rattle.sig_tables.specs.declared.tables.Tables.{Tables}
 use Rattle.sig_tables.specs.Past.{History}
 use Rattle.sig_tables.specs.Decide.{with_one}
-use Rattle.controller.specs.Modes.{is_flash}
+use Rattle.tick_sight.specs.Modes.{is_flash}
 use Rattle.stage_txn.specs.declared.Stage.{Stage}
 use Rattle.stage_txn.specs.Calls.{Call, Begin as BeginCall, Verify as VerifyCall, Finish as FinishCall, Deed, finish_deed, staged_by}
 use Rattle.stage_txn.specs.Answers.{answered, answer_to}

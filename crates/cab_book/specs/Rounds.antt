@@ -1,7 +1,7 @@
 -- A round of a cabinet, part by part: which streams it can take, what of them is left, and the story of what was brought.
 use Rattle.std.specs.Prelude.{ℕ, ◌+◌, ◌≡◌, ◌≤◌, ◌<◌, List, [], length, get_or}
 use Rattle.sig_types.specs.declared.frame.Field.{Field}
-use Rattle.controller.specs.StandsFor.{NamesPlace}
+use Rattle.tick_sight.specs.Told.{NamesPlace}
 use Rattle.round_streams.specs.declared.Streams.{Streams}
 use Rattle.round_streams.specs.Items.{items_of}
 use Rattle.cabinet_story.specs.Story.{Story, after}

@@ -4,7 +4,7 @@
 ghost use Rattle.std.specs.Prelude.{◌≡◌, ◌≢◌, ◌<◌, ◌≤◌, ◌+◌, ◌-◌, ◌⊎◌, ◌++◌, ◌∷◌, [], ℕ, OnOk, IfOk, IfErr, length, replicate, map, get_or};
 ghost use Rattle.sig_tables.specs.Decide.{last_frame_of, past_at};
 ghost use Rattle.round_streams.specs.Items.{Came, items_of, texts_of};
-ghost use Rattle.controller.specs.Strides.{IsStride};
+ghost use Rattle.tick_sight.specs.Strides.{IsStride};
 ghost use Rattle.cabinet_story.specs.Story.{Story};
 ghost use Rattle.cabinet_story.specs.Coming.{history_of};
 ghost use Rattle.cabinet_story.specs.Journals.{runs_of};

@@ -3,9 +3,9 @@
 ghost use Rattle.std.specs.Prelude.{◌≡◌, ◌<◌, ◌≤◌, ◌+◌, option_to_list, Some};
 ghost use Rattle.sig_tables.specs.Past.{History};
 ghost use Rattle.sig_tables.specs.Decide.{last_frame_of, past_at};
-ghost use Rattle.controller.specs.StandsFor.{NamesPlace};
+ghost use Rattle.tick_sight.specs.Told.{NamesPlace};
 ghost use Rattle.cab_control.specs.Controls.{StandsFor};
-ghost use Rattle.controller.specs.Strides.{IsStride};
+ghost use Rattle.tick_sight.specs.Strides.{IsStride};
 ghost use Rattle.agent.specs.Asks.{IsAsked, CanBeCarriedOut};
 ghost use Rattle.round_streams.specs.Items.{Told as ToldItem, Came, Ticked};
 ghost use Rattle.cabinet_story.specs.Story.{Story, opened, with_item};

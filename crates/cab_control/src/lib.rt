@@ -29,9 +29,9 @@ impl Control {
     ghost use Rattle.sig_tables.specs.Past.{History, Input, Install, SetPattern, SetClock, SetDrift, Ask, Cancel};
     ghost use Rattle.sig_tables.specs.Decide.{decide, ticked, opening, with_one, last_frame_of, past_at};
     ghost use Rattle.sig_tables.specs.Showing.{ShownAfter};
-    ghost use Rattle.controller.specs.Modes.{is_flash};
-    ghost use Rattle.controller.specs.StandsFor.{CanRun, NamesPlace};
-    ghost use Rattle.controller.specs.Strides.{IsStride, is_told, ticks_more};
+    ghost use Rattle.tick_sight.specs.Modes.{is_flash};
+    ghost use Rattle.tick_sight.specs.Told.{CanRun, NamesPlace};
+    ghost use Rattle.tick_sight.specs.Strides.{IsStride, is_told, ticks_more};
     ghost use Rattle.cab_control.specs.declared.Way.{Way};
     ghost use Rattle.cab_control.specs.Controls.{StandsFor, tick_count};
 

@@ -1,7 +1,7 @@
 -- What a controller keeps stands after ticks that it passes over, one by one and at once.
-use Rattle.std.proofs.Common.{◌≡◌, ◌≢◌, ◌<◌, ◌≤◌, ◌+◌, ◌*◌, ◌-◌, ◌%◌, ◌==◌, inl, inr, ◌&&◌, ◌||◌, not, min, if◌then◌else◌, nat_le, ℕ, zero, suc, Bool, true, false}
+use Rattle.std.proofs.Common.{◌≡◌, ◌≢◌, ◌<◌, ◌≤◌, ◌+◌, ◌-◌, ◌==◌, inl, inr, ◌&&◌, ◌||◌, min, ℕ, zero, suc, Bool, true, false}
 use Rattle.std.proofs.Common.{List, ◌∷◌, length, get_or, refl, sym, ◌∙◌, ap, arith, subst}
-use Rattle.std.proofs.lemmas.Bool.{false≢true, cases_Bool, leb-true, and_parts}
+use Rattle.std.proofs.lemmas.Bool.{false≢true, and_parts}
 use Rattle.std.proofs.lemmas.Bool.Decides.{Decides-eqb}
 use Rattle.sig_types.specs.declared.frame.Colour.{Colour}
 use Rattle.sig_types.specs.declared.frame.Ped.{Ped}
@@ -16,13 +16,12 @@ use Rattle.sig_tables.specs.declared.plan.Plan.{Plan}
 use Rattle.sig_tables.specs.Slots.{cycle_time}
 use Rattle.sig_tables.specs.Clock.{clock_now, target_at, target_in}
 use Rattle.sig_tables.specs.Past.{Past, Moment}
-use Rattle.sig_tables.specs.Looking.{last_on, in_a_row}
+use Rattle.sig_tables.specs.Looking.{last_on}
 use Rattle.sig_tables.specs.Calls.{is_green}
-use Rattle.sig_tables.specs.Command.{is_backed_up, is_commanded, command_now}
+use Rattle.sig_tables.specs.Command.{is_commanded, command_now}
 use Rattle.sig_tables.specs.Choosing.{is_in_step}
 use Rattle.sig_tables.specs.Counting.{last_counter}
 use Rattle.sig_tables.specs.Course.{course_of}
-use Rattle.sig_tables.specs.Clock.{rise_at}
 use Rattle.sig_tables.specs.Preempts.{preempts_on}
 use Rattle.sig_tables.specs.Decide.{with_moment, next_moment, colours_of}
 use Rattle.sig_tables.specs.Modes.{bound}
@@ -38,83 +37,27 @@ use Rattle.preempt_run.proofs.Called.{seen-is}
 use Rattle.preempt_run.proofs.OnPhases.{names-phases}
 use Rattle.preempt_run.proofs.Passed.{preempts-on}
 use Rattle.prio_queue.proofs.Idle.{queue-on}
-use Rattle.controller.specs.declared.orders.Orders.{Orders}
+use Rattle.tick_sight.specs.declared.orders.Orders.{Orders}
 use Rattle.controller.specs.declared.Controller.{Controller}
-use Rattle.controller.specs.Binds.{IsBound}
-use Rattle.controller.specs.Modes.{is_coord}
+use Rattle.tick_sight.specs.Binds.{IsBound}
+use Rattle.tick_sight.specs.Modes.{is_coord}
 use Rattle.controller.specs.Shows.{ShowsColours}
-use Rattle.controller.specs.Orders.{OrdersStand, SawOrders, ticks_since, most}
-use Rattle.controller.specs.Even.{IsEven, OrdersPassed}
+use Rattle.tick_sight.specs.Orders.{OrdersStand, most}
+use Rattle.tick_sight.specs.Even.{IsEven, OrdersPassed}
 use Rattle.controller.specs.StandsFor.{Keeps, CountsOn}
-use Rattle.controller.specs.Lasting.{IsFresh, Lasts, opposed_with}
-use Rattle.controller.specs.Passed.{timed, counted, planned_target, passed, IsReady}
-use Rattle.controller.proofs.Again.{free-apart, no-counter, no-target}
-use Rattle.controller.proofs.Backup.{backed-up}
-use Rattle.controller.proofs.Counted.{counters-head}
-use Rattle.controller.proofs.Free.{told-none, never-backed}
-use Rattle.controller.proofs.GoesOn.{Goes, tick-goes, frame-goes, goes-alike}
-use Rattle.controller.proofs.InStep.{step-in, counter-next}
-use Rattle.controller.proofs.OneLess.{seen-again, looks-on, lasts-less}
-use Rattle.controller.proofs.Rings.{each-ring, last-again, latest-again}
-use Rattle.controller.proofs.Seen.{opposed-green}
-use Rattle.controller.proofs.Sought.{start-again}
-use Rattle.controller.proofs.Pickups.{kept-on, start-zero, start-next, few-next, one-more, same-most}
-
--- the pattern in command stays at an even tick
-unbacked : (past : Past) (since : ℕ) → past.tables.unit.backup ≤ 65535 → since + 1 < 10 * past.tables.unit.backup
-    → since ≡ min (ticks_since (is_commanded past.commanded) past.moments) 4294967295
-    → is_backed_up past.tables (is_commanded past.commanded) past.moments ≡ false
-unbacked past since few less is =
-    let some : past.tables.unit.backup ≢ 0 = λ e. absurd (omega (arith, less, e)) in
-    sym (backed-up past since some few is) ∙ short (10 * past.tables.unit.backup - 1) since (omega (arith, less))
-  where
-    short : (n k : ℕ) → k < n → nat_le n k ≡ false
-    short n k h = elim (cases_Bool (nat_le n k)) [
-      | inl e ↦ let g : n ≤ k = leb-true n k e in absurd (omega arith)
-      | inr e ↦ e
-    ]
-
-command-stays : (o : Orders) (past : Past) → OrdersStand o past → IsFresh past → IsEven o past.tables 1 → past.tables.unit.backup ≤ 65535
-    → command_now past ≡ o.command
-command-stays o past stands fresh even few =
-    told-none past fresh.commanded ∙ elim even.command [
-      | inl none ↦ of-none (is_backed_up past.tables (is_commanded past.commanded) past.moments) (moment_seen past).command o.command none (sym mine)
-      | inr (inl never) ↦
-          ap (λ (b : Bool). if b then 0 else (moment_seen past).command) (never-backed past.tables (is_commanded past.commanded) past.moments never) ∙ sym mine
-      | inr (inr less) ↦
-          ap (λ (b : Bool). if b then 0 else (moment_seen past).command) (unbacked past o.since few less stands.since) ∙ sym mine
-    ]
-  where
-    mine : o.command ≡ (moment_seen past).command
-    mine = stands.command ∙ rw fresh.commanded refl
-
-    of-none : (b : Bool) (n command : ℕ) → command ≡ 0 → n ≡ command → (if b then 0 else n) ≡ command
-    of-none true n command e f = sym e
-    of-none false n command e f = f
-
-pub orders-on : (o new : Orders) (past : Past) (m : Moment) → OrdersPassed 1 o new → OrdersStand o past → SawOrders past m → IsFresh past
-    → IsEven o past.tables 1 → past.tables.unit.backup ≤ 65535 → OrdersStand new (with_moment past m)
-orders-on o new past m by stands saw fresh even few =
-    let told : m.is_commanded ≡ false = saw.is_commanded ∙ ap is_commanded fresh.commanded in
-    let since : o.since ≡ min (in_a_row (λ m. not m.is_commanded) past.moments + 1) most = stands.since ∙ rw fresh.commanded refl in
-    record {
-      command = by.command ∙ sym (command-stays o past stands fresh even few) ∙ sym saw.command;
-      since = by.since ∙ rw told (omega (arith, since));
-      clock = by.clock ∙ clock-on o.clock (moment_seen past).clock m.clock past.gain past.lose ((moment_seen past).number + 1) even.clock
-          (stands.clock ∙ rw fresh.clock_set refl) (sym stands.gain ∙ even.gain) (sym stands.lose ∙ even.lose)
-          (saw.clock ∙ rw fresh.clock_set refl);
-      ticks = by.ticks ∙ ap (λ (n : ℕ). n + 1) stands.ticks ∙ sym saw.number;
-      gain = by.gain ∙ stands.gain;
-      lose = by.lose ∙ stands.lose;
-    }
-  where
-    clock-on : (clock last now gain lose number : ℕ) → clock + 1 < 864000 → clock ≡ last → gain ≡ 0 → lose ≡ 0
-        → now ≡ (last + rise_at gain lose number) % 864000 → clock + 1 ≡ now
-    clock-on clock last now gain lose number h e f g k =
-        let rise : rise_at gain lose number ≡ 1 = rw (f, g) refl in
-        let sum : last + rise_at gain lose number ≡ clock + 1 = rw rise (omega arith) in
-        let small : (clock + 1) % 864000 ≡ clock + 1 = omega arith in
-        sym small ∙ ap (λ (n : ℕ). n % 864000) (sym sum) ∙ sym k
+use Rattle.tick_sight.specs.Lasting.{Lasts, opposed_with}
+use Rattle.tick_sight.specs.Passed.{timed, planned_target}
+use Rattle.controller.specs.Passed.{counted, passed, IsReady}
+use Rattle.tick_sight.proofs.Again.{free-apart, no-counter, no-target}
+use Rattle.tick_sight.proofs.Counted.{counters-head}
+use Rattle.tick_sight.proofs.GoesOn.{Goes, tick-goes, frame-goes, goes-alike}
+use Rattle.tick_sight.proofs.InStep.{step-in, counter-next}
+use Rattle.tick_sight.proofs.OneLess.{seen-again, looks-on, lasts-less}
+use Rattle.tick_sight.proofs.Rings.{each-ring, last-again, latest-again}
+use Rattle.tick_sight.proofs.Seen.{opposed-green}
+use Rattle.tick_sight.proofs.Sought.{start-again}
+use Rattle.tick_sight.proofs.Pickups.{kept-on, start-zero, start-next, few-next, one-more, same-most}
+use Rattle.tick_sight.proofs.Passed.{orders-on, after}
 
 -- the controller with these parts
 abbrev built : Controller → Orders → Frame → ℕ → ℕ → ℕ → Count → Controller
@@ -325,11 +268,6 @@ ready-on mode j c o past l ready =
       bound = ready.bound;
     }
 
--- what has come after so many ticks more
-abbrev pub after : ℕ → Past → Past
-after zero past = past
-after (suc k) past = after k (with_moment past (next_moment past))
-
 first-even : (j : ℕ) (o : Orders) (t : Tables) → IsEven o t (suc j) → IsEven o t 1
 first-even j o t even = record {
   clock = omega (arith, even.clock);
@@ -384,10 +322,3 @@ keeps-after (suc (suc j)) mode c new past some by k l ready even few =
     subst (λ (x : Controller). Keeps x (after (suc j) next)) (passed-more 1 (suc j) c mid new ∙ ap (λ (n : ℕ). passed n c new) whole)
     (keeps-after (suc j) mode (passed 1 c mid) new next more (rest-by (suc j) c.orders new day by) first (lasts-less mode (suc j) past l)
     (ready-on mode (suc j) c mid past l ready) (rest-even (suc j) c.orders past.tables day even) few)
-
--- what lasts longer lasts after some ticks
-pub lasts-after : (k j : ℕ) (mode : Mode) (past : Past) → Lasts mode (k + suc j) past → Lasts mode (suc j) (after k past)
-lasts-after zero j mode past l = let e : zero + suc j ≡ suc j = omega arith in subst (λ (n : ℕ). Lasts mode n past) e l
-lasts-after (suc k) j mode past l =
-    let e : suc k + suc j ≡ suc (k + suc j) = omega arith in
-    lasts-after k j mode (with_moment past (next_moment past)) (lasts-less mode (k + suc j) past (subst (λ (n : ℕ). Lasts mode n past) e l))

@@ -1,8 +1,6 @@
 -- Ticks that are passed over at once.
-use Rattle.std.specs.Prelude.{ℕ, ◌≡◌, ◌+◌, ◌-◌, ◌%◌, Bool, true, false}
+use Rattle.std.specs.Prelude.{ℕ, ◌≡◌, ◌+◌, Bool, true, false}
 use Rattle.sig_types.specs.declared.frame.Mode.{Mode}
-use Rattle.sig_types.specs.declared.frame.Frame.{Frame}
-use Rattle.sig_tables.specs.declared.plan.Plan.{Plan}
 use Rattle.sig_tables.specs.Past.{Past}
 use Rattle.sig_tables.specs.Modes.{bound}
 use Rattle.coord_count.specs.declared.Count.{Count}
@@ -11,27 +9,19 @@ use Rattle.phase_clock.specs.Passed.{IsSteady, passed as clocks_passed}
 use Rattle.ped_clock.specs.Passed.{passed as signals_passed}
 use Rattle.preempt_run.specs.Passed.{IsClear, passed as preempts_passed}
 use Rattle.prio_queue.specs.Idle.{IsIdle}
-use Rattle.controller.specs.declared.orders.Orders.{Orders}
-use Rattle.controller.specs.declared.seeing.Sight.{Sight}
+use Rattle.tick_sight.specs.declared.orders.Orders.{Orders}
+use Rattle.tick_sight.specs.declared.seeing.Sight.{Sight}
 use Rattle.controller.specs.declared.Controller.{Controller}
-use Rattle.controller.specs.Modes.{is_coord}
-use Rattle.controller.specs.Binds.{IsBound}
-use Rattle.controller.specs.Even.{IsEven, OrdersPassed}
-use Rattle.controller.specs.Lasting.{Looks}
-
--- the frame with this counter and this target, where it is in step with a pattern
-abbrev pub timed : Bool → ℕ → ℕ → Frame → Frame
-timed true counter target f = record f { counter = counter; target = target }
-timed false counter target f = f
+use Rattle.tick_sight.specs.Modes.{is_coord}
+use Rattle.tick_sight.specs.Binds.{IsBound}
+use Rattle.tick_sight.specs.Even.{IsEven, OrdersPassed}
+use Rattle.tick_sight.specs.Lasting.{Looks}
+use Rattle.tick_sight.specs.Passed.{timed, planned_target}
 
 -- the count after so many ticks more, where it counts
 abbrev pub counted : Bool → ℕ → Count → Count
 counted true k count = count_passed k count
 counted false k count = count
-
--- where the target of a plan stands at this time of the day
-abbrev pub planned_target : Plan → ℕ → ℕ
-planned_target plan clock = (clock + plan.shift + (plan.cycle - plan.offset % plan.cycle)) % plan.cycle
 
 -- the controller after so many ticks at which it shows what it showed, which leave these orders
 abbrev pub passed : ℕ → Controller → Orders → Controller

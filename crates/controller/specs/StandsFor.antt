@@ -1,15 +1,10 @@
 -- A controller stands for a history where all that it keeps is what looking back over the history gives.
 use Rattle.std.specs.Prelude.{ℕ, ◌-◌, ◌≡◌, ◌≤◌, ◌<◌, max, true, get_or}
-use Rattle.sig_types.specs.declared.frame.Field.{Field}
-use Rattle.sig_types.specs.declared.frame.Field.TheVariants.{Veh, Ped as Button, Preempt as PreemptInput}
-use Rattle.sig_types.specs.Phases.{is_phase, is_in}
-use Rattle.sig_tables.specs.declared.tables.Tables.{Tables}
 use Rattle.sig_tables.specs.Slots.{cycle_time}
 use Rattle.sig_tables.specs.Choosing.{is_in_step}
 use Rattle.sig_tables.specs.Counters.{counters_since}
 use Rattle.sig_tables.specs.Past.{Past, History}
 use Rattle.sig_tables.specs.Looking.{last_on, latest_on, start_run}
-use Rattle.sig_tables.specs.Moves.{Moves}
 use Rattle.sig_tables.specs.Decide.{past_at}
 use Rattle.sig_tables.specs.Layout.{LaidOut, Ordered, Has}
 use Rattle.sig_tables.specs.Seen.{frame_seen}
@@ -21,10 +16,10 @@ use Rattle.coord_count.specs.Stands.{CountStands, counter_of}
 use Rattle.preempt_run.specs.Dwelling.{NamesPhases}
 use Rattle.preempt_run.specs.Stands.{PreemptsStand, step_count as preempt_steps}
 use Rattle.prio_queue.specs.Stands.{QueueStands}
-use Rattle.ring_barrier.specs.declared.view.Changes.{Changes}
-use Rattle.controller.specs.Shows.{ShowsColours, is_signalling}
-use Rattle.controller.specs.Orders.{OrdersStand, order_ticks}
-use Rattle.controller.specs.Binds.{BindingStands}
+use Rattle.controller.specs.Shows.{ShowsColours}
+use Rattle.tick_sight.specs.Shows.{is_signalling}
+use Rattle.tick_sight.specs.Orders.{OrdersStand, order_ticks}
+use Rattle.tick_sight.specs.Binds.{BindingStands}
 use Rattle.controller.specs.declared.Controller.{Controller}
 
 -- the number of ticks so far, each of which all clocks were given
@@ -35,22 +30,6 @@ tick_count c =
 -- the number of tables put in force since the opening
 abbrev pub install_count : Controller → ℕ
 install_count c = c.version
-
--- tables that a cabinet can run: a cycle is corrected by at least one tick each way
-pub record CanRun (t : Tables) : Type 0 where
-  pub adds : 1 ≤ t.unit.add
-  pub subtracts : 1 ≤ t.unit.subtract
-
--- an input of a phase, 1 to 16, or of a preempt, 1 to 8
-abbrev pub NamesPlace : Field → Type 0
-NamesPlace (Veh p on) = is_phase p ≡ true
-NamesPlace (Button p) = is_phase p ≡ true
-NamesPlace (PreemptInput i on) = (1 ≤ i) × (i ≤ 8)
-
--- the changes are those of the moves, phase by phase
-pub record AreMoves (changes : Changes) (moves : Moves) : Type 0 where
-  pub ends : Has changes.ends (is_in moves.ends)
-  pub begins : Has changes.begins (is_in moves.begins)
 
 -- in step with pattern n the counters since the pickup are counted, and the last is within the cycle
 pub record CountsOn (count : Count) (past : Past) (n : ℕ) : Type 0 where

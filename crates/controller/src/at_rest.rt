@@ -2,27 +2,14 @@
 //! plain ones, where what is on stays as it is and no more is looked at; and those at which no phase ends, begins or walks.
 //! Only the registers that count are stepped.
 
-ghost use Rattle.std.specs.Prelude.{◌≡◌, ◌≢◌, ◌<◌, ◌≤◌, ◌+◌, ◌&&◌, ◌∷◌, [], ℕ, Bool, true, false, None, IsTrue, length, get_or, not};
-ghost use Rattle.controller.specs.Modes.{is_free};
+ghost use Rattle.std.specs.Prelude.{◌≡◌, ◌<◌, ◌≤◌, ◌+◌, ◌&&◌, ◌∷◌, [], ℕ, Bool, true, false, None, IsTrue, not};
 
 use crate::Controller;
-use crate::binding::is_defined;
-use crate::course::Course;
-use crate::seeing::Sight;
 use sig_types::{Frame, Mode, PhaseSet};
+use tick_sight::{Course, Sight, are_both_on, is_defined, is_free, shows_sixteen};
 
 /// The command that asks for flash.
 const FLASH_COMMAND: u8 = 255;
-
-/// Whether a cabinet in this mode runs free.
-pub(crate) fn is_free(mode: Mode) -> bool
-    ensures { result ≡ is_free mode }
-{
-    match mode {
-        Mode::Free => true,
-        _ => false,
-    }
-}
 
 /// Whether these are on in the rings.
 fn are_on(on: [u8; 2], first: u8, second: u8) -> bool
@@ -30,20 +17,6 @@ fn are_on(on: [u8; 2], first: u8, second: u8) -> bool
 {
     on[0] == first && on[1] == second
 }
-
-/// Whether something is on in both rings.
-pub(crate) fn are_both_on(on: [u8; 2]) -> bool
-    ensures first { IsTrue result → get_or on 0 0 ≢ 0 }
-    ensures second { IsTrue result → get_or on 1 0 ≢ 0 }
-{
-    if on[0] == 0 { false } else { on[1] != 0 }
-}
-
-/// Any frame shows sixteen phases.
-pub(crate) fn shows_sixteen(frame: Frame)
-    ensures veh { length frame.veh ≡ 16 }
-    ensures ped { length frame.ped ≡ 16 }
-{}
 
 impl Controller {
     ghost use Rattle.sig_types.specs.declared.frame.Colour.TheVariants.{Green};
@@ -61,10 +34,10 @@ impl Controller {
     ghost use Rattle.sig_tables.specs.Decide.{with_moment, next_moment};
     ghost use Rattle.sig_tables.specs.Seen.{frame_seen, mode_seen, pedestrian_seen, demand_with, quiet_seen, opposed_seen};
     ghost use Rattle.preempt_run.specs.Stands.{preempts_seen};
-    ghost use Rattle.controller.specs.Shows.{is_clearing, is_signalling};
-    ghost use Rattle.controller.specs.Rests.{IsCurrent, Repeats};
-    ghost use Rattle.controller.specs.Course.{Runs};
-    ghost use Rattle.controller.specs.Sees.{Sees};
+    ghost use Rattle.tick_sight.specs.Shows.{is_clearing, is_signalling};
+    ghost use Rattle.tick_sight.specs.Rests.{IsCurrent, Repeats};
+    ghost use Rattle.controller.specs.Runs.{Runs};
+    ghost use Rattle.tick_sight.specs.Sees.{Sees};
     ghost use Rattle.controller.specs.StandsFor.{Keeps, tick_count, install_count};
 
     /// Whether a cabinet that runs free goes on to: no preempt input is on, and this pattern in command is none that is defined

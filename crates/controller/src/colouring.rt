@@ -3,30 +3,11 @@
 ghost use Rattle.std.specs.Prelude.{◌≡◌, ◌<◌, ◌≤◌, ℕ, List, map, IsTrue, true};
 
 use crate::Controller;
-use crate::binding::lone;
 use crate::by_colour::ByColour;
-use crate::course::Course;
-use crate::seeing::Sight;
 use flash_mode::reached;
 use ring_barrier::Changes;
 use sig_types::{Colour, Frame, Mode, Ped, PhaseSet};
-
-/// What is shown before any tick: all red, in Start.
-pub fn first_frame() -> Frame
-    ensures { result ≡ first_frame }
-{
-    Frame {
-        veh: [Colour::Red; 16],
-        ped: [Ped::Dont; 16],
-        on: [0; 2],
-        mode: Mode::Start,
-        counter: 0,
-        target: 0,
-        version: 0,
-    }
-}
-
-ghost use Rattle.sig_tables.specs.Past.{first_frame};
+use tick_sight::{Course, Sight, lone};
 
 /// The frame of a tick, the phases by its colours, and whether every phase keeps the colour and the signal that it had.
 #[derive(Clone, Copy)]
@@ -51,12 +32,14 @@ impl Controller {
     ghost use Rattle.sig_tables.specs.Ticking.{signal_after, frame_of};
     ghost use Rattle.sig_tables.specs.Layout.{Has};
     ghost use Rattle.sig_tables.specs.Seen.{frame_seen, mode_seen, sight_seen};
-    ghost use Rattle.controller.specs.Shows.{ShowsColours, is_clearing};
-    ghost use Rattle.controller.specs.Walks.{crossing_seen};
-    ghost use Rattle.controller.specs.Course.{Runs};
-    ghost use Rattle.controller.specs.Sees.{Sees};
+    ghost use Rattle.controller.specs.Shows.{ShowsColours};
+    ghost use Rattle.tick_sight.specs.Shows.{is_clearing};
+    ghost use Rattle.tick_sight.specs.Walks.{crossing_seen};
+    ghost use Rattle.controller.specs.Runs.{Runs};
+    ghost use Rattle.tick_sight.specs.Sees.{Sees};
     ghost use Rattle.controller.specs.Comes.{Comes};
-    ghost use Rattle.controller.specs.StandsFor.{Keeps, AreMoves, tick_count};
+    ghost use Rattle.controller.specs.StandsFor.{Keeps, tick_count};
+    ghost use Rattle.tick_sight.specs.Moves.{AreMoves};
 
     /// The colour of a phase, 1 to 16, after these moves.
     fn colour_after(&self, moves: Changes, phase: u8) -> Colour

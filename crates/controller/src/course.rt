@@ -5,29 +5,10 @@ ghost use Rattle.std.specs.Prelude.{◌≡◌, ◌<◌, ◌≤◌, ◌+◌, ℕ}
 
 use crate::Controller;
 use coord_count::Limits;
-use flash_mode::{Choice, Turn, sought, turn_of};
+use flash_mode::{Choice, sought, turn_of};
 use preempt_run::{goal, lesser};
 use sig_types::{Mode, PhaseSet};
-
-/// What a tick is about.
-#[derive(Clone, Copy)]
-pub struct Course {
-    /// The pattern in command, and the clock in ticks of the day.
-    pub command: u8,
-    pub clock: u32,
-    /// The mode before the colours are known.
-    pub mode: Mode,
-    /// The phases that the mode brings to green.
-    pub goal: PhaseSet,
-    pub turn: Turn,
-    /// The walk and the pedestrian clearance, in ticks, to which a preempt cuts those of the phases beside its goal.
-    pub lesser: Option<(u32, u32)>,
-    /// Where the cabinet stands in the cycle of its pattern, and what its clock asks, in ticks.
-    pub counter: u32,
-    pub target: u32,
-    /// The priority request that is active, if one is.
-    pub active: Option<u8>,
-}
+use tick_sight::{Course, has_pattern, is_coord};
 
 impl Controller {
     ghost use Rattle.sig_types.specs.Phases.{is_in};
@@ -42,8 +23,8 @@ impl Controller {
     ghost use Rattle.prio_queue.specs.Places.{some_number};
     ghost use Rattle.sig_types.specs.declared.frame.Mode.TheVariants.{Coord};
     ghost use Rattle.sig_tables.specs.Slots.{cycle_time};
-    ghost use Rattle.controller.specs.Binds.{BindingIs, IsBound};
-    ghost use Rattle.controller.specs.Course.{OnCourse};
+    ghost use Rattle.tick_sight.specs.Binds.{BindingIs, IsBound};
+    ghost use Rattle.tick_sight.specs.Course.{OnCourse};
     ghost use Rattle.controller.specs.StandsFor.{Keeps, tick_count, install_count};
 
     /// The pattern in command at this tick.
@@ -168,36 +149,3 @@ impl Controller {
         }
     }
 }
-
-/// Whether a cabinet in this mode is in step with a pattern.
-pub fn is_coord(mode: Mode) -> bool
-    ensures { result ≡ is_coord mode }
-{
-    match mode {
-        Mode::Coord(_) => true,
-        _ => false,
-    }
-}
-
-/// Whether a cabinet in this mode seeks a pattern or is in step with one.
-pub fn has_pattern(mode: Mode) -> bool
-    ensures { result ≡ has_pattern mode }
-{
-    match mode {
-        Mode::Seek(_) => true,
-        Mode::Coord(_) => true,
-        _ => false,
-    }
-}
-
-/// Whether a cabinet in this mode flashes.
-pub fn is_flash(mode: Mode) -> bool
-    ensures { result ≡ is_flash mode }
-{
-    match mode {
-        Mode::Flash => true,
-        _ => false,
-    }
-}
-
-ghost use Rattle.controller.specs.Modes.{is_coord, has_pattern, is_flash};

@@ -5,11 +5,10 @@ ghost use Rattle.sig_types.specs.Colour.{is_start};
 
 use crate::Controller;
 use crate::colouring::Next;
-use crate::course::{Course, is_coord};
-use crate::seeing::Sight;
 use call_store::signalling;
 use coord_count::Count;
 use sig_types::{Frame, Mode, Ped, PhaseSet};
+use tick_sight::{Course, Sight, is_coord};
 
 /// Whether a frame is in Start.
 pub(crate) fn shows_start(frame: &Frame) -> bool
@@ -65,10 +64,10 @@ impl Controller {
     ghost use Rattle.sig_types.specs.declared.frame.Frame.{Frame};
     ghost use Rattle.sig_tables.specs.Layout.{Has};
     ghost use Rattle.call_store.specs.Stands.{is_walking};
-    ghost use Rattle.controller.specs.Shows.{is_signalling};
+    ghost use Rattle.tick_sight.specs.Shows.{is_signalling};
     ghost use Rattle.controller.specs.Comes.{Comes};
-    ghost use Rattle.controller.specs.Course.{Runs};
-    ghost use Rattle.controller.specs.Sees.{Sees};
+    ghost use Rattle.controller.specs.Runs.{Runs};
+    ghost use Rattle.tick_sight.specs.Sees.{Sees};
     ghost use Rattle.sig_tables.specs.Choosing.{is_in_step};
     ghost use Rattle.coord_count.specs.Stands.{CountStands};
     ghost use Rattle.controller.specs.StandsFor.{Keeps, CountsOn, tick_count, install_count};

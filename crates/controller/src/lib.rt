@@ -14,32 +14,24 @@ use preempt_run::Preempts;
 use prio_queue::Queue;
 use sig_tables::{Layout, Shown, Tables};
 use sig_types::{Field, Frame, PhaseSet, Request};
+use tick_sight::{Binding, Orders, first_frame, is_flash};
 
 mod at_rest;
-mod binding;
 mod by_colour;
 mod colouring;
 mod course;
 mod keeping;
 mod lasting;
 mod moving;
-mod orders;
 mod passing;
 mod reasons;
 mod seeing;
 mod staying;
 mod stride;
-mod telling;
 mod ticking;
 mod walking;
 
-pub use binding::{Binding, lone};
 use by_colour::ByColour;
-pub use colouring::first_frame;
-pub use course::{Course, has_pattern, is_coord, is_flash};
-pub use orders::Orders;
-pub use seeing::Sight;
-pub use telling::has_line;
 
 /// What a controller keeps between ticks.
 #[derive(Drop)]
@@ -79,8 +71,9 @@ impl Controller {
     ghost use Rattle.sig_tables.specs.Past.{History, Input, Install, SetPattern, SetClock, SetDrift, Ask, Cancel};
     ghost use Rattle.sig_tables.specs.Decide.{decide, ticked, opening, with_one, last_frame_of, past_at};
     ghost use Rattle.sig_tables.specs.Showing.{ShownAfter};
-    ghost use Rattle.controller.specs.Modes.{is_flash};
-    ghost use Rattle.controller.specs.StandsFor.{StandsFor, CanRun, NamesPlace, tick_count, install_count};
+    ghost use Rattle.tick_sight.specs.Modes.{is_flash};
+    ghost use Rattle.controller.specs.StandsFor.{StandsFor, tick_count, install_count};
+    ghost use Rattle.tick_sight.specs.Told.{CanRun, NamesPlace};
 
     /// A cabinet that is opened with these tables, in Start, with a pattern in command, 0 to 255 (254 and those that are
     /// not defined run free, 255 flashes), and a clock in ticks of the day. The tables' limits of adding and subtracting

@@ -1,46 +1,20 @@
 //! What the rings do at a tick: by the rules of actuated control, within the room that a pattern leaves, or on the way to a
 //! goal.
 
-ghost use Rattle.std.specs.Prelude.{◌≡◌, ◌<◌, ◌≤◌, ◌&&◌, ℕ, [], IsTrue};
+ghost use Rattle.std.specs.Prelude.{◌≡◌, ◌<◌, ◌≤◌, ◌&&◌, ℕ};
 ghost use Rattle.sig_types.specs.PhaseSet.{phases_of};
-ghost use Rattle.sig_tables.specs.View.{View as Scene, is_forced};
+ghost use Rattle.sig_tables.specs.View.{is_forced};
 ghost use Rattle.sig_tables.specs.Moves.{ring_moves};
 ghost use Rattle.sig_tables.specs.Layout.{Has};
 ghost use Rattle.ring_barrier.specs.Shows.{Opens};
-ghost use Rattle.controller.specs.StandsFor.{AreMoves};
+ghost use Rattle.tick_sight.specs.Moves.{AreMoves};
 
 use crate::Controller;
-use crate::course::{Course, is_coord};
-use crate::seeing::Sight;
 use flash_mode::Turn;
 use ring_barrier::{Changes, RingView, View, changes, changes_toward, is_idle};
 use sig_tables::Layout;
 use sig_types::PhaseSet;
-
-/// No phase ends, and none begins.
-fn no_changes() -> Changes
-    ensures { AreMoves result (record { ends = []; begins = [] }) }
-{
-    Changes {
-        ends: PhaseSet::empty(),
-        begins: PhaseSet::empty(),
-    }
-}
-
-/// Whether the rings rest: neither is open, no phase has demand and none is forced off, so that what is on stays on.
-fn is_resting(opening: [bool; 2], demand: PhaseSet, forced: PhaseSet) -> bool
-    ensures { (w : Scene) → Opens opening w → phases_of demand ≡ w.demand → Has forced (is_forced w) → IsTrue result
-        → ring_moves w ≡ record { ends = []; begins = [] } }
-{
-    if opening[0] || opening[1] {
-        return false;
-    }
-    if demand.is_empty() {
-        forced.is_empty()
-    } else {
-        false
-    }
-}
+use tick_sight::{Course, Sight, is_coord, is_resting, no_changes};
 
 /// The phases that the rings look at now, and once they are cleared.
 #[derive(Clone, Copy)]
@@ -61,8 +35,8 @@ impl Controller {
     ghost use Rattle.sig_tables.specs.Course.{course_of, Rings};
     ghost use Rattle.sig_tables.specs.View.{is_done, is_startable, clearance_of};
     ghost use Rattle.sig_tables.specs.Seen.{mode_seen, demand_seen, turn_seen, view_seen, moves_seen};
-    ghost use Rattle.controller.specs.Course.{Runs};
-    ghost use Rattle.controller.specs.Sees.{Sees};
+    ghost use Rattle.controller.specs.Runs.{Runs};
+    ghost use Rattle.tick_sight.specs.Sees.{Sees};
     ghost use Rattle.controller.specs.Wanting.{Wants};
     ghost use Rattle.controller.specs.StandsFor.{Keeps, tick_count};
 

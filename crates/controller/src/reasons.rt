@@ -4,23 +4,10 @@
 ghost use Rattle.std.specs.Prelude.{◌≡◌, ◌<◌, ◌≤◌, ◌==◌, ℕ, true, not, None, Some};
 
 use crate::Controller;
-use crate::course::{Course, is_coord};
-use crate::seeing::Sight;
 use coord_gate::{filled, released};
 use preempt_run::lesser_green;
 use sig_types::{Ped, PhaseSet};
-
-/// Whether a priority request is active.
-fn is_asked(active: Option<u8>) -> bool
-    ensures { (n : ℕ) → active ≡ some_number n → result ≡ not (n == 0) }
-{
-    match active {
-        Some(_) => true,
-        None => false,
-    }
-}
-
-ghost use Rattle.prio_queue.specs.Places.{some_number};
+use tick_sight::{Course, Sight, is_asked, is_coord};
 
 impl Controller {
     ghost use Rattle.sig_tables.specs.Coordinating.{extension_of};
@@ -34,9 +21,10 @@ impl Controller {
     ghost use Rattle.sig_tables.specs.Layout.{Has};
     ghost use Rattle.sig_tables.specs.View.{has_gap, has_maximum, is_reasoned, is_done};
     ghost use Rattle.sig_tables.specs.Seen.{frame_seen, mode_seen, quiet_seen, opposed_seen, view_seen};
+    ghost use Rattle.prio_queue.specs.Places.{some_number};
     ghost use Rattle.ring_barrier.specs.Shows.{is_leaving};
-    ghost use Rattle.controller.specs.Course.{Runs};
-    ghost use Rattle.controller.specs.Sees.{Sees};
+    ghost use Rattle.controller.specs.Runs.{Runs};
+    ghost use Rattle.tick_sight.specs.Sees.{Sees};
     ghost use Rattle.controller.specs.StandsFor.{Keeps, tick_count};
 
     /// How long a phase, 1 to 16, clears: its yellow change and its red clearance, in ticks.

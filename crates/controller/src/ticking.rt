@@ -4,10 +4,9 @@
 ghost use Rattle.std.specs.Prelude.{◌≡◌, ◌<◌, ◌+◌, []};
 
 use crate::Controller;
-use crate::course::Course;
-use crate::seeing::Sight;
 use flash_mode::Turn;
 use sig_types::{Frame, Mode, PhaseSet};
+use tick_sight::{Course, Sight};
 
 /// What a tick is about in a cabinet that runs free and goes on to, with this pattern in command, at this time.
 fn free_course(command: u8, clock: u32) -> Course
@@ -33,7 +32,7 @@ ghost use Rattle.sig_tables.specs.Past.{Past};
 ghost use Rattle.sig_tables.specs.Command.{command_now};
 ghost use Rattle.sig_tables.specs.Clock.{clock_now};
 ghost use Rattle.sig_tables.specs.Seen.{frame_seen, mode_seen};
-ghost use Rattle.controller.specs.Course.{OnCourse};
+ghost use Rattle.tick_sight.specs.Course.{OnCourse};
 
 impl Controller {
     ghost use Rattle.sig_types.specs.declared.frame.Mode.TheVariants.{Free};
@@ -42,8 +41,8 @@ impl Controller {
     ghost use Rattle.sig_tables.specs.Decide.{with_moment, next_moment};
     ghost use Rattle.sig_tables.specs.Seen.{frame_seen, mode_seen};
     ghost use Rattle.preempt_run.specs.Stands.{preempts_seen};
-    ghost use Rattle.controller.specs.Course.{Runs};
-    ghost use Rattle.controller.specs.Sees.{Sees};
+    ghost use Rattle.controller.specs.Runs.{Runs};
+    ghost use Rattle.tick_sight.specs.Sees.{Sees};
     ghost use Rattle.controller.specs.StandsFor.{Keeps, tick_count, install_count};
 
     /// The frame of a tick that is about this and sees this.

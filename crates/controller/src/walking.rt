@@ -4,41 +4,11 @@
 ghost use Rattle.std.specs.Prelude.{◌≡◌, ◌<◌, ◌≤◌, ℕ, Bool, if◌then◌else◌, List, map, IsTrue, true};
 
 use crate::Controller;
-use crate::binding::lone;
-use crate::course::{Course, is_coord};
-use crate::seeing::Sight;
-use flash_mode::Turn;
-use ped_clock::{Crosswalks, Greens, walks};
+use ped_clock::{Crosswalks, walks};
 use ring_barrier::Changes;
 use sig_types::{Mode, Ped, PhaseSet};
 use split_options::SplitOptions;
-
-/// Whose greens begin in a turn.
-fn greens(turn: Turn) -> Greens
-    ensures { result ≡ greens_of (turn_meant turn) }
-{
-    match turn {
-        Turn::Rest => Greens::Rest,
-        Turn::StartUp => Greens::StartUp,
-        Turn::Rings => Greens::Rings,
-        Turn::Goal(_) => Greens::Rings,
-    }
-}
-
-/// Whether a cabinet in this mode is in step with this pattern.
-fn is_coord_of(mode: Mode, pattern: u8) -> bool
-    ensures { result ≡ same_mode mode (Coord pattern) }
-{
-    match mode {
-        Mode::Coord(other) => other == pattern,
-        _ => false,
-    }
-}
-
-ghost use Rattle.sig_types.specs.declared.frame.Mode.TheVariants.{Coord};
-ghost use Rattle.sig_types.specs.Colour.{same_mode};
-ghost use Rattle.flash_mode.specs.Turns.{turn_meant};
-ghost use Rattle.ped_clock.specs.Walks.{greens_of};
+use tick_sight::{Course, Sight, greens, is_coord, is_coord_of, lone};
 
 impl Controller {
     ghost use Rattle.sig_types.specs.declared.frame.Colour.{Colour};
@@ -46,11 +16,11 @@ impl Controller {
     ghost use Rattle.sig_tables.specs.Course.{course_of};
     ghost use Rattle.sig_tables.specs.Walking.{is_local_zero};
     ghost use Rattle.ped_clock.specs.Walks.{SaysInCoord};
-    ghost use Rattle.controller.specs.Binds.{IsBound};
+    ghost use Rattle.tick_sight.specs.Binds.{IsBound};
     ghost use Rattle.sig_types.specs.declared.frame.Ped.TheVariants.{Walk};
     ghost use Rattle.sig_types.specs.Phases.{all_phases, is_phase};
     ghost use Rattle.sig_types.specs.Colour.{signal_of};
-    ghost use Rattle.controller.specs.Shows.{is_signalling};
+    ghost use Rattle.tick_sight.specs.Shows.{is_signalling};
     ghost use Rattle.sig_types.specs.PhaseSet.{has};
     ghost use Rattle.sig_tables.specs.Past.{Past};
     ghost use Rattle.sig_tables.specs.Goals.{lesser_in};
@@ -59,10 +29,11 @@ impl Controller {
     ghost use Rattle.sig_tables.specs.Layout.{Has};
     ghost use Rattle.sig_tables.specs.Seen.{frame_seen, mode_seen};
     ghost use Rattle.ped_clock.specs.Signals.{lesser_of};
-    ghost use Rattle.controller.specs.Walks.{walk_after, signal_seen};
-    ghost use Rattle.controller.specs.Course.{Runs};
-    ghost use Rattle.controller.specs.Sees.{Sees};
-    ghost use Rattle.controller.specs.StandsFor.{Keeps, AreMoves, tick_count};
+    ghost use Rattle.tick_sight.specs.Walks.{walk_after, signal_seen};
+    ghost use Rattle.controller.specs.Runs.{Runs};
+    ghost use Rattle.tick_sight.specs.Sees.{Sees};
+    ghost use Rattle.controller.specs.StandsFor.{Keeps, tick_count};
+    ghost use Rattle.tick_sight.specs.Moves.{AreMoves};
 
     /// The lesser times of a phase, 1 to 16; none for a phase of the goal.
     fn lesser_for(&self, course: &Course, phase: u8) -> Option<(u32, u32)>

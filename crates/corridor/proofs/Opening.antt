@@ -11,7 +11,7 @@ use Rattle.scenario_data.specs.Opening.{opening_tables}
 use Rattle.plan_facts.specs.Times.{CorrectionHolds}
 use Rattle.rule_book.specs.Rules.{Consistent}
 use Rattle.rule_facts.proofs.Facts.{times-hold}
-use Rattle.controller.specs.StandsFor.{CanRun}
+use Rattle.tick_sight.specs.Told.{CanRun}
 use Rattle.runnable.specs.Runnable.{CanOpen, AllOpen}
 use Rattle.runnable.specs.Cabinets.{opening_history}
 use Rattle.cabinet_story.specs.Story.{opened}

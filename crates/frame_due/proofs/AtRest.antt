@@ -23,10 +23,10 @@ use Rattle.call_store.proofs.Listed.{none-has}
 use Rattle.ped_clock.specs.Passed.{SignalLasts}
 use Rattle.preempt_run.specs.Stands.{preempts_seen}
 use Rattle.preempt_run.proofs.Least.{preempt-above, preempt-within}
-use Rattle.controller.specs.Modes.{is_free}
-use Rattle.controller.specs.Shows.{is_clearing, is_signalling}
-use Rattle.controller.specs.Lasting.{PhaseLasts}
-use Rattle.controller.proofs.Left.{steady-lasts}
+use Rattle.tick_sight.specs.Modes.{is_free}
+use Rattle.tick_sight.specs.Shows.{is_clearing, is_signalling}
+use Rattle.tick_sight.specs.Lasting.{PhaseLasts}
+use Rattle.tick_sight.proofs.Left.{steady-lasts}
 use Rattle.frame_due.proofs.Inputs.{AreOn, on-at}
 
 pub free-mode : (m : Mode) → is_free m ≡ true → m ≡ Free

@@ -8,9 +8,9 @@ use Rattle.sig_tables.specs.Past.{Past}
 use Rattle.sig_tables.specs.Modes.{bound}
 use Rattle.sig_tables.specs.Splits.{keeps_maximum, split_maximum}
 use Rattle.sig_tables.specs.Seen.{mode_seen}
-use Rattle.controller.specs.declared.course.Course.{Course}
-use Rattle.controller.specs.Modes.{is_coord}
-use Rattle.controller.specs.Binds.{BindingIs, IsBound}
+use Rattle.tick_sight.specs.declared.course.Course.{Course}
+use Rattle.tick_sight.specs.Modes.{is_coord}
+use Rattle.tick_sight.specs.Binds.{BindingIs, IsBound}
 use Rattle.frame_due.specs.declared.Observer.{Observer}
 use Rattle.frame_due.specs.Runs.{Runs}
 

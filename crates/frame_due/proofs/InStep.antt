@@ -16,11 +16,11 @@ use Rattle.sig_tables.specs.Course.{course_of}
 use Rattle.sig_tables.specs.Decide.{next_moment, colours_of}
 use Rattle.sig_tables.specs.Seen.{frame_seen, mode_seen, moves_seen}
 use Rattle.preempt_run.proofs.Goes.{one-mode}
-use Rattle.controller.specs.declared.course.Course.{Course}
-use Rattle.controller.specs.Course.{OnCourse}
-use Rattle.controller.proofs.Counted.{counters-head, step-version, some-cycle}
-use Rattle.controller.proofs.Sought.{reached-from}
-use Rattle.controller.proofs.Steps.{coord-step, seek-defined}
+use Rattle.tick_sight.specs.declared.course.Course.{Course}
+use Rattle.tick_sight.specs.Course.{OnCourse}
+use Rattle.tick_sight.proofs.Counted.{counters-head, step-version, some-cycle}
+use Rattle.tick_sight.proofs.Sought.{reached-from}
+use Rattle.tick_sight.proofs.Steps.{coord-step, seek-defined}
 use Rattle.frame_due.specs.declared.Observer.{Observer}
 use Rattle.frame_due.specs.Remembers.{Remembers}
 

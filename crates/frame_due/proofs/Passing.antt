@@ -33,19 +33,19 @@ use Rattle.preempt_run.proofs.OnPhases.{names-phases}
 use Rattle.prio_queue.specs.Idle.{IsIdle}
 use Rattle.prio_queue.specs.Stands.{QueueStands}
 use Rattle.prio_queue.proofs.Idle.{queue-on}
-use Rattle.controller.specs.declared.seeing.Sight.{Sight}
-use Rattle.controller.specs.declared.orders.Orders.{Orders}
-use Rattle.controller.specs.Orders.{OrdersStand, most}
-use Rattle.controller.specs.Binds.{BindingStands}
-use Rattle.controller.specs.Even.{IsEven, OrdersPassed}
-use Rattle.controller.specs.Lasting.{Lasts, Looks, opposed_with}
-use Rattle.controller.specs.Passed.{timed}
-use Rattle.controller.proofs.GoesOn.{tick-goes, frame-goes, goes-alike}
-use Rattle.controller.proofs.OneLess.{lasts-less, seen-again, looks-on}
-use Rattle.controller.proofs.Passed.{orders-on, after, lasts-after}
-use Rattle.controller.proofs.Pickups.{few-next, one-more, same-most}
-use Rattle.controller.proofs.Seen.{opposed-green}
-use Rattle.controller.proofs.Sought.{start-again}
+use Rattle.tick_sight.specs.declared.seeing.Sight.{Sight}
+use Rattle.tick_sight.specs.declared.orders.Orders.{Orders}
+use Rattle.tick_sight.specs.Orders.{OrdersStand, most}
+use Rattle.tick_sight.specs.Binds.{BindingStands}
+use Rattle.tick_sight.specs.Even.{IsEven, OrdersPassed}
+use Rattle.tick_sight.specs.Lasting.{Lasts, Looks, opposed_with}
+use Rattle.tick_sight.specs.Passed.{timed}
+use Rattle.tick_sight.proofs.GoesOn.{tick-goes, frame-goes, goes-alike}
+use Rattle.tick_sight.proofs.OneLess.{lasts-less, seen-again, looks-on}
+use Rattle.tick_sight.proofs.Passed.{orders-on, after, lasts-after}
+use Rattle.tick_sight.proofs.Pickups.{few-next, one-more, same-most}
+use Rattle.tick_sight.proofs.Seen.{opposed-green}
+use Rattle.tick_sight.proofs.Sought.{start-again}
 use Rattle.look_back.specs.declared.lookout.Lookout.{Lookout}
 use Rattle.look_back.specs.Again.{GoesOn, AllGoOn}
 use Rattle.look_back.specs.Lookouts.{LooksOver}

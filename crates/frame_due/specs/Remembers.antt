@@ -14,8 +14,8 @@ use Rattle.call_store.specs.Stands.{CallsStand}
 use Rattle.prio_queue.specs.Stands.{QueueStands}
 use Rattle.preempt_run.specs.Dwelling.{NamesPhases}
 use Rattle.preempt_run.specs.Stands.{preempts_seen}
-use Rattle.controller.specs.Orders.{OrdersStand, order_ticks}
-use Rattle.controller.specs.Binds.{BindingStands}
+use Rattle.tick_sight.specs.Orders.{OrdersStand, order_ticks}
+use Rattle.tick_sight.specs.Binds.{BindingStands}
 use Rattle.look_back.specs.Lookouts.{LooksOver}
 use Rattle.frame_due.specs.declared.Observer.{Observer}
 

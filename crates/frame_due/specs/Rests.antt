@@ -5,7 +5,7 @@ use Rattle.sig_tables.specs.Slots.{is_defined}
 use Rattle.sig_tables.specs.Past.{Past}
 use Rattle.sig_tables.specs.Seen.{frame_seen, moment_seen, demand_with}
 use Rattle.preempt_run.specs.Stands.{preempts_seen}
-use Rattle.controller.specs.Lasting.{Lasts}
+use Rattle.tick_sight.specs.Lasting.{Lasts}
 
 -- it runs free, beside all preempts, and what is in command is no flash and no pattern that is defined
 pub record GoesFree (past : Past) : Type 0 where

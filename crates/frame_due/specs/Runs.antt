@@ -1,9 +1,9 @@
 -- What a tick is about, for an observer.
 use Rattle.sig_tables.specs.Past.{Past}
 use Rattle.sig_tables.specs.Seen.{mode_seen}
-use Rattle.controller.specs.declared.course.Course.{Course}
-use Rattle.controller.specs.Binds.{IsBound}
-use Rattle.controller.specs.Course.{OnCourse}
+use Rattle.tick_sight.specs.declared.course.Course.{Course}
+use Rattle.tick_sight.specs.Binds.{IsBound}
+use Rattle.tick_sight.specs.Course.{OnCourse}
 use Rattle.frame_due.specs.declared.Observer.{Observer}
 use Rattle.frame_due.specs.Remembers.{Remembers}
 

@@ -4,11 +4,11 @@
 ghost use Rattle.std.specs.Prelude.{◌≡◌, ◌<◌, ◌≤◌, ◌+◌, ℕ};
 
 use crate::Observer;
-use controller::{Course, has_pattern, is_coord};
 use coord_count::Limits;
 use flash_mode::{Choice, sought, turn_of};
 use preempt_run::{goal, lesser};
 use sig_types::{Mode, PhaseSet};
+use tick_sight::{Course, has_pattern, is_coord};
 
 impl Observer {
     ghost use Rattle.sig_types.specs.Phases.{is_in};
@@ -23,8 +23,8 @@ impl Observer {
     ghost use Rattle.sig_tables.specs.Layout.{Has};
     ghost use Rattle.sig_tables.specs.Seen.{mode_seen, moment_seen};
     ghost use Rattle.prio_queue.specs.Places.{some_number};
-    ghost use Rattle.controller.specs.Binds.{BindingIs, IsBound};
-    ghost use Rattle.controller.specs.Course.{OnCourse};
+    ghost use Rattle.tick_sight.specs.Binds.{BindingIs, IsBound};
+    ghost use Rattle.tick_sight.specs.Course.{OnCourse};
     ghost use Rattle.frame_due.specs.Remembers.{Remembers, tick_count, install_count};
     ghost use Rattle.frame_due.specs.Runs.{Runs};
 

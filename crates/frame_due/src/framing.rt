@@ -3,10 +3,10 @@
 ghost use Rattle.std.specs.Prelude.{◌≡◌, ◌<◌, ◌≤◌, ℕ, List, map};
 
 use crate::Observer;
-use controller::{Course, Sight};
 use flash_mode::reached;
 use ring_barrier::Changes;
 use sig_types::{Colour, Frame, Mode, Ped, PhaseSet, showing};
+use tick_sight::{Course, Sight};
 
 impl Observer {
     ghost use Rattle.sig_types.specs.declared.frame.Colour.TheVariants.{Red};
@@ -20,9 +20,9 @@ impl Observer {
     ghost use Rattle.sig_tables.specs.Decide.{colours_of, on_of, next_moment};
     ghost use Rattle.sig_tables.specs.Layout.{Has};
     ghost use Rattle.sig_tables.specs.Seen.{mode_seen, sight_seen};
-    ghost use Rattle.controller.specs.Sees.{Sees};
-    ghost use Rattle.controller.specs.StandsFor.{AreMoves};
-    ghost use Rattle.controller.specs.Walks.{crossing_seen};
+    ghost use Rattle.tick_sight.specs.Sees.{Sees};
+    ghost use Rattle.tick_sight.specs.Moves.{AreMoves};
+    ghost use Rattle.tick_sight.specs.Walks.{crossing_seen};
     ghost use Rattle.frame_due.specs.Remembers.{Remembers};
     ghost use Rattle.frame_due.specs.Runs.{Runs};
 

@@ -4,14 +4,14 @@ ghost use Rattle.std.specs.Prelude.{◌≡◌, ◌<◌, ◌+◌};
 
 use crate::Observer;
 use call_store::signalling;
-use controller::{Course, Sight};
 use look_back::Seen;
 use sig_types::{Colour, Frame, Ped, showing};
+use tick_sight::{Course, Sight};
 
 impl Observer {
     ghost use Rattle.sig_tables.specs.Past.{Past};
     ghost use Rattle.sig_tables.specs.Decide.{with_moment, next_moment};
-    ghost use Rattle.controller.specs.Sees.{Sees};
+    ghost use Rattle.tick_sight.specs.Sees.{Sees};
     ghost use Rattle.frame_due.specs.Remembers.{Remembers, tick_count, install_count};
     ghost use Rattle.frame_due.specs.Runs.{Runs};
 

@@ -9,12 +9,12 @@ ghost use Rattle.sig_tables.specs.Past.{first_moment};
 ghost use Rattle.look_back.specs.Lookouts.{LooksOver};
 
 use call_store::Calls;
-use controller::{Binding, Orders, first_frame, is_flash};
 use look_back::{Lookout, Seen};
 use prio_queue::Queue;
 use sig_tables::{Layout, Shown, Tables};
 use sig_types::{Field, Frame, NoMemory, PhaseSet, Request};
 use std::alloc::Global;
+use tick_sight::{Binding, Orders, first_frame, is_flash};
 
 mod course;
 mod framing;
@@ -88,8 +88,8 @@ impl Observer {
     ghost use Rattle.sig_tables.specs.Past.{History, Input, Install, SetPattern, SetClock, SetDrift, Ask, Cancel};
     ghost use Rattle.sig_tables.specs.Decide.{opening, with_one, last_frame_of, past_at};
     ghost use Rattle.sig_tables.specs.Showing.{ShownAfter};
-    ghost use Rattle.controller.specs.Modes.{is_flash};
-    ghost use Rattle.controller.specs.StandsFor.{CanRun, NamesPlace};
+    ghost use Rattle.tick_sight.specs.Modes.{is_flash};
+    ghost use Rattle.tick_sight.specs.Told.{CanRun, NamesPlace};
     ghost use Rattle.frame_due.specs.Remembers.{StandsFor, tick_count, install_count};
 
     /// Of a cabinet that is opened with these tables, in Start, with a pattern in command, 0 to 255 (254 and those that are

@@ -1,32 +1,22 @@
 //! What the rings do at a tick: by the rules of actuated control, within the room that a pattern leaves, or on the way to a
 //! goal.
 
-ghost use Rattle.std.specs.Prelude.{◌≡◌, ◌<◌, ◌≤◌, ◌&&◌, ◌==◌, ◌||◌, [], ℕ, List, IsTrue};
+ghost use Rattle.std.specs.Prelude.{◌≡◌, ◌<◌, ◌≤◌, ◌&&◌, ◌==◌, ◌||◌, ℕ, List};
 ghost use Rattle.sig_types.specs.Phases.{is_in};
 ghost use Rattle.sig_types.specs.PhaseSet.{phases_of};
 ghost use Rattle.sig_tables.specs.Past.{Moment};
 ghost use Rattle.sig_tables.specs.Layout.{Has};
-ghost use Rattle.sig_tables.specs.View.{View as Scene, ended_of, is_forced};
+ghost use Rattle.sig_tables.specs.View.{ended_of, is_forced};
 ghost use Rattle.sig_tables.specs.Moves.{ring_moves};
 ghost use Rattle.ring_barrier.specs.Shows.{Opens};
-ghost use Rattle.controller.specs.StandsFor.{AreMoves};
+ghost use Rattle.tick_sight.specs.Moves.{AreMoves};
 
 use crate::Observer;
-use controller::{Course, Sight, is_coord};
 use flash_mode::Turn;
 use ring_barrier::{Changes, RingView, View, changes, changes_toward, is_idle};
 use sig_tables::Layout;
 use sig_types::PhaseSet;
-
-/// No phase ends, and none begins.
-fn no_changes() -> Changes
-    ensures { AreMoves result (record { ends = []; begins = [] }) }
-{
-    Changes {
-        ends: PhaseSet::empty(),
-        begins: PhaseSet::empty(),
-    }
-}
+use tick_sight::{Course, Sight, is_coord, is_resting, no_changes};
 
 /// Whether a ring is open, of which this phase is on, or 0: nothing is on, or its clearance is among those that end.
 fn is_open(on: u8, ended: PhaseSet) -> bool
@@ -38,21 +28,6 @@ fn is_open(on: u8, ended: PhaseSet) -> bool
         false
     } else {
         ended.has(on)
-    }
-}
-
-/// Whether the rings rest: neither is open, no phase has demand and none is forced off, so that what is on stays on.
-fn is_resting(opening: [bool; 2], demand: PhaseSet, forced: PhaseSet) -> bool
-    ensures { (w : Scene) → Opens opening w → phases_of demand ≡ w.demand → Has forced (is_forced w) → IsTrue result
-        → ring_moves w ≡ record { ends = []; begins = [] } }
-{
-    if opening[0] || opening[1] {
-        return false;
-    }
-    if demand.is_empty() {
-        forced.is_empty()
-    } else {
-        false
     }
 }
 
@@ -68,7 +43,7 @@ impl Observer {
     ghost use Rattle.sig_tables.specs.Moves.{can_join, ring_moves, goal_moves};
     ghost use Rattle.sig_tables.specs.Seen.{mode_seen, turn_seen, view_seen, moves_seen};
     ghost use Rattle.ring_barrier.specs.Shows.{Opens};
-    ghost use Rattle.controller.specs.Sees.{Sees};
+    ghost use Rattle.tick_sight.specs.Sees.{Sees};
     ghost use Rattle.frame_due.specs.Remembers.{Remembers};
     ghost use Rattle.frame_due.specs.Runs.{Runs};
 

@@ -5,20 +5,10 @@ ghost use Rattle.std.specs.Prelude.{◌≡◌, ◌<◌, ◌≤◌, ◌==◌, ◌
 ghost use Rattle.prio_queue.specs.Places.{some_number};
 
 use crate::Observer;
-use controller::{Course, Sight, is_coord};
 use coord_gate::released;
 use sig_tables::time_of;
 use sig_types::{Colour, Mode, PhaseSet};
-
-/// Whether a priority request is active.
-fn is_asked(active: Option<u8>) -> bool
-    ensures { (n : ℕ) → active ≡ some_number n → result ≡ not (n == 0) }
-{
-    match active {
-        Some(_) => true,
-        None => false,
-    }
-}
+use tick_sight::{Course, Sight, is_asked, is_coord};
 
 impl Observer {
     ghost use Rattle.sig_types.specs.declared.frame.Mode.TheVariants.{Coord};
@@ -32,7 +22,7 @@ impl Observer {
     ghost use Rattle.sig_tables.specs.Layout.{Has};
     ghost use Rattle.sig_tables.specs.View.{has_gap, has_maximum, has_filled_split, is_reasoned, is_done};
     ghost use Rattle.sig_tables.specs.Seen.{frame_seen, mode_seen, quiet_seen, opposed_seen, view_seen};
-    ghost use Rattle.controller.specs.Sees.{Sees};
+    ghost use Rattle.tick_sight.specs.Sees.{Sees};
     ghost use Rattle.frame_due.specs.Remembers.{Remembers};
     ghost use Rattle.frame_due.specs.Runs.{Runs};
 

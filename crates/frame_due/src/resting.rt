@@ -1,31 +1,13 @@
 //! Ticks at rest that are passed over at once: in free operation, where nothing is asked for and nothing runs out, each shows and
 //! sees what the last one did.
 
-ghost use Rattle.std.specs.Prelude.{◌≡◌, ◌≢◌, ◌<◌, ◌≤◌, ◌+◌, ◌&&◌, not, ℕ, suc, true, false, [], None, IsTrue, get_or, length};
-ghost use Rattle.controller.specs.Modes.{is_free};
+ghost use Rattle.std.specs.Prelude.{◌≡◌, ◌<◌, ◌≤◌, ◌+◌, ◌&&◌, not, ℕ, suc, true, false, [], None, IsTrue};
 
 use crate::Observer;
 use call_store::signalling;
 use flash_mode::running;
-use sig_types::{Colour, Frame, Mode, Ped, PhaseSet, showing};
-
-/// Whether a cabinet in this mode runs free.
-fn is_free(mode: Mode) -> bool
-    ensures { result ≡ is_free mode }
-{
-    match mode {
-        Mode::Free => true,
-        _ => false,
-    }
-}
-
-/// Whether something is on in both rings.
-fn are_both_on(on: [u8; 2]) -> bool
-    ensures first { IsTrue result → get_or on 0 0 ≢ 0 }
-    ensures second { IsTrue result → get_or on 1 0 ≢ 0 }
-{
-    if on[0] == 0 { false } else { on[1] != 0 }
-}
+use sig_types::{Colour, Frame, Ped, PhaseSet, showing};
+use tick_sight::{are_both_on, is_free, shows_sixteen};
 
 /// The phases on which something runs out: those that show Yellow, red clearance, Walk or Flash.
 fn running_out(frame: &Frame) -> PhaseSet
@@ -36,15 +18,9 @@ fn running_out(frame: &Frame) -> PhaseSet
     clearing.union(walking)
 }
 
-/// Any frame shows sixteen phases.
-fn shows_sixteen(frame: Frame)
-    ensures veh { length frame.veh ≡ 16 }
-    ensures ped { length frame.ped ≡ 16 }
-{}
-
 ghost use Rattle.std.specs.Prelude.{◌||◌};
 ghost use Rattle.sig_tables.specs.Layout.{Has};
-ghost use Rattle.controller.specs.Shows.{is_clearing, is_signalling};
+ghost use Rattle.tick_sight.specs.Shows.{is_clearing, is_signalling};
 
 impl Observer {
     ghost use Rattle.sig_types.specs.declared.frame.Colour.TheVariants.{Green};
@@ -55,10 +31,10 @@ impl Observer {
     ghost use Rattle.sig_tables.specs.Walking.{has_walk};
     ghost use Rattle.sig_tables.specs.Seen.{frame_seen, pedestrian_seen, demand_with};
     ghost use Rattle.prio_queue.specs.Idle.{IsIdle};
-    ghost use Rattle.controller.specs.Lasting.{IsFresh};
-    ghost use Rattle.controller.specs.Strides.{is_told, ticks_more};
+    ghost use Rattle.tick_sight.specs.Lasting.{IsFresh};
+    ghost use Rattle.tick_sight.specs.Strides.{is_told, ticks_more};
     ghost use Rattle.frame_due.specs.Remembers.{Remembers, StandsFor, tick_count, install_count};
-    ghost use Rattle.controller.specs.Even.{IsEven};
+    ghost use Rattle.tick_sight.specs.Even.{IsEven};
     ghost use Rattle.frame_due.specs.Rests.{GoesFree, Rests};
 
     /// Whether the cabinet goes on in free operation where nothing is told: it runs free, no preempt input is on, and what is in

@@ -3,9 +3,9 @@
 ghost use Rattle.std.specs.Prelude.{◌≡◌, ◌<◌, ◌≤◌, ℕ, List};
 
 use crate::Observer;
-use controller::{Course, Sight, is_coord};
 use sig_types::{Colour, PhaseSet};
 use split_options::SplitOptions;
+use tick_sight::{Course, Sight, is_coord};
 
 impl Observer {
     ghost use Rattle.sig_types.specs.declared.frame.Colour.TheVariants.{Red};
@@ -18,7 +18,7 @@ impl Observer {
     ghost use Rattle.sig_tables.specs.Layout.{Has};
     ghost use Rattle.sig_tables.specs.Seen.{frame_seen, mode_seen};
     ghost use Rattle.split_options.specs.Options.{AreBinding};
-    ghost use Rattle.controller.specs.Sees.{Sees};
+    ghost use Rattle.tick_sight.specs.Sees.{Sees};
     ghost use Rattle.frame_due.specs.Remembers.{Remembers};
     ghost use Rattle.frame_due.specs.Runs.{Runs};
 

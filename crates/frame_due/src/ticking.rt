@@ -3,13 +3,13 @@
 ghost use Rattle.std.specs.Prelude.{◌≡◌, ◌<◌, ◌≤◌, ◌+◌};
 
 use crate::Observer;
-use controller::has_line;
 use sig_types::Frame;
+use tick_sight::has_line;
 
 impl Observer {
     ghost use Rattle.sig_tables.specs.Past.{History};
     ghost use Rattle.sig_tables.specs.Decide.{decide, ticked};
-    ghost use Rattle.controller.specs.Strides.{IsStride, is_told, ticks_more};
+    ghost use Rattle.tick_sight.specs.Strides.{IsStride, is_told, ticks_more};
     ghost use Rattle.frame_due.specs.Remembers.{StandsFor, tick_count, install_count};
 
     /// The frame of the next tick.

@@ -3,41 +3,15 @@
 
 ghost use Rattle.std.specs.Prelude.{◌≡◌, ℕ, Bool, if◌then◌else◌, List, map};
 ghost use Rattle.sig_types.specs.declared.frame.Mode.TheVariants.{Coord};
-ghost use Rattle.sig_types.specs.Colour.{same_mode};
-ghost use Rattle.flash_mode.specs.Turns.{turn_meant};
-ghost use Rattle.ped_clock.specs.Walks.{greens_of};
 
 use crate::Observer;
 use call_store::signalling;
-use controller::{Course, Sight, is_coord};
-use flash_mode::Turn;
 use look_back::cut_in;
-use ped_clock::{Crosswalks, Greens, walks};
+use ped_clock::{Crosswalks, walks};
 use ring_barrier::Changes;
 use sig_types::{Mode, Ped, PhaseSet};
 use split_options::SplitOptions;
-
-/// Whose greens begin in a turn.
-fn greens(turn: Turn) -> Greens
-    ensures { result ≡ greens_of (turn_meant turn) }
-{
-    match turn {
-        Turn::Rest => Greens::Rest,
-        Turn::StartUp => Greens::StartUp,
-        Turn::Rings => Greens::Rings,
-        Turn::Goal(_) => Greens::Rings,
-    }
-}
-
-/// Whether a cabinet in this mode is in step with this pattern.
-fn is_coord_of(mode: Mode, pattern: u8) -> bool
-    ensures { result ≡ same_mode mode (Coord pattern) }
-{
-    match mode {
-        Mode::Coord(other) => other == pattern,
-        _ => false,
-    }
-}
+use tick_sight::{Course, Sight, greens, is_coord, is_coord_of};
 
 impl Observer {
     ghost use Rattle.sig_types.specs.declared.frame.Colour.{Colour};
@@ -52,10 +26,10 @@ impl Observer {
     ghost use Rattle.sig_tables.specs.Layout.{Has};
     ghost use Rattle.sig_tables.specs.Seen.{frame_seen, mode_seen};
     ghost use Rattle.ped_clock.specs.Walks.{SaysInCoord};
-    ghost use Rattle.controller.specs.Binds.{IsBound};
-    ghost use Rattle.controller.specs.Walks.{walk_after, signal_seen};
-    ghost use Rattle.controller.specs.StandsFor.{AreMoves};
-    ghost use Rattle.controller.specs.Sees.{Sees};
+    ghost use Rattle.tick_sight.specs.Binds.{IsBound};
+    ghost use Rattle.tick_sight.specs.Walks.{walk_after, signal_seen};
+    ghost use Rattle.tick_sight.specs.Moves.{AreMoves};
+    ghost use Rattle.tick_sight.specs.Sees.{Sees};
     ghost use Rattle.frame_due.specs.Runs.{Runs};
 
     /// What the split asks of the pattern whose coordination a frame of this mode is in, which may be its pickup.

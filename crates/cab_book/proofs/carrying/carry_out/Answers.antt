@@ -4,7 +4,7 @@ use Rattle.std.proofs.Math.Logic.{∥∥₁_elim}
 use Rattle.sig_tables.specs.Past.{Event, Install}
 use Rattle.sig_tables.specs.declared.tables.Tables.{Tables}
 use Rattle.stage_txn.specs.Answers.{answered, kept, standing}
-use Rattle.controller.specs.StandsFor.{CanRun}
+use Rattle.tick_sight.specs.Told.{CanRun}
 use Rattle.cab_control.specs.Controls.{StandsFor}
 use Rattle.cab_control.proofs.Facts.{installs-are}
 use Rattle.agent.specs.declared.ask.Order.{Order}

@@ -7,9 +7,9 @@ use Rattle.sig_tables.specs.Looking.{run}
 use Rattle.sig_tables.specs.Course.{course_of}
 use Rattle.sig_tables.specs.Seen.{frame_seen}
 use Rattle.sig_tables.proofs.Below.{phase-is}
-use Rattle.controller.proofs.Binds.{binding-in}
-use Rattle.controller.proofs.Seen.{green-is}
-use Rattle.controller.proofs.Causes.{held-reason, asked-reason, gap-reason, fill-reason}
+use Rattle.controller.proofs.Running.{binding-in}
+use Rattle.tick_sight.proofs.Seen.{green-is}
+use Rattle.tick_sight.proofs.Causes.{held-reason, asked-reason, gap-reason, fill-reason}
 use Rattle.controller.proofs.Controller.bound_reason.Goals as goal
 
 pub returns-then-has : goal.returns-then-has

@@ -2,7 +2,7 @@ use Rattle.sig_tables.specs.Past.{Past}
 use Rattle.sig_tables.specs.Calls.{is_green}
 use Rattle.sig_tables.specs.Seen.{frame_seen, view_seen}
 use Rattle.ring_barrier.specs.Shows.{is_leaving}
-use Rattle.controller.specs.Course.{Runs}
+use Rattle.controller.specs.Runs.{Runs}
 use Rattle.controller.proofs.Visiting.{Visited}
 use Rattle.controller.proofs.Controller.cleared.Given as goal
 

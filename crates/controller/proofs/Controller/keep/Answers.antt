@@ -13,11 +13,12 @@ use Rattle.preempt_run.proofs.Called.{seen-is}
 use Rattle.preempt_run.proofs.OnPhases.{names-phases}
 use Rattle.sig_tables.specs.Layout.{Has}
 use Rattle.call_store.specs.Stands.{is_walking}
-use Rattle.controller.specs.Shows.{ShowsColours, is_signalling}
-use Rattle.controller.proofs.Rings.{each-ring, last-next, latest-next}
-use Rattle.controller.proofs.Seen.{opposed-green}
-use Rattle.controller.proofs.Sought.{start-again}
-use Rattle.controller.proofs.Pickups.{start-next, few-next, one-more, same-most}
+use Rattle.controller.specs.Shows.{ShowsColours}
+use Rattle.tick_sight.specs.Shows.{is_signalling}
+use Rattle.tick_sight.proofs.Rings.{each-ring, last-next, latest-next}
+use Rattle.tick_sight.proofs.Seen.{opposed-green}
+use Rattle.tick_sight.proofs.Sought.{start-again}
+use Rattle.tick_sight.proofs.Pickups.{start-next, few-next, one-more, same-most}
 use Rattle.controller.proofs.Controller.keep.Goals as goal
 
 pub returns-clause-keeps : goal.returns-clause-keeps

@@ -2,7 +2,8 @@ use Rattle.std.proofs.Common.{◌≡◌, ℕ, Option, None, sym, ◌∙◌, ap}
 use Rattle.sig_tables.specs.Modes.{bound}
 use Rattle.sig_tables.specs.Splits.{omits}
 use Rattle.sig_tables.specs.Seen.{mode_seen}
-use Rattle.controller.proofs.Binds.{in-coord, unbound, coord-of, binding-in}
+use Rattle.tick_sight.proofs.Binds.{in-coord, unbound}
+use Rattle.controller.proofs.Running.{coord-of, binding-in}
 use Rattle.controller.proofs.Controller.omitted.Goals as goal
 
 pub returns-then-is_coord : goal.returns-then-is_coord

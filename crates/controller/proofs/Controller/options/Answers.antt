@@ -1,7 +1,8 @@
 use Rattle.std.proofs.Common.{ap}
 use Rattle.sig_tables.specs.Modes.{bound}
 use Rattle.sig_tables.specs.Seen.{mode_seen}
-use Rattle.controller.proofs.Binds.{in-coord, unbound, coord-of, binding-in, options-some, options-none}
+use Rattle.tick_sight.proofs.Binds.{in-coord, unbound, options-some, options-none}
+use Rattle.controller.proofs.Running.{coord-of, binding-in}
 use Rattle.controller.proofs.Controller.options.Goals as goal
 
 pub returns-then-is_coord : goal.returns-then-is_coord

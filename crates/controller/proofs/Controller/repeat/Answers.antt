@@ -19,12 +19,13 @@ use Rattle.preempt_run.specs.Dwelling.{NamesPhases, is_dwell}
 use Rattle.preempt_run.proofs.Called.{seen-is}
 use Rattle.preempt_run.proofs.OnPhases.{last-wide}
 use Rattle.prio_queue.specs.Places.{some_number}
-use Rattle.controller.specs.Shows.{ShowsColours, is_signalling}
-use Rattle.controller.proofs.Rings.{each-ring, last-again, latest-again}
-use Rattle.controller.proofs.Seen.{opposed-green}
-use Rattle.controller.proofs.Sought.{start-again}
-use Rattle.controller.proofs.Pickups.{start-zero, start-next, few-next, one-more, same-most}
-use Rattle.controller.proofs.Again.{free-apart, free-started}
+use Rattle.controller.specs.Shows.{ShowsColours}
+use Rattle.tick_sight.specs.Shows.{is_signalling}
+use Rattle.tick_sight.proofs.Rings.{each-ring, last-again, latest-again}
+use Rattle.tick_sight.proofs.Seen.{opposed-green}
+use Rattle.tick_sight.proofs.Sought.{start-again}
+use Rattle.tick_sight.proofs.Pickups.{start-zero, start-next, few-next, one-more, same-most}
+use Rattle.tick_sight.proofs.Again.{free-apart, free-started}
 use Rattle.controller.proofs.Controller.repeat.Goals as goal
 
 pub returns-clause-keeps : goal.returns-clause-keeps

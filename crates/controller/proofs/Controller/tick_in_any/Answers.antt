@@ -1,7 +1,7 @@
 use Rattle.std.proofs.Common.{subst}
 use Rattle.sig_types.specs.declared.frame.Mode.{Mode}
-use Rattle.controller.specs.Binds.{IsBound}
-use Rattle.controller.specs.Course.{Runs}
+use Rattle.tick_sight.specs.Binds.{IsBound}
+use Rattle.controller.specs.Runs.{Runs}
 use Rattle.controller.proofs.Controller.tick_in_any.Goals as goal
 
 pub returns-clause-given : goal.returns-clause-given

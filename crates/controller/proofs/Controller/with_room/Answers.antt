@@ -6,7 +6,8 @@ use Rattle.sig_tables.specs.Modes.{bound}
 use Rattle.sig_tables.specs.Coordinating.{has_room}
 use Rattle.sig_tables.specs.Course.{course_of}
 use Rattle.sig_tables.specs.Seen.{mode_seen}
-use Rattle.controller.proofs.Binds.{in-coord, unbound, coord-of, binding-in}
+use Rattle.tick_sight.proofs.Binds.{in-coord, unbound}
+use Rattle.controller.proofs.Running.{coord-of, binding-in}
 use Rattle.controller.proofs.Controller.with_room.Goals as goal
 
 pub returns-then-is_coord : goal.returns-then-is_coord

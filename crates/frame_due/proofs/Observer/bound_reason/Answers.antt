@@ -4,7 +4,7 @@ use Rattle.sig_tables.specs.Coordinating.{is_released}
 use Rattle.sig_tables.specs.Looking.{run}
 use Rattle.sig_tables.specs.Course.{course_of}
 use Rattle.sig_tables.proofs.Below.{phase-is}
-use Rattle.controller.proofs.Causes.{held-reason, asked-reason, gap-reason, fill-reason}
+use Rattle.tick_sight.proofs.Causes.{held-reason, asked-reason, gap-reason, fill-reason}
 use Rattle.frame_due.proofs.Bound.{binding-in}
 use Rattle.frame_due.proofs.Observer.bound_reason.Goals as goal
 

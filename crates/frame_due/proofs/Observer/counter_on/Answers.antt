@@ -7,8 +7,8 @@ use Rattle.sig_tables.specs.Counting.{Correction, next_counter}
 use Rattle.sig_tables.specs.Counters.{correction_of, counters_since}
 use Rattle.sig_tables.specs.Looking.{last_frame}
 use Rattle.coord_count.specs.Limits.{correction_in}
-use Rattle.controller.proofs.Counted.{window-within}
-use Rattle.controller.proofs.Steps.{coord-defined}
+use Rattle.tick_sight.proofs.Counted.{window-within}
+use Rattle.tick_sight.proofs.Steps.{coord-defined}
 use Rattle.frame_due.proofs.InStep.{coord-was, counter-below}
 use Rattle.frame_due.proofs.Observer.counter_on.Goals as goal
 

@@ -1,6 +1,6 @@
 use Rattle.std.proofs.Common.{subst}
 use Rattle.sig_types.specs.declared.frame.Mode.{Mode}
-use Rattle.controller.specs.Binds.{IsBound}
+use Rattle.tick_sight.specs.Binds.{IsBound}
 use Rattle.frame_due.proofs.Observer.course.Goals as goal
 
 pub returns-clause-runs : goal.returns-clause-runs

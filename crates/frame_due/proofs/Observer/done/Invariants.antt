@@ -2,7 +2,7 @@ use Rattle.sig_tables.specs.Past.{Past}
 use Rattle.sig_tables.specs.View.{is_done}
 use Rattle.sig_tables.specs.Seen.{view_seen}
 use Rattle.sig_tables.proofs.Below.{Below}
-use Rattle.controller.specs.Sees.{Sees}
+use Rattle.tick_sight.specs.Sees.{Sees}
 use Rattle.frame_due.specs.Runs.{Runs}
 use Rattle.frame_due.proofs.Observer.done.Given as goal
 

@@ -2,7 +2,7 @@ use Rattle.sig_types.specs.declared.frame.Colour.TheVariants.{Red}
 use Rattle.sig_types.specs.Colour.{same_colour, colour_in}
 use Rattle.sig_tables.specs.Layout.{Has}
 use Rattle.sig_tables.proofs.Below.{is-above, is-within}
-use Rattle.controller.proofs.Frames.{frame-parts}
+use Rattle.tick_sight.proofs.Frames.{frame-parts}
 use Rattle.frame_due.proofs.Observer.frame_after.Goals as goal
 
 pub returns : goal.returns

@@ -4,7 +4,7 @@ use Rattle.sig_tables.specs.declared.tables.Tables.{Tables}
 use Rattle.sig_tables.specs.Slots.{is_defined}
 use Rattle.sig_tables.specs.Seen.{moment_seen}
 use Rattle.sig_tables.specs.Choosing.{mode_running}
-use Rattle.controller.specs.Modes.{is_free}
+use Rattle.tick_sight.specs.Modes.{is_free}
 use Rattle.frame_due.proofs.AtRest.{free-mode, by-command, not-flash, none-on}
 use Rattle.frame_due.proofs.Observer.goes_free.Goals as goal
 

@@ -4,7 +4,7 @@ use Rattle.sig_tables.specs.Past.{Past, Moment, Install}
 use Rattle.sig_tables.specs.Decide.{past_at, with_event}
 use Rattle.sig_tables.specs.Seen.{frame_seen, moment_seen}
 use Rattle.sig_tables.specs.Preempts.{preempt_on}
-use Rattle.controller.proofs.Events.{moment-kept, calls-kept, orders-kept, queue-kept, not-yet}
+use Rattle.tick_sight.proofs.Events.{moment-kept, calls-kept, orders-kept, queue-kept, not-yet}
 use Rattle.frame_due.proofs.Inputs.{kept-on}
 use Rattle.frame_due.proofs.Observer.install.Goals as goal
 

@@ -8,8 +8,8 @@ use Rattle.sig_tables.specs.Decide.{past_at, ticked}
 use Rattle.sig_tables.specs.Walking.{has_walk}
 use Rattle.sig_tables.specs.Seen.{frame_seen, pedestrian_seen}
 use Rattle.call_store.proofs.Listed.{none-has}
-use Rattle.controller.specs.Lasting.{IsFresh, opposed_with}
-use Rattle.controller.specs.Shows.{is_clearing, is_signalling}
+use Rattle.tick_sight.specs.Lasting.{IsFresh, opposed_with}
+use Rattle.tick_sight.specs.Shows.{is_clearing, is_signalling}
 use Rattle.frame_due.proofs.AtRest.{phase-rests, still-uncalled}
 use Rattle.frame_due.proofs.Observer.is_at_rest.Goals as goal
 

@@ -8,7 +8,7 @@ use Rattle.sig_tables.specs.Calls.{is_green}
 use Rattle.sig_tables.specs.View.{is_served}
 use Rattle.sig_tables.specs.Seen.{frame_seen}
 use Rattle.sig_tables.proofs.Below.{phase-is}
-use Rattle.controller.proofs.Seen.{done-not, done-unreasoned, done-served, active-is}
+use Rattle.tick_sight.proofs.Seen.{done-not, done-unreasoned, done-served, active-is}
 use Rattle.frame_due.proofs.Observer.is_done.Goals as goal
 
 pub returns-then-not-is_in_service : goal.returns-then-not-is_in_service

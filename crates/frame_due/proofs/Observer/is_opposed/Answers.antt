@@ -6,8 +6,8 @@ use Rattle.sig_tables.specs.Sides.{are_incompatible}
 use Rattle.sig_tables.specs.Calls.{is_green}
 use Rattle.sig_tables.specs.Seen.{frame_seen}
 use Rattle.sig_tables.proofs.Below.{phase-is}
-use Rattle.controller.proofs.Opposing.{some-common}
-use Rattle.controller.proofs.Seen.{opposed-by}
+use Rattle.tick_sight.proofs.Opposing.{some-common}
+use Rattle.tick_sight.proofs.Seen.{opposed-by}
 use Rattle.frame_due.proofs.Observer.is_opposed.Goals as goal
 
 pub returns-then-eq : goal.returns-then-eq

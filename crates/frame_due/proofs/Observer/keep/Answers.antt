@@ -12,9 +12,9 @@ use Rattle.sig_tables.proofs.Below.{is-above, is-within}
 use Rattle.call_store.specs.Stands.{is_walking}
 use Rattle.preempt_run.proofs.Called.{seen-is}
 use Rattle.preempt_run.proofs.OnPhases.{names-phases}
-use Rattle.controller.proofs.Seen.{opposed-green}
-use Rattle.controller.proofs.Sought.{start-again}
-use Rattle.controller.proofs.Pickups.{few-next, one-more, same-most}
+use Rattle.tick_sight.proofs.Seen.{opposed-green}
+use Rattle.tick_sight.proofs.Sought.{start-again}
+use Rattle.tick_sight.proofs.Pickups.{few-next, one-more, same-most}
 use Rattle.frame_due.proofs.Inputs.{seen-on}
 use Rattle.frame_due.proofs.InStep.{next-within}
 use Rattle.frame_due.proofs.Observer.keep.Goals as goal

@@ -2,7 +2,7 @@ use Rattle.std.proofs.Common.{sym, ◌∙◌, ap}
 use Rattle.sig_tables.specs.Modes.{bound}
 use Rattle.sig_tables.specs.Seen.{mode_seen}
 use Rattle.sig_tables.proofs.Below.{phase-is}
-use Rattle.controller.proofs.Binds.{in-coord, unbound}
+use Rattle.tick_sight.proofs.Binds.{in-coord, unbound}
 use Rattle.frame_due.proofs.Bound.{binding-in, coord-of, held-itself, held-bound, held-free}
 use Rattle.frame_due.proofs.Observer.keeps_maximum.Goals as goal
 

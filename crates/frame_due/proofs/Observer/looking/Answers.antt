@@ -6,8 +6,8 @@ use Rattle.sig_tables.specs.Layout.{Has}
 use Rattle.sig_tables.specs.View.{is_wanted, on_phase, clearance_of, greatest_clearance}
 use Rattle.sig_tables.specs.Seen.{frame_seen, view_seen}
 use Rattle.look_back.specs.Further.{FurtherStands}
-use Rattle.controller.proofs.Rings.{each-ring}
-use Rattle.controller.proofs.Wanting.{are-phases, wanted-room, each-set}
+use Rattle.tick_sight.proofs.Rings.{each-ring}
+use Rattle.tick_sight.proofs.Wanting.{are-phases, wanted-room, each-set}
 use Rattle.frame_due.proofs.Observer.looking.Goals as goal
 
 pub returns : goal.returns

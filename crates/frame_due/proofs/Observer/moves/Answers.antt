@@ -1,7 +1,7 @@
 use Rattle.std.proofs.Common.{sym, ◌∙◌, ap}
 use Rattle.sig_tables.specs.Seen.{turn_seen, view_seen}
 use Rattle.flash_mode.specs.Turns.{turn_meant}
-use Rattle.controller.proofs.Turns.{rest-moves, up-moves, ring-moves, toward-moves}
+use Rattle.tick_sight.proofs.Turns.{rest-moves, up-moves, ring-moves, toward-moves}
 use Rattle.frame_due.proofs.Observer.moves.Goals as goal
 
 pub returns-in-Rest : goal.returns-in-Rest

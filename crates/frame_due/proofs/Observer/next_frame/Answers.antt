@@ -8,7 +8,7 @@ use Rattle.sig_tables.specs.Course.{course_of}
 use Rattle.sig_tables.specs.Ticking.{frame_of, frame_with}
 use Rattle.sig_tables.specs.Decide.{colours_of}
 use Rattle.sig_tables.specs.Seen.{sight_seen, mode_seen, moves_seen}
-use Rattle.controller.specs.Walks.{walk_after, signal_seen}
+use Rattle.tick_sight.specs.Walks.{walk_after, signal_seen}
 use Rattle.frame_due.proofs.Observer.next_frame.Goals as goal
 
 pub returns : goal.returns

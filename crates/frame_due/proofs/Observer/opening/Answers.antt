@@ -6,7 +6,7 @@ use Rattle.sig_tables.specs.declared.tables.Tables.{Tables}
 use Rattle.sig_tables.specs.Layout.{Has}
 use Rattle.sig_tables.specs.View.{ended_of, is_open}
 use Rattle.sig_tables.specs.Seen.{view_seen}
-use Rattle.controller.proofs.Rings.{each-ring}
+use Rattle.tick_sight.proofs.Rings.{each-ring}
 use Rattle.frame_due.proofs.Observer.opening.Goals as goal
 
 pub returns : goal.returns

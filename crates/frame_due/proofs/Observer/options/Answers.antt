@@ -1,7 +1,7 @@
 use Rattle.std.proofs.Common.{ap}
 use Rattle.sig_tables.specs.Modes.{bound}
 use Rattle.sig_tables.specs.Seen.{mode_seen}
-use Rattle.controller.proofs.Binds.{in-coord, unbound, options-some, options-none}
+use Rattle.tick_sight.proofs.Binds.{in-coord, unbound, options-some, options-none}
 use Rattle.frame_due.proofs.Bound.{binding-in, coord-of}
 use Rattle.frame_due.proofs.Observer.options.Goals as goal
 

@@ -3,11 +3,11 @@ use Rattle.sig_tables.specs.declared.tables.Tables.{Tables}
 use Rattle.sig_tables.specs.Past.{Past, Moment}
 use Rattle.sig_tables.specs.Decide.{past_at}
 use Rattle.sig_tables.specs.Seen.{frame_seen}
-use Rattle.controller.specs.declared.seeing.Sight.{Sight}
-use Rattle.controller.specs.Even.{IsEven}
-use Rattle.controller.specs.Lasting.{Looks}
-use Rattle.controller.specs.Strides.{ticks_more}
-use Rattle.controller.proofs.Striding.{more-past}
+use Rattle.tick_sight.specs.declared.seeing.Sight.{Sight}
+use Rattle.tick_sight.specs.Even.{IsEven}
+use Rattle.tick_sight.specs.Lasting.{Looks}
+use Rattle.tick_sight.specs.Strides.{ticks_more}
+use Rattle.tick_sight.proofs.Striding.{more-past}
 use Rattle.look_back.specs.Lookouts.{LooksOver}
 use Rattle.frame_due.specs.declared.Observer.{Observer}
 use Rattle.frame_due.specs.Remembers.{Remembers}

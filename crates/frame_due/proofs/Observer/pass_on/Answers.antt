@@ -1,6 +1,6 @@
 use Rattle.sig_types.specs.declared.frame.Mode.TheVariants.{Free}
 use Rattle.sig_tables.specs.Decide.{ticked}
-use Rattle.controller.proofs.Striding.{lasts-plain}
+use Rattle.tick_sight.proofs.Striding.{lasts-plain}
 use Rattle.frame_due.proofs.Observer.pass_on.Goals as goal
 
 pub returns-clause-stands : goal.returns-clause-stands

@@ -4,8 +4,8 @@ use Rattle.sig_tables.specs.Moves.{Moves, ring_moves}
 use Rattle.sig_tables.specs.Layout.{Ordered}
 use Rattle.sig_tables.specs.Modes.{sequence_in}
 use Rattle.sig_tables.specs.Seen.{mode_seen, view_seen}
-use Rattle.controller.specs.StandsFor.{AreMoves}
-use Rattle.controller.proofs.Binds.{in-coord, first-sequence}
+use Rattle.tick_sight.specs.Moves.{AreMoves}
+use Rattle.tick_sight.proofs.Binds.{in-coord, first-sequence}
 use Rattle.frame_due.proofs.Bound.{binding-in, coord-of}
 use Rattle.frame_due.proofs.Observer.ring_changes.Goals as goal
 

@@ -1,7 +1,7 @@
 use Rattle.std.proofs.Common.{◌≡◌, ◌≤◌, ◌+◌, ◌-◌, ℕ, false}
 use Rattle.sig_tables.specs.Past.{History}
 use Rattle.frame_due.specs.declared.Observer.{Observer}
-use Rattle.controller.specs.Strides.{is_told, ticks_more}
+use Rattle.tick_sight.specs.Strides.{is_told, ticks_more}
 use Rattle.frame_due.specs.Remembers.{StandsFor, tick_count, install_count}
 use Rattle.frame_due.proofs.Observer.stride_told.Given as goal
 

@@ -8,9 +8,9 @@ use Rattle.sig_tables.proofs.Below.{is-above, is-within}
 use Rattle.sig_tables.specs.Decide.{colour_after, colours_of}
 use Rattle.sig_tables.specs.Seen.{frame_seen}
 use Rattle.ped_clock.specs.Walks.{greens_of}
-use Rattle.controller.specs.Walks.{crossing_seen}
-use Rattle.controller.proofs.Filling.{made-at}
-use Rattle.controller.proofs.Signals.{begins-is}
+use Rattle.tick_sight.specs.Walks.{crossing_seen}
+use Rattle.tick_sight.proofs.Filling.{made-at}
+use Rattle.tick_sight.proofs.Signals.{begins-is}
 use Rattle.frame_due.proofs.Crossing.{rests-is}
 use Rattle.frame_due.proofs.Observer.walks.Goals as goal
 

@@ -6,7 +6,7 @@ use Rattle.sig_tables.specs.Modes.{bound}
 use Rattle.sig_tables.specs.Coordinating.{has_room}
 use Rattle.sig_tables.specs.Course.{course_of}
 use Rattle.sig_tables.specs.Seen.{mode_seen}
-use Rattle.controller.proofs.Binds.{in-coord, unbound}
+use Rattle.tick_sight.proofs.Binds.{in-coord, unbound}
 use Rattle.frame_due.proofs.Bound.{binding-in, coord-of}
 use Rattle.frame_due.proofs.Observer.with_room.Goals as goal
 

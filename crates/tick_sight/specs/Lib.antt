@@ -1,0 +1,14 @@
+pub mod Told
+pub mod Shows
+pub mod Orders
+pub mod Modes
+pub mod Binds
+pub mod Course
+pub mod Sees
+pub mod Moves
+pub mod Rests
+pub mod Walks
+pub mod Even
+pub mod Strides
+pub mod Lasting
+pub mod Passed

@@ -1,0 +1,21 @@
+//! What a tick goes by beside what is kept from tick to tick: what was told, the pattern laid out, the course of the modes, and
+//! what is seen of the last frame. A controller's registers and an observer's looking back both stand on it, and it has neither.
+#![tactic(auto)]
+
+mod at_rest;
+mod binding;
+mod course;
+mod modes;
+mod opening;
+mod orders;
+mod seeing;
+mod telling;
+
+pub use at_rest::{are_both_on, is_resting, no_changes, shows_sixteen};
+pub use binding::{Binding, is_defined, lone};
+pub use course::{Course, greens, is_asked};
+pub use modes::{has_pattern, is_coord, is_coord_of, is_flash, is_free};
+pub use opening::first_frame;
+pub use orders::Orders;
+pub use seeing::Sight;
+pub use telling::has_line;
