@@ -1,8 +1,9 @@
 /// What bench/strides measures: ticks of a controller, one by one and by strides, and that both tell the same frames.
 mod measured {
-    use crate::controller::{Controller, has_line};
+    use crate::controller::Controller;
     use crate::sig_tables::Tables;
     use crate::sig_types::{Colour, Field, Frame};
+    use crate::tick_sight::has_line;
     use std::hint::black_box;
     use std::time::Instant;
 
