@@ -24,64 +24,40 @@ fn own(last: Mode, start_run: u32, command: u8) -> Option<Mode> {
 
 #[test]
 fn start_lasts_sixty_frames_and_flash_as_long_as_it_is_commanded(rt: HostRuntime) {
-    assert_eq!(rt; own(Mode::Start, 1, 0), Some(Mode::Start));
-    assert_eq!(rt; own(Mode::Start, 59, 255), Some(Mode::Start));
-    assert_eq!(rt; own(Mode::Start, 60, 255), Some(Mode::Flash));
-    assert_eq!(rt; own(Mode::Start, 60, 1), None);
-    assert_eq!(rt; own(Mode::Flash, 60, 255), Some(Mode::Flash));
-    assert_eq!(rt; own(Mode::Flash, 60, 254), Some(Mode::Start));
-    assert_eq!(rt; own(Mode::Coord(1), 60, 255), None);
-    assert_eq!(rt; own(Mode::Dwell(1), 60, 255), None);
+    assert!(rt; own(Mode::Start, 1, 0) == Some(Mode::Start));
+    assert!(rt; own(Mode::Start, 59, 255) == Some(Mode::Start));
+    assert!(rt; own(Mode::Start, 60, 255) == Some(Mode::Flash));
+    assert!(rt; own(Mode::Start, 60, 1).is_none());
+    assert!(rt; own(Mode::Flash, 60, 255) == Some(Mode::Flash));
+    assert!(rt; own(Mode::Flash, 60, 254) == Some(Mode::Start));
+    assert!(rt; own(Mode::Coord(1), 60, 255).is_none());
+    assert!(rt; own(Mode::Dwell(1), 60, 255).is_none());
 }
 
 #[test]
 fn a_defined_pattern_is_sought_until_it_is_in_step(rt: HostRuntime) {
     let tables = Tables::std8();
-    assert_eq!(rt;
-        commanded(&tables, 0, 1, &shown(Mode::Free, 0)),
-        Mode::Seek(1)
-    );
-    assert_eq!(rt;
-        commanded(&tables, 0, 1, &shown(Mode::Coord(1), 0)),
-        Mode::Coord(1)
-    );
-    assert_eq!(rt;
-        commanded(&tables, 1, 1, &shown(Mode::Coord(1), 0)),
-        Mode::Seek(1)
-    );
-    assert_eq!(rt;
-        commanded(&tables, 0, 1, &shown(Mode::Coord(2), 0)),
-        Mode::Seek(1)
-    );
-    assert_eq!(rt;
-        commanded(&tables, 0, 0, &shown(Mode::Coord(1), 0)),
-        Mode::Free
-    );
-    assert_eq!(rt;
-        commanded(&tables, 0, 49, &shown(Mode::Free, 0)),
-        Mode::Free
-    );
-    assert_eq!(rt;
-        running(&tables, 0, 255, &shown(Mode::Coord(1), 0)),
-        Mode::Ending
-    );
-    assert_eq!(rt;
-        running(&tables, 0, 1, &shown(Mode::Free, 0)),
-        Mode::Seek(1)
-    );
+    assert!(rt; commanded(&tables, 0, 1, &shown(Mode::Free, 0)) == Mode::Seek(1));
+    assert!(rt; commanded(&tables, 0, 1, &shown(Mode::Coord(1), 0)) == Mode::Coord(1));
+    assert!(rt; commanded(&tables, 1, 1, &shown(Mode::Coord(1), 0)) == Mode::Seek(1));
+    assert!(rt; commanded(&tables, 0, 1, &shown(Mode::Coord(2), 0)) == Mode::Seek(1));
+    assert!(rt; commanded(&tables, 0, 0, &shown(Mode::Coord(1), 0)) == Mode::Free);
+    assert!(rt; commanded(&tables, 0, 49, &shown(Mode::Free, 0)) == Mode::Free);
+    assert!(rt; running(&tables, 0, 255, &shown(Mode::Coord(1), 0)) == Mode::Ending);
+    assert!(rt; running(&tables, 0, 1, &shown(Mode::Free, 0)) == Mode::Seek(1));
 }
 
 #[test]
 fn a_pattern_begins_at_both_greens_and_flash_at_all_red(rt: HostRuntime) {
     let mut veh = [Colour::Red; 16];
-    assert_eq!(rt; reached(Mode::Ending, [0; 2], &veh), Mode::Flash);
+    assert!(rt; reached(Mode::Ending, [0; 2], &veh) == Mode::Flash);
     veh[1] = Colour::Green;
     veh[5] = Colour::Clear;
-    assert_eq!(rt; reached(Mode::Ending, [0; 2], &veh), Mode::Ending);
-    assert_eq!(rt; reached(Mode::Seek(1), [2, 6], &veh), Mode::Seek(1));
+    assert!(rt; reached(Mode::Ending, [0; 2], &veh) == Mode::Ending);
+    assert!(rt; reached(Mode::Seek(1), [2, 6], &veh) == Mode::Seek(1));
     veh[5] = Colour::Green;
-    assert_eq!(rt; reached(Mode::Seek(1), [2, 6], &veh), Mode::Coord(1));
-    assert_eq!(rt; reached(Mode::Entry(1), [2, 6], &veh), Mode::Entry(1));
+    assert!(rt; reached(Mode::Seek(1), [2, 6], &veh) == Mode::Coord(1));
+    assert!(rt; reached(Mode::Entry(1), [2, 6], &veh) == Mode::Entry(1));
 }
 
 #[test]
@@ -90,19 +66,10 @@ fn start_up_comes_before_a_goal_and_not_before_flash(rt: HostRuntime) {
     let goal = PhaseSet::empty().with(4);
     let start = shown(Mode::Start, 0);
     let none = PhaseSet::empty();
-    assert_eq!(rt; turn_of(&start, Mode::Start, up, none), Turn::Rest);
-    assert_eq!(rt; turn_of(&start, Mode::Flash, up, none), Turn::Rest);
-    assert_eq!(rt; turn_of(&start, Mode::Seek(1), up, goal), Turn::StartUp);
-    assert_eq!(rt;
-        turn_of(&start, Mode::Seek(1), none, goal),
-        Turn::Goal(goal)
-    );
-    assert_eq!(rt;
-        turn_of(&shown(Mode::Free, 0), Mode::Ending, up, none),
-        Turn::Goal(none)
-    );
-    assert_eq!(rt;
-        turn_of(&shown(Mode::Free, 0), Mode::Coord(1), up, none),
-        Turn::Rings
-    );
+    assert!(rt; turn_of(&start, Mode::Start, up, none) == Turn::Rest);
+    assert!(rt; turn_of(&start, Mode::Flash, up, none) == Turn::Rest);
+    assert!(rt; turn_of(&start, Mode::Seek(1), up, goal) == Turn::StartUp);
+    assert!(rt; turn_of(&start, Mode::Seek(1), none, goal) == Turn::Goal(goal));
+    assert!(rt; turn_of(&shown(Mode::Free, 0), Mode::Ending, up, none) == Turn::Goal(none));
+    assert!(rt; turn_of(&shown(Mode::Free, 0), Mode::Coord(1), up, none) == Turn::Rings);
 }

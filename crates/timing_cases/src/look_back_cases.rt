@@ -27,17 +27,17 @@ fn seen(second: Colour, is_opposed: bool) -> Seen {
 #[test]
 fn counts_a_green_as_far_as_it_reaches(rt: HostRuntime) -> Result<(), Fail> {
     let mut window = Window::open(rt.alloc())?;
-    assert_eq!(rt; window.run(2, Colour::Green, 4096), 0);
+    assert!(rt; window.run(2, Colour::Green, 4096) == 0);
     for _frame in 0..5000 {
         window.push(&seen(Colour::Green, false));
     }
-    assert_eq!(rt; window.run(2, Colour::Green, 4096), 4096);
-    assert_eq!(rt; window.run(2, Colour::Green, 100), 100);
-    assert_eq!(rt; window.look(Look::Quiet { phase: 2 }, 4096), 4096);
+    assert!(rt; window.run(2, Colour::Green, 4096) == 4096);
+    assert!(rt; window.run(2, Colour::Green, 100) == 100);
+    assert!(rt; window.look(Look::Quiet { phase: 2 }, 4096) == 4096);
     window.push(&seen(Colour::Yellow, false));
-    assert_eq!(rt; window.run(2, Colour::Green, 4096), 0);
-    assert_eq!(rt; window.run(2, Colour::Yellow, 4096), 1);
-    assert_eq!(rt; window.ped_run(2, Ped::Dont, 4096), 4096);
+    assert!(rt; window.run(2, Colour::Green, 4096) == 0);
+    assert!(rt; window.run(2, Colour::Yellow, 4096) == 1);
+    assert!(rt; window.ped_run(2, Ped::Dont, 4096) == 4096);
     Ok(())
 }
 
@@ -47,9 +47,9 @@ fn counts_a_green_over_frames_that_differ(rt: HostRuntime) -> Result<(), Fail> {
     for frame in 0..5000u32 {
         window.push(&seen(Colour::Green, frame % 2 == 1));
     }
-    assert_eq!(rt; window.run(2, Colour::Green, 4096), 4096);
-    assert_eq!(rt; window.look(Look::Opposed { phase: 2 }, 4096), 1);
+    assert!(rt; window.run(2, Colour::Green, 4096) == 4096);
+    assert!(rt; window.look(Look::Opposed { phase: 2 }, 4096) == 1);
     window.push(&seen(Colour::Green, true));
-    assert_eq!(rt; window.look(Look::Opposed { phase: 2 }, 4096), 2);
+    assert!(rt; window.look(Look::Opposed { phase: 2 }, 4096) == 2);
     Ok(())
 }

@@ -50,22 +50,22 @@ fn a_green_clears_after_its_least_and_a_red_reverts(rt: HostRuntime) -> Result<(
     let green = seen(Colour::Green, Mode::Free, 0);
     let mut lookout = Lookout::open(rt.alloc())?;
     push(&mut lookout, &t, &seen(Colour::Red, Mode::Start, 0), 18);
-    assert_eq!(rt; lookout.start_run(), 19);
-    assert_eq!(rt; lookout.startable(&t, both), nothing);
+    assert!(rt; lookout.start_run() == 19);
+    assert!(rt; lookout.startable(&t, both) == nothing);
     push(&mut lookout, &t, &seen(Colour::Red, Mode::Start, 0), 0);
-    assert_eq!(rt; lookout.startable(&t, both), both);
+    assert!(rt; lookout.startable(&t, both) == both);
     push(&mut lookout, &t, &green, 48);
-    assert_eq!(rt; lookout.start_run(), 0);
-    assert_eq!(rt; lookout.startable(&t, both), nothing);
-    assert_eq!(rt; lookout.cleared(&t, Mode::Entry(1), &green.frame), nothing);
+    assert!(rt; lookout.start_run() == 0);
+    assert!(rt; lookout.startable(&t, both) == nothing);
+    assert!(rt; lookout.cleared(&t, Mode::Entry(1), &green.frame) == nothing);
     push(&mut lookout, &t, &green, 0);
-    assert_eq!(rt; lookout.cleared(&t, Mode::Entry(1), &green.frame), both);
+    assert!(rt; lookout.cleared(&t, Mode::Entry(1), &green.frame) == both);
     lookout.push_again(nothing, nothing, 49);
-    assert_eq!(rt; lookout.cleared(&t, Mode::Free, &green.frame), nothing);
+    assert!(rt; lookout.cleared(&t, Mode::Free, &green.frame) == nothing);
     lookout.push_again(nothing, nothing, 1);
-    assert_eq!(rt; lookout.cleared(&t, Mode::Free, &green.frame), both);
+    assert!(rt; lookout.cleared(&t, Mode::Free, &green.frame) == both);
     lookout.push_again(nothing, nothing, 4_000_000_000);
-    assert_eq!(rt; lookout.window().run(2, Colour::Green, 4096), 4096);
+    assert!(rt; lookout.window().run(2, Colour::Green, 4096) == 4096);
     Ok(())
 }
 
@@ -78,28 +78,16 @@ fn a_preempt_is_looked_back_for(rt: HostRuntime) -> Result<(), Fail> {
     let dwell = seen(Colour::Green, Mode::Dwell(1), 0);
     let mut lookout = Lookout::open(rt.alloc())?;
     push(&mut lookout, &t, &free, 1000);
-    assert_eq!(rt; lookout.stage(&t, &free.frame, nothing), None);
-    assert_eq!(rt; lookout.stage(&t, &free.frame, alone(2)), None);
-    assert_eq!(rt;
-        lookout.stage(&t, &free.frame, alone(1)),
-        Some(Mode::Entry(1))
-    );
+    assert!(rt; lookout.stage(&t, &free.frame, nothing).is_none());
+    assert!(rt; lookout.stage(&t, &free.frame, alone(2)).is_none());
+    assert!(rt; lookout.stage(&t, &free.frame, alone(1)) == Some(Mode::Entry(1)));
     push(&mut lookout, &t, &entry, 0);
-    assert_eq!(rt;
-        lookout.stage(&t, &entry.frame, alone(1)),
-        Some(Mode::Dwell(1))
-    );
+    assert!(rt; lookout.stage(&t, &entry.frame, alone(1)) == Some(Mode::Dwell(1)));
     push(&mut lookout, &t, &dwell, 97);
-    assert_eq!(rt;
-        lookout.stage(&t, &dwell.frame, nothing),
-        Some(Mode::Dwell(1))
-    );
+    assert!(rt; lookout.stage(&t, &dwell.frame, nothing) == Some(Mode::Dwell(1)));
     push(&mut lookout, &t, &dwell, 0);
-    assert_eq!(rt;
-        lookout.stage(&t, &dwell.frame, alone(1)),
-        Some(Mode::Dwell(1))
-    );
-    assert_eq!(rt; lookout.stage(&t, &dwell.frame, nothing), None);
+    assert!(rt; lookout.stage(&t, &dwell.frame, alone(1)) == Some(Mode::Dwell(1)));
+    assert!(rt; lookout.stage(&t, &dwell.frame, nothing).is_none());
     Ok(())
 }
 
@@ -113,6 +101,6 @@ fn a_counter_goes_on_for_many_ticks(rt: HostRuntime) -> Result<(), Fail> {
         &seen(Colour::Green, Mode::Coord(1), 0),
         41,
     );
-    assert_eq!(rt; lookout.counting().count().counter(), 41);
+    assert!(rt; lookout.counting().count().counter() == 41);
     Ok(())
 }

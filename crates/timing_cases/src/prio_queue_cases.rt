@@ -42,31 +42,31 @@ fn class_comes_first_then_level_arrival_and_number(rt: HostRuntime) {
         arrival: 40,
         ..asks(7, 1, 1)
     };
-    assert_eq!(rt; first(asks(3, 2, 1), asks(7, 1, 9)), Some(7));
-    assert_eq!(rt; first(asks(3, 1, 2), asks(7, 1, 1)), Some(7));
-    assert_eq!(rt; first(late, soon), Some(7));
-    assert_eq!(rt; first(asks(7, 1, 1), asks(3, 1, 1)), Some(3));
+    assert!(rt; first(asks(3, 2, 1), asks(7, 1, 9)) == Some(7));
+    assert!(rt; first(asks(3, 1, 2), asks(7, 1, 1)) == Some(7));
+    assert!(rt; first(late, soon) == Some(7));
+    assert!(rt; first(asks(7, 1, 1), asks(3, 1, 1)) == Some(3));
     let across = Request {
         phase: 4,
         ..asks(1, 1, 1)
     };
-    assert_eq!(rt; first(across, asks(10, 10, 10)), Some(10));
+    assert!(rt; first(across, asks(10, 10, 10)) == Some(10));
 }
 
 #[test]
 fn a_request_is_queued_then_active_then_departed(rt: HostRuntime) {
     let coordinated = PhaseSet::empty().with(2).with(6);
     let mut queue = Queue::new();
-    assert_eq!(rt; queue.state(1, 99), 0);
+    assert!(rt; queue.state(1, 99) == 0);
     queue.request(asks(1, 1, 1), 99);
-    assert_eq!(rt; queue.state(1, 99), 1);
-    assert_eq!(rt; queue.active(100, coordinated), Some(1));
+    assert!(rt; queue.state(1, 99) == 1);
+    assert!(rt; queue.active(100, coordinated) == Some(1));
     queue.step(Some(1));
-    assert_eq!(rt; queue.state(1, 100), 2);
-    assert_eq!(rt; queue.active(699, coordinated), Some(1));
-    assert_eq!(rt; queue.active(700, coordinated), None);
-    assert_eq!(rt; queue.state(1, 700), 3);
-    assert_eq!(rt; queue.states(700), [3, 0, 0, 0, 0, 0, 0, 0, 0, 0]);
+    assert!(rt; queue.state(1, 100) == 2);
+    assert!(rt; queue.active(699, coordinated) == Some(1));
+    assert!(rt; queue.active(700, coordinated).is_none());
+    assert!(rt; queue.state(1, 700) == 3);
+    assert!(rt; queue.states(700) == [3, 0, 0, 0, 0, 0, 0, 0, 0, 0]);
 }
 
 #[test]
@@ -76,11 +76,11 @@ fn a_request_is_cancelled_until_it_departs_and_may_be_replaced(rt: HostRuntime) 
     queue.request(asks(1, 1, 1), 99);
     queue.step(Some(1));
     queue.request(asks(1, 1, 1), 100);
-    assert_eq!(rt; queue.state(1, 100), 1);
+    assert!(rt; queue.state(1, 100) == 1);
     queue.cancel(1, 700);
-    assert_eq!(rt; queue.state(1, 700), 4);
-    assert_eq!(rt; queue.active(700, coordinated), None);
+    assert!(rt; queue.state(1, 700) == 4);
+    assert!(rt; queue.active(700, coordinated).is_none());
     queue.request(asks(2, 1, 1), 100);
     queue.cancel(2, 701);
-    assert_eq!(rt; queue.state(2, 701), 3);
+    assert!(rt; queue.state(2, 701) == 3);
 }

@@ -48,16 +48,16 @@ fn each_mode_of_a_split_asks_its_own(rt: HostRuntime) {
     }
     let options = SplitOptions::of(&tables, 2);
     // phase 9 is disabled
-    assert_eq!(rt; options.coordinated, set_of(&[2]));
-    assert_eq!(rt; options.minimum, set_of(&[3]));
-    assert_eq!(rt; options.maximum, set_of(&[4, 6]));
-    assert_eq!(rt; options.pedestrian, set_of(&[5, 6]));
-    assert_eq!(rt; options.omitted, set_of(&[7]));
+    assert!(rt; options.coordinated == set_of(&[2]));
+    assert!(rt; options.minimum == set_of(&[3]));
+    assert!(rt; options.maximum == set_of(&[4, 6]));
+    assert!(rt; options.pedestrian == set_of(&[5, 6]));
+    assert!(rt; options.omitted == set_of(&[7]));
     // the standard split holds phases 2 and 6, and asks nothing else
     let standard = SplitOptions::of(&tables, 1);
-    assert_eq!(rt; standard.coordinated, set_of(&[2, 6]));
-    assert_eq!(rt; standard.minimum, PhaseSet::empty());
-    assert_eq!(rt; standard.maximum, PhaseSet::empty());
-    assert_eq!(rt; standard.pedestrian, PhaseSet::empty());
-    assert_eq!(rt; standard.omitted, PhaseSet::empty());
+    assert!(rt; standard.coordinated == set_of(&[2, 6]));
+    assert!(rt; standard.minimum == PhaseSet::empty());
+    assert!(rt; standard.maximum == PhaseSet::empty());
+    assert!(rt; standard.pedestrian == PhaseSet::empty());
+    assert!(rt; standard.omitted == PhaseSet::empty());
 }
