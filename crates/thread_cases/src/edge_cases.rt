@@ -15,8 +15,8 @@ fn a_source_gives_two_bytes_at_a_time(rt: HostRuntime) -> Result<(), Fail> {
         (Ok(1), [5, 4]),
         (Ok(0), [5, 4]),
     ] {
-        assert_eq!(rt; source.read(&mut buf), due);
-        assert_eq!(rt; &buf[..2], &front[..]);
+        assert!(rt; source.read(&mut buf) == due);
+        assert!(rt; &buf[..2] == &front[..]);
     }
     Ok(())
 }
@@ -28,8 +28,8 @@ fn a_sink_takes_two_bytes_at_a_time(rt: HostRuntime) -> Result<(), Fail> {
         panic!(rt; "no memory")
     };
     for due in [Ok(2), Ok(2), Err(Failed), Ok(1), Err(Failed)] {
-        assert_eq!(rt; sink.write(&[7, 8, 9]), due);
+        assert!(rt; sink.write(&[7, 8, 9]) == due);
     }
-    assert_eq!(rt; sink.bytes().as_slice(), &[7u8, 8, 7, 8, 7][..]);
+    assert!(rt; sink.bytes().as_slice() == &[7u8, 8, 7, 8, 7][..]);
     Ok(())
 }
