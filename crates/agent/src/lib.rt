@@ -18,8 +18,3 @@ pub use laws::{
     frames_ask_one_thing, instances_have_values, other_frames_ask_nothing, repeated_bindings_fit,
 };
 pub use reply::answer;
-
-#[cfg(test)]
-mod set_tests;
-#[cfg(test)]
-mod tests;

@@ -1,8 +1,12 @@
-//! Worked cases of messages, of the lines of a trace, of the master and its line and of the reading of a scenario, each with its
-//! expected values from outside. They stand in a crate of their own, above the parts, so that a part is proved once and not again
-//! for its tests.
+//! Worked cases of messages, of what a cabinet answers to them, of the lines of a trace, of the master and its line and of the
+//! reading of a scenario, each with its expected values from outside. They stand in a crate of their own, above the parts, so
+//! that a part is proved once and not again for its tests.
 #![tactic(auto)]
 
+#[cfg(test)]
+mod agent_cases;
+#[cfg(test)]
+mod agent_set_cases;
 #[cfg(test)]
 mod ber_code_cases;
 #[cfg(test)]

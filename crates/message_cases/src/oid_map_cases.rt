@@ -1,12 +1,14 @@
 //! Names and walks by hand from the table of the objects.
 
+ghost use Rattle.ber_code.specs.Names.{IsWritable};
+
 use ber_code::Oid;
 use oid_map::*;
 use sig_tables::Cell;
 
 /// Where the objects of NTCIP 1202 (asc) and those of the project (own) stand.
 #[derive(Clone, Copy)]
-enum Root {
+pub(crate) enum Root {
     Asc,
     Own,
 }
@@ -14,7 +16,9 @@ enum Root {
 use Root::{Asc, Own};
 
 /// A name of two parts.
-fn joined(front: &[u32], rest: &[u32]) -> Oid {
+fn joined(front: &[u32], rest: &[u32]) -> Oid
+    ensures { IsWritable front.now → IsWritable result.items }
+{
     let mut name = Oid::new();
     let _ = name.try_extend_from_slice(front);
     let _ = name.try_extend_from_slice(rest);
@@ -22,7 +26,9 @@ fn joined(front: &[u32], rest: &[u32]) -> Oid {
 }
 
 /// A name under a root.
-fn oid(root: Root, rest: &[u32]) -> Oid {
+pub(crate) fn oid(root: Root, rest: &[u32]) -> Oid
+    ensures { IsWritable result.items }
+{
     match root {
         Asc => joined(&[1, 3, 6, 1, 4, 1, 1206, 4, 2, 1], rest),
         Own => joined(&[1, 3, 6, 1, 4, 1, 32473, 1], rest),

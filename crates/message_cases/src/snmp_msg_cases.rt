@@ -1,6 +1,8 @@
+ghost use Rattle.ber_code.specs.Names.{IsWritable};
 ghost use Rattle.snmp_msg.specs.Shortest.{IsWritableBind, IsWritableMessage};
 
 use crate::captured::{REFUSED, SHORTEST};
+use crate::oid_map_cases::{Root, oid};
 use arrayvec::ArrayVec;
 use ber_code::Oid;
 use hex::decode;
@@ -17,13 +19,15 @@ const LONG_GET: &str =
 const OPEN_GET: &str =
     "308002010004067075626c6963a01e02010102010002010030133011060d2b060104018936040201040a000500";
 
-fn get_of_pattern_status() -> Message {
+/// A Get of one instance, of the community `public`.
+pub(crate) fn get_of(name: Oid) -> Message
+    requires { IsWritable name.items }
+    ensures { IsWritableMessage result }
+{
     let mut community = ArrayVec::new();
     let _ = community.try_extend_from_slice(b"public");
-    let mut name = Oid::new();
-    let _ = name.try_extend_from_slice(&[1, 3, 6, 1, 4, 1, 1206, 4, 2, 1, 4, 10, 0]);
     let mut binds = ArrayVec::new();
-    let _ = binds.try_push(Bind {
+    binds.push(Bind {
         name,
         value: Value::Null,
     });
@@ -68,8 +72,8 @@ fn response_without_room() -> Message
 fn lengths_are_read_in_each_form_and_written_in_the_shortest(rt: HostRuntime) -> Result<(), Fail> {
     let long = decode(rt.alloc(), LONG_GET)?;
     let short = decode(rt.alloc(), SHORT_GET)?;
-    assert!(rt; read(&long) == Some(get_of_pattern_status()));
-    assert!(rt; read(&short) == Some(get_of_pattern_status()));
+    assert!(rt; read(&long) == Some(get_of(oid(Root::Asc, &[4, 10, 0]))));
+    assert!(rt; read(&short) == Some(get_of(oid(Root::Asc, &[4, 10, 0]))));
     let message = read(&short).ok_or("no message")?;
     let written = write(&message);
     assert!(rt; matches!(&written, Ok(text) if text.as_slice() == short.as_slice()));

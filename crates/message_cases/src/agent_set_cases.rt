@@ -1,11 +1,11 @@
 //! What Sets wish: orders, the calls of the download stage, and the first fault, by hand from the rules of a reply.
 
-use super::*;
+use agent::{Order, Wish, decode};
 use arrayvec::ArrayVec;
 use hex::decode as octets_of;
 use sig_tables::{Cell, CellValue, Tables};
 use sig_types::Request;
-use std::test::*;
+use std::test::Fail;
 
 /// Sets with a fault: its status and index.
 const FAULTS: [(&str, &str, u8, u8); 30] = [

@@ -1,19 +1,18 @@
-//! Requests and their answers, written by hand from the table of the objects and the rules of a reply (RFC 1157).
+//! Requests to the agent of a cabinet and their answers, written by hand from the table of the objects and the rules of a reply (RFC 1157).
 
 ghost use Rattle.std.specs.Prelude.{IfSome};
 ghost use Rattle.snmp_msg.specs.Shortest.{IsWritableMessage};
 ghost use Rattle.agent.specs.Seen.{IsWithin};
 
-use super::*;
-use crate::cabinet::Cabinet;
-use crate::values::value_named;
+use crate::oid_map_cases::{Root, oid};
+use crate::snmp_msg_cases::get_of;
+use agent::{Wish, answer, decode};
 use arrayvec::ArrayVec;
-use ber_code::Oid;
 use hex::decode as octets_of;
 use sig_tables::{Cell, CellValue, Shown, Tables};
 use sig_types::{Broken, Colour, Frame, Mode, Octets, Ped, PhaseSet, StageAnswer};
 use snmp_msg::{Message, Pdu, Value, read, write};
-use std::test::*;
+use std::test::Fail;
 
 /// What a cabinet in free operation shows: 2 and 6 green, 5 yellow, 1 in red clearance, walk on 2, flashing don't walk
 /// on 6; vehicles wait at 3 and 9, a pedestrian at 8.
@@ -245,27 +244,55 @@ fn other_frames_are_met_with_silence(rt: HostRuntime) -> Result<(), Fail> {
     Ok(())
 }
 
-/// A name under asc.
-fn under_asc(rest: &[u32]) -> Oid {
-    let mut name = Oid::new();
-    let _ = name.try_extend_from_slice(&[1, 3, 6, 1, 4, 1, 1206, 4, 2, 1]);
-    let _ = name.try_extend_from_slice(rest);
-    name
+/// A cabinet with the tables std8: what it shows, and the state and the last answer of its download stage.
+#[derive(Drop)]
+struct Cabinet {
+    shown: Shown,
+    state: u8,
+    last: Option<StageAnswer>,
 }
 
-/// A name under own.
-fn under_own(rest: &[u32]) -> Oid {
-    let mut name = Oid::new();
-    let _ = name.try_extend_from_slice(&[1, 3, 6, 1, 4, 1, 32473, 1]);
-    let _ = name.try_extend_from_slice(rest);
-    name
-}
-
-/// Whether the instance holds this number.
-fn holds(cabinet: &Cabinet, name: &Oid, number: i32) -> bool
-    requires { IsWithin cabinet.now.shown.now }
+/// What the cabinet answers to a Get of one instance. None where it stays silent.
+fn got(cabinet: &Cabinet, root: Root, rest: &[u32]) -> Option<Message>
+    requires { IsWithin cabinet.now.shown }
 {
-    matches!(value_named(cabinet, name), Some(Value::Int(held)) if held == number)
+    let tables = Tables::std8();
+    let frame = write(&get_of(oid(root, rest))).ok()?;
+    let ask = decode(&frame, b"public", &tables)?;
+    match &ask.wish {
+        Wish::Get => read(&answer(
+            &ask,
+            &tables,
+            &cabinet.shown,
+            cabinet.state,
+            cabinet.last,
+            None,
+        )),
+        _ => None,
+    }
+}
+
+/// Whether a Get of the instance is answered with this number.
+fn holds(cabinet: &Cabinet, root: Root, rest: &[u32], number: i32) -> bool
+    requires { IsWithin cabinet.now.shown }
+{
+    match got(cabinet, root, rest) {
+        Some(reply) => {
+            reply.status == 0
+                && matches!(reply.binds.as_slice(), [bind] if bind.value == Value::Int(number))
+        }
+        None => false,
+    }
+}
+
+/// Whether a Get of the instance is answered by noSuchName.
+fn is_not_read(cabinet: &Cabinet, root: Root, rest: &[u32]) -> bool
+    requires { IsWithin cabinet.now.shown }
+{
+    match got(cabinet, root, rest) {
+        Some(reply) => reply.status == 2 && reply.index == 1,
+        None => false,
+    }
 }
 
 /// Numbers of std8 and of what is shown, under asc.
@@ -339,23 +366,20 @@ const OWN_NUMBERS: [(&[u32], i32); 17] = [
 
 #[test]
 fn numbers_are_those_of_the_tables_and_the_street(rt: HostRuntime) {
-    let tables = Tables::std8();
-    let shown = shown_in(Mode::Free);
     let refused = StageAnswer::Refused(Broken { rule: 10, row: 3 });
     let cabinet = Cabinet {
-        tables: &tables,
-        shown: &shown,
+        shown: shown_in(Mode::Free),
         state: 2,
         last: Some(refused),
     };
     for (rest, number) in NUMBERS {
-        assert!(rt; holds(&cabinet, &under_asc(rest), number));
+        assert!(rt; holds(&cabinet, Root::Asc, rest, number));
     }
     for (rest, number) in OWN_NUMBERS {
-        assert!(rt; holds(&cabinet, &under_own(rest), number));
+        assert!(rt; holds(&cabinet, Root::Own, rest, number));
     }
     for rest in [[1, 2, 0], [1, 6, 0], [2, 5, 0], [4, 1, 0], [4, 2, 0]] {
-        assert!(rt; value_named(&cabinet, &under_own(rest.as_slice())).is_none());
+        assert!(rt; is_not_read(&cabinet, Root::Own, rest.as_slice()));
     }
 }
 
@@ -387,29 +411,24 @@ const OUTCOMES: [(Option<StageAnswer>, i32, i32); 8] = [
 
 #[test]
 fn modes_and_outcomes_have_numbers(rt: HostRuntime) {
-    let tables = Tables::std8();
     for (mode, code, status) in MODES {
-        let shown = shown_in(mode);
         let cabinet = Cabinet {
-            tables: &tables,
-            shown: &shown,
+            shown: shown_in(mode),
             state: 1,
             last: None,
         };
-        assert!(rt; holds(&cabinet, &under_own(&[2, 4, 0]), code));
-        assert!(rt; holds(&cabinet, &under_asc(&[4, 10, 0]), status));
+        assert!(rt; holds(&cabinet, Root::Own, &[2, 4, 0], code));
+        assert!(rt; holds(&cabinet, Root::Asc, &[4, 10, 0], status));
     }
     for (last, code, detail) in OUTCOMES {
-        let shown = shown_in(Mode::Free);
         let cabinet = Cabinet {
-            tables: &tables,
-            shown: &shown,
+            shown: shown_in(Mode::Free),
             state: 1,
             last,
         };
-        assert!(rt; holds(&cabinet, &under_own(&[1, 7, 0]), code));
-        assert!(rt; holds(&cabinet, &under_own(&[1, 8, 0]), detail));
-        assert!(rt; holds(&cabinet, &under_own(&[1, 9, 0]), 0));
+        assert!(rt; holds(&cabinet, Root::Own, &[1, 7, 0], code));
+        assert!(rt; holds(&cabinet, Root::Own, &[1, 8, 0], detail));
+        assert!(rt; holds(&cabinet, Root::Own, &[1, 9, 0], 0));
     }
 }
 
