@@ -22,6 +22,8 @@ mod oid_map_cases;
 #[cfg(test)]
 mod scenario_data_cases;
 #[cfg(test)]
+mod scenario_file_cases;
+#[cfg(test)]
 mod scenario_read_cases;
 #[cfg(test)]
 mod snmp_msg_cases;

@@ -11,9 +11,12 @@ use sig_types::{Field, Request, Way};
 use std::alloc::{AllocError, Global};
 use std::test::Fail;
 
-/// What a read says of a text.
-fn told(alloc: Global, text: &str) -> Result<String, AllocError> {
-    match read(alloc, text.as_bytes()) {
+/// What a read says.
+pub(crate) fn told(
+    alloc: Global,
+    answer: Result<Scenario, ReadFail>,
+) -> Result<String, AllocError> {
+    match answer {
         Ok(_) => String::from_str(alloc, "a scenario"),
         Err(ReadFail::NoMemory) => String::from_str(alloc, "out of memory"),
         Err(ReadFail::Refused(Refusal::Syntax)) => String::from_str(alloc, "not JSON"),
@@ -176,7 +179,7 @@ const REFUSALS: [(&str, &str); 39] = [
 fn tells_the_first_fault(rt: HostRuntime) -> Result<(), Fail> {
     let alloc = rt.alloc();
     for (text, due) in &REFUSALS {
-        let answer = told(alloc, text)?;
+        let answer = told(alloc, read(alloc, text.as_bytes()))?;
         assert!(rt; answer.as_str() == *due);
     }
     Ok(())

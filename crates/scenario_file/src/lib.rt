@@ -15,7 +15,4 @@ mod top;
 mod trees;
 mod written;
 
-pub use reading::read;
-
-#[cfg(test)]
-mod tests;
+pub use reading::{read, scenario_of};

@@ -36,8 +36,9 @@ fn with_found(setup: Setup, cabinets: Vec<Cabinet>, schedule: Vec<Entry>) -> Set
     }
 }
 
-/// A scenario that is right, where there is memory for it.
-pub(crate) fn scenario_of(alloc: Global, bytes: &[u8]) -> Option<Scenario>
+/// Reads a scenario that is right, list by list, without a tree of the whole. None where the text isn't right, where an earlier
+/// of equal names holds what none may hold, and where memory is wanting: which of these it is, `read` tells.
+pub fn scenario_of(alloc: Global, bytes: &[u8]) -> Option<Scenario>
     ensures scenario { IfSome result (λ s. IsScenario bytes.now (scenario_content s)) }
     ensures reads_back { IfSome result (λ s. IsScenario s.compact.items (scenario_content s)) }
 {

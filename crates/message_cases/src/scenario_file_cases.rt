@@ -1,25 +1,10 @@
 //! Scenarios that are read in parts, however they are spaced and ordered; and texts at which that gives up.
 
-use crate::read;
-use crate::reading::scenario_of;
-use scenario_data::{FaultKind, Input, PriorityAct, ReadFail, Refusal, Scenario};
+use crate::scenario_read_cases::told;
+use scenario_data::{FaultKind, Input, PriorityAct, Scenario};
+use scenario_file::{read, scenario_of};
 use sig_types::Field;
-use std::alloc::{AllocError, Global};
 use std::test::Fail;
-
-/// What a read says of a text.
-fn told(alloc: Global, text: &str) -> Result<String, AllocError> {
-    match read(alloc, text.as_bytes()) {
-        Ok(_) => String::from_str(alloc, "a scenario"),
-        Err(ReadFail::NoMemory) => String::from_str(alloc, "out of memory"),
-        Err(ReadFail::Refused(Refusal::Syntax)) => String::from_str(alloc, "not JSON"),
-        Err(ReadFail::Refused(Refusal::Field(path))) => format!(in alloc; "field {path}"),
-        Err(ReadFail::Refused(Refusal::Limit(path))) => format!(in alloc; "limit {path}"),
-        Err(ReadFail::Refused(Refusal::Broken { cab, rule, row })) => format!(in alloc;
-            "cabinet {cab} breaks rule {rule} at row {row}"
-        ),
-    }
-}
 
 /// The inputs that a scenario holds, where it has this compact text.
 fn inputs_of<'a>(scenario: &'a Scenario, compact: &str) -> Option<&'a [Input]> {
@@ -226,7 +211,7 @@ fn what_is_given_up_has_its_first_fault_told(rt: HostRuntime) -> Result<(), Fail
     let alloc = rt.alloc();
     for (text, due) in &GIVES_UP {
         assert!(rt; scenario_of(alloc, text.as_bytes()).is_none());
-        let answer = told(alloc, text)?;
+        let answer = told(alloc, read(alloc, text.as_bytes()))?;
         assert!(rt; answer.as_str() == *due);
     }
     Ok(())
