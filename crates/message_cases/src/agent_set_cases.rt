@@ -5,6 +5,8 @@ use arrayvec::ArrayVec;
 use hex::decode as octets_of;
 use sig_tables::{Cell, CellValue, Tables};
 use sig_types::Request;
+use std::alloc::Global;
+use std::process::Abort;
 use std::test::Fail;
 
 /// Sets with a fault: its status and index.
@@ -191,16 +193,28 @@ const FAULTS: [(&str, &str, u8, u8); 30] = [
     ),
 ];
 
-#[test]
-fn the_first_fault_of_a_set_counts(rt: HostRuntime) -> Result<(), Fail> {
-    let tables = Tables::std8();
-    for (_, request, want_status, want_index) in FAULTS {
-        let ask = decode(&octets_of(rt.alloc(), request)?, b"public", &tables).ok_or("silent")?;
-        assert!(rt;
-            matches!(&ask.wish, Wish::Bad { status, index } if *status == want_status && *index == want_index)
-        );
+/// What a request wishes of a cabinet of the community `public` with the tables std8.
+fn wish_of(alloc: Global, request: &str) -> Result<Wish, Fail> {
+    let octets = octets_of(alloc, request)?;
+    let ask = decode(&octets, b"public", &Tables::std8()).ok_or("silent")?;
+    Ok(ask.wish)
+}
+
+/// Each Set has its fault.
+fn are_at_fault(rt: &impl Abort, alloc: Global, rows: &[(&str, &str, u8, u8)]) -> Result<(), Fail> {
+    for (shows, request, status, index) in rows {
+        let wanted = Wish::Bad {
+            status: *status,
+            index: *index,
+        };
+        assert!(rt; wish_of(alloc, request)? == wanted, "{shows}");
     }
     Ok(())
+}
+
+#[test]
+fn the_first_fault_of_a_set_counts(rt: HostRuntime) -> Result<(), Fail> {
+    are_at_fault(&rt, rt.alloc(), &FAULTS)
 }
 
 /// A Set of pattern control to 255, of the clock to 863,999, of a request and a cancel, of the patterns 1 and 254, and of the
@@ -213,8 +227,7 @@ const SET_NONE: &str = "301802010004067075626c6963a30b0201010201000201003000";
 
 #[test]
 fn good_sets_give_their_orders_in_order(rt: HostRuntime) -> Result<(), Fail> {
-    let tables = Tables::std8();
-    let ask = decode(&octets_of(rt.alloc(), SET_SEVEN)?, b"public", &tables).ok_or("silent")?;
+    let wish = wish_of(rt.alloc(), SET_SEVEN)?;
     let request = Request {
         number: 1,
         class: 2,
@@ -232,11 +245,9 @@ fn good_sets_give_their_orders_in_order(rt: HostRuntime) -> Result<(), Fail> {
         Order::Pattern(254),
         Order::Clock(0),
     ];
-    assert!(rt;
-        matches!(&ask.wish, Wish::Direct(orders) if orders.as_slice() == wanted.as_slice())
-    );
-    let ask = decode(&octets_of(rt.alloc(), SET_NONE)?, b"public", &tables).ok_or("silent")?;
-    assert!(rt; matches!(&ask.wish, Wish::Direct(orders) if orders.is_empty()));
+    assert!(rt; matches!(&wish, Wish::Direct(orders) if orders.as_slice() == wanted.as_slice()));
+    let wish = wish_of(rt.alloc(), SET_NONE)?;
+    assert!(rt; matches!(&wish, Wish::Direct(orders) if orders.is_empty()));
     Ok(())
 }
 
@@ -260,14 +271,18 @@ const STEPS: [(&str, Wish); 3] = [
     ),
 ];
 
+/// Each request has its wish.
+fn are_wished(rt: &impl Abort, alloc: Global, rows: &[(&str, Wish)]) -> Result<(), Fail> {
+    for (request, wanted) in rows {
+        assert!(rt; wish_of(alloc, request)? == *wanted);
+    }
+    Ok(())
+}
+
 #[test]
 fn sets_of_a_download_go_to_its_stage(rt: HostRuntime) -> Result<(), Fail> {
-    let tables = Tables::std8();
-    for (request, wanted) in STEPS {
-        let ask = decode(&octets_of(rt.alloc(), request)?, b"public", &tables).ok_or("silent")?;
-        assert!(rt; ask.wish == wanted);
-    }
-    let ask = decode(&octets_of(rt.alloc(), PART)?, b"public", &tables).ok_or("silent")?;
+    are_wished(&rt, rt.alloc(), &STEPS)?;
+    let wish = wish_of(rt.alloc(), PART)?;
     let mut phases = ArrayVec::new();
     phases.push(5);
     phases.push(6);
@@ -288,7 +303,7 @@ fn sets_of_a_download_go_to_its_stage(rt: HostRuntime) -> Result<(), Fail> {
         ),
     ];
     assert!(rt;
-        matches!(&ask.wish, Wish::Part(2147483647, 60000, puts) if puts.as_slice() == wanted.as_slice())
+        matches!(&wish, Wish::Part(2147483647, 60000, puts) if puts.as_slice() == wanted.as_slice())
     );
     Ok(())
 }
