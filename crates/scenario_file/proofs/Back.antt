@@ -1,4 +1,4 @@
--- The compact text of a value that was read, and has no float, is read as that value.
+-- The compact text of a value whose numbers were read, and which has no float, is read as that value.
 use Rattle.std.proofs.Common.{◌≡◌, ℕ, suc, max, ◌≤◌, List, [], false, Option, Some, None, option_map, option_and_then, Ordering, Less, Equal, Greater, nat_cmp, refl, sym, ap, ap₂, ◌∙◌, subst, arith, append-nil}
 use Rattle.std.specs.Prelude.{⊤}
 use Rattle.std.proofs.lemmas.Bool.{or_parts}
@@ -6,6 +6,7 @@ use Rattle.std.proofs.lemmas.Cmp.{nat_list_cmp_total}
 use Rattle.std.specs.Cmp.Lexicographic.{slice_cmp}
 use Rattle.std.specs.Ordering.{match_ordering, ordering_reverse}
 use Rattle.json.specs.Lex.{tokens}
+use Rattle.json.specs.Print.{print}
 use Rattle.json.specs.Json as json
 use Rattle.json.specs.Tree as tree
 use Rattle.json.specs.Tree.{json_tokens, HasNumbers, ItemsHaveNumbers, MembersHaveNumbers}
@@ -15,11 +16,11 @@ use Rattle.serde_json.specs.Data.{Data, null, boolean, number, string, array, ob
 use Rattle.serde_json.specs.Read.{number_of, of_json, of_items, of_members, max_depth, read}
 use Rattle.serde_json.specs.Written.{outline, items_outline, members_outline, has_float, items_have_float, members_have_float, compact_text}
 use Rattle.serde_json.proofs.Texts.{print-outline}
-use Rattle.serde_json.proofs.Nesting.{depth-read}
 use Rattle.scenario_read.specs.Sorted.{Below, Sorted, ItemsSorted, MembersSorted}
-use Rattle.scenario_read.proofs.Rising.{read-sorted}
+use Rattle.serde_json.specs.Find.{get}
 use Rattle.scenario_cut.proofs.Turns.{whole}
-use Rattle.scenario_file.proofs.Numerals.{IfFound, number-numeral}
+use Rattle.scenario_file.proofs.Putting.{Each, each-there}
+use Rattle.scenario_file.proofs.Numerals.{IfFound, found-map, found-then, IsNumeral, number-numeral}
 
 -- what is written for the value has numbers, and is this value
 pub record IsWritten (d : Data) : Type 0 where
@@ -110,49 +111,103 @@ array-back ds each = λ sorted plain. let inner = items-back ds each sorted plai
 object-back : (ms : Members) → AllBack ms → IsBack (object ms)
 object-back ms all = λ sorted plain. let inner = members-back ms no_members all sorted plain (under-none ms) in record { numbers = inner.0; back = ap (option_map object) inner.1 }
 
--- ---- whatever was read is so
+-- ---- whatever has such numbers is so
 
-found-map : {A B : Type 0} (P : A → Type 0) (Q : B → Type 0) (f : A → B) → ((a : A) → P a → Q (f a)) → (o : Option A) → IfFound P o → IfFound Q (option_map f o)
-found-map P Q f step None h = tt
-found-map P Q f step (Some a) h = step a h
+-- each number's own text is one, and is read as this number
+abbrev mutual
+  pub HasNumerals : Data → Type 0
+  HasNumerals null = ⊤
+  HasNumerals (boolean b) = ⊤
+  HasNumerals (number n) = IsNumeral n
+  HasNumerals (string s) = ⊤
+  HasNumerals (array ds) = ItemsHaveNumerals ds
+  HasNumerals (object ms) = MembersHaveNumerals ms
 
-found-then : {A B : Type 0} (P : A → Type 0) (Q : B → Type 0) (f : A → Option B) → ((a : A) → P a → IfFound Q (f a)) → (o : Option A) → IfFound P o → IfFound Q (option_and_then f o)
-found-then P Q f step None h = tt
-found-then P Q f step (Some a) h = step a h
+  pub ItemsHaveNumerals : Items → Type 0
+  ItemsHaveNumerals no_items = ⊤
+  ItemsHaveNumerals (item d ds) = HasNumerals d × ItemsHaveNumerals ds
+
+  pub MembersHaveNumerals : Members → Type 0
+  MembersHaveNumerals no_members = ⊤
+  MembersHaveNumerals (member k d ms) = HasNumerals d × MembersHaveNumerals ms
+
+mutual
+  back : (d : Data) → HasNumerals d → IsBack d
+  back null h = λ sorted plain. record { numbers = tt; back = refl }
+  back (boolean b) h = λ sorted plain. record { numbers = tt; back = refl }
+  back (number n) h = λ sorted plain. let text = h plain in record { numbers = text.0; back = ap (option_map number) text.1 }
+  back (string s) h = λ sorted plain. record { numbers = tt; back = refl }
+  back (array ds) h = array-back ds (each-back ds h)
+  back (object ms) h = object-back ms (all-back ms h)
+
+  each-back : (ds : Items) → ItemsHaveNumerals ds → EachBack ds
+  each-back no_items h = tt
+  each-back (item d ds) h = (back d h.0, each-back ds h.1)
+
+  all-back : (ms : Members) → MembersHaveNumerals ms → AllBack ms
+  all-back no_members h = tt
+  all-back (member k d ms) h = (back d h.0, all-back ms h.1)
+
+-- ---- whatever was read has such numbers
 
 any : {A : Type 0} (o : Option A) → IfFound (λ a. ⊤) o
 any None = tt
 any (Some a) = tt
 
-put-back : (k : List ℕ) (d : Data) (ms : Members) → IsBack d → AllBack ms → AllBack (put k d ms)
-put-back k d no_members here all = (here, tt)
-put-back k d (member l e ms) here all = at (put-back k d ms here all.1) (slice_cmp nat_cmp k l)
+pub numerals-put : (k : List ℕ) (d : Data) (ms : Members) → HasNumerals d → MembersHaveNumerals ms → MembersHaveNumerals (put k d ms)
+numerals-put k d no_members here all = (here, tt)
+numerals-put k d (member l e ms) here all = at (numerals-put k d ms here all.1) (slice_cmp nat_cmp k l)
   where
-    at : AllBack (put k d ms) → (o : Ordering) → AllBack (match_ordering o (member k d (member l e ms)) (member l d ms) (member l e (put k d ms)))
+    at : MembersHaveNumerals (put k d ms) → (o : Ordering) → MembersHaveNumerals (match_ordering o (member k d (member l e ms)) (member l d ms) (member l e (put k d ms)))
     at rest Less = (here, all)
     at rest Equal = (here, all.1)
     at rest Greater = (all.0, rest)
 
 mutual
-  of_json-back : (j : json.Json) → IfFound IsBack (of_json j)
-  of_json-back json.null = λ sorted plain. record { numbers = tt; back = refl }
-  of_json-back (json.boolean b) = λ sorted plain. record { numbers = tt; back = refl }
-  of_json-back (json.number s) =
-      found-map _ IsBack number (λ n numeral. λ sorted plain. let text = numeral plain in record { numbers = text.0; back = ap (option_map number) text.1 }) (number_of s) (number-numeral s)
-  of_json-back (json.string s) = λ sorted plain. record { numbers = tt; back = refl }
-  of_json-back (json.array js) = found-map EachBack IsBack array array-back (of_items js) (of_items-back js)
-  of_json-back (json.object ms) = found-map AllBack IsBack object object-back (of_members ms no_members) (of_members-back ms no_members tt)
+  of_json-numerals : (j : json.Json) → IfFound HasNumerals (of_json j)
+  of_json-numerals json.null = tt
+  of_json-numerals (json.boolean b) = tt
+  of_json-numerals (json.number s) = found-map IsNumeral HasNumerals number (λ n numeral. numeral) (number_of s) (number-numeral s)
+  of_json-numerals (json.string s) = tt
+  of_json-numerals (json.array js) = found-map ItemsHaveNumerals HasNumerals array (λ ds h. h) (of_items js) (of_items-numerals js)
+  of_json-numerals (json.object ms) = found-map MembersHaveNumerals HasNumerals object (λ found h. h) (of_members ms no_members) (of_members-numerals ms no_members tt)
 
-  of_items-back : (js : json.Items) → IfFound EachBack (of_items js)
-  of_items-back json.no_items = tt
-  of_items-back (json.item j js) =
-      found-then IsBack EachBack (λ d. option_map (item d) (of_items js))
-      (λ d here. found-map EachBack EachBack (item d) (λ ds rest. (here, rest)) (of_items js) (of_items-back js)) (of_json j) (of_json-back j)
+  of_items-numerals : (js : json.Items) → IfFound ItemsHaveNumerals (of_items js)
+  of_items-numerals json.no_items = tt
+  of_items-numerals (json.item j js) =
+      found-then HasNumerals ItemsHaveNumerals (λ d. option_map (item d) (of_items js))
+      (λ d here. found-map ItemsHaveNumerals ItemsHaveNumerals (item d) (λ ds rest. (here, rest)) (of_items js) (of_items-numerals js)) (of_json j) (of_json-numerals j)
 
-  of_members-back : (ms : json.Members) (found : Members) → AllBack found → IfFound AllBack (of_members ms found)
-  of_members-back json.no_members found all = all
-  of_members-back (json.member name j ms) found all =
-      found-then IsBack AllBack (λ d. of_members ms (put name d found)) (λ d here. of_members-back ms (put name d found) (put-back name d found here all)) (of_json j) (of_json-back j)
+  of_members-numerals : (ms : json.Members) (found : Members) → MembersHaveNumerals found → IfFound MembersHaveNumerals (of_members ms found)
+  of_members-numerals json.no_members found all = all
+  of_members-numerals (json.member name j ms) found all =
+      found-then HasNumerals MembersHaveNumerals (λ d. of_members ms (put name d found))
+      (λ d here. of_members-numerals ms (put name d found) (numerals-put name d found here all)) (of_json j) (of_json-numerals j)
+
+-- what a text's tree gives
+pub tree-numerals : (j : json.Json) (d : Data) → of_json j ≡ Some d → HasNumerals d
+tree-numerals j d e = subst (IfFound HasNumerals) e (of_json-numerals j)
+
+-- so has what stands at a name
+pub numerals-there : (k : List ℕ) (d v : Data) → get k d ≡ Some v → HasNumerals d → HasNumerals v
+numerals-there k null v e h = absurd (cc)
+numerals-there k (boolean b) v e h = absurd (cc)
+numerals-there k (number n) v e h = absurd (cc)
+numerals-there k (string s) v e h = absurd (cc)
+numerals-there k (array ds) v e h = absurd (cc)
+numerals-there k (object ms) v e h = each-there HasNumerals k ms v e (each ms h)
+  where
+    each : (ms : Members) → MembersHaveNumerals ms → Each HasNumerals ms
+    each no_members h = tt
+    each (member l e ms) h = (h.0, each ms h.1)
+
+-- a value that was read comes from a tree
+pub tree-of : (bytes : List ℕ) (d : Data) → read bytes ≡ Some d → (j : json.Json) × (of_json j ≡ Some d)
+tree-of bytes d e = from (option_and_then (λ p. json.if_last p.0 p.1) (json.value max_depth (tokens bytes))) e
+  where
+    from : (o : Option json.Json) → option_and_then of_json o ≡ Some d → (j : json.Json) × (of_json j ≡ Some d)
+    from None f = absurd (cc)
+    from (Some j) f = (j, f)
 
 -- what is written nests as deep as the value
 mutual
@@ -172,14 +227,16 @@ mutual
   members-depth no_members = refl
   members-depth (member k d ms) = ap₂ max (outline-depth d) (members-depth ms)
 
-is-back : (bytes : List ℕ) (d : Data) → read bytes ≡ Some d → IsBack d
-is-back bytes d e =
-    subst (IfFound IsBack) e (found-then (λ j. ⊤) IsBack of_json (λ j h. of_json-back j) (option_and_then (λ p. json.if_last p.0 p.1) (json.value max_depth (tokens bytes))) (any _))
+-- it is printed from its tokens
+same-tokens : (d : Data) → IsWritten d → tokens (compact_text d) ≡ json_tokens (outline d)
+same-tokens d written = ap tokens (sym (print-outline d)) ∙ tokens-print (json_tokens (outline d)) (ArePrintable-json_tokens (outline d) written.numbers)
 
-pub reads-back : (bytes : List ℕ) (d : Data) → read bytes ≡ Some d → has_float d ≡ false → read (compact_text d) ≡ Some d
-reads-back bytes d e plain =
-    let written = is-back bytes d e (read-sorted bytes d e) plain in
+pub text-tokens : (d : Data) → HasNumerals d → Sorted d → has_float d ≡ false → compact_text d ≡ print (tokens (compact_text d))
+text-tokens d numerals sorted plain = sym (print-outline d) ∙ ap print (sym (same-tokens d (back d numerals sorted plain)))
+
+pub reads-back : (d : Data) → HasNumerals d → Sorted d → depth d ≤ max_depth → has_float d ≡ false → read (compact_text d) ≡ Some d
+reads-back d numerals sorted nests plain =
+    let written = back d numerals sorted plain in
     let j = outline d in
-    let shallow : tree.depth j ≤ max_depth = omega (arith, outline-depth d, depth-read bytes d e) in
-    let text : tokens (compact_text d) ≡ json_tokens j = ap tokens (sym (print-outline d)) ∙ tokens-print (json_tokens j) (ArePrintable-json_tokens j written.numbers) in
-    ap whole (ap (json.value max_depth) (text ∙ sym (append-nil (json_tokens j))) ∙ value-json_tokens j max_depth [] shallow) ∙ written.back
+    let shallow : tree.depth j ≤ max_depth = omega (arith, outline-depth d, nests) in
+    ap whole (ap (json.value max_depth) (same-tokens d written ∙ sym (append-nil (json_tokens j))) ∙ value-json_tokens j max_depth [] shallow) ∙ written.back

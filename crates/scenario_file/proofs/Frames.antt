@@ -23,7 +23,7 @@ not-less o a b = cc
 pub not-greater : (o : Ordering) → o ≡ Greater → o ≡ Equal → ⊥
 not-greater o a b = cc
 
-Below-chain : (low name : List ℕ) (ms : Members) → slice_cmp nat_cmp low name ≡ Less → Below name ms → Below low ms
+pub Below-chain : (low name : List ℕ) (ms : Members) → slice_cmp nat_cmp low name ≡ Less → Below name ms → Below low ms
 Below-chain low name no_members less below = tt
 Below-chain low name (member other d ms) less below = (nat_list_cmp_total.trans low name other less below.0, Below-chain low name ms less below.1)
 
@@ -102,8 +102,8 @@ enters-list l rows ds standing is =
     }
 
 -- the master with its schedule, where it stands in the frame without
-pub enters-master : (rows : List ℕ → Items) (ds : Items) (ms : Members) → Enters (value_in rows) (value_in (with_rows rows (codes "schedule") ds)) (codes "master") (object (filled (scheduled ds) ms)) (object ms)
-enters-master rows ds ms = record { here = refl; others = λ name apart e. at name apart e (is_list name) refl }
+pub enters-master : (rows : List ℕ → Items) (ds : Items) (m : Data) → Enters (value_in rows) (value_in (with_rows rows (codes "schedule") ds)) (codes "master") (master_with ds m) m
+enters-master rows ds m = record { here = refl; others = λ name apart e. at name apart e (is_list name) refl }
   where
     at : (name : List ℕ) → bytes_eq name (codes "master") ≡ false → (e : Data) → (b : Bool) → is_list name ≡ b
         → (if b then array (rows name) else (if bytes_eq name (codes "master") then master_with (rows (codes "schedule")) e else e))

@@ -11,4 +11,7 @@ pub mod Masters
 pub mod Faultless
 pub mod Numerals
 pub mod Back
+pub mod Depths
+pub mod Putting
+pub mod Parts
 pub mod Right

@@ -1,5 +1,5 @@
 -- The text of a number that was read is read as the same number.
-use Rattle.std.proofs.Common.{◌≡◌, ℕ, zero, suc, ◌^◌, ◌<◌, ◌≤◌, ◌==◌, ◌&&◌, nat_lt, nat_le, List, drop, get_or, Bool, true, false, Float, negsuc, if◌then◌else◌, Option, Some, None, refl, arith}
+use Rattle.std.proofs.Common.{◌≡◌, ℕ, zero, suc, ◌^◌, ◌<◌, ◌≤◌, ◌==◌, ◌&&◌, nat_lt, nat_le, List, drop, get_or, Bool, true, false, Float, negsuc, if◌then◌else◌, Option, Some, None, option_map, option_and_then, refl, arith}
 use Rattle.std.specs.Prelude.{⊤}
 use Rattle.std.proofs.lemmas.Bool.{and_parts, leb-true, ltb-true}
 use Rattle.std.specs.Float.{binary64, float_is_finite}
@@ -16,6 +16,14 @@ use Rattle.serde_json.proofs.Numbers.{number_of-decimal, number_of-negative}
 abbrev pub IfFound : {A : Type 0} → (A → Type 0) → Option A → Type 0
 IfFound P None = ⊤
 IfFound P (Some a) = P a
+
+pub found-map : {A B : Type 0} (P : A → Type 0) (Q : B → Type 0) (f : A → B) → ((a : A) → P a → Q (f a)) → (o : Option A) → IfFound P o → IfFound Q (option_map f o)
+found-map P Q f step None h = tt
+found-map P Q f step (Some a) h = step a h
+
+pub found-then : {A B : Type 0} (P : A → Type 0) (Q : B → Type 0) (f : A → Option B) → ((a : A) → P a → IfFound Q (f a)) → (o : Option A) → IfFound P o → IfFound Q (option_and_then f o)
+found-then P Q f step None h = tt
+found-then P Q f step (Some a) h = step a h
 
 -- the number's own text is one, and is read as this number
 abbrev pub IsNumeral : Num → Type 0
@@ -58,3 +66,7 @@ number-numeral s = at (get_or s 0 0 == 45)
     at : (b : Bool) → IfFound IsNumeral (if b then number_from true (scan (drop 1 s)) else number_from false (scan s))
     at true = negative-numeral (scan (drop 1 s))
     at false = unsigned-numeral (scan s)
+
+-- so of a number of 64 bits
+pub small-numeral : (n : ℕ) → n < 2 ^ 64 → IsNumeral (unsigned n)
+small-numeral n less = λ e. (IsNumber-decimal n less, number_of-decimal n less)

@@ -16,7 +16,7 @@ use Rattle.scenario_file.specs.Framing.{is_list, text_named, stand_in, with_rows
 use Rattle.scenario_file.proofs.Growth.{all-further}
 use Rattle.scenario_file.proofs.Frames.{by-name}
 
-apart : (k l : List ℕ) → bytes_eq k l ≡ false → l ≡ k → ⊥
+pub apart : (k l : List ℕ) → bytes_eq k l ≡ false → l ≡ k → ⊥
 apart k l other same =
     let both : bytes_eq k l ≡ true = (bytes_eq-Decides k l).1 (sym same) in
     let clash : true ≡ false = sym both ∙ other in

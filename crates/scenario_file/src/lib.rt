@@ -1,6 +1,7 @@
 //! The scenario file, read with little memory: the lists of the cabinets, of what happens in the rounds and of the master's
 //! schedule, which may be most of a file, are read item by item, and only what stands beside them becomes a tree. What a
-//! scenario is, and what is refused, is as in `scenario_read`.
+//! scenario is, and what is refused, is as in `scenario_read`. A scenario inside another file is read so too, with its text in parts,
+//! which takes further inputs and another schedule.
 #![tactic(auto)]
 
 mod compact;
@@ -9,10 +10,14 @@ mod found;
 mod listed;
 mod lists;
 mod master;
+mod members;
 mod pieces;
 mod reading;
+mod source;
 mod top;
 mod trees;
 mod written;
 
+pub use members::{put_in_master, put_named};
 pub use reading::{read, scenario_of};
+pub use source::{ScenarioText, Source, scenario_at};

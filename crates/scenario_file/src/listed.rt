@@ -8,7 +8,6 @@ ghost use Rattle.scenario_cut.specs.Growing.{both};
 ghost use Rattle.scenario_file.specs.Listing.{Holds, Lists, name_of};
 
 use crate::found::{Found, Reach, add_item};
-use crate::pieces::{comma, piece_of};
 use crate::trees::{ITEM, tree};
 use crate::written::Written;
 use json::{Reader, Token};
@@ -38,9 +37,7 @@ fn next_item(
 {
     let object = tree(alloc, reader, depth, &ITEM)?;
     let reach = add_item(alloc, &object, &mut listed.found)?;
-    let piece = piece_of(alloc, &object)?;
-    listed.text.add(comma(listed.some))?;
-    listed.text.add(piece.as_str())?;
+    listed.text.add_value(alloc, &object, listed.some)?;
     listed.some = true;
     listed.last = listed.last.farthest(reach);
     Some(())

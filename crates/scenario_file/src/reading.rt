@@ -2,39 +2,15 @@
 //! is kept on which its first fault may hang. The reader of the whole value is left what neither decides: a right scenario in
 //! which an earlier of equal names holds what none may hold.
 
-ghost use Rattle.std.specs.Prelude.{◌≡◌, IfOk, IfErr, IfSome};
+ghost use Rattle.std.specs.Prelude.{IfOk, IfErr, IfSome};
 ghost use Rattle.scenario_data.specs.Content.{scenario_content};
 ghost use Rattle.scenario_read.specs.Answers.{IsScenario, IsFirstFault, OnRefusal};
-ghost use Rattle.scenario_file.specs.Framing.{setup_with};
 
-use crate::compact::compact;
-use crate::lists::Lists;
-use crate::top::{Whole, whole_of};
+use crate::source::{Source, source_of};
+use crate::top::whole_of;
 use scenario_cut::first_fault;
-use scenario_data::{Cabinet, Entry, MasterSetup, ReadFail, Scenario};
-use scenario_read::{Parts, Setup, all_judged, checked_parts, scenario_from};
-use serde_json::Value;
+use scenario_data::{ReadFail, Scenario};
 use std::alloc::Global;
-
-/// The same setup, with these cabinets and this schedule.
-fn with_found(setup: Setup, cabinets: Vec<Cabinet>, schedule: Vec<Entry>) -> Setup
-    ensures { result ≡ setup_with setup cabinets schedule }
-{
-    let Setup {
-        rounds,
-        ticks,
-        community,
-        master,
-        ..
-    } = setup;
-    Setup {
-        rounds,
-        ticks,
-        community,
-        cabinets,
-        master: MasterSetup { schedule, ..master },
-    }
-}
 
 /// Reads a scenario that is right, list by list, without a tree of the whole. None where the text isn't right, where an earlier
 /// of equal names holds what none may hold, and where memory is wanting: which of these it is, `read` tells.
@@ -43,32 +19,8 @@ pub fn scenario_of(alloc: Global, bytes: &[u8]) -> Option<Scenario>
     ensures reads_back { IfSome result (λ s. IsScenario s.compact.items (scenario_content s)) }
 {
     let whole = whole_of(alloc, bytes)?;
-    let Whole { frame, lists } = whole;
-    let Lists {
-        cabinets,
-        schedule,
-        events,
-        texts,
-        last,
-    } = lists;
-    let text = compact(alloc, &frame, &texts, bytes.len())?;
-    let Ok(parts) = checked_parts(alloc, &Value::Object(frame)) else {
-        return None;
-    };
-    let Parts { version, setup, .. } = parts;
-    if !last.lies_within(version, setup.rounds, setup.cabinets.len()) {
-        return None;
-    }
-    match all_judged(&cabinets) {
-        Ok(()) => {}
-        Err(_) => return None,
-    }
-    let parts = Parts {
-        version,
-        setup: with_found(setup, cabinets, schedule),
-        events,
-    };
-    Some(scenario_from(parts, text.into_bytes()))
+    let Source { scenario, .. } = source_of(alloc, whole, bytes.len())?;
+    Some(scenario)
 }
 
 /// Reads a scenario, in time and memory that grow with its bytes. The refusal is the first fault in the order of the

@@ -1,7 +1,7 @@
 //! The whole text of a scenario: an object whose lists are read item by item, and whose other members become a tree, with
 //! a list of empty objects where the cabinets stand, and an empty list where another list does.
 
-ghost use Rattle.std.specs.Prelude.{◌≡◌, ◌<◌, ℕ, List, true, length, Some, IfSome, IsUtf8, codes};
+ghost use Rattle.std.specs.Prelude.{◌≡◌, ◌<◌, ◌≤◌, ℕ, List, true, length, Some, IfSome, IsUtf8, codes};
 ghost use Rattle.json.specs.Json.{value, members};
 ghost use Rattle.serde_json.specs.Data.{Data, Items, object, no_members, no_items};
 ghost use Rattle.serde_json.specs.Read.{of_json, of_members, converted, read};
@@ -26,62 +26,68 @@ pub(crate) struct Whole<'a> {
     pub lists: Lists<'a>,
 }
 
-/// Reads a list, and gives what stands for it.
+/// Reads a list that is nested at most so deep, and gives what stands for it.
 fn list_member<'a>(
     alloc: Global,
     reader: &mut Reader<'_>,
+    depth: usize,
     found: Found,
     lists: &mut Lists<'a>,
     file: &'a [u8],
 ) -> Option<Value>
+    requires deep { 1 ≤ depth }
     requires top { is_list (name_of found) ≡ true }
     requires begins { Holds found no_items }
-    ensures ok { IfSome result (λ v. (d : Data) × (converted of_json (value 126 reader.old) ≡ Some (d, reader.new)) × Puts lists.old lists.new (name_of found) d (view v)) }
+    ensures ok { IfSome result (λ v. (d : Data) × (converted of_json (value depth reader.old) ≡ Some (d, reader.new)) × Puts lists.old lists.new (name_of found) d (view v)) }
     ensures sorted { IfSome result (λ v. Sorted (view v)) }
     ensures shorter { IfSome result (λ _. length reader.new < length reader.old) }
 {
-    let listed = list_at(alloc, reader, found, 125, file)?;
+    let listed = list_at(alloc, reader, found, depth - 1, file)?;
     let standing = stand_in(alloc, &listed.found)?;
     put_list(lists, listed);
     Some(standing)
 }
 
-/// Reads the master, and gives what stands for it.
+/// Reads the master, nested at most so deep, and gives what stands for it.
 fn master_member<'a>(
     alloc: Global,
     reader: &mut Reader<'_>,
+    depth: usize,
     lists: &mut Lists<'a>,
     file: &'a [u8],
 ) -> Option<Value>
-    ensures ok { IfSome result (λ v. (d : Data) × (converted of_json (value 126 reader.old) ≡ Some (d, reader.new)) × Puts lists.old lists.new (codes "master") d (view v)) }
+    requires deep { 2 ≤ depth }
+    ensures ok { IfSome result (λ v. (d : Data) × (converted of_json (value depth reader.old) ≡ Some (d, reader.new)) × Puts lists.old lists.new (codes "master") d (view v)) }
     ensures sorted { IfSome result (λ v. Sorted (view v)) }
     ensures shorter { IfSome result (λ _. length reader.new < length reader.old) }
 {
-    let master = master_at(alloc, reader, file)?;
+    let master = master_at(alloc, reader, depth, file)?;
     let Master { members, schedule } = master;
     put_list(lists, schedule);
     Some(Value::Object(members))
 }
 
-/// Reads what stands at the next name, and gives what stands for it in the frame.
+/// Reads what stands at the next name, nested at most so deep, and gives what stands for it in the frame.
 fn member_at<'a>(
     alloc: Global,
     reader: &mut Reader<'_>,
+    depth: usize,
     name: &str,
     lists: &mut Lists<'a>,
     file: &'a [u8],
 ) -> Option<Value>
-    ensures ok { IfSome result (λ v. (d : Data) × (converted of_json (value 126 reader.old) ≡ Some (d, reader.new)) × Puts lists.old lists.new name.now d (view v)) }
+    requires deep { 2 ≤ depth }
+    ensures ok { IfSome result (λ v. (d : Data) × (converted of_json (value depth reader.old) ≡ Some (d, reader.new)) × Puts lists.old lists.new name.now d (view v)) }
     ensures sorted { IfSome result (λ v. Sorted (view v)) }
     ensures shorter { IfSome result (λ _. length reader.new < length reader.old) }
 {
     match list_named(alloc, name) {
-        Some(found) => list_member(alloc, reader, found, lists, file),
+        Some(found) => list_member(alloc, reader, depth, found, lists, file),
         None => {
             if name == "master" {
-                master_member(alloc, reader, lists, file)
+                master_member(alloc, reader, depth, lists, file)
             } else {
-                match tree(alloc, reader, 126, &[]) {
+                match tree(alloc, reader, depth, &[]) {
                     Some(value) => Some(value),
                     None => None,
                 }
@@ -90,12 +96,19 @@ fn member_at<'a>(
     }
 }
 
-/// The members up to the brace that closes the whole object. Of equal names the last counts.
-fn members_of<'a>(alloc: Global, reader: &mut Reader<'_>, file: &'a [u8]) -> Option<Whole<'a>>
+/// The members up to the brace that closes the whole object, each nested at most so deep. Of equal names the last counts.
+pub(crate) fn members_of<'a>(
+    alloc: Global,
+    reader: &mut Reader<'_>,
+    depth: usize,
+    file: &'a [u8],
+) -> Option<Whole<'a>>
+    requires deep { 2 ≤ depth }
     ensures ok { IfSome result (λ whole. (rows : List ℕ → Items)
-        × (converted (λ ms. of_members ms no_members) (members (value 126) (length reader.old) reader.old) ≡ Some (with_lists rows (members_view whole.frame.entries), reader.new))
+        × (converted (λ ms. of_members ms no_members) (members (value depth) (length reader.old) reader.old) ≡ Some (with_lists rows (members_view whole.frame.entries), reader.new))
         × AllStand whole.lists (members_view whole.frame.entries) rows) }
     ensures sorted { IfSome result (λ whole. MembersSorted (members_view whole.frame.entries)) }
+    ensures shorter { IfSome result (λ _. length reader.new < length reader.old) }
 {
     let mut frame = Map::new(alloc);
     let mut lists = no_lists(alloc);
@@ -109,7 +122,7 @@ fn members_of<'a>(alloc: Global, reader: &mut Reader<'_>, file: &'a [u8]) -> Opt
             Ok(key) => key,
             Err(_) => return None,
         };
-        let value = member_at(alloc, reader, name, &mut lists, file)?;
+        let value = member_at(alloc, reader, depth, name, &mut lists, file)?;
         put_member(&mut frame, key, value)?;
     }
 }
@@ -133,7 +146,7 @@ pub(crate) fn whole_of<'a>(alloc: Global, bytes: &'a [u8]) -> Option<Whole<'a>>
         Some(Token::BeginObject) => {}
         _ => return None,
     }
-    let whole = members_of(alloc, &mut reader, bytes)?;
+    let whole = members_of(alloc, &mut reader, 126, bytes)?;
     match reader.next() {
         Some(_) => None,
         None => Some(whole),

@@ -3,7 +3,8 @@
 
 ghost use Rattle.std.specs.Prelude.{◌≤◌, length};
 
-use crate::pieces::add;
+use crate::pieces::{add, comma, piece_of};
+use serde_json::Value;
 use std::alloc::Global;
 
 /// A text: the first `len` bytes of a part of the file, and what follows them.
@@ -16,7 +17,9 @@ pub(crate) struct Written<'a> {
 }
 
 impl<'a> Written<'a> {
-    ghost use Rattle.std.specs.Prelude.{◌≡◌, ◌+◌, ◌++◌, [], take, drop, IsTrue, IfSome, string_bytes};
+    ghost use Rattle.std.specs.Prelude.{◌≡◌, ◌+◌, ◌++◌, [], take, drop, false, IsTrue, IfSome, string_bytes};
+    ghost use Rattle.serde_json.specs.View.{view};
+    ghost use Rattle.serde_json.specs.Written.{has_float, comma_if, compact_text};
     ghost use Rattle.scenario_file.specs.Growing.{written};
 
     /// No text yet, in a file that may have it from this place on.
@@ -64,6 +67,16 @@ impl<'a> Written<'a> {
             return Some(());
         }
         add(&mut self.further, piece)
+    }
+
+    /// Adds the compact text of a value, behind a comma where one stands before.
+    pub(crate) fn add_value(&mut self, alloc: Global, value: &Value, later: bool) -> Option<()>
+        ensures { IfSome result (λ _. has_float (view value.now) ≡ false → written self.new ≡ (written self.old ++ comma_if later) ++ compact_text (view value.now)) }
+    {
+        let piece = piece_of(alloc, value)?;
+        self.add(comma(later))?;
+        self.add(piece.as_str())?;
+        Some(())
     }
 
     /// Adds the text to another.

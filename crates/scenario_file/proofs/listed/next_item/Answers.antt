@@ -1,10 +1,9 @@
-use Rattle.std.proofs.Common.{◌≡◌, ◌++◌, false, refl, ap, ◌∙◌}
+use Rattle.std.proofs.Common.{◌≡◌, false, refl}
 use Rattle.json.specs.Json.{value}
 use Rattle.serde_json.specs.Read.{of_json}
 use Rattle.serde_json.specs.View.{view}
-use Rattle.serde_json.specs.Written.{has_float, compact_text}
+use Rattle.serde_json.specs.Written.{has_float}
 use Rattle.scenario_read.proofs.Rising.{tree-sorted}
-use Rattle.scenario_file.specs.Growing.{written}
 use Rattle.scenario_cut.proofs.Turns.{converted_some}
 use Rattle.scenario_file.proofs.Growth.{lists-next}
 use Rattle.scenario_file.proofs.listed.next_item.Goals as goal
@@ -15,7 +14,7 @@ returns-clause-ok c =
     let tree = converted_some of_json (value c.args.depth c.args.reader.now) d c.tree.new.reader c.in_ok-object.ensures.ok in
     let added = c.in_ok-reach.ensures in
     let plain : has_float d ≡ false = added.floatless (tree-sorted tree.0 d tree.2) in
-    let text = c.in_ok-add-2.ensures ∙ ap (λ s. written c.add.new.self ++ s) (c.as_str.ensures.value ∙ c.in_ok-piece.ensures plain) ∙ ap (λ s. s ++ compact_text d) (c.in_ok-add.ensures ∙ ap (λ s. written c.args.listed.now.text ++ s) c.comma.ensures) in
+    let text = c.in_ok-add_value.ensures plain in
     let far = c.farthest-listed.ensures in (
       d,
       c.in_ok-object.ensures.ok,

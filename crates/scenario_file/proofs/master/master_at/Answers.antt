@@ -1,4 +1,4 @@
-use Rattle.std.proofs.Common.{◌≡◌, ◌∷◌, length, ap, ◌∙◌, arith}
+use Rattle.std.proofs.Common.{◌≡◌, ◌∷◌, ◌-◌, length, ap, ◌∙◌, arith}
 use Rattle.json.specs.Token.{Token}
 use Rattle.json.specs.Json.{value, members, parse_map}
 use Rattle.json.specs.Reads.{token_of}
@@ -12,6 +12,6 @@ pub returns-in-Some-clause-ok : goal.returns-in-Some-clause-ok
 returns-in-Some-clause-ok c =
     let rest = c.next.new.self in
     let first : c.args.reader.now ≡ Token.begin_object ∷ rest = c.in-Some-BeginObject.ensures.value ∙ ap (λ k. token_of k ∷ rest) c.in-Some-BeginObject.field-0-is in
-    let opened = ap (converted of_json) (ap (value 126) first ∙ value-begin_object 126 rest (omega arith)) ∙ converted-object (members (value 125) (length rest) rest) in
+    let opened = ap (converted of_json) (ap (value c.args.depth) first ∙ value-begin_object c.args.depth rest (omega (arith, c.requires.deep))) ∙ converted-object (members (value (c.args.depth - 1)) (length rest) rest) in
     let found = c.in-Some.ensures.ok in
     (found.0, opened ∙ ap (parse_map object) found.1, found.2)

@@ -1,8 +1,8 @@
-use Rattle.std.proofs.Common.{◌≡◌, false, if◌then◌else◌, bytes_eq, codes, sym, ap, ◌∙◌, subst}
+use Rattle.std.proofs.Common.{◌≡◌, ◌+◌, ◌-◌, Some, false, if◌then◌else◌, bytes_eq, codes, sym, ap, ◌∙◌, subst, arith}
 use Rattle.std.proofs.lemmas.Slice.Eq.{bytes_eq-Decides}
 use Rattle.json.specs.Json.{value}
 use Rattle.serde_json.specs.Data.{array, Items, put}
-use Rattle.serde_json.specs.Read.{of_json}
+use Rattle.serde_json.specs.Read.{of_json, converted}
 use Rattle.serde_json.specs.View.{view}
 use Rattle.scenario_read.proofs.Rising.{tree-sorted}
 use Rattle.scenario_cut.proofs.Turns.{converted_some}
@@ -17,9 +17,10 @@ returns-in_ok-listed-clause-ok c =
     let listed = c.in_ok-listed.listed in
     let es = done.ok.0 in
     let v = view c.no_entries.result in
-    let same : codes "schedule" ≡ c.args.name.now = sym ((bytes_eq-Decides c.args.name.now (codes "schedule")).0 (sym c.eq.ensures ∙ c.if-eq.true)) in (
+    let same : codes "schedule" ≡ c.args.name.now = sym ((bytes_eq-Decides c.args.name.now (codes "schedule")).0 (sym c.eq.ensures ∙ c.if-eq.true)) in
+    let within : c.args.depth - 1 + 1 ≡ c.args.depth = omega (arith, c.requires.deep) in (
       array es,
-      done.ok.1,
+      subst (λ n. converted of_json (value n c.args.reader.now) ≡ Some (array es, c.list_at.new.reader)) within done.ok.1,
       λ ms ds stands. subst (λ n. (now : Items) × Enters (scheduled ds) (scheduled now) n (array es) v × MasterStands listed (put n v ms) now) same
           (es, enters-schedule ds es v, master-here listed ms es v done.list done.ok.2 c.no_entries.ensures),
     )
@@ -37,5 +38,5 @@ returns-in-Some-clause-ok c =
 pub returns-in-Some-clause-sorted : goal.returns-in-Some-clause-sorted
 returns-in-Some-clause-sorted c =
     let v = view c.in-Some.value in
-    let tree = converted_some of_json (value 125 c.args.reader.now) v c.tree.new.reader c.in-Some.ensures.ok in
+    let tree = converted_some of_json (value c.args.depth c.args.reader.now) v c.tree.new.reader c.in-Some.ensures.ok in
     tree-sorted tree.0 v tree.2

@@ -13,7 +13,7 @@ use Rattle.scenario_file.proofs.master.members_of.Goals as goal
 
 pub members-init : goal.members-init
 members-init c =
-    let all = members (value 125) (length c.args.reader.now) c.args.reader.now in
+    let all = members (value c.args.depth) (length c.args.reader.now) c.args.reader.now in
     let empty = sym c.new-members.ensures.empty in (
       length c.args.reader.now,
       no_items,
@@ -26,7 +26,7 @@ members-init c =
 
 pub returns-in-Ok-None : goal.returns-in-Ok-None
 returns-in-Ok-None c =
-    let p = value 125 in
+    let p = value c.args.depth in
     let l = c.members in
     let n = l.invariant.0 in
     let ds = l.invariant.1 in
@@ -43,7 +43,7 @@ returns-in-Ok-None c =
 
 pub members-preserved : goal.members-preserved
 members-preserved c =
-    let p = value 125 in
+    let p = value c.args.depth in
     let l = c.members in
     let n = l.invariant.0 in
     let ds = l.invariant.1 in

@@ -11,8 +11,8 @@ use Rattle.scenario_file.proofs.master.members_of.Given as goal
 abbrev pub invariant-members : goal.invariant-members
 invariant-members l =
     (n : ℕ) × (ds : Items) × (length l.reader ≤ n)
-    × (converted (λ ms. of_members ms no_members) (members (value 125) (length l.fn.reader) l.fn.reader) ≡ converted
-    (λ ms. of_members ms (filled (scheduled ds) (members_view l.members.entries))) (members (value 125) n l.reader))
+    × (converted (λ ms. of_members ms no_members) (members (value l.depth) (length l.fn.reader) l.fn.reader) ≡ converted
+    (λ ms. of_members ms (filled (scheduled ds) (members_view l.members.entries))) (members (value l.depth) n l.reader))
     × (length l.reader ≤ length l.fn.reader)
     × MembersSorted (members_view l.members.entries)
     × MasterStands l.schedule (members_view l.members.entries) ds

@@ -1,5 +1,7 @@
-use Rattle.std.proofs.Common.{◌≡◌, true, ℕ, List, sym, ap, ◌∙◌, subst}
+use Rattle.std.proofs.Common.{◌≡◌, ◌+◌, ◌-◌, true, ℕ, List, Some, sym, ap, ◌∙◌, subst, arith}
+use Rattle.json.specs.Json.{value}
 use Rattle.serde_json.specs.Data.{array, Items, put}
+use Rattle.serde_json.specs.Read.{of_json, converted}
 use Rattle.serde_json.specs.View.{view}
 use Rattle.scenario_read.specs.Sorted.{Sorted}
 use Rattle.scenario_file.specs.Listing.{name_of}
@@ -16,9 +18,10 @@ returns-clause-ok c =
     let v = view c.in_ok-standing.standing in
     let new = c.put_list.new.lists in
     let top : is_list name ≡ true = ap is_list done.list ∙ c.requires.top in
+    let within : c.args.depth - 1 + 1 ≡ c.args.depth = omega (arith, c.requires.deep) in
     let standing : stand_in name ds ≡ v = sym (c.in_ok-standing.ensures ds done.ok.2.holds) in (
       array ds,
-      done.ok.1,
+      subst (λ n. converted of_json (value n c.args.reader.now) ≡ Some (array ds, c.list_at.new.reader)) within done.ok.1,
       λ frame rows stands. subst (λ n. (now : List ℕ → Items) × Enters (value_in rows) (value_in now) n (array ds) v × AllStand new (put n v frame) now) done.list (
         with_rows rows name ds,
         enters-list name rows ds v top,

@@ -20,7 +20,7 @@ returns-clause-ok c =
       done.ok.1,
       λ frame rows stands. subst (λ v. (now : List ℕ → Items) × Enters (value_in rows) (value_in now) (codes "master") d v × AllStand new (put (codes "master") v frame) now) seen (
         with_rows rows (codes "schedule") ds,
-        enters-master rows ds ms,
+        enters-master rows ds (object ms),
         c.put_list.ensures.schedule done.ok.2.list frame rows ds (object ms) stands done.ok.2.items done.ok.2.held,
       ),
     )

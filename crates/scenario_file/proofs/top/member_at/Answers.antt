@@ -13,13 +13,13 @@ use Rattle.scenario_file.proofs.top.member_at.Goals as goal
 
 pub returns-in-Some-clause-ok : goal.returns-in-Some-clause-ok
 returns-in-Some-clause-ok c =
-    subst (λ (n : List ℕ). IfSome c.list_member.result (λ v. (d : Data) × (converted of_json (value 126 c.args.reader.now) ≡ Some (d, c.list_member.new.reader)) × Puts c.args.lists.now c.list_member.new.lists n d (view v)))
+    subst (λ (n : List ℕ). IfSome c.list_member.result (λ v. (d : Data) × (converted of_json (value c.args.depth c.args.reader.now) ≡ Some (d, c.list_member.new.reader)) × Puts c.args.lists.now c.list_member.new.lists n d (view v)))
     c.in-Some.ensures.0 c.list_member.ensures.ok
 
 pub returns-then-eq-clause-ok : goal.returns-then-eq-clause-ok
 returns-then-eq-clause-ok c =
     let same : codes "master" ≡ c.args.name.now = sym ((bytes_eq-Decides c.args.name.now (codes "master")).0 (sym c.eq.ensures ∙ c.if-eq.true)) in
-    subst (λ (n : List ℕ). IfSome c.master_member.result (λ v. (d : Data) × (converted of_json (value 126 c.args.reader.now) ≡ Some (d, c.master_member.new.reader)) × Puts c.args.lists.now c.master_member.new.lists n d (view v)))
+    subst (λ (n : List ℕ). IfSome c.master_member.result (λ v. (d : Data) × (converted of_json (value c.args.depth c.args.reader.now) ≡ Some (d, c.master_member.new.reader)) × Puts c.args.lists.now c.master_member.new.lists n d (view v)))
     same c.master_member.ensures.ok
 
 pub returns-in-Some-tree-clause-ok : goal.returns-in-Some-tree-clause-ok
@@ -40,5 +40,5 @@ returns-in-Some-tree-clause-ok c =
 pub returns-in-Some-tree-clause-sorted : goal.returns-in-Some-tree-clause-sorted
 returns-in-Some-tree-clause-sorted c =
     let v = view c.in-Some-tree.value in
-    let tree = converted_some of_json (value 126 c.args.reader.now) v c.tree.new.reader c.in-Some-tree.ensures.ok in
+    let tree = converted_some of_json (value c.args.depth c.args.reader.now) v c.tree.new.reader c.in-Some-tree.ensures.ok in
     tree-sorted tree.0 v tree.2

@@ -1,4 +1,4 @@
-use Rattle.std.proofs.Common.{rules, ◌≡◌, ◌-◌, List, ℕ, Some, length, string_bytes, sym, ap, ◌∙◌, subst, arith}
+use Rattle.std.proofs.Common.{rules, ◌≡◌, ◌-◌, List, ℕ, Some, None, length, string_bytes, sym, ap, ◌∙◌, subst, arith}
 use Rattle.json.specs.Json.{value, members, read_key}
 use Rattle.json.proofs.Grammar.{read_key-shorter}
 use Rattle.serde_json.specs.Data.{Items, no_items, put}
@@ -13,7 +13,7 @@ use Rattle.scenario_file.proofs.top.members_of.Goals as goal
 
 pub members-init : goal.members-init
 members-init c =
-    let all = members (value 126) (length c.args.reader.now) c.args.reader.now in
+    let all = members (value c.args.depth) (length c.args.reader.now) c.args.reader.now in
     let empty = sym c.new-frame.ensures.empty in
     let none : List ℕ → Items = λ (name : List ℕ). no_items in (
       length c.args.reader.now,
@@ -27,11 +27,12 @@ members-init c =
 
 pub returns-in-Ok-None : goal.returns-in-Ok-None
 returns-in-Ok-None c =
-    let p = value 126 in
+    let p = value c.args.depth in
     let l = c.members in
     let n = l.invariant.0 in
     let rows = l.invariant.1 in
     let frame = members_view l.frame.entries in
+    let less = read_key-shorter l.reader None c.next_key.new.self (grind arith) in
     record {
       ok = (
         rows,
@@ -39,11 +40,12 @@ returns-in-Ok-None c =
         l.invariant.6,
       );
       sorted = l.invariant.5;
+      shorter = omega (arith, less, l.invariant.4);
     }
 
 pub members-preserved : goal.members-preserved
 members-preserved c =
-    let p = value 126 in
+    let p = value c.args.depth in
     let l = c.members in
     let n = l.invariant.0 in
     let rows = l.invariant.1 in

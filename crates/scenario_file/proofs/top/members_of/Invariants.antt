@@ -11,8 +11,8 @@ use Rattle.scenario_file.proofs.top.members_of.Given as goal
 abbrev pub invariant-members : goal.invariant-members
 invariant-members l =
     (n : ℕ) × (rows : List ℕ → Items) × (length l.reader ≤ n)
-    × (converted (λ ms. of_members ms no_members) (members (value 126) (length l.fn.reader) l.fn.reader) ≡ converted
-    (λ ms. of_members ms (with_lists rows (members_view l.frame.entries))) (members (value 126) n l.reader))
+    × (converted (λ ms. of_members ms no_members) (members (value l.depth) (length l.fn.reader) l.fn.reader) ≡ converted
+    (λ ms. of_members ms (with_lists rows (members_view l.frame.entries))) (members (value l.depth) n l.reader))
     × (length l.reader ≤ length l.fn.reader)
     × MembersSorted (members_view l.frame.entries)
     × AllStand l.lists (members_view l.frame.entries) rows
