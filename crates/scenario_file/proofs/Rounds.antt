@@ -12,7 +12,7 @@ use Rattle.scenario_file.specs.Listing.{any_input, any_load, any_priority, any_f
 use Rattle.scenario_file.proofs.Growth.{none-left, none-both}
 
 -- a number that fits one range and lies below the end of another fits that
-whole-within : (most end : ℕ) (path : List Step) (o : Option Data) → faults_of (whole 1 most) path (either o None) ≡ []
+pub whole-within : (most end : ℕ) (path : List Step) (o : Option Data) → faults_of (whole 1 most) path (either o None) ≡ []
     → nat_le (whole_of (unwrap_or (either o None) null)) end ≡ true → faults_of (whole 1 end) path (either o None) ≡ []
 whole-within most end path None e le = absurd (cc)
 whole-within most end path (Some null) e le = absurd (cc)
@@ -29,10 +29,10 @@ whole-within most end path (Some (array ds)) e le = absurd (cc)
 whole-within most end path (Some (object ms)) e le = absurd (cc)
 
 -- an item of so many rounds and cabinets, with these fields more
-abbrev item_shape : List Field → List (List Field) → ℕ → ℕ → Shape
+abbrev pub item_shape : List Field → List (List Field) → ℕ → ℕ → Shape
 item_shape fields alternatives rounds cabinets = record { fields = round rounds ∷ cabinet_number cabinets ∷ fields; alternatives = alternatives }
 
-one-within : (fields : List Field) (alternatives : List (List Field)) (rounds cabinets : ℕ) (path : List Step) (d : Data) → object_of (item_shape fields alternatives 86400 64) path d ≡ []
+pub one-within : (fields : List Field) (alternatives : List (List Field)) (rounds cabinets : ℕ) (path : List Step) (d : Data) → object_of (item_shape fields alternatives 86400 64) path d ≡ []
     → number_at (round 86400) d ≤ rounds → number_at (cabinet_number 64) d ≤ cabinets → object_of (item_shape fields alternatives rounds cabinets) path d ≡ []
 one-within fields alternatives rounds cabinets path null e r c = absurd (cc)
 one-within fields alternatives rounds cabinets path (boolean b) e r c = absurd (cc)

@@ -21,3 +21,4 @@ mod written;
 pub use members::{put_in_master, put_named};
 pub use reading::{read, scenario_of};
 pub use source::{ScenarioText, Source, scenario_at};
+pub use trees::{Level, tree};

@@ -14,7 +14,7 @@ use std::alloc::Global;
 
 /// What may open at a level of a tree: an object, or an array of at most so many items.
 #[derive(Clone, Copy)]
-pub(crate) enum Level {
+pub enum Level {
     Members,
     Items(usize),
 }
@@ -70,12 +70,7 @@ pub(crate) fn put_member(members: &mut Map<String, Value>, name: String, value: 
 
 /// The next value of the reader, with arrays and objects nested at most so deep, and only as the levels allow them. Gives up at any other.
 #[cycle(tree)]
-pub(crate) fn tree(
-    alloc: Global,
-    reader: &mut Reader<'_>,
-    depth: usize,
-    levels: &[Level],
-) -> Option<Value>
+pub fn tree(alloc: Global, reader: &mut Reader<'_>, depth: usize, levels: &[Level]) -> Option<Value>
     ensures ok { IfSome result (λ v. converted of_json (value depth reader.old) ≡ Some (view v, reader.new)) }
     ensures shorter { IfSome result (λ _. length reader.new < length reader.old) }
 {
