@@ -158,9 +158,10 @@ fn rules_fit(alloc: Global, scenario: &Scenario, respond: &Respond) -> Result<()
     Ok(())
 }
 
-/// Refuses what doesn't fit across the lists of a field file.
+/// Refuses what doesn't fit across the lists of a field file, whose names are without fault: a detector that stands twice, a pulse
+/// of none, and rules that don't fit one another or the scenario, in this order.
 #[tactic(auto, using(scenario_read::proofs::Refusing::refuses_more))]
-pub(crate) fn across(alloc: Global, field: &Field) -> Result<(), ReadFail>
+pub fn lists_fit(alloc: Global, field: &Field) -> Result<(), ReadFail>
     requires bank { BankPlaced field.now.bank.items }
     requires pulses { PulsesPlaced field.now.pulses.items }
     ensures { Answers result (across_faults (field_content field.now)) (λ _. Unit {0}) }

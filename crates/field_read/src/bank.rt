@@ -18,8 +18,9 @@ use scenario_data::ReadFail;
 use serde_json::Value;
 use std::alloc::Global;
 
-/// One detector, in a scenario of so many cabinets.
-fn detector_in(
+/// The detector that an object says, at its place from 0 in the bank of a scenario with so many cabinets; refused at its first
+/// fault.
+pub fn detector_in(
     alloc: Global,
     object: &Value,
     place: usize,

@@ -22,9 +22,12 @@ ghost use Rattle.scenario_read.specs.Answers.{SameFault};
 ghost use Rattle.field_read.specs.Content.{FieldContent};
 ghost use Rattle.field_read.specs.Answers.{IsField, IsFirstFieldFault};
 
+pub use across::lists_fit;
+pub use bank::detector_in;
 pub use named::Field;
-pub use reading::{Source, read, read_source};
-pub use respond::Respond;
+pub use pulses::pulse_in;
+pub use reading::{Source, read_source};
+pub use respond::{Respond, respond_in};
 
 /// A law: bytes are one field file and no more, or have one first fault and no other, and never both.
 pub fn bytes_have_one_answer()

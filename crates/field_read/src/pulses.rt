@@ -18,8 +18,9 @@ use scenario_data::ReadFail;
 use serde_json::Value;
 use std::alloc::Global;
 
-/// One pulse, in a scenario with so many rounds and cabinets.
-fn pulse_in(
+/// The pulse that an object says, at its place from 0 among the pulses, in a scenario with so many rounds and cabinets; refused
+/// at its first fault.
+pub fn pulse_in(
     alloc: Global,
     object: &Value,
     place: usize,

@@ -1,4 +1,5 @@
-//! The field file: bytes in, what it says or the first fault out.
+//! The field file: bytes in, what it says with its value, or the first fault out. There is no reader without the value: who reads
+//! a field file makes the scenario that comes of it from this.
 
 ghost use Rattle.std.specs.Prelude.{◌≡◌, ◌≤◌, [], IfOk, IfErr};
 ghost use Rattle.serde_json.specs.Data.{depth};
@@ -10,9 +11,9 @@ ghost use Rattle.scenario_read.specs.Readers.{Answers};
 ghost use Rattle.scenario_read.specs.Answers.{Reads, IsScenario, OnRefusal};
 ghost use Rattle.field_read.specs.Content.{field_content, field_of};
 ghost use Rattle.field_read.specs.Checks.{file_faults};
-ghost use Rattle.field_read.specs.Answers.{IsField, IsFirstFieldFault};
+ghost use Rattle.field_read.specs.Answers.{IsFirstFieldFault};
 
-use crate::across::across;
+use crate::across::lists_fit;
 use crate::named::{Field, named_in};
 use scenario_data::{ReadFail, Refusal};
 use serde_json::Value;
@@ -29,7 +30,7 @@ fn field_in(alloc: Global, value: &Value) -> Result<Field, ReadFail>
         Ok(field) => field,
         Err(fail) => return Err(fail),
     };
-    match across(alloc, &field) {
+    match lists_fit(alloc, &field) {
         Ok(()) => Ok(field),
         Err(fail) => Err(fail),
     }
@@ -42,7 +43,9 @@ pub struct Source {
     pub value: Value,
 }
 
-/// Reads a field file as `read` does, and keeps its value.
+/// Reads a field file with its value, in time and memory that grow with its bytes. The refusal is the first fault in the order
+/// of the checks: the JSON reading, the names and values in the order of their table, those of the scenario with their paths
+/// behind `scenario.`, and then what lies across the lists. The compact text of its scenario reads as that scenario.
 pub fn read_source(alloc: Global, bytes: &[u8]) -> Result<Source, ReadFail>
     ensures value { IfOk result (λ s. Reads bytes.now (view s.value)) }
     ensures nests { IfOk result (λ s. depth (view s.value) ≤ max_depth) }
@@ -61,23 +64,5 @@ pub fn read_source(alloc: Global, bytes: &[u8]) -> Result<Source, ReadFail>
         } else {
             ReadFail::Refused(Refusal::Syntax)
         }),
-    }
-}
-
-/// Reads a field file, in time and memory that grow with its bytes. The refusal is the first fault in the order of the checks:
-/// the JSON reading, the names and values in the order of their table, those of the scenario with their paths behind `scenario.`,
-/// and then what lies across the lists. The compact text of its scenario reads as that scenario.
-pub fn read(alloc: Global, bytes: &[u8]) -> Result<Field, ReadFail>
-    ensures told { IfOk result (λ f. IsField bytes.now (field_content f)) }
-    ensures refused { IfErr result (λ fail. OnRefusal fail (IsFirstFieldFault bytes.now)) }
-    ensures scenario { IfOk result (λ f. IsScenario f.scenario.compact.items (scenario_content f.scenario)) }
-{
-    match read_source(alloc, bytes) {
-        Ok(source) => {
-            let Source { field, value } = source;
-            drop(value);
-            Ok(field)
-        }
-        Err(fail) => Err(fail),
     }
 }

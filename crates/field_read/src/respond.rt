@@ -125,8 +125,8 @@ fn sections_at(alloc: Global, object: &Value) -> Result<Vec<Rule>, ReadFail>
     }
 }
 
-/// The period and the rules that an object says.
-fn respond_in(alloc: Global, object: &Value) -> Result<Respond, ReadFail>
+/// The period and the rules of the sections that an object says, refused at its first fault.
+pub fn respond_in(alloc: Global, object: &Value) -> Result<Respond, ReadFail>
     ensures { Answers result (object_of respond_shape (steps_of Place.Respond) (view object.now)) (λ r. respond_content r ≡ respond_of (view object.now)) }
 {
     let place = Place::Respond;
