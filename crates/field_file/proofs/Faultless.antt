@@ -15,7 +15,8 @@ use Rattle.scenario_read.specs.Faults.{named_faults, product_faults, all_table_f
 use Rattle.scenario_read.proofs.Whole.{faultless-parts}
 use Rattle.runnable_scenarios.proofs.RangesParts.{list-in, held-in, object-in, all-clean, AllClean}
 use Rattle.detector_bank.specs.declared.bank.Call.{Call}
-use Rattle.field_file.specs.Written.{with_member, call_value, entry_value, inputs_with, with_inputs, master_with, with_schedule, with_traffic}
+use Rattle.scenario_file.specs.Source.{with_member, inputs_and, master_and}
+use Rattle.field_file.specs.Written.{call_value, entry_value, with_inputs, with_schedule, with_traffic}
 use Rattle.field_file.proofs.Every.{Every}
 use Rattle.field_file.proofs.Listed.{IsCalled, IsListed, call-clean, entry-clean, made-clean, made-length, list-clean, list-and-clean}
 use Rattle.field_file.proofs.Puts.{held-other, AllFit, object-put}
@@ -114,7 +115,7 @@ AreListed (Some entries) = (length entries ≤ 1000) × Every IsListed entries
 none-there : (causes more : List Cause) (cause : Cause) → (cause ∷ causes) ++ more ≡ [] → ⊥
 none-there causes more cause e = absurd (cc)
 
-schedule-kept : (entries : List Entry) (s : Data) → length entries ≤ 1000 → Every IsListed entries → faults s ≡ [] → IsKept s (with_member (codes "master") (master_with entries s) s)
+schedule-kept : (entries : List Entry) (s : Data) → length entries ≤ 1000 → Every IsListed entries → faults s ≡ [] → IsKept s (with_member (codes "master") (master_and (array (items_of (map entry_value entries))) s) s)
 schedule-kept entries null few listed e = absurd (cc)
 schedule-kept entries (boolean b) few listed e = absurd (cc)
 schedule-kept entries (number n) few listed e = absurd (cc)
@@ -122,7 +123,7 @@ schedule-kept entries (string s) few listed e = absurd (cc)
 schedule-kept entries (array ds) few listed e = absurd (cc)
 schedule-kept entries (object ms) few listed e =
     let d : Data = object ms in
-    let v : Data = master_with entries d in
+    let v : Data = master_and (array (items_of (map entry_value entries))) d in
     let own = fields-clean d e in
     let clean : object_of master_shape (Named (codes "master") ∷ []) v ≡ [] =
     master-clean (Named (codes "master") ∷ []) (held master d) (array (items_of (map entry_value entries))) (schedule-clean entries few listed) (held-in [] d master own.1.1.1.1.1.0) in record {
@@ -154,10 +155,10 @@ with-inputs-clean calls (object ms) called few e =
     let old = list-in 0 1000000 kind path (held (inputs r c) d) (held-in [] d (inputs r c) own.1.1.1.1.1.1.0) in
     let room : items_len (items_in (held (inputs r c) d)) + items_len (items_of (map call_value calls)) ≤ 1000000 =
     subst (λ (n : ℕ). items_len (items_in (held (inputs r c) d)) + n ≤ 1000000) (sym (made-length call_value calls)) few in
-    let clean : list_of 0 1000000 kind path (inputs_with calls d) ≡ [] =
+    let clean : list_of 0 1000000 kind path (inputs_and (items_of (map call_value calls)) d) ≡ [] =
     list-and-clean 1000000 kind path (items_in (held (inputs r c) d)) (items_of (map call_value calls)) room old.2
     (λ at. made-clean kind call_value (IsCalled r c) (call-clean r c) path at calls called) in
-    scenario-put (codes "inputs") (inputs_with calls d) ms inputs-apart refl
+    scenario-put (codes "inputs") (inputs_and (items_of (map call_value calls)) d) ms inputs-apart refl
     (inl refl, (inl refl, (inl refl, (inl refl, (inl refl, (inl refl, (inr (refl, clean), (inl refl, (inl refl, (inl refl, (inl refl, tt))))))))))) e
 
 -- both

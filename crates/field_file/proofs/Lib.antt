@@ -12,5 +12,7 @@ pub mod Leveling
 pub mod Putting
 pub mod Whole
 pub mod Sizes
+pub mod Lines
+pub mod Adding
 pub mod OneAnswer
 pub mod LimitNames

@@ -11,7 +11,8 @@ use Rattle.scenario_read.specs.Table.{input_shape, entry_shape}
 use Rattle.scenario_read.proofs.Walks.{within-fits}
 use Rattle.runnable_scenarios.proofs.RangesParts.{none-left}
 use Rattle.detector_bank.specs.declared.bank.Call.{Call}
-use Rattle.field_file.specs.Written.{items_and, call_value, entry_value}
+use Rattle.scenario_cut.specs.Growing.{both}
+use Rattle.field_file.specs.Written.{call_value, entry_value}
 use Rattle.field_file.proofs.Every.{Every}
 
 -- a call of a round, a cabinet and a phase that there are
@@ -48,23 +49,23 @@ pub made-length : {A : Type 0} (f : A → Data) (xs : List A) → items_len (ite
 made-length f [] = refl
 made-length f (x ∷ xs) = ap suc (made-length f xs)
 
-and-length : (ds es : Items) → items_len (items_and ds es) ≡ items_len ds + items_len es
+and-length : (ds es : Items) → items_len (both ds es) ≡ items_len ds + items_len es
 and-length no_items es = omega arith
 and-length (item d ds) es = rw (and-length ds es) (omega arith)
 
 none-of-two : {A : Type 0} (a b : List A) → a ≡ [] → b ≡ [] → a ++ b ≡ []
 none-of-two a b p q = rw (p, q) refl
 
-and-clean : (kind : Kind) (path : List Step) (place : ℕ) (ds es : Items) → each kind path place ds ≡ [] → ((at : ℕ) → each kind path at es ≡ []) → each kind path place (items_and ds es) ≡ []
+and-clean : (kind : Kind) (path : List Step) (place : ℕ) (ds es : Items) → each kind path place ds ≡ [] → ((at : ℕ) → each kind path at es ≡ []) → each kind path place (both ds es) ≡ []
 and-clean kind path place no_items es p q = q place
 and-clean kind path place (item d ds) es p q =
     let parts = none-left (kind (then_item path place) d) (each kind path (place + 1) ds) p in
-    none-of-two (kind (then_item path place) d) (each kind path (place + 1) (items_and ds es)) parts.0 (and-clean kind path (place + 1) ds es parts.1 q)
+    none-of-two (kind (then_item path place) d) (each kind path (place + 1) (both ds es)) parts.0 (and-clean kind path (place + 1) ds es parts.1 q)
 
 -- a list of these
 pub list-clean : (most : ℕ) (kind : Kind) (path : List Step) (ds : Items) → items_len ds ≤ most → each kind path 0 ds ≡ [] → list_of 0 most kind path (array ds) ≡ []
 list-clean most kind path ds few clean = rw (within-fits 0 most (items_len ds) (omega arith) few, clean) refl
 
 pub list-and-clean : (most : ℕ) (kind : Kind) (path : List Step) (ds es : Items) → items_len ds + items_len es ≤ most → each kind path 0 ds ≡ [] → ((at : ℕ) → each kind path at es ≡ [])
-    → list_of 0 most kind path (array (items_and ds es)) ≡ []
-list-and-clean most kind path ds es few p q = list-clean most kind path (items_and ds es) (omega (arith, and-length ds es, few)) (and-clean kind path 0 ds es p q)
+    → list_of 0 most kind path (array (both ds es)) ≡ []
+list-and-clean most kind path ds es few p q = list-clean most kind path (both ds es) (omega (arith, and-length ds es, few)) (and-clean kind path 0 ds es p q)

@@ -11,20 +11,15 @@ use Rattle.scenario_read.specs.Fields.{Field, held, either}
 use Rattle.scenario_read.specs.Table.{master, inputs}
 use Rattle.scenario_read.specs.Content.{round_count, cabinet_count}
 use Rattle.scenario_read.specs.Sorted.{Sorted, ItemsSorted}
-use Rattle.scenario_read.proofs.Rising.{sorted-put}
 use Rattle.detector_bank.specs.declared.bank.Call.{Call}
 use Rattle.field_read.proofs.Inside.{member-sorted}
-use Rattle.field_file.specs.Written.{with_member, items_and, call_value, entry_value, inputs_with, with_inputs, master_with, with_schedule, with_traffic}
+use Rattle.scenario_cut.specs.Growing.{both}
+use Rattle.scenario_file.specs.Source.{with_member, inputs_and, master_and}
+use Rattle.scenario_file.proofs.Depths.{low-put}
+use Rattle.scenario_file.proofs.Putting.{with-sorted}
+use Rattle.field_file.specs.Written.{call_value, entry_value, with_inputs, with_schedule, with_traffic}
 
 -- ---- sorted
-
-member-put-sorted : (name : List ℕ) (v d : Data) → Sorted v → Sorted d → Sorted (with_member name v d)
-member-put-sorted name v null h k = k
-member-put-sorted name v (boolean b) h k = k
-member-put-sorted name v (number n) h k = k
-member-put-sorted name v (string s) h k = k
-member-put-sorted name v (array ds) h k = k
-member-put-sorted name v (object ms) h k = sorted-put name v ms h k
 
 -- what is held at a field whose default is sorted
 held-sorted : (f : Field) (v d : Data) → f.default ≡ Some v → Sorted v → Sorted d → Sorted (held f d)
@@ -42,7 +37,7 @@ items-in-sorted (string s) h = tt
 items-in-sorted (array ds) h = h
 items-in-sorted (object ms) h = tt
 
-and-sorted : (ds es : Items) → ItemsSorted ds → ItemsSorted es → ItemsSorted (items_and ds es)
+and-sorted : (ds es : Items) → ItemsSorted ds → ItemsSorted es → ItemsSorted (both ds es)
 and-sorted no_items es h k = k
 and-sorted (item d ds) es h k = (h.0, and-sorted ds es h.1 k)
 
@@ -57,13 +52,13 @@ entries-sorted (entry ∷ entries) = ((tt, (refl, (refl, tt)), (tt, (refl, tt), 
 schedule-sorted : (o : Option (List Entry)) (s : Data) → Sorted s → Sorted (with_schedule o s)
 schedule-sorted None s h = h
 schedule-sorted (Some entries) s h =
-    member-put-sorted (codes "master") (master_with entries s) s
-    (member-put-sorted (codes "schedule") (array (items_of (map entry_value entries))) (held master s) (entries-sorted entries) (held-sorted master (object no_members) s refl tt h)) h
+    with-sorted (codes "master") (master_and (array (items_of (map entry_value entries))) s) s
+    (with-sorted (codes "schedule") (array (items_of (map entry_value entries))) (held master s) (entries-sorted entries) (held-sorted master (object no_members) s refl tt h)) h
 
 inputs-sorted : (calls : List Call) (s : Data) → Sorted s → Sorted (with_inputs calls s)
 inputs-sorted calls s h =
     let f : Field = inputs (round_count s) (cabinet_count s) in
-    member-put-sorted (codes "inputs") (inputs_with calls s) s
+    with-sorted (codes "inputs") (inputs_and (items_of (map call_value calls)) s) s
     (and-sorted (items_in (held f s)) (items_of (map call_value calls)) (items-in-sorted (held f s) (held-sorted f (array no_items) s refl tt h)) (calls-sorted calls)) h
 
 pub traffic-sorted : (calls : List Call) (o : Option (List Entry)) (s : Data) → Sorted s → Sorted (with_traffic calls o s)
@@ -71,24 +66,13 @@ traffic-sorted calls o s h = inputs-sorted calls (with_schedule o s) (schedule-s
 
 -- ---- depth
 
-put-depth : (name : List ℕ) (v : Data) (ms : Members) (most : ℕ) → depth v ≤ most → members_depth ms ≤ most → members_depth (put name v ms) ≤ most
-put-depth name v no_members most h k = omega (arith, h)
-put-depth name v (member l d ms) most h k = split (slice_cmp nat_cmp name l)
-    (put-depth name v ms most h (omega (arith, k)))
-  where
-    split : (o : Ordering) → members_depth (put name v ms) ≤ most
-        → members_depth (match_ordering o (member name v (member l d ms)) (member l v ms) (member l d (put name v ms))) ≤ most
-    split Less rest = omega (arith, h, k)
-    split Equal rest = omega (arith, h, k)
-    split Greater rest = omega (arith, h, k, rest)
-
 member-put-depth : (name : List ℕ) (v d : Data) (most : ℕ) → depth v ≤ most → depth d ≤ suc most → depth (with_member name v d) ≤ suc most
 member-put-depth name v null most h k = k
 member-put-depth name v (boolean b) most h k = k
 member-put-depth name v (number n) most h k = k
 member-put-depth name v (string s) most h k = k
 member-put-depth name v (array ds) most h k = k
-member-put-depth name v (object ms) most h k = let inner : members_depth ms ≤ most = omega (arith, k) in let low = put-depth name v ms most h inner in omega (arith, low)
+member-put-depth name v (object ms) most h k = let inner : members_depth ms ≤ most = omega (arith, k) in let low = low-put name v ms most h inner in omega (arith, low)
 
 -- what stands at a name is less deep than the object
 of-members : (name : List ℕ) (ms : Members) (v : Data) → Some v ≡ get_member name ms → depth v ≤ members_depth ms
@@ -124,10 +108,10 @@ items-in-depth (string s) most h = omega arith
 items-in-depth (array ds) most h = omega (arith, h)
 items-in-depth (object ms) most h = omega arith
 
-and-depth : (ds es : Items) (most : ℕ) → items_depth ds ≤ most → items_depth es ≤ most → items_depth (items_and ds es) ≤ most
+and-depth : (ds es : Items) (most : ℕ) → items_depth ds ≤ most → items_depth es ≤ most → items_depth (both ds es) ≤ most
 and-depth no_items es most h k = k
 and-depth (item d ds) es most h k =
-    let low : items_depth (items_and ds es) ≤ most = and-depth ds es most (omega (arith, h)) k in
+    let low : items_depth (both ds es) ≤ most = and-depth ds es most (omega (arith, h)) k in
     omega (arith, low, h)
 
 calls-depth : (calls : List Call) → items_depth (items_of (map call_value calls)) ≤ 1
@@ -143,9 +127,9 @@ schedule-depth None s k two h = h
 schedule-depth (Some entries) s k two h =
     let listed = entries-depth entries in
     let own : depth (held master s) ≤ suc k = held-depth master (object no_members) s (suc k) refl (omega (arith, two)) h in
-    let inner : depth (master_with entries s) ≤ suc k =
+    let inner : depth (master_and (array (items_of (map entry_value entries))) s) ≤ suc k =
     member-put-depth (codes "schedule") (array (items_of (map entry_value entries))) (held master s) k (omega (arith, listed, two)) own in
-    member-put-depth (codes "master") (master_with entries s) s (suc k) inner h
+    member-put-depth (codes "master") (master_and (array (items_of (map entry_value entries))) s) s (suc k) inner h
 
 inputs-depth : (calls : List Call) (s : Data) (k : ℕ) → 2 ≤ k → depth s ≤ suc (suc k) → depth (with_inputs calls s) ≤ suc (suc k)
 inputs-depth calls s k two h =
@@ -153,7 +137,7 @@ inputs-depth calls s k two h =
     let own : depth (held f s) ≤ suc k = held-depth f (array no_items) s (suc k) refl (omega (arith, two)) h in
     let listed = calls-depth calls in
     let both = and-depth (items_in (held f s)) (items_of (map call_value calls)) k (items-in-depth (held f s) k own) (omega (arith, listed, two)) in
-    member-put-depth (codes "inputs") (inputs_with calls s) s (suc k) (omega (arith, both)) h
+    member-put-depth (codes "inputs") (inputs_and (items_of (map call_value calls)) s) s (suc k) (omega (arith, both)) h
 
 pub traffic-depth : (calls : List Call) (o : Option (List Entry)) (s : Data) (k : ℕ) → 2 ≤ k → depth s ≤ suc (suc k) → depth (with_traffic calls o s) ≤ suc (suc k)
 traffic-depth calls o s k two h = inputs-depth calls (with_schedule o s) k two (schedule-depth o s k two h)

@@ -29,7 +29,7 @@ use Rattle.field_file.proofs.Shape.{traffic-sorted, traffic-depth, below-object}
 use Rattle.field_file.proofs.Ranges.{scenario-faultless, bank-in, rules-in}
 use Rattle.field_file.proofs.Entries.{entries-in}
 
-listed-in : (d : Data) → named_faults d ≡ [] → entry_count (schedule_of (field_of d)) ≤ 1000 → AreListed (schedule_of (field_of d))
+pub listed-in : (d : Data) → named_faults d ≡ [] → entry_count (schedule_of (field_of d)) ≤ 1000 → AreListed (schedule_of (field_of d))
 listed-in d named few = from (respond_asked d) refl few
   where
     f : FieldContent
@@ -51,7 +51,7 @@ result-clean d named inputs_few entries_few =
     (subst (λ (n : ℕ). n + length (calls_of f) ≤ 1000000) (each-length (input_of r c) (items_in (held (inputs r c) s))) inputs_few)
     (scenario-faultless d named)
 
-few-at : (path : List Step) (most n : ℕ) → fault_at path (within 0 most n) ≡ [] → n ≤ most
+pub few-at : (path : List Step) (most n : ℕ) → fault_at path (within 0 most n) ≡ [] → n ≤ most
 few-at path most n e = (in-range 0 most n (fits-alone path (within 0 most n) e)).1
 
 pub result-faultless : (d : Data) → result_faults d ≡ [] → faults (result_of d) ≡ []
@@ -64,7 +64,7 @@ result-faultless d e =
 
 -- ---- its text
 
-held-sorted : (d : Data) → Sorted d → Sorted (held scenario d)
+pub held-sorted : (d : Data) → Sorted d → Sorted (held scenario d)
 held-sorted d h = from (get (codes "scenario") d) refl
   where
     from : (o : Option Data) → get (codes "scenario") d ≡ o → Sorted (unwrap_or (either o None) null)
@@ -83,7 +83,7 @@ result-shallow d h =
     let low = traffic-depth (calls_of (field_of d)) (schedule_of (field_of d)) (held scenario d) 124 (omega arith) (held-depth d h) in
     omega (arith, low)
 
-result-floatless : (d : Data) → Sorted d → faults (result_of d) ≡ [] → has_float (result_of d) ≡ false
+pub result-floatless : (d : Data) → Sorted d → faults (result_of d) ≡ [] → has_float (result_of d) ≡ false
 result-floatless d sorted e =
     faultless-floatless (result_of d) (traffic-sorted (calls_of (field_of d)) (schedule_of (field_of d)) (held scenario d) (held-sorted d sorted)) (faultless-parts (result_of d) e).0
 

@@ -1,5 +1,5 @@
 -- What is told of a field file: the text of its result, or its first fault.
-use Rattle.std.specs.Prelude.{ℕ, suc, ◌≡◌, ◌↔◌, ◌+◌, List, [], ◌∷◌, ◌++◌, length, codes, Option, Some, None}
+use Rattle.std.specs.Prelude.{ℕ, suc, ◌≡◌, ◌↔◌, ◌+◌, List, [], ◌∷◌, ◌++◌, length, codes, Option, Some, None, option_map}
 use Rattle.serde_json.specs.Data.{Data}
 use Rattle.scenario_data.specs.declared.refusal.Refusal.{Refusal}
 use Rattle.scenario_data.specs.declared.refusal.Refusal.TheVariants.{Syntax, Field, Limit, Broken}
@@ -13,6 +13,7 @@ use Rattle.scenario_read.specs.Answers.{Reads, IsScenario}
 use Rattle.responsive.specs.Level.{Stays}
 use Rattle.field_read.specs.Content.{RuleContent, FieldContent, field_of}
 use Rattle.field_read.specs.Checks.{file_faults}
+use Rattle.field_file.specs.declared.traffic.Traffic.{Traffic}
 use Rattle.field_file.specs.Schedule.{volume, level_after}
 use Rattle.field_file.specs.Written.{calls_of, counted, schedule_of, result_of, result_text}
 
@@ -69,3 +70,13 @@ IsFirstResultFault bytes Syntax = (d : Data) → Reads bytes d → ⊥
 IsFirstResultFault bytes (Field path) = (d : Data) × Reads bytes d × Names (Field path) (first_cause (result_faults d))
 IsFirstResultFault bytes (Limit path) = (d : Data) × Reads bytes d × Names (Limit path) (first_cause (result_faults d))
 IsFirstResultFault bytes (Broken cabinet rule row) = (d : Data) × Reads bytes d × Names (Broken cabinet rule row) (first_cause (result_faults d))
+
+-- what was read is what the value says, and the value has no fault of a field file
+pub record WasRead (f : FieldContent) (d : Data) : Type 0 where
+  pub clean : file_faults d ≡ []
+  pub said : f ≡ field_of d
+
+-- the traffic is that of what was read: the calls of its bank, and the schedule by its rules, if it has any
+pub record IsTraffic (traffic : Traffic) (f : FieldContent) : Type 0 where
+  pub calls : traffic.calls.items ≡ calls_of f
+  pub schedule : option_map (λ v. v.items) traffic.schedule ≡ schedule_of f

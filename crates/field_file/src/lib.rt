@@ -2,8 +2,10 @@
 //! traffic, the schedule that counted traffic gives.
 #![tactic(auto)]
 
+mod parts;
 mod schedule;
 mod told;
+mod traffic;
 mod volumes;
 mod written;
 

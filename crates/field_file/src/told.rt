@@ -1,41 +1,33 @@
-//! What is told of a field file: the text of its result, refused at its first fault.
+//! What is told of a field file: the text of its result, refused at its first fault. A field file that is right is read in parts, with
+//! little memory, and the value of any other decides.
 
-ghost use Rattle.std.specs.Prelude.{◌≡◌, ◌≤◌, ◌+◌, [], ◌∷◌, codes, option_map, Some, IfOk, IfErr};
+ghost use Rattle.std.specs.Prelude.{◌≡◌, ◌≤◌, ℕ, List, codes, option_map, Some, IfOk, IfErr};
 ghost use Rattle.serde_json.specs.Data.{Data, depth};
 ghost use Rattle.serde_json.specs.Find.{get};
 ghost use Rattle.serde_json.specs.Read.{max_depth};
 ghost use Rattle.serde_json.specs.View.{view};
-ghost use Rattle.scenario_read.specs.Paths.{Named};
-ghost use Rattle.scenario_read.specs.Kinds.{fault_at, within};
+ghost use Rattle.scenario_read.specs.Fields.{held};
 ghost use Rattle.scenario_read.specs.Sorted.{Sorted};
-ghost use Rattle.scenario_read.specs.Answers.{OnRefusal};
+ghost use Rattle.scenario_read.specs.Answers.{Reads, OnRefusal};
 ghost use Rattle.scenario_read.specs.Readers.{Answers};
-ghost use Rattle.field_read.specs.Content.{field_content, field_of};
-ghost use Rattle.field_read.specs.Checks.{file_faults};
+ghost use Rattle.scenario_inside.specs.Inside.{scenario};
+ghost use Rattle.scenario_file.specs.Source.{Writes};
+ghost use Rattle.field_read.specs.Content.{field_content};
 ghost use Rattle.field_file.specs.Written.{with_traffic};
-ghost use Rattle.field_file.specs.Told.{entry_count, result_faults, TellsOf, TellsResult, IsFirstResultFault};
+ghost use Rattle.field_file.specs.Told.{bytes_faults, result_faults, WasRead, TellsOf, TellsResult, IsFirstResultFault};
 ghost use Rattle.field_file.specs.Texts.{IsTextOf};
 
-use crate::schedule::schedule_of;
+use crate::parts::text_in_parts;
+use crate::traffic::{Traffic, at_most, traffic_of};
 use crate::written::result_in;
-use detector_bank::{Call, bank_calls};
+use detector_bank::Call;
+use field_lists::{Listed, listed};
 use field_read::{Field, Source, read_source};
 use scenario_data::{Entry, ReadFail};
-use scenario_read::{Place, Unfit, refuse_member};
+use scenario_file::ScenarioText;
 use serde_json::Value;
 use sig_types::NoMemory;
 use std::alloc::Global;
-
-/// Refuses more than so many at a name.
-fn at_most(alloc: Global, name: &str, count: u64, most: u64) -> Result<(), ReadFail>
-    ensures { Answers result (fault_at (Named name.now ∷ []) (within 0 most count)) (λ _. count ≤ most) }
-{
-    if count <= most {
-        Ok(())
-    } else {
-        Err(refuse_member(alloc, Place::Top, name, Unfit::Beyond))
-    }
-}
 
 /// The compact text of a value and a newline.
 fn text_of(alloc: Global, value: &Value) -> Result<Vec<u8>, NoMemory>
@@ -58,16 +50,6 @@ fn scenario_out(mut value: Value) -> Option<Value>
     match value.get_mut("scenario") {
         Some(scenario) => Some(scenario.take()),
         None => None,
-    }
-}
-
-/// How many entries a schedule has.
-fn entry_count(schedule: &Option<Vec<Entry>>) -> u64
-    ensures { result ≡ entry_count (option_map (λ s. s.items) schedule.now) }
-{
-    match schedule {
-        None => 0,
-        Some(entries) => entries.len() as u64,
     }
 }
 
@@ -94,37 +76,67 @@ fn traffic_text(
     }
 }
 
-/// The text of a field file's result, refused at the first fault of its size.
+/// The text of a result, refused where it has too many bytes.
+fn sized(alloc: Global, text: Vec<u8>) -> Result<Vec<u8>, ReadFail>
+    ensures { Answers result (bytes_faults text.items) (λ same. same.items ≡ text.items) }
+{
+    match at_most(alloc, "scenario", text.len() as u64, 16_777_216) {
+        Ok(()) => Ok(text),
+        Err(fail) => Err(fail),
+    }
+}
+
+/// The text of a field file's result from its value, refused at the first fault of its size.
 fn told_of(alloc: Global, value: Value, field: Field) -> Result<Vec<u8>, ReadFail>
     requires sorted { Sorted (view value) }
     requires nests { depth (view value) ≤ max_depth }
-    requires clean { file_faults (view value) ≡ [] }
-    requires said { field_content field ≡ field_of (view value) }
+    requires read { WasRead (field_content field) (view value) }
     ensures { Answers result (result_faults (view value)) (λ text. TellsOf (view value) text.items) }
 {
-    let calls = match bank_calls(alloc, &field.bank, &field.pulses, field.scenario.rounds) {
-        Ok(calls) => calls,
-        Err(NoMemory) => return Err(ReadFail::NoMemory),
+    let traffic = match traffic_of(alloc, &field) {
+        Ok(traffic) => traffic,
+        Err(fail) => return Err(fail),
     };
-    let inputs = field.scenario.inputs.len() as u64 + calls.len() as u64;
-    at_most(alloc, "pulses", inputs, 1_000_000)?;
-    let schedule = match schedule_of(alloc, &field) {
-        Ok(schedule) => schedule,
-        Err(NoMemory) => return Err(ReadFail::NoMemory),
-    };
-    at_most(alloc, "respond", entry_count(&schedule), 1000)?;
-    let text = match traffic_text(alloc, value, &calls, &schedule) {
+    let text = match traffic_text(alloc, value, &traffic.calls, &traffic.schedule) {
         Ok(text) => text,
         Err(NoMemory) => return Err(ReadFail::NoMemory),
     };
-    at_most(alloc, "scenario", text.len() as u64, 16_777_216)?;
-    Ok(text)
+    match sized(alloc, text) {
+        Ok(text) => Ok(text),
+        Err(fail) => Err(fail),
+    }
 }
 
-/// The result of a field file as a scenario's compact text and a newline: the calls of its bank behind the inputs and, where patterns
-/// follow the traffic, the schedule that counted traffic gives. The refusal is the first fault in the order of the checks: those of
-/// the file, then more than 1,000,000 inputs, more than 1,000 entries, and more than 16,777,216 bytes of the result.
-pub fn respond(alloc: Global, bytes: &[u8]) -> Result<Vec<u8>, ReadFail>
+/// How many bytes a result may have: those of its scenario's text, and some for each call.
+fn room_for(field: &Field, traffic: &Traffic) -> usize {
+    let more = traffic.calls.len().saturating_mul(64);
+    field.scenario.compact.len().saturating_add(more)
+}
+
+/// The same from the parts of its scenario's text, of a field file that was read so.
+fn told_in_parts(alloc: Global, field: Field, text: ScenarioText<'_>) -> Result<Vec<u8>, ReadFail>
+    requires read { (d : Data) × WasRead (field_content field) d }
+    ensures { (bytes : List ℕ) (d : Data) → Reads bytes d → WasRead (field_content field) d → Writes text.entry (held scenario d)
+        → Answers result (result_faults d) (λ told. TellsOf d told.items) }
+{
+    let traffic = match traffic_of(alloc, &field) {
+        Ok(traffic) => traffic,
+        Err(fail) => return Err(fail),
+    };
+    let room = room_for(&field, &traffic);
+    drop(field);
+    let text = match text_in_parts(alloc, text, &traffic, room) {
+        Ok(text) => text,
+        Err(NoMemory) => return Err(ReadFail::NoMemory),
+    };
+    match sized(alloc, text) {
+        Ok(text) => Ok(text),
+        Err(fail) => Err(fail),
+    }
+}
+
+/// The result of a field file whose value is read whole.
+fn told_whole(alloc: Global, bytes: &[u8]) -> Result<Vec<u8>, ReadFail>
     ensures told { IfOk result (λ text. TellsResult bytes.now text.items) }
     ensures refused { IfErr result (λ fail. OnRefusal fail (IsFirstResultFault bytes.now)) }
 {
@@ -135,5 +147,21 @@ pub fn respond(alloc: Global, bytes: &[u8]) -> Result<Vec<u8>, ReadFail>
     match told_of(alloc, value, field) {
         Ok(text) => Ok(text),
         Err(fail) => Err(fail),
+    }
+}
+
+/// The result of a field file as a scenario's compact text and a newline: the calls of its bank behind the inputs and, where patterns
+/// follow the traffic, the schedule that counted traffic gives. The refusal is the first fault in the order of the checks: those of
+/// the file, then more than 1,000,000 inputs, more than 1,000 entries, and more than 16,777,216 bytes of the result.
+pub fn respond(alloc: Global, bytes: &[u8]) -> Result<Vec<u8>, ReadFail>
+    ensures told { IfOk result (λ text. TellsResult bytes.now text.items) }
+    ensures refused { IfErr result (λ fail. OnRefusal fail (IsFirstResultFault bytes.now)) }
+{
+    match listed(alloc, bytes) {
+        Some(Listed { field, text }) => match told_in_parts(alloc, field, text) {
+            Ok(text) => Ok(text),
+            Err(fail) => Err(fail),
+        },
+        None => told_whole(alloc, bytes),
     }
 }

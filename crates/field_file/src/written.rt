@@ -1,21 +1,21 @@
 //! The result of a field file as a JSON value.
 
-ghost use Rattle.std.specs.Prelude.{◌≡◌, ◌++◌, codes, map, unwrap_or, option_map, Some, IfOk, OnOk};
-ghost use Rattle.serde_json.specs.Data.{null, array, no_items, object, no_members, put};
-ghost use Rattle.serde_json.specs.Find.{get_member};
+ghost use Rattle.std.specs.Prelude.{◌≡◌, ◌++◌, map, unwrap_or, option_map, Some, IfOk, OnOk};
+ghost use Rattle.serde_json.specs.Data.{null, array, no_items, object};
 ghost use Rattle.serde_json.specs.View.{view, items_of, members_view};
 ghost use Rattle.scenario_read.specs.Kinds.{items_in};
 ghost use Rattle.scenario_read.specs.Fields.{either};
-ghost use Rattle.field_file.specs.Written.{with_member, call_value, entry_value, with_inputs, with_schedule, with_traffic};
+ghost use Rattle.field_file.specs.Written.{call_value, entry_value, with_inputs, with_schedule, with_traffic};
 
 use detector_bank::Call;
 use scenario_data::Entry;
+use scenario_file::{put_in_master, put_named};
 use serde_json::{Map, Value, json};
 use sig_types::NoMemory;
 use std::alloc::{AllocError, Global};
 
 /// A call that begins or ends, as an input.
-fn call_in(alloc: Global, call: &Call) -> Result<Value, AllocError>
+pub(crate) fn call_in(alloc: Global, call: &Call) -> Result<Value, AllocError>
     ensures { IfOk result (λ v. view v ≡ call_value call.now) }
 {
     json!(in alloc; {"cabinet": call.cabinet, "on": call.on, "round": call.round, "veh": call.phase})
@@ -44,9 +44,9 @@ fn push_calls(alloc: Global, values: &mut Vec<Value>, calls: &Vec<Call>) -> Resu
     Ok(())
 }
 
-/// A schedule.
-fn entries_in(alloc: Global, entries: &Vec<Entry>) -> Result<Value, NoMemory>
-    ensures { IfOk result (λ v. view v ≡ array (items_of (map entry_value entries.now.items))) }
+/// The entries of a schedule as values.
+pub(crate) fn entry_values(alloc: Global, entries: &Vec<Entry>) -> Result<Vec<Value>, NoMemory>
+    ensures { IfOk result (λ values. map view values.items ≡ map entry_value entries.now.items) }
 {
     let mut values = Vec::new(alloc);
     for i in 0..entries.len() {
@@ -58,27 +58,7 @@ fn entries_in(alloc: Global, entries: &Vec<Entry>) -> Result<Value, NoMemory>
             return Err(NoMemory);
         }
     }
-    Ok(Value::Array(values))
-}
-
-/// Puts a value at a name, and gives what stood there.
-fn put_named(
-    alloc: Global,
-    members: &mut Map<String, Value>,
-    name: &str,
-    value: Value,
-) -> Result<Option<Value>, NoMemory>
-    ensures old { IfOk result (λ old. option_map view old ≡ get_member name.now (members_view members.old.entries)) }
-    ensures put { OnOk result (members_view members.new.entries ≡ put name.now (view value) (members_view members.old.entries)) }
-{
-    let key = match String::from_str(alloc, name) {
-        Ok(key) => key,
-        Err(_) => return Err(NoMemory),
-    };
-    match members.insert(key, value) {
-        Ok(old) => Ok(old),
-        Err(_) => Err(NoMemory),
-    }
+    Ok(values)
 }
 
 /// The values of a list; none of anything else.
@@ -117,34 +97,6 @@ fn put_inputs(
     }
 }
 
-/// What stands at a name, or else an object without names.
-fn or_empty(alloc: Global, value: Option<Value>) -> Value
-    ensures { view result ≡ unwrap_or (either (option_map view value) (Some (object no_members))) null }
-{
-    match value {
-        Some(value) => value,
-        None => Value::Object(Map::new(alloc)),
-    }
-}
-
-/// A master with this schedule.
-fn master_in(alloc: Global, master: Value, schedule: Value) -> Result<Value, NoMemory>
-    ensures { IfOk result (λ v. view v ≡ with_member (codes "schedule") (view schedule) (view master)) }
-{
-    match master {
-        Value::Object(mut members) => {
-            match put_named(alloc, &mut members, "schedule", schedule) {
-                Ok(held) => {
-                    drop(held);
-                    Ok(Value::Object(members))
-                }
-                Err(NoMemory) => Err(NoMemory),
-            }
-        }
-        other => Ok(other),
-    }
-}
-
 /// Puts a schedule into the master of a scenario.
 fn put_schedule(
     alloc: Global,
@@ -153,25 +105,11 @@ fn put_schedule(
 ) -> Result<(), NoMemory>
     ensures { OnOk result (object (members_view members.new.entries) ≡ with_schedule (Some schedule.now.items) (object (members_view members.old.entries))) }
 {
-    let entries = match entries_in(alloc, schedule) {
+    let entries = match entry_values(alloc, schedule) {
         Ok(entries) => entries,
         Err(NoMemory) => return Err(NoMemory),
     };
-    let old = match put_named(alloc, members, "master", Value::Null) {
-        Ok(old) => old,
-        Err(NoMemory) => return Err(NoMemory),
-    };
-    let master = match master_in(alloc, or_empty(alloc, old), entries) {
-        Ok(master) => master,
-        Err(NoMemory) => return Err(NoMemory),
-    };
-    match put_named(alloc, members, "master", master) {
-        Ok(held) => {
-            drop(held);
-            Ok(())
-        }
-        Err(NoMemory) => Err(NoMemory),
-    }
+    put_in_master(alloc, members, Value::Array(entries))
 }
 
 /// Puts a schedule, if there is one, and calls into a scenario.

@@ -2,7 +2,8 @@ use Rattle.std.proofs.Common.{map, option_map, codes, ap, ◌∙◌}
 use Rattle.serde_json.specs.Data.{Data, put}
 use Rattle.serde_json.specs.View.{view, members_view}
 use Rattle.serde_json.proofs.Views.{view-Array}
-use Rattle.field_file.proofs.Putting.{view-Null, inputs-put}
+use Rattle.scenario_file.proofs.Putting.{view-Null}
+use Rattle.field_file.proofs.Putting.{inputs-put}
 use Rattle.field_file.proofs.written.put_inputs.Goals as goal
 
 pub returns-in-Ok-put_named : goal.returns-in-Ok-put_named

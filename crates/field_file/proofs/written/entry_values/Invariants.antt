@@ -1,7 +1,7 @@
 use Rattle.std.proofs.Common.{◌≡◌, map, take}
 use Rattle.serde_json.specs.View.{view}
 use Rattle.field_file.specs.Written.{entry_value}
-use Rattle.field_file.proofs.written.entries_in.Given as goal
+use Rattle.field_file.proofs.written.entry_values.Given as goal
 
 -- the values so far
 abbrev pub invariant-loop-i : goal.invariant-loop-i
