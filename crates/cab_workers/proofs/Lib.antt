@@ -1,2 +1,3 @@
 mod Books
 mod Carried
+mod Gathered

@@ -45,7 +45,7 @@ pub fn worked<R: Threads + Sync, B: Logged + Send + Sync, G: Gate + Sync>(
     };
     let (row, mut list) = Row::open(alloc, books, passes)?;
     hand_out(&row, &mut list, &mut hands);
-    work_all(rt, &row, &mut hands, gate);
+    let hands = work_all(rt, &row, hands, gate);
     collect(&row, hands, &mut list);
     Ok(row.close(list))
 }

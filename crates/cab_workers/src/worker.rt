@@ -2,12 +2,12 @@
 //! or has nothing left. Each worker begins at a place of its own, so that they seldom meet.
 ghost use Rattle.std.specs.Prelude.{◌≡◌, ℕ, ◌≤◌, ◌<◌, ◌+◌, All, length, vec_len, slice_index_or};
 ghost use Rattle.cab_row.specs.Passes.{IsPassOf, books_of};
-ghost use Rattle.cab_workers.specs.Hands.{IsReady, passes_in};
+ghost use denote.Param.Send.{IsSync, IsSend};
+ghost use Rattle.cab_workers.specs.Hands.{IsReady, HaveWorked, passes_in};
 
 use cab_row::{Act, Logged, Pass, Row};
 use io_edge::Gate;
-use std::thread;
-use std::thread::Threads;
+use std::thread::{Threads, join};
 
 /// A worker: some of the passes of a row.
 #[derive(Drop)]
@@ -108,63 +108,96 @@ fn has_work<B: Logged>(row: &Row<B>, worker: &Worker) -> bool
     false
 }
 
-// How many workers stand before the first that has something to do, and how many from there to the last one.
-fn busy_span<B: Logged>(row: &Row<B>, workers: &[Worker]) -> (usize, usize)
+// Whether one of these workers has something to do.
+fn have_work<B: Logged>(row: &Row<B>, workers: &[Worker]) -> bool
     requires { All (λ w. IsReady B.row.coded.code B.left_of row.now w) workers.now }
-    ensures { result.0 + result.1 ≤ length workers.now }
 {
-    let mut first = 0;
-    while first < workers.len() && !has_work(row, &workers[first]) {
-        first += 1;
+    for k in 0..workers.len() {
+        if has_work(row, &workers[k]) {
+            return true;
+        }
     }
-    let mut behind = workers.len();
-    while behind > first && !has_work(row, &workers[behind - 1]) {
-        behind -= 1;
-    }
-    (first, behind - first)
+    false
 }
 
-// Each of these workers in a thread of its own where one can be started.
-fn work_each<R: Threads + Sync, B: Logged + Send + Sync, G: Gate + Sync>(
+// The worker, when it has done its work.
+fn worked_out<B: Logged, G: Gate>(
+    row: &Row<B>,
+    mut worker: Worker,
+    place: usize,
+    gate: &G,
+) -> Worker
+    requires { IsReady B.row.coded.code B.left_of row.now worker }
+    ensures { IsReady B.row.coded.code B.left_of row.now result × (vec_len result.passes ≡ vec_len worker.passes) }
+{
+    work(row, &mut worker, place, gate);
+    worker
+}
+
+// A worker in a thread of its own where one can be started, and the others meanwhile.
+#[cycle(start)]
+fn work_beside<R: Threads + Sync, B: Logged + Send + Sync, G: Gate + Sync>(
     rt: &R,
     row: &Row<B>,
-    workers: &mut [Worker],
     gate: &G,
-)
-    requires ready { All (λ w. IsReady B.row.coded.code B.left_of row.now w) workers.old }
-    ensures ready { All (λ w. IsReady B.row.coded.code B.left_of row.now w) workers.new }
-    ensures count { length workers.new ≡ length workers.old }
-    ensures sizes { (k : ℕ) (d : Worker) → k < length workers.old → vec_len (slice_index_or workers.new k d).passes ≡ vec_len (slice_index_or workers.old k d).passes }
+    worker: Worker,
+    others: Vec<Worker>,
+) -> (Worker, Vec<Worker>)
+    requires ready { IsReady B.row.coded.code B.left_of row.now worker × All (λ w. IsReady B.row.coded.code B.left_of row.now w) others.items }
+    ensures worker { IsReady B.row.coded.code B.left_of row.now result.0 × (vec_len result.0.passes ≡ vec_len worker.passes) }
+    ensures others { HaveWorked B.row.coded.code B.left_of row.now others result.1 }
 {
-    let threads = workers.len();
-    if threads == 0 {
-        return;
-    }
-    thread::for_each_mut(
+    let place = others.len();
+    join(
         rt,
-        workers,
-        threads,
-        &|place, worker: &mut Worker|
-            requires { IsReady B.row.coded.code B.left_of row.now worker.now }
-            ensures { IsReady B.row.coded.code B.left_of row.entry.now worker.exit.now × (vec_len worker.exit.now.passes ≡ vec_len worker.entry.now.passes) }
-        { work(row, worker, place, gate) },
-    );
+        move || -> Worker
+            requires { IsSync B.row × IsSend B.row × IsSync G.row × IsReady B.row.coded.code B.left_of row.now worker }
+            ensures { IsReady B.row.coded.code B.left_of row.entry.now result × (vec_len result.passes ≡ vec_len worker.passes) }
+        { worked_out(row, worker, place, gate) },
+        move || -> Vec<Worker>
+            requires { IsSync R.row × IsSync B.row × IsSend B.row × IsSync G.row × All (λ w. IsReady B.row.coded.code B.left_of row.now w) others.items }
+            ensures { HaveWorked B.row.coded.code B.left_of row.entry.now others result }
+        { work_from(rt, row, gate, others) },
+    )
+}
+
+// All these workers work, the last one beside the others, and so on. This thread starts the others one after another, since a thread
+// that has to start others runs late, and these later still.
+#[cycle(start)]
+fn work_from<R: Threads + Sync, B: Logged + Send + Sync, G: Gate + Sync>(
+    rt: &R,
+    row: &Row<B>,
+    gate: &G,
+    mut workers: Vec<Worker>,
+) -> Vec<Worker>
+    requires ready { All (λ w. IsReady B.row.coded.code B.left_of row.now w) workers.items }
+    ensures { HaveWorked B.row.coded.code B.left_of row.now workers result }
+{
+    let Some(worker) = workers.pop() else {
+        return workers;
+    };
+    let place = workers.len();
+    let (worker, mut others) = if has_work(row, &worker) && have_work(row, workers.as_slice()) {
+        work_beside(rt, row, gate, worker, workers)
+    } else {
+        let worker = worked_out(row, worker, place, gate);
+        (worker, work_from(rt, row, gate, workers))
+    };
+    others.push_reserved(worker);
+    others
 }
 
 /// All workers go over the cabinets of the row until all are done, each in a thread of its own where one can be started. None is
-/// started for workers at either end of the list that have nothing to do.
+/// started for a worker that has nothing to do.
 pub(crate) fn work_all<R: Threads + Sync, B: Logged + Send + Sync, G: Gate + Sync>(
     rt: &R,
     row: &Row<B>,
-    workers: &mut Vec<Worker>,
+    workers: Vec<Worker>,
     gate: &G,
-)
-    requires ready { All (λ w. IsReady B.row.coded.code B.left_of row.now w) workers.old.items }
-    ensures ready { All (λ w. IsReady B.row.coded.code B.left_of row.now w) workers.new.items }
-    ensures count { passes_in workers.new.items ≡ passes_in workers.old.items }
+) -> Vec<Worker>
+    requires ready { All (λ w. IsReady B.row.coded.code B.left_of row.now w) workers.items }
+    ensures ready { All (λ w. IsReady B.row.coded.code B.left_of row.now w) result.items }
+    ensures count { passes_in result.items ≡ passes_in workers.items }
 {
-    let (before, count) = busy_span(row, workers.as_slice());
-    let (_, rest) = workers.as_mut_slice().split_at_mut(before);
-    let (busy, _) = rest.split_at_mut(count);
-    work_each(rt, row, busy, gate)
+    work_from(rt, row, gate, workers)
 }
