@@ -1,5 +1,5 @@
-//! What a tick goes by beside what is kept from tick to tick: what was told, the pattern laid out, the course of the modes, and
-//! what is seen of the last frame. A controller's registers and an observer's looking back both stand on it, and it has neither.
+//! What a tick goes by beside what is kept of the frames: what was told, the pattern laid out, the course of the modes, and what
+//! is seen of the last frame. A controller, which keeps registers, and an observer, who looks back, both stand on it.
 #![tactic(auto)]
 
 mod at_rest;
