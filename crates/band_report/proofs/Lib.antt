@@ -4,3 +4,5 @@ pub mod Reading
 pub mod Driving
 pub mod Reports
 pub mod Windows
+pub mod OneAnswer
+pub mod LimitNames

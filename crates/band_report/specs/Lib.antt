@@ -1,3 +1,5 @@
 pub mod Street
 pub mod Bands
 pub mod Arcs
+pub mod Asked
+pub mod Told

@@ -4,9 +4,12 @@
 #![tactic(auto)]
 
 mod arcs;
+mod asked;
 mod band;
+mod file_laws;
 mod misfit;
 mod signals;
+mod told;
 
 ghost use Rattle.std.specs.Prelude.{◌<◌, ◌↔◌, ℕ, IsTrue};
 ghost use Rattle.sig_tables.specs.declared.tables.Tables.{Tables};
@@ -14,7 +17,9 @@ ghost use Rattle.sig_tables.specs.Slots.{cycle_time};
 ghost use Rattle.band_report.specs.Bands.{in_window, InWindow};
 
 pub use band::{Band, greatest};
+pub use file_laws::{bytes_have_one_answer, limits_have_names};
 pub use misfit::{Misfit, misfit_of};
+pub use told::report;
 
 /// A law: a window is the set of times that lie fewer ticks than its force point behind the offset less the shift, round the
 /// cycle.

@@ -2,10 +2,10 @@
 use Rattle.std.proofs.Common.{◌≡◌, ◌≤◌, ◌<◌, ℕ, zero, suc, ◌+◌, ◌∙◌, List, [], ◌∷◌, length, get_or, replicate, refl, sym, ap, subst, arith}
 use Rattle.std.proofs.lemmas.List.{length-map, length-replicate}
 use Rattle.sig_types.specs.declared.frame.Frame.{Frame}
-use Rattle.round_streams.specs.declared.Streams.{Streams}
-use Rattle.round_streams.specs.Items.{Item, Told, Ticked, items_of}
-use Rattle.cabinet_story.specs.Story.{Story, after}
-use Rattle.cabinet_story.specs.Journals.{Act, times, acts_of, items_in}
+use Rattle.sig_types.specs.declared.streams.Streams.{Streams}
+use Rattle.sig_types.specs.Items.{Item, Told, Ticked, items_of}
+use Rattle.cabinet_history.specs.Story.{Story, after}
+use Rattle.cabinet_history.specs.Journals.{Act, times, acts_of, items_in}
 use Rattle.cab_book.specs.declared.cabinet.Cabinet.{Cabinet}
 use Rattle.cab_book.specs.declared.happened.Answered.{Answered}
 use Rattle.cab_book.specs.declared.happened.Happened.{Happened}

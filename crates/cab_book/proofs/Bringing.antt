@@ -3,12 +3,12 @@ use Rattle.std.proofs.Common.{◌≡◌, ◌≢◌, ◌≤◌, ◌<◌, ℕ, zer
 use Rattle.std.proofs.lemmas.List.{get_or-set_same, get_or-set_other}
 use Rattle.std.proofs.lemmas.Bool.{cases_lt}
 use Rattle.std.proofs.lemmas.Bool.Decides.{eqb_tells}
-use Rattle.round_streams.specs.declared.Streams.{Streams}
-use Rattle.round_streams.specs.Items.{Item, Ticked, items_of}
-use Rattle.cabinet_story.specs.Story.{Story, with_item, after}
-use Rattle.cabinet_story.specs.Journals.{Act, times, acts_of, items_in}
-use Rattle.cabinet_story.specs.Told.{item_replies, item_written}
-use Rattle.cabinet_story.proofs.Growing.{act_at, acts-more, story-more}
+use Rattle.sig_types.specs.declared.streams.Streams.{Streams}
+use Rattle.sig_types.specs.Items.{Item, Ticked, items_of}
+use Rattle.cabinet_history.specs.Story.{Story, with_item, after}
+use Rattle.cabinet_history.specs.Journals.{Act, times, acts_of, items_in}
+use Rattle.cabinet_history.specs.Told.{item_replies, item_written}
+use Rattle.cabinet_history.proofs.Growing.{act_at, acts-more, story-more}
 use Rattle.cab_book.specs.declared.cabinet.Cabinet.{Cabinet}
 use Rattle.cab_book.specs.declared.happened.Happened.{Happened}
 use Rattle.cab_book.specs.Stands.{CabinetStands}

@@ -6,14 +6,14 @@ use Rattle.arrayvec.specs.ArrayVec.{ArrayVec}
 use Rattle.sig_types.specs.declared.frame.Field.{Field}
 use Rattle.sig_types.specs.declared.frame.Field.TheVariants.{Veh, Ped as Button, Preempt as PreemptInput}
 use Rattle.sig_types.specs.declared.frame.Frame.{Frame}
-use Rattle.tick_sight.specs.Told.{NamesPlace}
-use Rattle.round_streams.specs.declared.Streams.{Streams}
-use Rattle.round_streams.specs.Items.{Item, Told, Came, Ticked, items_of, texts_of}
-use Rattle.cabinet_story.specs.declared.Load.{Load}
-use Rattle.cabinet_story.specs.declared.Reply.{Reply}
-use Rattle.cabinet_story.specs.Story.{Story, with_item}
-use Rattle.cabinet_story.specs.Journals.{times}
-use Rattle.cabinet_story.specs.Told.{item_replies, in_frame, reply_to, load_end}
+use Rattle.tick_context.specs.Told.{NamesPlace}
+use Rattle.sig_types.specs.declared.streams.Streams.{Streams}
+use Rattle.sig_types.specs.Items.{Item, Told, Came, Ticked, items_of, texts_of}
+use Rattle.cabinet_history.specs.declared.Load.{Load}
+use Rattle.cabinet_history.specs.declared.Reply.{Reply}
+use Rattle.cabinet_history.specs.Story.{Story, with_item}
+use Rattle.cabinet_history.specs.Journals.{times}
+use Rattle.cabinet_history.specs.Told.{item_replies, in_frame, reply_to, load_end}
 use Rattle.cab_book.specs.declared.cabinet.Cabinet.{Cabinet}
 use Rattle.cab_book.specs.declared.happened.Happened.{Happened}
 use Rattle.cab_book.specs.Stands.{CabinetStands}

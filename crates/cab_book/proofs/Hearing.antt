@@ -3,11 +3,11 @@ use Rattle.std.proofs.Common.{◌≡◌, ℕ, arith}
 use Rattle.sig_types.specs.declared.frame.Field.{Field}
 use Rattle.sig_tables.specs.Past.{Input}
 use Rattle.sig_tables.specs.Decide.{with_one}
-use Rattle.cab_control.specs.declared.Control.{Control}
-use Rattle.cab_control.specs.Controls.{StandsFor, tick_count}
-use Rattle.round_streams.specs.Items.{Told}
-use Rattle.cabinet_story.specs.Story.{Story, with_item}
-use Rattle.cabinet_story.specs.Coming.{Coming, coming, history_of}
+use Rattle.cab_book.specs.declared.control.Control.{Control}
+use Rattle.cab_book.specs.Controls.{StandsFor, tick_count}
+use Rattle.sig_types.specs.Items.{Told}
+use Rattle.cabinet_history.specs.Story.{Story, with_item}
+use Rattle.cabinet_history.specs.Coming.{Coming, coming, history_of}
 use Rattle.cab_book.specs.declared.cabinet.Cabinet.{Cabinet}
 use Rattle.cab_book.specs.Stands.{IsSound, CabinetStands}
 

@@ -16,10 +16,10 @@ use Rattle.stage_txn.proofs.InRange.{staged-fits}
 use Rattle.agent.specs.declared.ask.Wish.{Wish}
 use Rattle.agent.specs.declared.ask.Wish.TheVariants.{Get, Next, Direct, Begin, Part, Verify, Finish, Bad}
 use Rattle.agent.specs.Asks.{CanBeCarriedOut}
-use Rattle.cabinet_story.specs.Coming.{Coming, in_force, is_flashing, past_of, carried_out, installs, with_events}
-use Rattle.cabinet_story.specs.Installs.{FewInstalls}
+use Rattle.cabinet_history.specs.Coming.{Coming, in_force, is_flashing, past_of, carried_out, installs, with_events}
+use Rattle.cabinet_history.specs.Installs.{FewInstalls}
 use Rattle.cab_book.specs.Stands.{IsShowable, IsSound}
-use Rattle.cabinet_story.proofs.Installing.{few-begin, few-part, few-verify, few-finish, version_after}
+use Rattle.cabinet_history.proofs.Installing.{few-begin, few-part, few-verify, few-finish, version_after}
 use Rattle.cab_book.proofs.Ordering.{orders-aside}
 
 begin-kept : (id : ℕ) (t : Tables) (a : StageAnswer) (past : List Deed) → id ≤ 2147483647 → kept_by past ≤ 2147483647

@@ -5,10 +5,10 @@ use Rattle.sig_types.specs.declared.notes.StageAnswer.TheVariants.{Accepted, Wro
 use Rattle.sig_tables.specs.declared.tables.Tables.{Tables}
 use Rattle.rule_book.specs.Rules.{broken, first_of}
 use Rattle.rule_facts.proofs.Facts.{accepted-consistent, times-hold}
-use Rattle.tick_sight.specs.Told.{CanRun}
+use Rattle.tick_context.specs.Told.{CanRun}
 use Rattle.stage_txn.specs.Calls.{Answered, Finish}
 use Rattle.stage_txn.specs.Answers.{kept, staged, standing, finish_answer, judged, first_broken, unless_broken, answer_to}
-use Rattle.cabinet_story.proofs.Installing.{accepted-checked}
+use Rattle.cabinet_history.proofs.Installing.{accepted-checked}
 
 unbroken : (r : Result (Unit {0}) Broken) → unless_broken r Accepted ≡ Accepted → r ≡ Ok tt
 unbroken (Ok tt) e = refl

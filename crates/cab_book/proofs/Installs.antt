@@ -5,14 +5,14 @@ use Rattle.sig_types.specs.declared.notes.StageAnswer.{StageAnswer}
 use Rattle.sig_types.specs.declared.notes.StageAnswer.TheVariants.{Staged, Repeated, Verified, Accepted, WrongToken, WrongPart, NotVerified, Refused}
 use Rattle.sig_tables.specs.declared.tables.Tables.{Tables}
 use Rattle.sig_tables.specs.Past.{Install}
-use Rattle.tick_sight.specs.Told.{CanRun}
+use Rattle.tick_context.specs.Told.{CanRun}
 use Rattle.stage_txn.specs.Calls.{Finish as FinishCall, deeds}
 use Rattle.stage_txn.specs.Answers.{answered, answer_to, staged}
 use Rattle.agent.specs.declared.ask.Wish.{Wish}
 use Rattle.agent.specs.declared.ask.Wish.TheVariants.{Get, Next, Direct, Begin, Part, Verify, Finish, Bad}
 use Rattle.agent.specs.Asks.{CanBeCarriedOut}
 use Rattle.agent.specs.Orders.{IsFit}
-use Rattle.cabinet_story.specs.Coming.{Coming, in_force, past_of, is_flashing, call_of, outcome, order_event, installs, events_of, with_call}
+use Rattle.cabinet_history.specs.Coming.{Coming, in_force, past_of, is_flashing, call_of, outcome, order_event, installs, events_of, with_call}
 use Rattle.cab_book.specs.Carried.{orders_in, has_accepted, is_accepted}
 use Rattle.cab_book.proofs.Wishes.{finish-staged}
 use Rattle.cab_book.proofs.Installing.{accepted-runs}

@@ -1,7 +1,7 @@
 -- Runs brought together at the front of a list, with the passes of ticks read as one.
 use Rattle.std.proofs.Common.{◌≡◌, ◌≤◌, ◌<◌, ◌+◌, ◌==◌, ◌∙◌, ℕ, zero, suc, Bool, true, false, if◌then◌else◌, List, [], ◌∷◌, ◌++◌, length, replicate, drop, get_or, refl, sym, ap, subst, append_assoc, add-one, drop-cons, arith}
 use Rattle.std.proofs.lemmas.List.{map-append}
-use Rattle.cabinet_story.specs.Journals.{times, with_run, runs_of, passes_of}
+use Rattle.cabinet_history.specs.Journals.{times, with_run, runs_of, passes_of}
 use Rattle.cab_book.specs.Runs.{with_run_last}
 use Rattle.cab_book.specs.Shares.{read_pass, read_journal}
 use Rattle.cab_book.proofs.Runs.{passes-run, times_both, times_run}

@@ -2,14 +2,14 @@
 use Rattle.std.proofs.Common.{◌≡◌, ℕ, zero, suc, ◌+◌, ◌∙◌, List, [], ◌∷◌, ◌++◌, length, map, refl, sym, ap, subst, append-nil, append_assoc, length-append, arith}
 use Rattle.std.proofs.lemmas.List.{map-append}
 use Rattle.sig_types.specs.declared.frame.Frame.{Frame}
-use Rattle.round_streams.specs.Items.{Item, Told, Came, Ticked}
-use Rattle.cabinet_story.specs.declared.Reply.{Reply}
-use Rattle.cabinet_story.specs.Story.{Story, with_item, after}
-use Rattle.cabinet_story.specs.Journals.{Act, items_in}
-use Rattle.cabinet_story.specs.Told.{item_replies, item_written, acts_replies, acts_written}
-use Rattle.cabinet_story.specs.Coming.{history_of}
-use Rattle.cabinet_story.specs.Frames.{tick_written}
-use Rattle.cabinet_story.proofs.Growing.{told-more, story-more}
+use Rattle.sig_types.specs.Items.{Item, Told, Came, Ticked}
+use Rattle.cabinet_history.specs.declared.Reply.{Reply}
+use Rattle.cabinet_history.specs.Story.{Story, with_item, after}
+use Rattle.cabinet_history.specs.Journals.{Act, items_in}
+use Rattle.cabinet_history.specs.Told.{item_replies, item_written, acts_replies, acts_written}
+use Rattle.cabinet_history.specs.Coming.{history_of}
+use Rattle.cabinet_history.specs.Frames.{tick_written}
+use Rattle.cabinet_history.proofs.Growing.{told-more, story-more}
 use Rattle.cab_book.specs.declared.happened.Answered.{Answered}
 use Rattle.cab_book.specs.declared.happened.Happened.{Happened}
 use Rattle.cab_book.specs.Happenings.{Happening, Wrote, item_happenings, acts_happenings, interleaved, replies_in, AreInOrder}

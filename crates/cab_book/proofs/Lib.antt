@@ -1,3 +1,4 @@
+pub mod Facts
 pub mod Pairs
 pub mod Runs
 pub mod Parts

@@ -2,9 +2,9 @@
 use Rattle.std.proofs.Common.{◌≡◌, ◌≢◌, ◌≤◌, ◌<◌, ◌+◌, ℕ, zero, suc, inl, inr, [], length, replicate, get_or, ◌++◌, refl, sym, ap, subst, ◌∙◌, arith}
 use Rattle.std.proofs.lemmas.Bool.{cases_lt}
 use Rattle.std.proofs.lemmas.Bool.Decides.{eqb_tells}
-use Rattle.round_streams.specs.declared.Streams.{Streams}
-use Rattle.round_streams.specs.Items.{items_of}
-use Rattle.cabinet_story.specs.Journals.{times}
+use Rattle.sig_types.specs.declared.streams.Streams.{Streams}
+use Rattle.sig_types.specs.Items.{items_of}
+use Rattle.cabinet_history.specs.Journals.{times}
 use Rattle.cab_book.specs.declared.book.Book.{Book}
 use Rattle.cab_book.specs.Books.{streams_in, journal_of, left_of, IsOnePart}
 use Rattle.cab_book.proofs.Runs.{times_both, times_other}

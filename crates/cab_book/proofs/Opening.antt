@@ -6,9 +6,9 @@ use Rattle.sig_tables.specs.Looking.{last_moment, last_frame}
 use Rattle.sig_tables.specs.Clock.{clock_told}
 use Rattle.sig_tables.specs.Decide.{past_of, past_at, frames_in, opening_orders}
 use Rattle.sig_tables.specs.Putting.{EachFits}
-use Rattle.cab_control.specs.declared.Control.{Control}
-use Rattle.cab_control.specs.Controls.{StandsFor, tick_count}
-use Rattle.cab_control.proofs.Facts.{first-ticks}
+use Rattle.cab_book.specs.declared.control.Control.{Control}
+use Rattle.cab_book.specs.Controls.{StandsFor, tick_count}
+use Rattle.cab_book.proofs.Facts.{first-ticks}
 use Rattle.cab_book.specs.Stands.{OnlyDrifts, IsNew, IsSound}
 
 -- what such a history has come to

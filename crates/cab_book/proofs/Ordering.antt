@@ -6,7 +6,7 @@ use Rattle.sig_tables.specs.Decide.{past_at, frames, with_one}
 use Rattle.agent.specs.declared.ask.Order.{Order}
 use Rattle.agent.specs.declared.ask.Order.TheVariants.{Pattern, Clock, Request as RequestOrder, Cancel}
 use Rattle.agent.specs.Orders.{IsFit}
-use Rattle.cabinet_story.specs.Coming.{order_event, with_events}
+use Rattle.cabinet_history.specs.Coming.{order_event, with_events}
 use Rattle.cab_book.specs.Stands.{IsShowable}
 
 pub record Aside (before after : History) : Type 0 where

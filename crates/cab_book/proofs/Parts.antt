@@ -3,7 +3,7 @@ use Rattle.std.proofs.Common.{◌≡◌, ◌≢◌, ◌≤◌, ◌<◌, ◌+◌,
 use Rattle.std.proofs.lemmas.Bool.{leb-true, leb-false}
 use Rattle.std.proofs.lemmas.Bool.Decides.{eqb_tells}
 use Rattle.std.proofs.lemmas.List.{ext_get_or}
-use Rattle.cabinet_story.specs.Journals.{times}
+use Rattle.cabinet_history.specs.Journals.{times}
 use Rattle.cab_book.specs.Shares.{read_pass, read_journal, ticks_left, ticks_brought, greater_half, lesser_half, shares}
 
 halves-sum : (ticks : ℕ) → greater_half ticks + lesser_half ticks ≡ ticks

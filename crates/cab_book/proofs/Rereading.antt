@@ -3,12 +3,12 @@ use Rattle.std.proofs.Common.{◌≡◌, ◌≤◌, ◌<◌, ◌+◌, ℕ, inl, 
 use Rattle.std.proofs.lemmas.Bool.{cases_lt}
 use Rattle.std.proofs.lemmas.Bool.Decides.{eqb_tells}
 use Rattle.sig_types.specs.declared.frame.Frame.{Frame}
-use Rattle.round_streams.specs.declared.Streams.{Streams}
-use Rattle.round_streams.specs.Items.{Item, Ticked, items_of}
-use Rattle.cabinet_story.specs.declared.Reply.{Reply}
-use Rattle.cabinet_story.specs.Story.{Story, with_item, after}
-use Rattle.cabinet_story.specs.Journals.{Act, act_of, acts_from, acts_of, items_in, times}
-use Rattle.cabinet_story.specs.Told.{item_replies, item_written, acts_replies, acts_written}
+use Rattle.sig_types.specs.declared.streams.Streams.{Streams}
+use Rattle.sig_types.specs.Items.{Item, Ticked, items_of}
+use Rattle.cabinet_history.specs.declared.Reply.{Reply}
+use Rattle.cabinet_history.specs.Story.{Story, with_item, after}
+use Rattle.cabinet_history.specs.Journals.{Act, act_of, acts_from, acts_of, items_in, times}
+use Rattle.cabinet_history.specs.Told.{item_replies, item_written, acts_replies, acts_written}
 use Rattle.cab_book.specs.declared.cabinet.Cabinet.{Cabinet}
 use Rattle.cab_book.specs.declared.happened.Answered.{Answered}
 use Rattle.cab_book.specs.declared.happened.Happened.{Happened}

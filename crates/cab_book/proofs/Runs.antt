@@ -2,8 +2,8 @@
 use Rattle.std.proofs.Common.{◌≡◌, ◌≢◌, ◌≤◌, ◌<◌, ℕ, zero, suc, ◌+◌, ◌==◌, ◌∙◌, Bool, true, false, inl, inr, if◌then◌else◌, List, [], ◌∷◌, ◌++◌, length, replicate, get_or, slice_set, refl, sym, ap, subst, append_assoc, append-nil, arith}
 use Rattle.std.proofs.lemmas.Bool.Decides.{eqb_tells}
 use Rattle.std.proofs.lemmas.List.{replicate-append-replicate}
-use Rattle.cabinet_story.specs.Journals.{times, runs_of, passes_of}
-use Rattle.cabinet_story.proofs.Runs.{with_last, stays-longest}
+use Rattle.cabinet_history.specs.Journals.{times, runs_of, passes_of}
+use Rattle.cabinet_history.proofs.Runs.{with_last, stays-longest}
 use Rattle.cab_book.specs.Runs.{with_run_last}
 
 pub passes-run : (runs : List (ℕ × ℕ)) (pass many : ℕ) → passes_of (with_run_last runs pass many) ≡ passes_of runs ++ replicate many pass

@@ -2,8 +2,8 @@
 use Rattle.std.proofs.Common.{◌≡◌, ◌≤◌, ◌+◌, ◌∙◌, ℕ, List, ap, sym, subst}
 use Rattle.std.specs.Global.{Box}
 use Rattle.std.proofs.Props.{props}
-use Rattle.round_streams.specs.declared.Streams.{Streams}
-use Rattle.cabinet_story.specs.Story.{Story}
+use Rattle.sig_types.specs.declared.streams.Streams.{Streams}
+use Rattle.cabinet_history.specs.Story.{Story}
 use Rattle.cab_book.specs.declared.cabinet.Cabinet.{Cabinet}
 use Rattle.cab_book.specs.declared.happened.Happened.{Happened}
 use Rattle.cab_book.specs.declared.book.Book.{Book}

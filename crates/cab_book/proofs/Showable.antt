@@ -18,11 +18,11 @@ use Rattle.sig_tables.specs.Past.{Past}
 use Rattle.sig_tables.specs.Seen.{mode_seen}
 use Rattle.sig_tables.specs.Decide.{next_moment, with_moment}
 use Rattle.sig_tables.proofs.Ranges.{in-range}
-use Rattle.cab_control.specs.declared.Control.{Control}
-use Rattle.cab_control.specs.Controls.{Keeps}
-use Rattle.cab_control.proofs.Facts.{within-cycle}
-use Rattle.tick_sight.proofs.Steps.{coord-defined, seek-defined}
-use Rattle.tick_sight.proofs.Counted.{some-cycle}
+use Rattle.cab_book.specs.declared.control.Control.{Control}
+use Rattle.cab_book.specs.Controls.{Keeps}
+use Rattle.cab_book.proofs.Facts.{within-cycle}
+use Rattle.tick_context.proofs.Steps.{coord-defined, seek-defined}
+use Rattle.tick_context.proofs.Counted.{some-cycle}
 use Rattle.cab_book.specs.Stands.{IsShowable}
 
 same_number : (n : ℕ) → (n == n) ≡ true

@@ -4,14 +4,14 @@ use Rattle.sig_types.specs.declared.frame.Frame.{Frame}
 use Rattle.sig_tables.specs.Past.{History}
 use Rattle.sig_tables.specs.Putting.{EachFits}
 use Rattle.sig_tables.specs.Decide.{decide, ticked, past_at, frames, last_frame_of}
-use Rattle.cab_control.specs.declared.Control.{Control}
-use Rattle.cab_control.specs.Controls.{StandsFor, tick_count}
-use Rattle.tick_sight.specs.Strides.{ticks_more, is_told}
+use Rattle.cab_book.specs.declared.control.Control.{Control}
+use Rattle.cab_book.specs.Controls.{StandsFor, tick_count}
+use Rattle.tick_context.specs.Strides.{ticks_more, is_told}
 use Rattle.stage_txn.specs.Answers.{answered, kept, standing}
-use Rattle.cabinet_story.specs.Installs.{FewInstalls}
-use Rattle.cabinet_story.specs.Story.{Story}
-use Rattle.cabinet_story.specs.Coming.{Coming, coming, history_of}
-use Rattle.cabinet_story.specs.Frames.{tick_written}
+use Rattle.cabinet_history.specs.Installs.{FewInstalls}
+use Rattle.cabinet_history.specs.Story.{Story}
+use Rattle.cabinet_history.specs.Coming.{Coming, coming, history_of}
+use Rattle.cabinet_history.specs.Frames.{tick_written}
 use Rattle.cab_book.specs.declared.cabinet.Cabinet.{Cabinet}
 use Rattle.cab_book.specs.Stands.{Keeps, CabinetStands}
 use Rattle.cab_book.specs.Ticks.{ticks_on, ticks_written}

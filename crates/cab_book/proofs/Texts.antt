@@ -2,7 +2,7 @@
 use Rattle.std.proofs.Common.{◌≡◌, ◌<◌, ◌∙◌, ℕ, List, [], length, get_or, sym, ap}
 use Rattle.std.proofs.lemmas.List.{get_or-map}
 use Rattle.arrayvec.specs.ArrayVec.{ArrayVec}
-use Rattle.round_streams.specs.Items.{texts_of}
+use Rattle.sig_types.specs.Items.{texts_of}
 
 pub text_at : (frames : List (ArrayVec ℕ)) (place : ℕ) (frame : ArrayVec ℕ) → place < length frames → frame ≡ get_or frames place frame
     → get_or (texts_of frames) place [] ≡ frame.items

@@ -3,12 +3,12 @@ use Rattle.std.proofs.Common.{◌≡◌, ℕ, ◌+◌, ◌∙◌, Bool, if◌the
 use Rattle.sig_types.specs.declared.frame.Frame.{Frame}
 use Rattle.sig_tables.specs.Past.{History}
 use Rattle.sig_tables.specs.Decide.{decide, ticked, past_at, frames, last_frame_of}
-use Rattle.cab_control.specs.declared.Control.{Control}
-use Rattle.cab_control.specs.Controls.{StandsFor, tick_count}
-use Rattle.round_streams.specs.Items.{Ticked}
-use Rattle.cabinet_story.specs.Story.{Story, with_item}
-use Rattle.cabinet_story.specs.Coming.{Coming, coming, history_of}
-use Rattle.cabinet_story.specs.Frames.{has_line, tick_written}
+use Rattle.cab_book.specs.declared.control.Control.{Control}
+use Rattle.cab_book.specs.Controls.{StandsFor, tick_count}
+use Rattle.sig_types.specs.Items.{Ticked}
+use Rattle.cabinet_history.specs.Story.{Story, with_item}
+use Rattle.cabinet_history.specs.Coming.{Coming, coming, history_of}
+use Rattle.cabinet_history.specs.Frames.{has_line, tick_written}
 use Rattle.cab_book.specs.declared.cabinet.Cabinet.{Cabinet}
 use Rattle.cab_book.specs.Stands.{Keeps, CabinetStands}
 use Rattle.cab_book.proofs.Showable.{ticked-shows}

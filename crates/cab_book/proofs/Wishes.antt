@@ -8,7 +8,7 @@ use Rattle.sig_types.specs.Colour.{same_mode}
 use Rattle.sig_tables.specs.declared.tables.Tables.{Tables}
 use Rattle.sig_tables.specs.Past.{History}
 use Rattle.sig_tables.specs.Decide.{with_one}
-use Rattle.tick_sight.specs.Modes.{is_flash}
+use Rattle.tick_context.specs.Modes.{is_flash}
 use Rattle.stage_txn.specs.declared.Stage.{Stage}
 use Rattle.stage_txn.specs.Calls.{Call, Begin as BeginCall, Verify as VerifyCall, Finish as FinishCall, Deed, finish_deed, staged_by}
 use Rattle.stage_txn.specs.Answers.{answered, answer_to}
@@ -17,7 +17,7 @@ use Rattle.agent.specs.declared.ask.Order.{Order}
 use Rattle.agent.specs.declared.ask.Wish.{Wish}
 use Rattle.agent.specs.declared.ask.Wish.TheVariants.{Get, Next, Direct, Begin, Part, Verify, Finish, Bad}
 use Rattle.agent.specs.Replies.{is_for_stage}
-use Rattle.cabinet_story.specs.Coming.{Coming, in_force, is_flashing, past_of, call_of, outcome, outcome_in, order_event, installs, with_events, with_call}
+use Rattle.cabinet_history.specs.Coming.{Coming, in_force, is_flashing, past_of, call_of, outcome, outcome_in, order_event, installs, with_events, with_call}
 
 pub same_flash : (m : Mode) → is_flash m ≡ same_mode m Flash
 same_flash Start = refl

@@ -1,9 +1,9 @@
 -- What a book stands for: the story at which its round began, the streams of the round, and the journal of what was taken from them.
 use Rattle.std.specs.Prelude.{ℕ, ◌+◌, ◌≡◌, ◌≢◌, ◌<◌, ◌≤◌, List, [], ◌∷◌, ◌++◌, length, get_or}
 use Rattle.sig_types.specs.declared.frame.Frame.{Frame}
-use Rattle.round_streams.specs.Items.{Item, items_of}
-use Rattle.cabinet_story.specs.Story.{Story}
-use Rattle.cabinet_story.specs.Journals.{Act, times}
+use Rattle.sig_types.specs.Items.{Item, items_of}
+use Rattle.cabinet_history.specs.Story.{Story}
+use Rattle.cabinet_history.specs.Journals.{Act, times}
 use Rattle.cab_book.specs.declared.book.Book.{Book}
 use Rattle.cab_book.specs.declared.happened.Answered.{Answered}
 use Rattle.cab_book.specs.Happened.{journal_in, written_of, answered_of}

@@ -1,10 +1,10 @@
 -- What a round has come to so far, as it is kept: its journal, the frames that have a line, and the replies.
 use Rattle.std.specs.Prelude.{ℕ, ◌≡◌, ◌≤◌, ◌+◌, List, [], ◌∷◌, ◌++◌, length, replicate, map, vec_len, vec_capacity}
 use Rattle.sig_types.specs.declared.frame.Frame.{Frame}
-use Rattle.cabinet_story.specs.declared.Reply.{Reply}
-use Rattle.cabinet_story.specs.Story.{Story}
-use Rattle.cabinet_story.specs.Journals.{Act, passes_of}
-use Rattle.cabinet_story.specs.Told.{acts_replies, acts_written}
+use Rattle.cabinet_history.specs.declared.Reply.{Reply}
+use Rattle.cabinet_history.specs.Story.{Story}
+use Rattle.cabinet_history.specs.Journals.{Act, passes_of}
+use Rattle.cabinet_history.specs.Told.{acts_replies, acts_written}
 use Rattle.cab_book.specs.declared.happened.Answered.{Answered}
 use Rattle.cab_book.specs.declared.happened.Happened.{Happened}
 use Rattle.cab_book.specs.Happenings.{acts_happenings, interleaved, replies_in, AreInOrder}

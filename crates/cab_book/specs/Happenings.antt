@@ -2,11 +2,11 @@
 -- code keeps the two apart; each reply then stands behind so many of the frames.
 use Rattle.std.specs.Prelude.{ℕ, ◌-◌, ◌≤◌, List, [], ◌∷◌, ◌++◌, map, take, drop}
 use Rattle.sig_types.specs.declared.frame.Frame.{Frame}
-use Rattle.round_streams.specs.Items.{Item}
-use Rattle.cabinet_story.specs.declared.Reply.{Reply}
-use Rattle.cabinet_story.specs.Story.{Story, with_item}
-use Rattle.cabinet_story.specs.Journals.{Act}
-use Rattle.cabinet_story.specs.Told.{item_replies, item_written}
+use Rattle.sig_types.specs.Items.{Item}
+use Rattle.cabinet_history.specs.declared.Reply.{Reply}
+use Rattle.cabinet_history.specs.Story.{Story, with_item}
+use Rattle.cabinet_history.specs.Journals.{Act}
+use Rattle.cabinet_history.specs.Told.{item_replies, item_written}
 use Rattle.cab_book.specs.declared.happened.Answered.{Answered}
 
 pub data Happening : Type 0 where

@@ -1,3 +1,4 @@
+pub mod Controls
 pub mod Stands
 pub mod Carried
 pub mod Ticks

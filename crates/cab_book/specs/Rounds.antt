@@ -1,11 +1,11 @@
 -- A round of a cabinet, part by part: which streams it can take, what of them is left, and the story of what was brought.
 use Rattle.std.specs.Prelude.{ℕ, ◌+◌, ◌≡◌, ◌≤◌, ◌<◌, List, [], length, get_or}
 use Rattle.sig_types.specs.declared.frame.Field.{Field}
-use Rattle.tick_sight.specs.Told.{NamesPlace}
-use Rattle.round_streams.specs.declared.Streams.{Streams}
-use Rattle.round_streams.specs.Items.{items_of}
-use Rattle.cabinet_story.specs.Story.{Story, after}
-use Rattle.cabinet_story.specs.Journals.{Act, times, acts_of, items_in}
+use Rattle.tick_context.specs.Told.{NamesPlace}
+use Rattle.sig_types.specs.declared.streams.Streams.{Streams}
+use Rattle.sig_types.specs.Items.{items_of}
+use Rattle.cabinet_history.specs.Story.{Story, after}
+use Rattle.cabinet_history.specs.Journals.{Act, times, acts_of, items_in}
 use Rattle.cab_book.specs.declared.cabinet.Cabinet.{Cabinet}
 use Rattle.cab_book.specs.declared.happened.Happened.{Happened}
 use Rattle.cab_book.specs.Stands.{CabinetStands}

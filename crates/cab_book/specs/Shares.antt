@@ -1,6 +1,6 @@
 -- Ticks shared among passes: pass 4 brings them, and 5 to 7 where there are more parts.
 use Rattle.std.specs.Prelude.{ℕ, ◌+◌, ◌-◌, ◌/◌, ◌==◌, ◌&&◌, nat_le, if◌then◌else◌, List, [], ◌∷◌, map, get_or}
-use Rattle.cabinet_story.specs.Journals.{times}
+use Rattle.cabinet_history.specs.Journals.{times}
 
 -- passes 5 to 7 are read as 4: each brings the next tick
 abbrev pub read_pass : ℕ → ℕ

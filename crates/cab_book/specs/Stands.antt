@@ -4,8 +4,8 @@ use Rattle.sig_tables.specs.Past.{Past, History, Event, SetDrift}
 use Rattle.sig_tables.specs.Seen.{frame_seen}
 use Rattle.sig_tables.specs.Showing.{clock_shown}
 use Rattle.sig_tables.specs.Decide.{frames}
-use Rattle.cab_control.specs.Controls.{StandsFor, tick_count}
-use Rattle.cab_control.specs.declared.Control.{Control}
+use Rattle.cab_book.specs.Controls.{StandsFor, tick_count}
+use Rattle.cab_book.specs.declared.control.Control.{Control}
 use Rattle.stage_txn.specs.declared.Stage.{Stage}
 use Rattle.sig_types.specs.declared.notes.StageAnswer.{StageAnswer}
 use Rattle.agent.specs.declared.ask.Wish.{Wish}
@@ -13,9 +13,9 @@ use Rattle.stage_txn.specs.Answers.{answered, kept, standing}
 use Rattle.sig_tables.specs.Putting.{EachFits}
 use Rattle.stage_txn.specs.Laws.{BeginInRange}
 use Rattle.stage_txn.specs.Stands.{StandsFor as StageStands}
-use Rattle.cabinet_story.specs.Installs.{FewInstalls}
-use Rattle.cabinet_story.specs.Story.{Story}
-use Rattle.cabinet_story.specs.Coming.{Coming, past_of, in_force, coming, call_of, outcome, with_call}
+use Rattle.cabinet_history.specs.Installs.{FewInstalls}
+use Rattle.cabinet_history.specs.Story.{Story}
+use Rattle.cabinet_history.specs.Coming.{Coming, past_of, in_force, coming, call_of, outcome, with_call}
 use Rattle.cab_book.specs.declared.cabinet.Cabinet.{Cabinet}
 
 -- the numbers that an answer tells are those of an INTEGER

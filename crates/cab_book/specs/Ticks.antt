@@ -1,10 +1,10 @@
 -- Ticks of a cabinet one after another.
 use Rattle.std.specs.Prelude.{ℕ, zero, suc, List, [], ◌++◌}
 use Rattle.sig_types.specs.declared.frame.Frame.{Frame}
-use Rattle.round_streams.specs.Items.{Ticked}
-use Rattle.cabinet_story.specs.Story.{Story, with_item}
-use Rattle.cabinet_story.specs.Coming.{history_of}
-use Rattle.cabinet_story.specs.Frames.{tick_written}
+use Rattle.sig_types.specs.Items.{Ticked}
+use Rattle.cabinet_history.specs.Story.{Story, with_item}
+use Rattle.cabinet_history.specs.Coming.{history_of}
+use Rattle.cabinet_history.specs.Frames.{tick_written}
 
 -- the story after so many ticks more
 abbrev pub ticks_on : ℕ → Story → Story

@@ -3,11 +3,11 @@
 
 ghost use Rattle.std.specs.Prelude.{◌≡◌, ◌≢◌, ◌<◌, ◌≤◌, ◌+◌, ◌-◌, ◌⊎◌, ◌++◌, ◌∷◌, [], ℕ, OnOk, IfOk, IfErr, length, replicate, map, get_or};
 ghost use Rattle.sig_tables.specs.Decide.{last_frame_of, past_at};
-ghost use Rattle.round_streams.specs.Items.{Came, items_of, texts_of};
-ghost use Rattle.tick_sight.specs.Strides.{IsStride};
-ghost use Rattle.cabinet_story.specs.Story.{Story};
-ghost use Rattle.cabinet_story.specs.Coming.{history_of};
-ghost use Rattle.cabinet_story.specs.Journals.{runs_of};
+ghost use Rattle.sig_types.specs.Items.{Came, items_of, texts_of};
+ghost use Rattle.tick_context.specs.Strides.{IsStride};
+ghost use Rattle.cabinet_history.specs.Story.{Story};
+ghost use Rattle.cabinet_history.specs.Coming.{history_of};
+ghost use Rattle.cabinet_history.specs.Journals.{runs_of};
 ghost use Rattle.cab_book.specs.Stands.{CabinetStands};
 ghost use Rattle.cab_book.specs.Rounds.{ArePlaced, AreShort, AreTallied, HasRoomFor, RoundStands};
 ghost use Rattle.cab_book.specs.Shares.{read_journal, ticks_left, shares};
@@ -15,10 +15,9 @@ ghost use Rattle.cab_book.specs.Shares.{read_journal, ticks_left, shares};
 use crate::cabinet::{Cabinet, Told};
 use crate::happened::{Answered, Happened};
 use crate::sharing::shares_of;
-use cabinet_story::Reply;
-use round_streams::Streams;
+use cabinet_history::Reply;
 use sig_tables::Tables;
-use sig_types::{Frame, NoMemory, Octets};
+use sig_types::{Frame, NoMemory, Octets, Streams};
 use std::alloc::Global;
 
 /// The streams of no round.

@@ -3,18 +3,18 @@
 ghost use Rattle.std.specs.Prelude.{◌≡◌, ◌<◌, ◌≤◌, ◌+◌, All, map};
 ghost use Rattle.sig_tables.specs.Past.{History};
 ghost use Rattle.sig_tables.specs.Decide.{with_one};
-ghost use Rattle.cab_control.specs.Controls.{StandsFor, tick_count};
+ghost use Rattle.cab_book.specs.Controls.{StandsFor, tick_count};
 ghost use Rattle.stage_txn.specs.Stands.{StandsFor as StageStands};
 ghost use Rattle.agent.specs.Asks.{CanBeCarriedOut};
 ghost use Rattle.agent.specs.Orders.{IsFit};
-ghost use Rattle.cabinet_story.specs.Coming.{Coming, call_of, outcome as outcome_of, order_event, events_of, with_events, with_call};
-ghost use Rattle.cabinet_story.specs.Told.{wish_end};
+ghost use Rattle.cabinet_history.specs.Coming.{Coming, call_of, outcome as outcome_of, order_event, events_of, with_events, with_call};
+ghost use Rattle.cabinet_history.specs.Told.{wish_end};
 ghost use Rattle.cab_book.specs.Stands.{IsAnswered};
 ghost use Rattle.cab_book.specs.Carried.{orders_in, is_accepted};
 
+use crate::Control;
 use agent::{Order, Wish};
-use cab_control::Control;
-use cabinet_story::Load;
+use cabinet_history::Load;
 use sig_types::StageAnswer;
 use stage_txn::Stage;
 

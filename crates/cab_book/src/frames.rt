@@ -3,7 +3,7 @@
 ghost use Rattle.std.specs.Prelude.{◌≡◌, ◌==◌, ◌&&◌};
 ghost use Rattle.sig_types.specs.Colour.{shows_same, same_mode, same_colours, same_signals};
 ghost use Rattle.sig_tables.specs.Walking.{is_local_zero};
-ghost use Rattle.cabinet_story.specs.Frames.{has_line};
+ghost use Rattle.cabinet_history.specs.Frames.{has_line};
 
 use sig_types::{Colour, Frame, Mode, Ped};
 

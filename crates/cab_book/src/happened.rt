@@ -2,11 +2,11 @@
 //! the frames as came before it. Room for the whole round is taken at its start.
 
 ghost use Rattle.std.specs.Prelude.{◌≡◌, ◌≤◌, ◌<◌, ◌+◌, ℕ, [], ◌∷◌, IfOk, option_to_list, vec_capacity};
-ghost use Rattle.cabinet_story.specs.Journals.{runs_of, times};
+ghost use Rattle.cabinet_history.specs.Journals.{runs_of, times};
 ghost use Rattle.cab_book.specs.Shares.{read_journal};
 
 use crate::journal::Journal;
-use cabinet_story::Reply;
+use cabinet_history::Reply;
 use sig_types::{Frame, NoMemory};
 use std::alloc::{AllocError, Global};
 

@@ -1,7 +1,7 @@
 //! The journal of a round, kept in the longest runs of one pass, so that a round of many ticks takes little room.
 
 ghost use Rattle.std.specs.Prelude.{◌≡◌, ◌<◌, ◌≤◌, ◌+◌, ◌++◌, ◌∷◌, [], ℕ, length, take, get_or, replicate, vec_len, vec_capacity};
-ghost use Rattle.cabinet_story.specs.Journals.{times, runs_of, passes_of};
+ghost use Rattle.cabinet_history.specs.Journals.{times, runs_of, passes_of};
 ghost use Rattle.cab_book.specs.Runs.{with_run_last};
 ghost use Rattle.cab_book.specs.Shares.{read_journal};
 

@@ -5,6 +5,7 @@
 mod book;
 mod cabinet;
 mod carrying;
+mod control;
 mod frames;
 mod happened;
 mod journal;
@@ -13,5 +14,6 @@ mod sharing;
 
 pub use book::Book;
 pub use cabinet::{Cabinet, Told};
+pub use control::{Control, Way};
 pub use happened::Answered;
 pub use journal::Journal;

@@ -4,7 +4,10 @@
 #![tactic(auto)]
 
 mod act;
+mod by_workers;
 mod close;
+mod finish;
+mod hands;
 mod logged;
 mod moves;
 mod open;
@@ -12,8 +15,10 @@ mod pass;
 mod plays;
 mod row;
 mod view;
+mod worker;
 
 pub use act::Act;
+pub use by_workers::{joined, worked};
 pub use logged::Logged;
 pub use pass::Pass;
 pub use row::Row;

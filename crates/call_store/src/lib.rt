@@ -5,9 +5,9 @@
 
 ghost use Rattle.std.specs.Prelude.{◌≡◌, ◌<◌, ◌≤◌, ◌&&◌, ◌||◌, ◌==◌, not, nat_le, ℕ, Bool, true, Option};
 
+use pattern_plan::SplitOptions;
 use sig_tables::Layout;
 use sig_types::{Colour, Field, Frame, Ped, PhaseSet};
-use split_options::SplitOptions;
 
 mod served;
 
@@ -34,7 +34,7 @@ impl Calls {
     ghost use Rattle.sig_tables.specs.Decide.{opened, with_event, with_moment};
     ghost use Rattle.sig_tables.specs.Layout.{LaidOut, Has};
     ghost use Rattle.sig_tables.specs.Seen.{frame_seen, vehicle_seen, pedestrian_seen, detectors_seen, demand_with, quiet_with};
-    ghost use Rattle.split_options.specs.Options.{AreBinding};
+    ghost use Rattle.pattern_plan.specs.Options.{AreBinding};
     ghost use Rattle.call_store.specs.Stands.{CallsStand, NamesPhase, is_active_with, is_walking};
 
     /// No call, and no detector on.
@@ -177,7 +177,7 @@ ghost use Rattle.sig_tables.specs.Slots.{is_coordinated, is_omitted};
 ghost use Rattle.sig_tables.specs.Splits.{split_minimum, split_maximum, split_pedestrian};
 ghost use Rattle.sig_tables.specs.SplitCalls.{is_called_by};
 ghost use Rattle.sig_tables.specs.Layout.{Has, LaidOut};
-ghost use Rattle.split_options.specs.Options.{SplitSays};
+ghost use Rattle.pattern_plan.specs.Options.{SplitSays};
 
 /// The phases that have a walk and are called for it, by these calls of pedestrians or by recall.
 fn called_on_foot(layout: &Layout, calls: PhaseSet) -> PhaseSet

@@ -37,27 +37,27 @@ use Rattle.preempt_run.proofs.Called.{seen-is}
 use Rattle.preempt_run.proofs.OnPhases.{names-phases}
 use Rattle.preempt_run.proofs.Passed.{preempts-on}
 use Rattle.prio_queue.proofs.Idle.{queue-on}
-use Rattle.tick_sight.specs.declared.orders.Orders.{Orders}
+use Rattle.tick_context.specs.declared.orders.Orders.{Orders}
 use Rattle.controller.specs.declared.Controller.{Controller}
-use Rattle.tick_sight.specs.Binds.{IsBound}
-use Rattle.tick_sight.specs.Modes.{is_coord}
+use Rattle.tick_context.specs.Binds.{IsBound}
+use Rattle.tick_context.specs.Modes.{is_coord}
 use Rattle.controller.specs.Shows.{ShowsColours}
-use Rattle.tick_sight.specs.Orders.{OrdersStand, most}
-use Rattle.tick_sight.specs.Even.{IsEven, OrdersPassed}
+use Rattle.tick_context.specs.Orders.{OrdersStand, most}
+use Rattle.tick_context.specs.Even.{IsEven, OrdersPassed}
 use Rattle.controller.specs.StandsFor.{Keeps, CountsOn}
-use Rattle.tick_sight.specs.Lasting.{Lasts, opposed_with}
-use Rattle.tick_sight.specs.Passed.{timed, planned_target}
+use Rattle.tick_context.specs.Lasting.{Lasts, opposed_with}
+use Rattle.tick_context.specs.Passed.{timed, planned_target}
 use Rattle.controller.specs.Passed.{counted, passed, IsReady}
-use Rattle.tick_sight.proofs.Again.{free-apart, no-counter, no-target}
-use Rattle.tick_sight.proofs.Counted.{counters-head}
-use Rattle.tick_sight.proofs.GoesOn.{Goes, tick-goes, frame-goes, goes-alike}
-use Rattle.tick_sight.proofs.InStep.{step-in, counter-next}
-use Rattle.tick_sight.proofs.OneLess.{seen-again, looks-on, lasts-less}
-use Rattle.tick_sight.proofs.Rings.{each-ring, last-again, latest-again}
-use Rattle.tick_sight.proofs.Seen.{opposed-green}
-use Rattle.tick_sight.proofs.Sought.{start-again}
-use Rattle.tick_sight.proofs.Pickups.{kept-on, start-zero, start-next, few-next, one-more, same-most}
-use Rattle.tick_sight.proofs.Passed.{orders-on, after}
+use Rattle.tick_context.proofs.Again.{free-apart, no-counter, no-target}
+use Rattle.tick_context.proofs.Counted.{counters-head}
+use Rattle.tick_context.proofs.GoesOn.{Goes, tick-goes, frame-goes, goes-alike}
+use Rattle.tick_context.proofs.InStep.{step-in, counter-next}
+use Rattle.tick_context.proofs.OneLess.{seen-again, looks-on, lasts-less}
+use Rattle.tick_context.proofs.Rings.{each-ring, last-again, latest-again}
+use Rattle.tick_context.proofs.Seen.{opposed-green}
+use Rattle.tick_context.proofs.Sought.{start-again}
+use Rattle.tick_context.proofs.Pickups.{kept-on, start-zero, start-next, few-next, one-more, same-most}
+use Rattle.tick_context.proofs.Passed.{orders-on, after}
 
 -- the controller with these parts
 abbrev built : Controller → Orders → Frame → ℕ → ℕ → ℕ → Count → Controller

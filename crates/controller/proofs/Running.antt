@@ -5,9 +5,9 @@ use Rattle.sig_types.specs.declared.frame.Mode.TheVariants.{Coord}
 use Rattle.sig_tables.specs.Past.{Past}
 use Rattle.sig_tables.specs.Seen.{mode_seen}
 use Rattle.controller.specs.declared.Controller.{Controller}
-use Rattle.tick_sight.specs.declared.course.Course.{Course}
-use Rattle.tick_sight.specs.Modes.{is_coord}
-use Rattle.tick_sight.specs.Binds.{BindingIs, IsBound}
+use Rattle.tick_context.specs.declared.course.Course.{Course}
+use Rattle.tick_context.specs.Modes.{is_coord}
+use Rattle.tick_context.specs.Binds.{BindingIs, IsBound}
 use Rattle.controller.specs.Runs.{Runs}
 
 -- in step with pattern n, that is the pattern which is kept

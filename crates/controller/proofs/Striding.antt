@@ -6,12 +6,12 @@ use Rattle.sig_tables.specs.declared.tables.Tables.{Tables}
 use Rattle.sig_tables.specs.Past.{Past, History}
 use Rattle.sig_tables.specs.Decide.{past_at}
 use Rattle.controller.specs.declared.Controller.{Controller}
-use Rattle.tick_sight.specs.Even.{IsEven, OrdersPassed}
+use Rattle.tick_context.specs.Even.{IsEven, OrdersPassed}
 use Rattle.controller.specs.StandsFor.{Keeps, StandsFor}
-use Rattle.tick_sight.specs.Strides.{ticks_more}
-use Rattle.tick_sight.specs.Lasting.{Lasts}
+use Rattle.tick_context.specs.Strides.{ticks_more}
+use Rattle.tick_context.specs.Lasting.{Lasts}
 use Rattle.controller.specs.Passed.{passed, IsReady}
-use Rattle.tick_sight.proofs.Striding.{more-past}
+use Rattle.tick_context.proofs.Striding.{more-past}
 use Rattle.controller.proofs.Passed.{keeps-after}
 
 pub keeps-by : (n : ℕ) (mode : Mode) (c new : Controller) (h : History) → 0 < n → new ≡ passed n c new.orders → OrdersPassed n c.orders new.orders

@@ -9,14 +9,14 @@ use Rattle.phase_clock.specs.Passed.{IsSteady, passed as clocks_passed}
 use Rattle.ped_clock.specs.Passed.{passed as signals_passed}
 use Rattle.preempt_run.specs.Passed.{IsClear, passed as preempts_passed}
 use Rattle.prio_queue.specs.Idle.{IsIdle}
-use Rattle.tick_sight.specs.declared.orders.Orders.{Orders}
-use Rattle.tick_sight.specs.declared.seeing.Sight.{Sight}
+use Rattle.tick_context.specs.declared.orders.Orders.{Orders}
+use Rattle.tick_context.specs.declared.seeing.Sight.{Sight}
 use Rattle.controller.specs.declared.Controller.{Controller}
-use Rattle.tick_sight.specs.Modes.{is_coord}
-use Rattle.tick_sight.specs.Binds.{IsBound}
-use Rattle.tick_sight.specs.Even.{IsEven, OrdersPassed}
-use Rattle.tick_sight.specs.Lasting.{Looks}
-use Rattle.tick_sight.specs.Passed.{timed, planned_target}
+use Rattle.tick_context.specs.Modes.{is_coord}
+use Rattle.tick_context.specs.Binds.{IsBound}
+use Rattle.tick_context.specs.Even.{IsEven, OrdersPassed}
+use Rattle.tick_context.specs.Lasting.{Looks}
+use Rattle.tick_context.specs.Passed.{timed, planned_target}
 
 -- the count after so many ticks more, where it counts
 abbrev pub counted : Bool → ℕ → Count → Count

@@ -17,9 +17,9 @@ use Rattle.preempt_run.specs.Dwelling.{NamesPhases}
 use Rattle.preempt_run.specs.Stands.{PreemptsStand, step_count as preempt_steps}
 use Rattle.prio_queue.specs.Stands.{QueueStands}
 use Rattle.controller.specs.Shows.{ShowsColours}
-use Rattle.tick_sight.specs.Shows.{is_signalling}
-use Rattle.tick_sight.specs.Orders.{OrdersStand, order_ticks}
-use Rattle.tick_sight.specs.Binds.{BindingStands}
+use Rattle.tick_context.specs.Shows.{is_signalling}
+use Rattle.tick_context.specs.Orders.{OrdersStand, order_ticks}
+use Rattle.tick_context.specs.Binds.{BindingStands}
 use Rattle.controller.specs.declared.Controller.{Controller}
 
 -- the number of ticks so far, each of which all clocks were given

@@ -6,7 +6,7 @@ ghost use Rattle.std.specs.Prelude.{◌≡◌, ◌<◌, ◌≤◌, ◌+◌, ◌&
 
 use crate::Controller;
 use sig_types::{Frame, Mode, PhaseSet};
-use tick_sight::{Course, Sight, are_both_on, is_defined, is_free, shows_sixteen};
+use tick_context::{Course, Sight, are_both_on, is_defined, is_free, shows_sixteen};
 
 /// The command that asks for flash.
 const FLASH_COMMAND: u8 = 255;
@@ -34,10 +34,10 @@ impl Controller {
     ghost use Rattle.sig_tables.specs.Decide.{with_moment, next_moment};
     ghost use Rattle.sig_tables.specs.Seen.{frame_seen, mode_seen, pedestrian_seen, demand_with, quiet_seen, opposed_seen};
     ghost use Rattle.preempt_run.specs.Stands.{preempts_seen};
-    ghost use Rattle.tick_sight.specs.Shows.{is_clearing, is_signalling};
-    ghost use Rattle.tick_sight.specs.Rests.{IsCurrent, Repeats};
+    ghost use Rattle.tick_context.specs.Shows.{is_clearing, is_signalling};
+    ghost use Rattle.tick_context.specs.Rests.{IsCurrent, Repeats};
     ghost use Rattle.controller.specs.Runs.{Runs};
-    ghost use Rattle.tick_sight.specs.Sees.{Sees};
+    ghost use Rattle.tick_context.specs.Sees.{Sees};
     ghost use Rattle.controller.specs.StandsFor.{Keeps, tick_count, install_count};
 
     /// Whether a cabinet that runs free goes on to: no preempt input is on, and this pattern in command is none that is defined

@@ -7,7 +7,7 @@ use crate::by_colour::ByColour;
 use flash_mode::reached;
 use ring_barrier::Changes;
 use sig_types::{Colour, Frame, Mode, Ped, PhaseSet};
-use tick_sight::{Course, Sight, lone};
+use tick_context::{Course, Sight, lone};
 
 /// The frame of a tick, the phases by its colours, and whether every phase keeps the colour and the signal that it had.
 #[derive(Clone, Copy)]
@@ -33,13 +33,13 @@ impl Controller {
     ghost use Rattle.sig_tables.specs.Layout.{Has};
     ghost use Rattle.sig_tables.specs.Seen.{frame_seen, mode_seen, sight_seen};
     ghost use Rattle.controller.specs.Shows.{ShowsColours};
-    ghost use Rattle.tick_sight.specs.Shows.{is_clearing};
-    ghost use Rattle.tick_sight.specs.Walks.{crossing_seen};
+    ghost use Rattle.tick_context.specs.Shows.{is_clearing};
+    ghost use Rattle.tick_context.specs.Walks.{crossing_seen};
     ghost use Rattle.controller.specs.Runs.{Runs};
-    ghost use Rattle.tick_sight.specs.Sees.{Sees};
+    ghost use Rattle.tick_context.specs.Sees.{Sees};
     ghost use Rattle.controller.specs.Comes.{Comes};
     ghost use Rattle.controller.specs.StandsFor.{Keeps, tick_count};
-    ghost use Rattle.tick_sight.specs.Moves.{AreMoves};
+    ghost use Rattle.tick_context.specs.Moves.{AreMoves};
 
     /// The colour of a phase, 1 to 16, after these moves.
     fn colour_after(&self, moves: Changes, phase: u8) -> Colour

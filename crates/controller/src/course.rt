@@ -8,7 +8,7 @@ use coord_count::Limits;
 use flash_mode::{Choice, sought, turn_of};
 use preempt_run::{goal, lesser};
 use sig_types::{Mode, PhaseSet};
-use tick_sight::{Course, has_pattern, is_coord};
+use tick_context::{Course, has_pattern, is_coord};
 
 impl Controller {
     ghost use Rattle.sig_types.specs.Phases.{is_in};
@@ -23,8 +23,8 @@ impl Controller {
     ghost use Rattle.prio_queue.specs.Places.{some_number};
     ghost use Rattle.sig_types.specs.declared.frame.Mode.TheVariants.{Coord};
     ghost use Rattle.sig_tables.specs.Slots.{cycle_time};
-    ghost use Rattle.tick_sight.specs.Binds.{BindingIs, IsBound};
-    ghost use Rattle.tick_sight.specs.Course.{OnCourse};
+    ghost use Rattle.tick_context.specs.Binds.{BindingIs, IsBound};
+    ghost use Rattle.tick_context.specs.Course.{OnCourse};
     ghost use Rattle.controller.specs.StandsFor.{Keeps, tick_count, install_count};
 
     /// The pattern in command at this tick.

@@ -8,7 +8,7 @@ use crate::colouring::Next;
 use call_store::signalling;
 use coord_count::Count;
 use sig_types::{Frame, Mode, Ped, PhaseSet};
-use tick_sight::{Course, Sight, is_coord};
+use tick_context::{Course, Sight, is_coord};
 
 /// Whether a frame is in Start.
 pub(crate) fn shows_start(frame: &Frame) -> bool
@@ -64,10 +64,10 @@ impl Controller {
     ghost use Rattle.sig_types.specs.declared.frame.Frame.{Frame};
     ghost use Rattle.sig_tables.specs.Layout.{Has};
     ghost use Rattle.call_store.specs.Stands.{is_walking};
-    ghost use Rattle.tick_sight.specs.Shows.{is_signalling};
+    ghost use Rattle.tick_context.specs.Shows.{is_signalling};
     ghost use Rattle.controller.specs.Comes.{Comes};
     ghost use Rattle.controller.specs.Runs.{Runs};
-    ghost use Rattle.tick_sight.specs.Sees.{Sees};
+    ghost use Rattle.tick_context.specs.Sees.{Sees};
     ghost use Rattle.sig_tables.specs.Choosing.{is_in_step};
     ghost use Rattle.coord_count.specs.Stands.{CountStands};
     ghost use Rattle.controller.specs.StandsFor.{Keeps, CountsOn, tick_count, install_count};

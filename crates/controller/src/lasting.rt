@@ -5,7 +5,7 @@ ghost use Rattle.std.specs.Prelude.{◌≡◌, ◌<◌, ◌≤◌, ◌+◌, ◌&
 
 use crate::Controller;
 use sig_types::Colour;
-use tick_sight::{Sight, is_coord, lone};
+use tick_context::{Sight, is_coord, lone};
 
 impl Controller {
     ghost use Rattle.sig_types.specs.Phases.{is_phase, is_in};
@@ -16,8 +16,8 @@ impl Controller {
     ghost use Rattle.sig_tables.specs.Modes.{bound};
     ghost use Rattle.sig_tables.specs.Seen.{frame_seen, demand_with, quiet_with};
     ghost use Rattle.ped_clock.specs.Passed.{SignalLasts};
-    ghost use Rattle.tick_sight.specs.Binds.{BindingIs, IsBound};
-    ghost use Rattle.tick_sight.specs.Lasting.{Looks, ColourLasts, StaysUnserved, HasNoGap, HasNoMaximum, ComesBefore, HasNoReason, StaysUnforced, PhaseLasts, opposed_with};
+    ghost use Rattle.tick_context.specs.Binds.{BindingIs, IsBound};
+    ghost use Rattle.tick_context.specs.Lasting.{Looks, ColourLasts, StaysUnserved, HasNoGap, HasNoMaximum, ComesBefore, HasNoReason, StaysUnforced, PhaseLasts, opposed_with};
     ghost use Rattle.controller.specs.StandsFor.{Keeps, tick_count};
 
     /// For how many ticks more a phase, 1 to 16, keeps its colour where it neither ends nor begins.

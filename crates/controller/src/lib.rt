@@ -14,7 +14,7 @@ use preempt_run::Preempts;
 use prio_queue::Queue;
 use sig_tables::{Layout, Shown, Tables};
 use sig_types::{Field, Frame, PhaseSet, Request};
-use tick_sight::{Binding, Orders, first_frame, is_flash};
+use tick_context::{Binding, Orders, first_frame, is_flash};
 
 mod at_rest;
 mod by_colour;
@@ -71,9 +71,9 @@ impl Controller {
     ghost use Rattle.sig_tables.specs.Past.{History, Input, Install, SetPattern, SetClock, SetDrift, Ask, Cancel};
     ghost use Rattle.sig_tables.specs.Decide.{decide, ticked, opening, with_one, last_frame_of, past_at};
     ghost use Rattle.sig_tables.specs.Showing.{ShownAfter};
-    ghost use Rattle.tick_sight.specs.Modes.{is_flash};
+    ghost use Rattle.tick_context.specs.Modes.{is_flash};
     ghost use Rattle.controller.specs.StandsFor.{StandsFor, tick_count, install_count};
-    ghost use Rattle.tick_sight.specs.Told.{CanRun, NamesPlace};
+    ghost use Rattle.tick_context.specs.Told.{CanRun, NamesPlace};
 
     /// A cabinet that is opened with these tables, in Start, with a pattern in command, 0 to 255 (254 and those that are
     /// not defined run free, 255 flashes), and a clock in ticks of the day. The tables' limits of adding and subtracting

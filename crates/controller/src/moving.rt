@@ -7,14 +7,14 @@ ghost use Rattle.sig_tables.specs.View.{is_forced};
 ghost use Rattle.sig_tables.specs.Moves.{ring_moves};
 ghost use Rattle.sig_tables.specs.Layout.{Has};
 ghost use Rattle.ring_barrier.specs.Shows.{Opens};
-ghost use Rattle.tick_sight.specs.Moves.{AreMoves};
+ghost use Rattle.tick_context.specs.Moves.{AreMoves};
 
 use crate::Controller;
 use flash_mode::Turn;
 use ring_barrier::{Changes, RingView, View, changes, changes_toward, is_idle};
 use sig_tables::Layout;
 use sig_types::PhaseSet;
-use tick_sight::{Course, Sight, is_coord, is_resting, no_changes};
+use tick_context::{Course, Sight, is_coord, is_resting, no_changes};
 
 /// The phases that the rings look at now, and once they are cleared.
 #[derive(Clone, Copy)]
@@ -36,7 +36,7 @@ impl Controller {
     ghost use Rattle.sig_tables.specs.View.{is_done, is_startable, clearance_of};
     ghost use Rattle.sig_tables.specs.Seen.{mode_seen, demand_seen, turn_seen, view_seen, moves_seen};
     ghost use Rattle.controller.specs.Runs.{Runs};
-    ghost use Rattle.tick_sight.specs.Sees.{Sees};
+    ghost use Rattle.tick_context.specs.Sees.{Sees};
     ghost use Rattle.controller.specs.Wanting.{Wants};
     ghost use Rattle.controller.specs.StandsFor.{Keeps, tick_count};
 

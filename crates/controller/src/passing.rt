@@ -5,9 +5,9 @@
 ghost use Rattle.std.specs.Prelude.{◌≡◌, ◌<◌, ◌≤◌, ◌+◌, ◌⊎◌, [], ℕ, true, IsTrue, None};
 
 use crate::Controller;
+use pattern_plan::SplitOptions;
 use sig_types::{Mode, PhaseSet};
-use split_options::SplitOptions;
-use tick_sight::{Sight, are_both_on, is_coord, is_defined, shows_sixteen};
+use tick_context::{Sight, are_both_on, is_coord, is_defined, shows_sixteen};
 
 /// The command that asks for flash.
 const FLASH_COMMAND: u8 = 255;
@@ -19,13 +19,13 @@ impl Controller {
     ghost use Rattle.sig_tables.specs.Clock.{target_at};
     ghost use Rattle.sig_tables.specs.Seen.{moment_seen};
     ghost use Rattle.coord_count.specs.Stands.{counter_of};
-    ghost use Rattle.tick_sight.specs.Modes.{is_coord};
+    ghost use Rattle.tick_context.specs.Modes.{is_coord};
     ghost use Rattle.sig_tables.specs.Past.{Past};
     ghost use Rattle.sig_tables.specs.Layout.{Has};
     ghost use Rattle.preempt_run.specs.Stands.{preempts_seen};
-    ghost use Rattle.split_options.specs.Options.{AreBinding};
-    ghost use Rattle.tick_sight.specs.Binds.{BindingIs, IsBound};
-    ghost use Rattle.tick_sight.specs.Lasting.{IsFresh, Looks, StaysFree, StaysInStep, ModeLasts, Lasts, opposed_with};
+    ghost use Rattle.pattern_plan.specs.Options.{AreBinding};
+    ghost use Rattle.tick_context.specs.Binds.{BindingIs, IsBound};
+    ghost use Rattle.tick_context.specs.Lasting.{IsFresh, Looks, StaysFree, StaysInStep, ModeLasts, Lasts, opposed_with};
     ghost use Rattle.controller.specs.Passed.{IsReady, GoesEvenly, HasPassed, HasOrders};
     ghost use Rattle.controller.specs.StandsFor.{Keeps, tick_count, install_count};
 

@@ -7,7 +7,7 @@ use crate::Controller;
 use coord_gate::{filled, released};
 use preempt_run::lesser_green;
 use sig_types::{Ped, PhaseSet};
-use tick_sight::{Course, Sight, is_asked, is_coord};
+use tick_context::{Course, Sight, is_asked, is_coord};
 
 impl Controller {
     ghost use Rattle.sig_tables.specs.Coordinating.{extension_of};
@@ -24,7 +24,7 @@ impl Controller {
     ghost use Rattle.prio_queue.specs.Places.{some_number};
     ghost use Rattle.ring_barrier.specs.Shows.{is_leaving};
     ghost use Rattle.controller.specs.Runs.{Runs};
-    ghost use Rattle.tick_sight.specs.Sees.{Sees};
+    ghost use Rattle.tick_context.specs.Sees.{Sees};
     ghost use Rattle.controller.specs.StandsFor.{Keeps, tick_count};
 
     /// How long a phase, 1 to 16, clears: its yellow change and its red clearance, in ticks.

@@ -4,7 +4,7 @@ ghost use Rattle.std.specs.Prelude.{◌≡◌, ◌<◌, ◌≤◌, ◌&&◌, [],
 
 use crate::Controller;
 use sig_types::PhaseSet;
-use tick_sight::{Sight, lone};
+use tick_context::{Sight, lone};
 
 impl Controller {
     ghost use Rattle.sig_types.specs.declared.frame.Mode.TheVariants.{Free};
@@ -16,9 +16,9 @@ impl Controller {
     ghost use Rattle.sig_tables.specs.View.{is_done, is_open};
     ghost use Rattle.sig_tables.specs.Moves.{ring_moves};
     ghost use Rattle.sig_tables.specs.Seen.{frame_seen, mode_seen, quiet_seen, opposed_seen, view_seen};
-    ghost use Rattle.tick_sight.specs.Shows.{is_signalling};
-    ghost use Rattle.tick_sight.specs.Walks.{signal_seen};
-    ghost use Rattle.tick_sight.specs.Sees.{Sees};
+    ghost use Rattle.tick_context.specs.Shows.{is_signalling};
+    ghost use Rattle.tick_context.specs.Walks.{signal_seen};
+    ghost use Rattle.tick_context.specs.Sees.{Sees};
     ghost use Rattle.controller.specs.StandsFor.{Keeps, tick_count};
 
     /// Whether a phase on which no walk begins keeps its signal. What is no phase does.

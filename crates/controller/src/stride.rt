@@ -4,12 +4,12 @@
 ghost use Rattle.std.specs.Prelude.{◌≡◌, ◌<◌, ◌≤◌, ◌+◌, ℕ, suc, false};
 
 use crate::Controller;
-use tick_sight::has_line;
+use tick_context::has_line;
 
 impl Controller {
     ghost use Rattle.sig_tables.specs.Past.{History};
     ghost use Rattle.sig_tables.specs.Decide.{ticked};
-    ghost use Rattle.tick_sight.specs.Strides.{IsStride, is_told, ticks_more};
+    ghost use Rattle.tick_context.specs.Strides.{IsStride, is_told, ticks_more};
     ghost use Rattle.controller.specs.StandsFor.{StandsFor, tick_count, install_count};
 
     /// Passes over ticks that come, at most so many, and says how many, where nothing has been told since the last tick. It may

@@ -6,7 +6,7 @@ ghost use Rattle.std.specs.Prelude.{◌≡◌, ◌<◌, ◌+◌, []};
 use crate::Controller;
 use flash_mode::Turn;
 use sig_types::{Frame, Mode, PhaseSet};
-use tick_sight::{Course, Sight};
+use tick_context::{Course, Sight};
 
 /// What a tick is about in a cabinet that runs free and goes on to, with this pattern in command, at this time.
 fn free_course(command: u8, clock: u32) -> Course
@@ -32,7 +32,7 @@ ghost use Rattle.sig_tables.specs.Past.{Past};
 ghost use Rattle.sig_tables.specs.Command.{command_now};
 ghost use Rattle.sig_tables.specs.Clock.{clock_now};
 ghost use Rattle.sig_tables.specs.Seen.{frame_seen, mode_seen};
-ghost use Rattle.tick_sight.specs.Course.{OnCourse};
+ghost use Rattle.tick_context.specs.Course.{OnCourse};
 
 impl Controller {
     ghost use Rattle.sig_types.specs.declared.frame.Mode.TheVariants.{Free};
@@ -42,7 +42,7 @@ impl Controller {
     ghost use Rattle.sig_tables.specs.Seen.{frame_seen, mode_seen};
     ghost use Rattle.preempt_run.specs.Stands.{preempts_seen};
     ghost use Rattle.controller.specs.Runs.{Runs};
-    ghost use Rattle.tick_sight.specs.Sees.{Sees};
+    ghost use Rattle.tick_context.specs.Sees.{Sees};
     ghost use Rattle.controller.specs.StandsFor.{Keeps, tick_count, install_count};
 
     /// The frame of a tick that is about this and sees this.

@@ -4,11 +4,11 @@
 ghost use Rattle.std.specs.Prelude.{◌≡◌, ◌<◌, ◌≤◌, ℕ, Bool, if◌then◌else◌, List, map, IsTrue, true};
 
 use crate::Controller;
+use pattern_plan::SplitOptions;
 use ped_clock::{Crosswalks, walks};
 use ring_barrier::Changes;
 use sig_types::{Mode, Ped, PhaseSet};
-use split_options::SplitOptions;
-use tick_sight::{Course, Sight, greens, is_coord, is_coord_of, lone};
+use tick_context::{Course, Sight, greens, is_coord, is_coord_of, lone};
 
 impl Controller {
     ghost use Rattle.sig_types.specs.declared.frame.Colour.{Colour};
@@ -16,11 +16,11 @@ impl Controller {
     ghost use Rattle.sig_tables.specs.Course.{course_of};
     ghost use Rattle.sig_tables.specs.Walking.{is_local_zero};
     ghost use Rattle.ped_clock.specs.Walks.{SaysInCoord};
-    ghost use Rattle.tick_sight.specs.Binds.{IsBound};
+    ghost use Rattle.tick_context.specs.Binds.{IsBound};
     ghost use Rattle.sig_types.specs.declared.frame.Ped.TheVariants.{Walk};
     ghost use Rattle.sig_types.specs.Phases.{all_phases, is_phase};
     ghost use Rattle.sig_types.specs.Colour.{signal_of};
-    ghost use Rattle.tick_sight.specs.Shows.{is_signalling};
+    ghost use Rattle.tick_context.specs.Shows.{is_signalling};
     ghost use Rattle.sig_types.specs.PhaseSet.{has};
     ghost use Rattle.sig_tables.specs.Past.{Past};
     ghost use Rattle.sig_tables.specs.Goals.{lesser_in};
@@ -29,11 +29,11 @@ impl Controller {
     ghost use Rattle.sig_tables.specs.Layout.{Has};
     ghost use Rattle.sig_tables.specs.Seen.{frame_seen, mode_seen};
     ghost use Rattle.ped_clock.specs.Signals.{lesser_of};
-    ghost use Rattle.tick_sight.specs.Walks.{walk_after, signal_seen};
+    ghost use Rattle.tick_context.specs.Walks.{walk_after, signal_seen};
     ghost use Rattle.controller.specs.Runs.{Runs};
-    ghost use Rattle.tick_sight.specs.Sees.{Sees};
+    ghost use Rattle.tick_context.specs.Sees.{Sees};
     ghost use Rattle.controller.specs.StandsFor.{Keeps, tick_count};
-    ghost use Rattle.tick_sight.specs.Moves.{AreMoves};
+    ghost use Rattle.tick_context.specs.Moves.{AreMoves};
 
     /// The lesser times of a phase, 1 to 16; none for a phase of the goal.
     fn lesser_for(&self, course: &Course, phase: u8) -> Option<(u32, u32)>

@@ -13,7 +13,7 @@ use Rattle.scenario_read.specs.Table.{rounds, ticks, version, cabinets, master, 
 use Rattle.scenario_read.specs.Content.{list_in, whole_of, cabinet_of, version_number, round_count, tick_count, cabinet_count, cabinets_of}
 use Rattle.scenario_read.specs.Faults.{named_faults, product_faults, all_table_faults, faults}
 use Rattle.scenario_read.proofs.Whole.{faultless-parts}
-use Rattle.runnable_scenarios.proofs.RangesParts.{list-in, held-in, object-in, all-clean, AllClean}
+use Rattle.scenario_checked.proofs.RangesParts.{list-in, held-in, object-in, all-clean, AllClean}
 use Rattle.detector_bank.specs.declared.bank.Call.{Call}
 use Rattle.scenario_file.specs.Source.{with_member, inputs_and, master_and}
 use Rattle.field_file.specs.Written.{call_value, entry_value, with_inputs, with_schedule, with_traffic}

@@ -23,7 +23,7 @@ use Rattle.scenario_cut.specs.Growing.{both}
 use Rattle.scenario_file.specs.Source.{with_member, master_and, inputs_and}
 use Rattle.scenario_file.proofs.Numerals.{IsNumeral, small-numeral}
 use Rattle.scenario_file.proofs.Back.{HasNumerals, ItemsHaveNumerals, MembersHaveNumerals, numerals-put, numerals-there, tree-of, tree-numerals, text-tokens, reads-back}
-use Rattle.scenario_inside.specs.Inside.{scenario}
+use Rattle.scenario_checked.specs.Inside.{scenario}
 use Rattle.detector_bank.specs.declared.bank.Call.{Call}
 use Rattle.field_read.specs.Content.{FieldContent, field_of, cabinets_run, rounds_run}
 use Rattle.field_read.proofs.Placed.{few-run}

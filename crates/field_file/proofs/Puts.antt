@@ -11,7 +11,7 @@ use Rattle.scenario_data.specs.Causes.{Cause, Field as FieldCause}
 use Rattle.scenario_read.specs.Paths.{Step, path_text, then_named}
 use Rattle.scenario_read.specs.Kinds.{is_among}
 use Rattle.scenario_read.specs.Fields.{Field, value_of, held, either, faults_of, field_faults, fields_faults, names, unknown_faults, object_of}
-use Rattle.runnable_scenarios.proofs.RangesParts.{none-left}
+use Rattle.scenario_checked.proofs.RangesParts.{none-left}
 
 differ : (a b : List ℕ) → bytes_eq a b ≡ false → a ≡ b → ⊥
 differ a b other e = false≢true (sym other ∙ (bytes_eq-Decides a b).1 e)

@@ -10,8 +10,8 @@ use Rattle.scenario_read.specs.Table.{needed_whole, number_at, scenario_shape}
 use Rattle.scenario_read.specs.Content.{version_number, round_count, cabinet_count}
 use Rattle.scenario_read.specs.Faults.{faults}
 use Rattle.scenario_read.proofs.Whole.{faultless-parts}
-use Rattle.runnable_scenarios.proofs.RangesParts.{whole-in, list-in, each-length, held-in, object-in, all-clean, AllClean}
-use Rattle.scenario_inside.specs.Inside.{inner_cause, inner_scenario, scenario}
+use Rattle.scenario_checked.proofs.RangesParts.{whole-in, list-in, each-length, held-in, object-in, all-clean, AllClean}
+use Rattle.scenario_checked.specs.Inside.{inner_cause, inner_scenario, scenario}
 use Rattle.responsive.specs.declared.Step.{Step}
 use Rattle.responsive.specs.Level.{step_to}
 use Rattle.field_read.specs.Table.{detector_shape, pulse_shape, step_shape, section_shape, respond_shape, steps, sections, bank, pulses, respond, field_shape}

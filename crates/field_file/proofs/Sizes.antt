@@ -17,8 +17,8 @@ use Rattle.scenario_read.specs.Readers.{Refuses, Answers}
 use Rattle.scenario_read.specs.Answers.{Reads, OnRefusal}
 use Rattle.scenario_read.specs.Faults.{first_cause, faults}
 use Rattle.scenario_read.proofs.Refusing.{refuses_more}
-use Rattle.runnable_scenarios.proofs.RangesParts.{none-left}
-use Rattle.scenario_inside.specs.Inside.{scenario}
+use Rattle.scenario_checked.proofs.RangesParts.{none-left}
+use Rattle.scenario_checked.specs.Inside.{scenario}
 use Rattle.detector_bank.specs.declared.bank.Call.{Call}
 use Rattle.detector_bank.specs.Lists.{EachStands}
 use Rattle.field_read.specs.Content.{RespondContent, FieldContent, field_of, cabinets_run}

@@ -13,8 +13,8 @@ use Rattle.scenario_read.specs.Sorted.{Sorted}
 use Rattle.scenario_read.specs.Faults.{faults}
 use Rattle.scenario_read.proofs.Whole.{faultless-parts}
 use Rattle.scenario_read.proofs.Compact.{faultless-floatless}
-use Rattle.runnable_scenarios.proofs.RangesParts.{none-left, fits-alone, in-range, each-length}
-use Rattle.scenario_inside.specs.Inside.{scenario}
+use Rattle.scenario_checked.proofs.RangesParts.{none-left, fits-alone, in-range, each-length}
+use Rattle.scenario_checked.specs.Inside.{scenario}
 use Rattle.responsive.proofs.Levels.{stays, level-few}
 use Rattle.field_read.specs.Content.{RuleContent, RespondContent, FieldContent, field_of, respond_asked}
 use Rattle.field_read.specs.Checks.{named_faults, across_faults, file_faults}

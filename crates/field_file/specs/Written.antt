@@ -7,7 +7,7 @@ use Rattle.serde_json.specs.Written.{compact_text}
 use Rattle.scenario_data.specs.declared.scenario.Entry.{Entry}
 use Rattle.scenario_read.specs.Fields.{held}
 use Rattle.scenario_file.specs.Source.{with_inputs as more_inputs, with_schedule as another_schedule}
-use Rattle.scenario_inside.specs.Inside.{scenario}
+use Rattle.scenario_checked.specs.Inside.{scenario}
 use Rattle.detector_bank.specs.declared.bank.Call.{Call}
 use Rattle.detector_bank.specs.Lists.{calls_until, in_order, edges_until}
 use Rattle.field_read.specs.Content.{RespondContent, FieldContent, field_of}

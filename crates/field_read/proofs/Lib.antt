@@ -4,6 +4,10 @@ pub mod Inside
 pub mod Detectors
 pub mod Rules
 pub mod Placed
-pub mod Whole
+pub mod WholeFields
 pub mod OneAnswer
 pub mod LimitNames
+pub mod Names
+pub mod Standing
+pub mod Narrow
+pub mod Saying

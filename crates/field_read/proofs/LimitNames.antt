@@ -9,7 +9,7 @@ use Rattle.scenario_read.specs.Paths.{Step, Named, Item, path_text, further_text
 use Rattle.scenario_read.specs.Kinds.{Fit, Fits, Wrong, Beyond, Kind, fault_at, whole_fits, flag_fits, list_fits, is_among, each, items_in, list_of, whole, flag}
 use Rattle.scenario_read.specs.Fields.{Field, Shape, value_of, faults_of, field_faults, fields_faults, alternative_faults, unknown_faults, names, known_fields, members_faults, object_of}
 use Rattle.scenario_read.specs.Faults.{faults, first_cause}
-use Rattle.scenario_inside.specs.Inside.{inner_path, inner_cause, inner_scenario}
+use Rattle.scenario_checked.specs.Inside.{inner_path, inner_cause, inner_scenario}
 use Rattle.field_read.specs.Table.{detector_shape, pulse_shape, step_shape, section_shape, respond_shape, field_shape}
 use Rattle.field_read.specs.Content.{RuleContent, RespondContent, FieldContent, rounds_run, cabinets_run, field_of}
 use Rattle.field_read.specs.Checks.{upto, section_faults, all_step_faults, schedule_faults, period_faults, day_faults, respond_faults, asked_faults, bank_faults, pulse_faults, across_faults, named_faults, file_faults, detector_path, bank_fit, pulse_path, pulse_fit, section_path, section_fit, section_fault, bank_fault, pulse_fault, step_fault, rule_step_faults, step_path, step_fit, rule_at, schedule_fit, period_fit, day_fit}

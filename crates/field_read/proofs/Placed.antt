@@ -8,9 +8,9 @@ use Rattle.scenario_read.specs.Fields.{held, field_faults, object_of}
 use Rattle.scenario_read.specs.Table.{needed_whole, number_at}
 use Rattle.scenario_read.specs.Content.{each_of}
 use Rattle.scenario_read.specs.Faults.{faults}
-use Rattle.runnable_scenarios.proofs.RangesParts.{none-left, whole-in, list-in, held-in, object-in, all-clean, AllClean}
-use Rattle.scenario_inside.specs.Inside.{inner_cause, scenario}
-use Rattle.scenario_inside.proofs.Around.{few-cabinets}
+use Rattle.scenario_checked.proofs.RangesParts.{none-left, whole-in, list-in, held-in, object-in, all-clean, AllClean}
+use Rattle.scenario_checked.specs.Inside.{inner_cause, scenario}
+use Rattle.scenario_checked.proofs.Around.{few-cabinets}
 use Rattle.detector_bank.specs.declared.bank.Detector.{Detector}
 use Rattle.detector_bank.specs.declared.bank.Pulse.{Pulse}
 use Rattle.field_read.specs.Table.{detector_shape, pulse_shape, bank, pulses, field_shape}

@@ -6,7 +6,7 @@ use Rattle.scenario_data.specs.Content.{ScenarioContent, scenario_content}
 use Rattle.scenario_read.specs.Fields.{held}
 use Rattle.scenario_read.specs.Table.{round, cabinet_number, phase, on}
 use Rattle.scenario_read.specs.Content.{number_at, flag_of, list_in, round_count, cabinet_count, scenario_of}
-use Rattle.scenario_inside.specs.Inside.{scenario}
+use Rattle.scenario_checked.specs.Inside.{scenario}
 use Rattle.detector_bank.specs.declared.bank.Detector.{Detector}
 use Rattle.detector_bank.specs.declared.bank.Pulse.{Pulse}
 use Rattle.responsive.specs.declared.Rule.{Rule}

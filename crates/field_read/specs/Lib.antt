@@ -3,3 +3,6 @@ pub mod Content
 pub mod Checks
 pub mod Places
 pub mod Answers
+pub mod Lists
+pub mod Parts
+pub mod Right

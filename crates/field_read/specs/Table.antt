@@ -4,7 +4,7 @@ use Rattle.serde_json.specs.Data.{unsigned, Data, number, array, object, item, n
 use Rattle.scenario_read.specs.Kinds.{list_of}
 use Rattle.scenario_read.specs.Fields.{Field, needed, optional, Shape, object_of}
 use Rattle.scenario_read.specs.Table.{needed_whole, optional_list, round, cabinet_number, phase, on}
-use Rattle.scenario_inside.specs.Inside.{scenario}
+use Rattle.scenario_checked.specs.Inside.{scenario}
 
 -- a detector of the bank, in a scenario of so many cabinets
 abbrev pub detector : Field

@@ -11,12 +11,12 @@ ghost use Rattle.scenario_read.specs.Faults.{faults};
 ghost use Rattle.scenario_read.specs.Sorted.{Sorted};
 ghost use Rattle.scenario_read.specs.Readers.{Answers};
 ghost use Rattle.scenario_read.specs.Answers.{Reads, IsScenario};
-ghost use Rattle.scenario_inside.specs.Inside.{scenario};
+ghost use Rattle.scenario_checked.specs.Inside.{scenario};
 ghost use Rattle.field_read.specs.Places.{steps_of};
 
 use crate::place::{Place, refuse_member};
+use scenario_checked::inner_fail;
 use scenario_data::{ReadFail, Scenario};
-use scenario_inside::inner_fail;
 use scenario_read::{Unfit, checked_parts, scenario_from};
 use serde_json::Value;
 use std::alloc::Global;

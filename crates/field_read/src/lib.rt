@@ -1,19 +1,29 @@
 //! The field file, read whole and refused at its first fault: a scenario, the vehicle detectors of its cabinets with their
 //! pulses, and how patterns follow the traffic, as one JSON object (RFC 8259) with the names `scenario`, `bank`, `pulses` and
 //! `respond`.
+//!
+//! The field file, read with little memory: its detectors, its pulses and the lists of its scenario, which may be most of a
+//! file, are read item by item, and only how patterns follow the traffic becomes a tree. What a field file is, and what is
+//! refused, is as in `field_read`; of what is wrong or unusual nothing is said here.
 #![tactic(auto)]
 
 mod across;
 mod bank;
+mod found;
 mod inner;
+mod list_reading;
+mod lists;
 mod marks;
 mod members;
 mod named;
+mod parts;
 mod place;
 mod pulses;
 mod reading;
 mod respond;
+mod top;
 mod traffic;
+mod whole;
 
 ghost use Rattle.std.specs.Prelude.{◌≡◌, ℕ, List, codes, String, string_bytes};
 ghost use Rattle.std.specs.declared.alloc.Global.{Global};
@@ -24,10 +34,12 @@ ghost use Rattle.field_read.specs.Answers.{IsField, IsFirstFieldFault};
 
 pub use across::lists_fit;
 pub use bank::detector_in;
+pub use list_reading::listed;
 pub use named::Field;
 pub use pulses::pulse_in;
 pub use reading::{Source, read_source};
 pub use respond::{Respond, respond_in};
+pub use whole::Listed;
 
 /// A law: bytes are one field file and no more, or have one first fault and no other, and never both.
 pub fn bytes_have_one_answer()

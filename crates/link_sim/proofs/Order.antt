@@ -12,7 +12,7 @@ use Rattle.sig_types.specs.declared.notes.Way.TheVariants.{Poll, Load, Prio}
 use Rattle.scenario_data.specs.declared.scenario.Direction.{Direction}
 use Rattle.scenario_data.specs.declared.scenario.Direction.TheVariants.{Down, Up}
 use Rattle.scenario_data.specs.declared.scenario.Fault.{Fault}
-use Rattle.round_streams.specs.Passes.{pass_of}
+use Rattle.sig_types.specs.Passes.{pass_of}
 use Rattle.link_sim.specs.declared.Line.{Line}
 use Rattle.link_sim.specs.Faults.{same_way, same_direction, meets, fault_of}
 use Rattle.link_sim.specs.Order.{rank_of, by_place, fault_at, SameFaults}

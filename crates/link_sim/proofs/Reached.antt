@@ -5,7 +5,7 @@ use Rattle.sig_types.specs.declared.notes.Way.{Way}
 use Rattle.scenario_data.specs.declared.scenario.Direction.{Direction}
 use Rattle.scenario_data.specs.declared.scenario.Fault.{Fault}
 use Rattle.scenario_data.specs.Content.{ScenarioContent}
-use Rattle.round_streams.specs.Items.{Item, Told, Came}
+use Rattle.sig_types.specs.Items.{Item, Told, Came}
 use Rattle.link_sim.specs.declared.lines.Lines.{Lines}
 use Rattle.link_sim.specs.declared.Line.{Line}
 use Rattle.link_sim.specs.Order.{SameFaults}

@@ -6,10 +6,10 @@ use Rattle.scenario_data.specs.declared.scenario.Direction.{Direction}
 use Rattle.scenario_data.specs.declared.scenario.Direction.TheVariants.{Down, Up}
 use Rattle.scenario_data.specs.declared.scenario.Fault.{Fault}
 use Rattle.scenario_data.specs.Content.{ScenarioContent}
-use Rattle.round_streams.specs.declared.Sending.{Sending}
-use Rattle.round_streams.specs.declared.Streams.{Streams}
-use Rattle.round_streams.specs.declared.Answers.{Answers}
-use Rattle.round_streams.specs.Items.{items_of, texts_of}
+use Rattle.sig_types.specs.declared.streams.Sending.{Sending}
+use Rattle.sig_types.specs.declared.streams.Streams.{Streams}
+use Rattle.sig_types.specs.declared.streams.Answers.{Answers}
+use Rattle.sig_types.specs.Items.{items_of, texts_of}
 use Rattle.link_sim.specs.declared.lines.Lines.{Lines}
 use Rattle.link_sim.specs.declared.lists.Lists.{Lists}
 use Rattle.link_sim.specs.Kept.{faults_in}

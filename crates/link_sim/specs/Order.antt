@@ -6,7 +6,7 @@ use Rattle.scenario_data.specs.declared.scenario.Direction.{Direction}
 use Rattle.scenario_data.specs.declared.scenario.Direction.TheVariants.{Down, Up}
 use Rattle.scenario_data.specs.declared.scenario.FaultKind.TheVariants.{Lose}
 use Rattle.scenario_data.specs.declared.scenario.Fault.{Fault}
-use Rattle.round_streams.specs.Passes.{pass_of}
+use Rattle.sig_types.specs.Passes.{pass_of}
 use Rattle.link_sim.specs.declared.Line.{Line}
 use Rattle.link_sim.specs.Faults.{fault_of}
 

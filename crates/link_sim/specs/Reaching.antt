@@ -7,7 +7,7 @@ use Rattle.sig_types.specs.declared.notes.Way.TheVariants.{Poll, Load, Prio}
 use Rattle.scenario_data.specs.declared.scenario.Direction.TheVariants.{Down, Up}
 use Rattle.scenario_data.specs.Content.{ScenarioContent, FrameContent}
 use Rattle.scenario_data.specs.Inputs.{inputs_of}
-use Rattle.round_streams.specs.Items.{Item, Told, Came, Ticked}
+use Rattle.sig_types.specs.Items.{Item, Told, Came, Ticked}
 use Rattle.link_sim.specs.declared.Line.{Line}
 use Rattle.link_sim.specs.Faults.{same_way}
 use Rattle.link_sim.specs.Priority.{priority_texts}

@@ -3,14 +3,13 @@
 ghost use Rattle.std.specs.Prelude.{ℕ, ◌≡◌, ◌≤◌, ◌∷◌, [], length, IfOk};
 ghost use Rattle.scenario_data.specs.Content.{ScenarioContent, scenario_content};
 ghost use Rattle.scenario_data.specs.declared.scenario.Direction.TheVariants.{Down, Up};
-ghost use Rattle.round_streams.specs.Items.{texts_of};
+ghost use Rattle.sig_types.specs.Items.{texts_of};
 ghost use Rattle.link_sim.specs.Kept.{faults_in};
 ghost use Rattle.link_sim.specs.Link.{sent_text, Stays, Delivers, Returns};
 
 use crate::{Lines, Lists};
-use round_streams::{Answers, Sending, Streams};
 use scenario_data::Scenario;
-use sig_types::{NoMemory, Octets};
+use sig_types::{Answers, NoMemory, Octets, Sending, Streams};
 use std::alloc::Global;
 use std::slice;
 

@@ -8,9 +8,8 @@ ghost use Rattle.link_sim.specs.Faults.{meets, fault_of};
 ghost use Rattle.link_sim.specs.Order.{by_place, fault_at, rank_of, SameFaults};
 
 use crate::Line;
-use round_streams::pass_of;
 use scenario_data::{Direction, Fault};
-use sig_types::NoMemory;
+use sig_types::{NoMemory, pass_of};
 use std::alloc::Global;
 
 /// The faults of a scenario by round, cabinet, stream, direction and place; of those that meet one frame the first stays first.

@@ -1,7 +1,7 @@
 //! What the link makes of one frame.
 
 ghost use Rattle.std.specs.Prelude.{◌≡◌, ◌++◌, take, OnOk};
-ghost use Rattle.round_streams.specs.Items.{texts_of};
+ghost use Rattle.sig_types.specs.Items.{texts_of};
 ghost use Rattle.link_sim.specs.Faults.{flipped, arriving};
 
 use scenario_data::{Fault, FaultKind};

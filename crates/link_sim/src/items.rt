@@ -1,7 +1,7 @@
 //! What the link takes from the scenario's lists of inputs and frames.
 
 ghost use Rattle.std.specs.Prelude.{ℕ, ◌≡◌, ◌++◌, List, map, slice_get, OnOk, IfOk};
-ghost use Rattle.round_streams.specs.Items.{texts_of};
+ghost use Rattle.sig_types.specs.Items.{texts_of};
 ghost use Rattle.scenario_data.specs.Content.{frame_content};
 ghost use Rattle.link_sim.specs.Agenda.{listed, made, made_at};
 ghost use Rattle.link_sim.specs.Faults.{same_way};

@@ -4,7 +4,7 @@ ghost use Rattle.std.specs.Prelude.{ℕ, ◌≡◌, ◌+◌, ◌∷◌, List, []
 ghost use Rattle.scenario_data.specs.declared.scenario.Direction.{Direction as Towards};
 ghost use Rattle.scenario_data.specs.declared.scenario.Fault.{Fault};
 ghost use Rattle.sig_types.specs.declared.notes.Way.TheVariants.{Poll, Load, Prio};
-ghost use Rattle.round_streams.specs.Items.{texts_of};
+ghost use Rattle.sig_types.specs.Items.{texts_of};
 ghost use Rattle.link_sim.specs.Carried.{carried};
 ghost use Rattle.link_sim.specs.Kept.{faults_in};
 

@@ -3,9 +3,9 @@
 ghost use Rattle.std.specs.Prelude.{ℕ, ◌≡◌, ◌≤◌, ◌<◌, ◌+◌, List, length, get_or, IfOk};
 ghost use Rattle.scenario_data.specs.Content.{ScenarioContent, scenario_content};
 ghost use Rattle.scenario_data.specs.declared.scenario.Direction.TheVariants.{Down, Up};
-ghost use Rattle.round_streams.specs.declared.Sending.{Sending as SendingRow};
-ghost use Rattle.round_streams.specs.declared.Streams.{Streams as StreamsRow};
-ghost use Rattle.round_streams.specs.declared.Answers.{Answers as AnswersRow};
+ghost use Rattle.sig_types.specs.declared.streams.Sending.{Sending as SendingRow};
+ghost use Rattle.sig_types.specs.declared.streams.Streams.{Streams as StreamsRow};
+ghost use Rattle.sig_types.specs.declared.streams.Answers.{Answers as AnswersRow};
 ghost use Rattle.link_sim.specs.declared.lines.Lines.{Lines as LinesRow};
 ghost use Rattle.link_sim.specs.Kept.{faults_in};
 ghost use Rattle.link_sim.specs.Link.{Stays, Delivers, Returns};
@@ -14,9 +14,8 @@ ghost use Rattle.scenario_data.specs.declared.scenario.Fault.{Fault};
 
 use crate::delivery::{bring_back, deliver};
 use crate::{Lines, Lists};
-use round_streams::{Answers, Sending, Streams};
 use scenario_data::{Direction, Scenario};
-use sig_types::NoMemory;
+use sig_types::{Answers, NoMemory, Sending, Streams};
 use std::alloc::{AllocError, Global};
 
 /// The link between the master and the cabinets of a scenario.
@@ -110,7 +109,7 @@ impl Link {
     ghost use Rattle.link_sim.specs.Stands.{Stands, cabinet_count};
     ghost use Rattle.link_sim.specs.Reaching.{deliveries, returning};
     ghost use Rattle.link_sim.specs.Trio.{Passed};
-    ghost use Rattle.round_streams.specs.Items.{items_of, texts_of};
+    ghost use Rattle.sig_types.specs.Items.{items_of, texts_of};
     ghost use Rattle.sig_types.specs.declared.notes.Way.TheVariants.{Poll, Load, Prio};
     ghost use Rattle.std.specs.Prelude.{[], ◌∷◌, OnOk, OnErr};
 

@@ -1,7 +1,7 @@
 //! The priority requests of a scenario as the frames that carry them (after NTCIP 1211).
 
 ghost use Rattle.std.specs.Prelude.{ℕ, pos, ◌≡◌, ◌≤◌, ◌++◌, ◌∷◌, [], length, slice_get, OnOk};
-ghost use Rattle.round_streams.specs.Items.{texts_of};
+ghost use Rattle.sig_types.specs.Items.{texts_of};
 ghost use Rattle.requests.specs.Requests.{bound, number_at, set_text};
 ghost use Rattle.link_sim.specs.Agenda.{made, made_at};
 ghost use Rattle.link_sim.specs.Made.{request_made};

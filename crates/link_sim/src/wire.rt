@@ -1,7 +1,7 @@
 //! A line with the copies on it that come later.
 
 ghost use Rattle.std.specs.Prelude.{ℕ, ◌≡◌, ◌≢◌, ◌≤◌, ◌<◌, ◌+◌, ◌%◌, ◌++◌, ◌∷◌, List, [], length, All, OnOk, OnErr, IfOk};
-ghost use Rattle.round_streams.specs.Items.{texts_of};
+ghost use Rattle.sig_types.specs.Items.{texts_of};
 ghost use Rattle.link_sim.specs.Faults.{copied};
 ghost use Rattle.link_sim.specs.Carried.{arriving_from, copies_from};
 ghost use Rattle.link_sim.specs.Due.{due_texts};

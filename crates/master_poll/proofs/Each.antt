@@ -3,7 +3,7 @@ use Rattle.std.proofs.Common.{◌≡◌, ℕ, zero, suc, ◌+◌, ◌<◌, ◌�
 use Rattle.std.specs.List.{slice_get}
 use Rattle.std.specs.Option.{option_map}
 use Rattle.std.proofs.lemmas.Option.{none-some, same_Some, slice_get-map, slice_get-get_or, slice_get_within}
-use Rattle.round_streams.specs.declared.Sending.{Sending}
+use Rattle.sig_types.specs.declared.streams.Sending.{Sending}
 use Rattle.scenario_data.specs.Content.{ScenarioContent, CabinetContent}
 use Rattle.master_poll.specs.declared.master.Master.{Master}
 use Rattle.master_poll.specs.declared.master.Round.{Round}

@@ -4,7 +4,7 @@ use Rattle.std.specs.List.{slice_get}
 use Rattle.std.proofs.lemmas.Grind.{common_steps}
 use Rattle.std.proofs.lemmas.List.{append_assoc, map-append}
 use Rattle.sig_types.specs.declared.notes.MasterNote.{MasterNote}
-use Rattle.round_streams.specs.declared.Sending.{Sending}
+use Rattle.sig_types.specs.declared.streams.Sending.{Sending}
 use Rattle.scenario_data.specs.Content.{ScenarioContent, CabinetContent}
 use Rattle.requests.specs.Requests.{messages, octets_in}
 use Rattle.master_plan.specs.Schedule.{master_clock, scheduled}

@@ -4,7 +4,7 @@ use Rattle.arrayvec.specs.ArrayVec.{ArrayVec}
 use Rattle.sig_types.specs.declared.notes.MasterNote.{MasterNote}
 use Rattle.snmp_msg.specs.declared.message.Message.{Message}
 use Rattle.snmp_msg.specs.Reading.{message_of}
-use Rattle.round_streams.specs.Items.{texts_of}
+use Rattle.sig_types.specs.Items.{texts_of}
 use Rattle.requests.specs.Requests.{messages}
 use Rattle.master_poll.specs.Notes.{noted}
 

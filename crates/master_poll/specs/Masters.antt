@@ -3,9 +3,9 @@
 use Rattle.std.specs.Prelude.{ℕ, ◌≡◌, ◌+◌, ◌-◌, ◌≤◌, List, [], ◌∷◌, ◌++◌, map, drop, length, Option, Some, None}
 use Rattle.std.specs.List.{slice_get}
 use Rattle.sig_types.specs.declared.notes.MasterNote.{MasterNote}
-use Rattle.round_streams.specs.declared.Sending.{Sending}
-use Rattle.round_streams.specs.declared.Answers.{Answers}
-use Rattle.round_streams.specs.Items.{texts_of}
+use Rattle.sig_types.specs.declared.streams.Sending.{Sending}
+use Rattle.sig_types.specs.declared.streams.Answers.{Answers}
+use Rattle.sig_types.specs.Items.{texts_of}
 use Rattle.scenario_data.specs.Content.{ScenarioContent, CabinetContent}
 use Rattle.requests.specs.Requests.{octets_in}
 use Rattle.master_load.specs.Downloads.{AreLoads}

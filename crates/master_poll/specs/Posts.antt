@@ -3,7 +3,7 @@ use Rattle.std.specs.Prelude.{ℕ, ◌≡◌, List, [], ◌∷◌, ◌++◌}
 use Rattle.std.specs.Option.{option_map}
 use Rattle.sig_types.specs.declared.notes.MasterNote.{MasterNote}
 use Rattle.snmp_msg.specs.declared.message.Message.{Message}
-use Rattle.round_streams.specs.declared.Sending.{Sending}
+use Rattle.sig_types.specs.declared.streams.Sending.{Sending}
 use Rattle.scenario_data.specs.Content.{LoadContent}
 use Rattle.requests.specs.Requests.{octets_in}
 use Rattle.master_load.specs.Downloads.{frame_text}

@@ -3,7 +3,7 @@
 ghost use Rattle.std.specs.Prelude.{ℕ, ◌≡◌, ◌<◌, ◌≤◌, ◌+◌, ◌++◌, ◌∷◌, ◌&&◌, ◌||◌, not, if◌then◌else◌, List, [], Option, Some, pos};
 ghost use Rattle.snmp_msg.specs.declared.message.Message.{Message};
 ghost use Rattle.scenario_data.specs.Content.{LoadContent, master_content};
-ghost use Rattle.round_streams.specs.Items.{texts_of};
+ghost use Rattle.sig_types.specs.Items.{texts_of};
 ghost use Rattle.requests.specs.Requests.{is_good, messages, status_of};
 ghost use Rattle.std.specs.Option.{ForSome};
 ghost use Rattle.master_plan.specs.Schedule.{or_else};

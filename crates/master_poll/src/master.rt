@@ -10,9 +10,8 @@ ghost use Rattle.master_poll.specs.Posts.{IsNew, count_of_post};
 use crate::command::Now;
 use crate::post::Post;
 use master_plan::{master_clock, scheduled};
-use round_streams::{Answers, Sending};
 use scenario_data::{Cabinet, Scenario};
-use sig_types::{MasterNote, NoMemory};
+use sig_types::{Answers, MasterNote, NoMemory, Sending};
 use std::alloc::{AllocError, Global};
 
 /// What the master sends and notes in a round, in the cabinets' order: one sending a cabinet.

@@ -2,7 +2,7 @@
 
 ghost use Rattle.std.specs.Prelude.{ℕ, ◌≡◌, ◌≤◌, ◌<◌, ◌+◌, ◌++◌, ◌∷◌, List, [], map, length, OnOk, IfOk};
 ghost use Rattle.std.specs.Option.{ForSome, option_map};
-ghost use Rattle.round_streams.specs.Items.{texts_of};
+ghost use Rattle.sig_types.specs.Items.{texts_of};
 ghost use Rattle.scenario_data.specs.Content.{LoadContent, load_content, master_content};
 ghost use Rattle.requests.specs.Requests.{messages, octets_in};
 ghost use Rattle.master_load.specs.Downloads.{AreLoads};
@@ -19,9 +19,8 @@ use crate::command::{Command, Now, task_octets};
 use crate::desk::Desk;
 use arrayvec::ArrayVec;
 use master_load::Loader;
-use round_streams::{Answers, Sending};
 use scenario_data::Scenario;
-use sig_types::{MasterNote, Octets};
+use sig_types::{Answers, MasterNote, Octets, Sending};
 use snmp_msg::Message;
 use std::alloc::AllocError;
 

@@ -4,11 +4,10 @@
 ghost use Rattle.std.specs.Prelude.{◌≡◌, ◌≤◌, IfOk, length};
 
 use crate::master_poll_cases::{BEGIN, BEGUN, PART, TAKEN, VERIFY, one_load};
-use desk::Desk;
 use hex::decode as octets_of;
-use round_streams::Answers;
+use master_rounds::Desk;
 use scenario_data::{Direction, Fault, FaultKind};
-use sig_types::{Octets, Way};
+use sig_types::{Answers, Octets, Way};
 use std::alloc::{AllocError, Global};
 use std::test::Fail;
 

@@ -4,12 +4,11 @@ ghost use Rattle.std.specs.Prelude.{◌≡◌, length, IfOk};
 
 use arrayvec::ArrayVec;
 use link_sim::{FaultList, Line, Link, Wire};
-use round_streams::{Answers, Sending};
 use scenario_data::{
     Base, Cabinet, Direction, Fault, FaultKind, FrameItem, FrameOctets, Input, MasterSetup,
     PriorityAct, PriorityItem, Scenario,
 };
-use sig_types::{Field, Octets, Way};
+use sig_types::{Answers, Field, Octets, Sending, Way};
 use std::test::Fail;
 
 const LINE: Line = Line {

@@ -4,15 +4,14 @@
 ghost use Rattle.std.specs.Prelude.{◌≡◌, ◌≤◌, IfOk, length};
 ghost use Rattle.scenario_data.specs.Content.{scenario_content};
 ghost use Rattle.master_poll.specs.Masters.{IsRun};
-ghost use Rattle.desk.specs.Served.{CanBeServed};
+ghost use Rattle.master_rounds.specs.Served.{CanBeServed};
 
 use arrayvec::ArrayVec;
 use hex::decode as octets_of;
 use master_poll::{Master, Round};
-use round_streams::Answers;
 use scenario_data::{Base, Cabinet, Fault, LoadItem, MasterSetup, Scenario};
 use sig_tables::{Cell, CellValue};
-use sig_types::{MasterNote, Octets};
+use sig_types::{Answers, MasterNote, Octets};
 use std::alloc::{AllocError, Global};
 use std::test::Fail;
 

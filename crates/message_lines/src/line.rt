@@ -14,7 +14,7 @@ use hex::FromHexError;
 use sig_types::NoMemory;
 use snmp_msg::{Message, Pdu, read, write};
 use std::alloc::{AllocError, Global};
-use text_words::{hexadecimal, number};
+use trace_text::{hexadecimal, number};
 
 /// The line of the message whose octets the hexadecimal digits, of either case, write: its shortest
 /// text and its fields, without a newline. `none` where the octets are no message (RFC 1157, 4), and

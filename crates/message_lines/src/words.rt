@@ -6,7 +6,7 @@ ghost use Rattle.message_lines.specs.Words.{each_behind, pdu_word, name_word, va
 
 use snmp_msg::{Bind, Pdu, Value};
 use std::alloc::{AllocError, Global};
-use text_words::{digits, hexadecimal, word};
+use trace_text::{digits, hexadecimal, word};
 
 /// A space, and the word of a kind.
 pub fn pdu(out: &mut Vec<u8>, pdu: Pdu) -> Result<(), AllocError>

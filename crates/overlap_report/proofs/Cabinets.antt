@@ -5,8 +5,8 @@ use Rattle.sig_types.proofs.Lists.{eq-true}
 use Rattle.sig_tables.specs.declared.tables.Tables.{Tables}
 use Rattle.scenario_data.specs.Content.{CabinetContent}
 use Rattle.runnable.specs.Cabinets.{IsNumbered}
-use Rattle.run_lines.specs.Standing.{Standing, HasComeTo}
-use Rattle.overlap_laws.specs.Trace.{AreByVersion}
+use Rattle.run_definition.specs.Standing.{Standing, HasComeTo}
+use Rattle.overlap_run.specs.Trace.{AreByVersion}
 
 -- one of these cabinets has the number, or none has
 abbrev pub SomeOrNone : ℕ → ℕ → List CabinetContent → Type 0

@@ -5,34 +5,34 @@ use Rattle.sig_tables.specs.declared.tables.Tables.{Tables}
 use Rattle.sig_tables.specs.Past.{History}
 use Rattle.sig_tables.specs.Decide.{frames, past_at}
 use Rattle.trace_text.specs.declared.lines.Line.{Line}
-use Rattle.safe_trace.specs.Safe.{Safe, told, intersection_of}
-use Rattle.safe_trace.specs.Whole.{downloads}
-use Rattle.safe_trace.specs.Written.{written, tables_of}
-use Rattle.safe_trace.specs.TraceText.{AreLines}
-use Rattle.safe_streets.specs.Told.{told_in, history_told}
+use Rattle.safety_laws.specs.Safe.{Safe, told, intersection_of}
+use Rattle.safety_laws.specs.Whole.{downloads}
+use Rattle.safety_laws.specs.Written.{written, tables_of}
+use Rattle.safety_laws.specs.TraceText.{AreLines}
+use Rattle.safety_laws.specs.Told.{told_in, history_told}
 use Rattle.scenario_data.specs.Content.{CabinetContent, ScenarioContent}
 use Rattle.scenario_data.specs.Opening.{opening_tables}
 use Rattle.runnable.specs.Cabinets.{IsCabinet}
 use Rattle.runnable.specs.Runnable.{Runnable}
-use Rattle.cabinet_story.specs.Coming.{history_of}
-use Rattle.cabinet_story.specs.Frames.{has_line}
-use Rattle.story_laws.proofs.Telling.{story-tells}
-use Rattle.run_lines.specs.Standing.{Standing, opened_standings, standings_after}
-use Rattle.run_lines.specs.Lines.{run_lines}
-use Rattle.run_lines.specs.Orders.{AreJournals}
-use Rattle.run_lines.specs.Safe.{Kept}
-use Rattle.run_lines.proofs.Streets.{Ended, drift_in, run-ended}
+use Rattle.cabinet_history.specs.Coming.{history_of}
+use Rattle.cabinet_history.specs.Frames.{has_line}
+use Rattle.cabinet_laws.proofs.Telling.{story-tells}
+use Rattle.run_definition.specs.Standing.{Standing, opened_standings, standings_after}
+use Rattle.run_definition.specs.Lines.{run_lines}
+use Rattle.run_definition.specs.Orders.{AreJournals}
+use Rattle.run_definition.specs.Safe.{Kept}
+use Rattle.run_definition.proofs.Streets.{Ended, drift_in, run-ended}
 use Rattle.trace_laws.specs.Laws.{JournalsAreTold, TellsOfRun}
 use Rattle.overlap_run.specs.declared.overlap.Timing.{Timing}
 use Rattle.overlap_run.specs.Overlap.{timed}
 use Rattle.overlap_run.specs.Text.{overlap_text}
 use Rattle.overlap_run.specs.Parents.{green_at, AreFrames}
-use Rattle.overlap_rules.specs.declared.faults.OverlapFault.{OverlapFault}
-use Rattle.overlap_rules.specs.Rules.{verdict}
-use Rattle.overlap_laws.specs.Street.{CanOverlap, IsCovered, IsApart}
-use Rattle.overlap_laws.specs.Trace.{frames_told, frames_written, AreByVersion, IsToldOf, text_of}
-use Rattle.trace_seen.specs.declared.seen.Seen.{Seen}
-use Rattle.trace_seen.specs.Seen.{HasSeen, IsSeenOf}
+use Rattle.overlap_run.specs.declared.faults.OverlapFault.{OverlapFault}
+use Rattle.overlap_run.specs.Rules.{verdict}
+use Rattle.overlap_run.specs.Street.{CanOverlap, IsCovered, IsApart}
+use Rattle.overlap_run.specs.Trace.{frames_told, frames_written, AreByVersion, IsToldOf, text_of}
+use Rattle.trace_laws.specs.declared.seen.Seen.{Seen}
+use Rattle.trace_laws.specs.Seen.{HasSeen, IsSeenOf}
 use Rattle.overlap_report.specs.declared.asking.Asked.{Asked}
 use Rattle.overlap_report.specs.Overlaps.{HasEnded, AreInForce, AtCabinet, NoCabinet, times_of, verdict_of, BreaksRule, street_of, TellsOverlap}
 use Rattle.overlap_report.specs.BySeen.{IsUnbroken, SaysOfOverlap}

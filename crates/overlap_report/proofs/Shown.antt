@@ -7,10 +7,10 @@ use Rattle.sig_tables.specs.Looking.{last_frame}
 use Rattle.sig_tables.specs.Decide.{frames, frames_in, next_moment, past_of, since_opening}
 use Rattle.trace_text.specs.declared.lines.Line.{Line}
 use Rattle.trace_text.specs.declared.lines.Line.TheVariants.{S, F, R, M, J, L, A, Z}
-use Rattle.safe_trace.specs.Safe.{Indications, told}
-use Rattle.safe_trace.specs.Written.{shown_by, written}
-use Rattle.safe_trace.proofs.Versions.{versions}
-use Rattle.safe_streets.specs.Told.{Told, Shows, Loads, told_in, frame_told, told_of, history_told}
+use Rattle.safety_laws.specs.Safe.{Indications, told}
+use Rattle.safety_laws.specs.Written.{shown_by, written}
+use Rattle.safety_laws.proofs.Versions.{versions}
+use Rattle.safety_laws.specs.Told.{Told, Shows, Loads, told_in, frame_told, told_of, history_told}
 
 -- the frames alone
 abbrev shown_in : List Told → List (ℕ × Indications)

@@ -3,8 +3,8 @@ use Rattle.std.specs.Prelude.{ℕ, ◌≡◌, ◌<◌, true, List, Ok, Err}
 use Rattle.sig_types.specs.Phases.{is_phase, is_in}
 use Rattle.overlap_run.specs.Text.{overlap_text}
 use Rattle.overlap_run.specs.Parents.{green_at, AreFrames}
-use Rattle.overlap_rules.specs.declared.faults.OverlapFault.{OverlapFault}
-use Rattle.trace_seen.specs.declared.seen.Seen.{Seen}
+use Rattle.overlap_run.specs.declared.faults.OverlapFault.{OverlapFault}
+use Rattle.trace_laws.specs.declared.seen.Seen.{Seen}
 use Rattle.overlap_report.specs.declared.asking.Asked.{Asked}
 use Rattle.overlap_report.specs.Overlaps.{times_of, verdict_of, BreaksRule, TellsOverlap}
 

@@ -4,19 +4,19 @@ use Rattle.std.specs.Prelude.{ℕ, ◌+◌, ◌≡◌, List, [], length, Result,
 use Rattle.sig_tables.specs.declared.tables.Tables.{Tables}
 use Rattle.sig_tables.specs.Decide.{frames, past_at}
 use Rattle.trace_text.specs.declared.lines.Line.{Line}
-use Rattle.safe_trace.specs.Safe.{Intersection, intersection_of}
-use Rattle.safe_trace.specs.Written.{tables_of}
+use Rattle.safety_laws.specs.Safe.{Intersection, intersection_of}
+use Rattle.safety_laws.specs.Written.{tables_of}
 use Rattle.scenario_data.specs.Content.{CabinetContent, ScenarioContent}
 use Rattle.runnable.specs.Cabinets.{IsCabinet}
-use Rattle.cabinet_story.specs.Coming.{history_of}
-use Rattle.run_lines.specs.Standing.{Standing, HasComeTo, opened_standings, standings_after}
+use Rattle.cabinet_history.specs.Coming.{history_of}
+use Rattle.run_definition.specs.Standing.{Standing, HasComeTo, opened_standings, standings_after}
 use Rattle.trace_laws.specs.Laws.{TellsOfRun}
 use Rattle.overlap_run.specs.declared.overlap.Timing.{Timing}
 use Rattle.overlap_run.specs.Overlap.{timed}
-use Rattle.overlap_rules.specs.declared.faults.OverlapFault.{OverlapFault}
-use Rattle.overlap_rules.specs.Rules.{verdict}
-use Rattle.overlap_laws.specs.Street.{IsCovered, IsApart}
-use Rattle.overlap_laws.specs.Trace.{AreByVersion, text_of}
+use Rattle.overlap_run.specs.declared.faults.OverlapFault.{OverlapFault}
+use Rattle.overlap_run.specs.Rules.{verdict}
+use Rattle.overlap_run.specs.Street.{IsCovered, IsApart}
+use Rattle.overlap_run.specs.Trace.{AreByVersion, text_of}
 use Rattle.overlap_report.specs.declared.asking.Asked.{Asked}
 
 -- by the end of a run with these journals the cabinet with this number has come to this

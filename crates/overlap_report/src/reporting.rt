@@ -3,16 +3,15 @@
 ghost use Rattle.std.specs.Prelude.{ℕ, ◌≡◌, ◌<◌, ◌≤◌, List, Ok, Err, IfOk, IfErr, OnOk};
 ghost use Rattle.sig_types.specs.Phases.{is_in};
 ghost use Rattle.sig_types.specs.PhaseSet.{has};
-ghost use Rattle.trace_seen.specs.Seen.{HasSeen};
+ghost use Rattle.trace_laws.specs.Seen.{HasSeen};
 ghost use Rattle.overlap_report.specs.Overlaps.{verdict_of, BreaksRule, TellsOverlap};
 
 use crate::asking::Asked;
 use crate::telling::overlaps_are_told;
-use overlap_rules::{OverlapFault, judge};
-use overlap_run::text;
+use overlap_run::{OverlapFault, judge, text};
 use sig_types::{NoMemory, PhaseSet};
 use std::alloc::Global;
-use trace_seen::Seen;
+use trace_laws::Seen;
 
 /// Why there is no text of an overlap.
 #[derive(Clone, Copy, Debug, PartialEq, Eq)]

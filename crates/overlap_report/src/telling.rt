@@ -1,14 +1,13 @@
 //! What was seen of a cabinet tells its overlaps. There is no code here.
 
 ghost use Rattle.std.specs.Prelude.{ℕ, List};
-ghost use Rattle.trace_seen.specs.declared.seen.Seen.{Seen};
-ghost use Rattle.trace_seen.specs.Seen.{HasSeen};
+ghost use Rattle.trace_laws.specs.declared.seen.Seen.{Seen};
+ghost use Rattle.trace_laws.specs.Seen.{HasSeen};
 ghost use Rattle.overlap_report.specs.declared.asking.Asked.{Asked};
 ghost use Rattle.overlap_report.specs.BySeen.{SaysOfOverlap};
 
-use overlap_laws::{frames_give_the_text, histories_give_frames, unbroken_overlaps_are_covered};
-use proper_lines::lines_are_proper;
-use trace_laws::traces_tell_journals;
+use overlap_run::{frames_give_the_text, histories_give_frames, unbroken_overlaps_are_covered};
+use trace_laws::{lines_are_proper, traces_tell_journals};
 
 /// Where all was seen of a cabinet of a trace, an overlap breaks a rule by the tables that were seen exactly where it does by those that were in
 /// force. Where it breaks none, its text by the frames that were seen is what is to be told of it, and can be written.

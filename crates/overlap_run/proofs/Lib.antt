@@ -1,3 +1,9 @@
 mod Stepping
 mod Looking
 mod Writing
+mod Parents
+mod Clearing
+mod Overlapping
+mod Judged
+mod Texts
+mod Frames

@@ -3,3 +3,6 @@ pub mod Text
 pub mod Parents
 pub mod StandsFor
 pub mod Rows
+pub mod Rules
+pub mod Street
+pub mod Trace

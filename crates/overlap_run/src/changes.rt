@@ -11,7 +11,7 @@ ghost use Rattle.overlap_run.specs.Parents.{parents_of, shows_green, green_at, A
 use crate::overlap::Overlap;
 use sig_types::{Colour, Frame, NoMemory, PhaseSet, showing};
 use std::alloc::{AllocError, Global};
-use text_words::{number, word};
+use trace_text::{number, word};
 
 /// The letter of a colour.
 fn letter(shown: Colour) -> u8

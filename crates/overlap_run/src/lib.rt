@@ -1,17 +1,30 @@
 //! An overlap: an arrow that shows green with any of several parent phases, as the right turn beside two through movements
 //! (NEMA TS 2, overlaps). It is timed from what a controller did: `Overlap` counts down tick by tick, and `text`
 //! writes its changes over all ticks of a cabinet.
+//!
+//! Whether an overlap can be timed from what a cabinet did, and by which rule it cannot. The rules rest on the tables that were in force: the
+//! overlap is to be over before any of its parents can have cleared (NEMA TS 2, overlaps; yellow change of three seconds at least,
+//! MUTCD).
 #![tactic(auto)]
+
+mod changes;
+mod coverage;
+mod faults;
+mod overlap;
+mod rules;
 
 ghost use Rattle.std.specs.Prelude.{◌≡◌};
 ghost use Rattle.sig_types.specs.declared.frame.Colour.{Colour};
 ghost use Rattle.overlap_run.specs.Rows.{by_hand, at_once};
 
-mod changes;
-mod overlap;
-
 pub use changes::text;
+pub use coverage::{
+    frames_give_the_text, histories_give_frames, overlaps_are_covered,
+    unbroken_overlaps_are_covered,
+};
+pub use faults::OverlapFault;
 pub use overlap::{Overlap, Timing};
+pub use rules::judge;
 
 /// The overlap of one green of a parent, at the ticks at which it changes and just before: Green with the parent, five ticks longer, then
 /// yellow change and red clearance of their length. The check computes the definition.

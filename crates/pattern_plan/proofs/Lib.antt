@@ -1,3 +1,4 @@
 mod Walks
 mod Sides
 mod Points
+pub mod Binding

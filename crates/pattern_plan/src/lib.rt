@@ -7,11 +7,13 @@ mod holding;
 mod laying;
 mod planning;
 mod side;
+mod split_options;
 mod standard;
 mod street;
 
 pub use holding::coordinated;
 pub use laying::services;
 pub use planning::{plan, plan_on};
+pub use split_options::SplitOptions;
 pub use standard::standard_plan;
 pub use street::Street;

@@ -14,8 +14,8 @@ use Rattle.sig_tables.specs.declared.tables.Tables.{Tables}
 use Rattle.sig_tables.specs.Tables.{has_pedestrian_recall, starts_with_walk}
 use Rattle.sig_tables.specs.Course.{Turn, Rest, StartUp, Rings, Goal}
 use Rattle.sig_tables.specs.Walking.{Crossing, has_walk, walks_at_green, walk_begins}
-use Rattle.split_options.specs.declared.SplitOptions.{SplitOptions}
-use Rattle.split_options.specs.Options.{SplitSays, AreBinding}
+use Rattle.pattern_plan.specs.declared.split_options.SplitOptions.{SplitOptions}
+use Rattle.pattern_plan.specs.Options.{SplitSays, AreBinding}
 use Rattle.ped_clock.specs.declared.beginning.Greens.TheVariants.{Rest as NoGreens, StartUp as StartUpGreens, Rings as RingGreens}
 use Rattle.ped_clock.specs.Walks.{greens_of, is_walking, SaysInCoord}
 

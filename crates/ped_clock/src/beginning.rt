@@ -15,12 +15,12 @@ ghost use Rattle.sig_tables.specs.Tables.{has_pedestrian_recall};
 ghost use Rattle.sig_tables.specs.Splits.{split_pedestrian};
 ghost use Rattle.sig_tables.specs.Walking.{Crossing, has_walk, walks_at_green, walk_begins};
 ghost use Rattle.sig_tables.specs.Layout.{LaidOut, Has};
-ghost use Rattle.split_options.specs.Options.{SplitSays};
+ghost use Rattle.pattern_plan.specs.Options.{SplitSays};
 ghost use Rattle.ped_clock.specs.Walks.{greens_of, is_walking, ShowsCrossing, SaysInCoord};
 
+use pattern_plan::SplitOptions;
 use sig_tables::Layout;
 use sig_types::{Mode, PhaseSet};
-use split_options::SplitOptions;
 
 /// Whose greens begin at a tick.
 #[derive(Clone, Copy, Debug, PartialEq, Eq)]

@@ -1,3 +1,7 @@
 //! What is known of the goals, the times and the plans of consistent tables, as definitions alone: the laws of safety ask
 //! them of the tables in force, and the crate of the rules' facts shows that consistent tables have them.
 #![tactic(auto)]
+
+mod disturbances;
+
+pub use disturbances::{disturbed, early_by_ten, late_by_one, one_tick_apart};

@@ -8,7 +8,7 @@ mod writing;
 ghost use Rattle.std.specs.Prelude.{◌≡◌};
 ghost use Rattle.std.specs.List.{find};
 ghost use Rattle.snmp_msg.specs.Reading.{message_of};
-ghost use Rattle.round_streams.specs.Items.{texts_of};
+ghost use Rattle.sig_types.specs.Items.{texts_of};
 ghost use Rattle.requests.specs.Requests.{answers, messages, status_of};
 
 pub use bindings::{asked_for, cell_at, number_at};

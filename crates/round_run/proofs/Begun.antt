@@ -4,10 +4,10 @@ use Rattle.std.proofs.lemmas.Bool.{cases_lt}
 use Rattle.std.proofs.lemmas.List.{get_or_default, get_or-set_same, get_or-set_other, get_or-map, length-set, length-map}
 use Rattle.sig_types.proofs.InTurn.{InTurn, InTurn-set}
 use Rattle.scenario_data.specs.Content.{ScenarioContent}
-use Rattle.round_streams.specs.declared.Streams.{Streams}
-use Rattle.round_streams.specs.Items.{Item, items_of}
-use Rattle.cabinet_story.specs.Journals.{times}
-use Rattle.run_lines.specs.Standing.{Standing, coming_streams}
+use Rattle.sig_types.specs.declared.streams.Streams.{Streams}
+use Rattle.sig_types.specs.Items.{Item, items_of}
+use Rattle.cabinet_history.specs.Journals.{times}
+use Rattle.run_definition.specs.Standing.{Standing, coming_streams}
 use Rattle.cab_book.specs.declared.book.Book.{Book}
 use Rattle.cab_book.specs.Books.{BookStands, CanBeTaken, streams_in, journal_of, left_of, ticks_by_end}
 use Rattle.cab_book.proofs.OnePart.{one-tally}

@@ -1,12 +1,12 @@
 -- What the books of a round have come to.
 use Rattle.std.proofs.Common.{◌≡◌, ◌<◌, ◌+◌, ◌∙◌, ℕ, zero, suc, List, [], ◌∷◌, length, get_or, refl, sym, ap, subst, arith}
 use Rattle.scenario_data.specs.Content.{ScenarioContent}
-use Rattle.cabinet_story.specs.declared.Reply.{Reply}
-use Rattle.cabinet_story.specs.Story.{after}
-use Rattle.cabinet_story.specs.Journals.{Act, acts_of, items_in}
-use Rattle.cabinet_story.specs.Told.{acts_replies}
-use Rattle.run_lines.specs.Standing.{Standing, coming_streams, round_acts, answers_in, next_standing, each_standing}
-use Rattle.round_streams.specs.Items.{Item}
+use Rattle.cabinet_history.specs.declared.Reply.{Reply}
+use Rattle.cabinet_history.specs.Story.{after}
+use Rattle.cabinet_history.specs.Journals.{Act, acts_of, items_in}
+use Rattle.cabinet_history.specs.Told.{acts_replies}
+use Rattle.run_definition.specs.Standing.{Standing, coming_streams, round_acts, answers_in, next_standing, each_standing}
+use Rattle.sig_types.specs.Items.{Item}
 use Rattle.cab_book.specs.declared.book.Book.{Book}
 use Rattle.cab_book.specs.Books.{BookStands, streams_in, journal_of, acts_in}
 use Rattle.round_run.specs.Standings.{IsAt, AreAt, HasRun, HaveRun}

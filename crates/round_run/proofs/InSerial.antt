@@ -5,11 +5,11 @@ use Rattle.std.proofs.lemmas.Bool.{cases_lt}
 use Rattle.std.proofs.lemmas.Bool.Decides.{eqb_tells}
 use Rattle.sig_types.proofs.InTurn.{InTurn, InTurn-start, InTurn-set}
 use Rattle.scenario_data.specs.Content.{ScenarioContent}
-use Rattle.round_streams.specs.Items.{Item}
-use Rattle.cabinet_story.specs.Story.{Story}
-use Rattle.cabinet_story.specs.Journals.{times, serial_from, serial}
-use Rattle.run_lines.specs.Standing.{Standing, coming_streams}
-use Rattle.run_lines.specs.Orders.{serial_round}
+use Rattle.sig_types.specs.Items.{Item}
+use Rattle.cabinet_history.specs.Story.{Story}
+use Rattle.cabinet_history.specs.Journals.{times, serial_from, serial}
+use Rattle.run_definition.specs.Standing.{Standing, coming_streams}
+use Rattle.run_definition.specs.Orders.{serial_round}
 use Rattle.cab_book.specs.declared.book.Book.{Book}
 use Rattle.cab_book.specs.Books.{BookStands, IsOnePart, streams_in, journal_of, left_of, ticks_by_end}
 use Rattle.cab_book.specs.Shares.{read_journal}

@@ -3,11 +3,11 @@ use Rattle.std.proofs.Common.{◌≡◌, ◌<◌, ◌+◌, ◌∙◌, ℕ, zero,
 use Rattle.std.specs.List.{AllZip}
 use Rattle.std.proofs.lemmas.List.{get_or-map, length-map}
 use Rattle.scenario_data.specs.Content.{ScenarioContent}
-use Rattle.round_streams.specs.Items.{Item}
-use Rattle.cabinet_story.specs.Journals.{IsMerge}
-use Rattle.run_lines.specs.Standing.{Standing, coming_streams}
-use Rattle.run_lines.specs.Orders.{EachMerges}
-use Rattle.cab_workers.specs.Whole.{ComesFrom}
+use Rattle.sig_types.specs.Items.{Item}
+use Rattle.cabinet_history.specs.Journals.{IsMerge}
+use Rattle.run_definition.specs.Standing.{Standing, coming_streams}
+use Rattle.run_definition.specs.Orders.{EachMerges}
+use Rattle.cab_row.specs.Whole.{ComesFrom}
 use Rattle.cab_book.specs.declared.book.Book.{Book}
 use Rattle.cab_book.specs.Books.{Replays, journal_of, left_of}
 use Rattle.round_run.specs.Standings.{HasRun, HaveRun, no_journals, TicksWithin}

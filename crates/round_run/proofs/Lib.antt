@@ -5,3 +5,7 @@ pub mod InSerial
 pub mod Texts
 pub mod Joining
 pub mod Sharing
+pub mod Places
+pub mod Opening
+pub mod Streams
+pub mod Ending

@@ -5,13 +5,13 @@ use Rattle.sig_types.specs.declared.frame.Frame.{Frame}
 use Rattle.trace_text.specs.declared.lines.Line.{Line}
 use Rattle.trace_text.specs.declared.lines.Line.TheVariants.{J, A}
 use Rattle.scenario_data.specs.Content.{ScenarioContent}
-use Rattle.round_streams.specs.Items.{Item}
-use Rattle.cabinet_story.specs.declared.Reply.{Reply}
-use Rattle.cabinet_story.specs.Story.{Story, with_item}
-use Rattle.cabinet_story.specs.Journals.{Act, runs_of}
-use Rattle.cabinet_story.specs.Told.{item_written, item_replies}
-use Rattle.run_lines.specs.Standing.{Standing, round_acts}
-use Rattle.run_lines.specs.Lines.{frame_lines, load_lines, reply_lines, item_lines, acts_lines, cabinet_lines}
+use Rattle.sig_types.specs.Items.{Item}
+use Rattle.cabinet_history.specs.declared.Reply.{Reply}
+use Rattle.cabinet_history.specs.Story.{Story, with_item}
+use Rattle.cabinet_history.specs.Journals.{Act, runs_of}
+use Rattle.cabinet_history.specs.Told.{item_written, item_replies}
+use Rattle.run_definition.specs.Standing.{Standing, round_acts}
+use Rattle.run_definition.specs.Lines.{frame_lines, load_lines, reply_lines, item_lines, acts_lines, cabinet_lines}
 use Rattle.cab_book.specs.declared.book.Book.{Book}
 use Rattle.cab_book.specs.declared.happened.Answered.{Answered}
 use Rattle.cab_book.specs.Happenings.{Happening, Wrote, Replied, item_happenings, acts_happenings, interleaved, AreInOrder}

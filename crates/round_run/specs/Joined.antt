@@ -1,11 +1,11 @@
 -- What workers in threads make of a round: each book has brought all that came to its cabinet, in an order that they settled.
 use Rattle.std.specs.Prelude.{ℕ, ◌≡◌, ◌≢◌, ◌<◌, ◌≤◌, ◌+◌, ◌++◌, List, [], length, get_or, map, replicate, All}
 use Rattle.scenario_data.specs.Content.{ScenarioContent}
-use Rattle.run_lines.specs.Standing.{Standing}
-use Rattle.run_lines.specs.Orders.{EachMerges}
+use Rattle.run_definition.specs.Standing.{Standing}
+use Rattle.run_definition.specs.Orders.{EachMerges}
 use Rattle.cab_book.specs.declared.book.Book.{Book}
-use Rattle.cabinet_story.specs.Story.{Story}
-use Rattle.cabinet_story.specs.Journals.{IsMerge}
+use Rattle.cabinet_history.specs.Story.{Story}
+use Rattle.cabinet_history.specs.Journals.{IsMerge}
 use Rattle.cab_book.specs.Books.{BookStands, IsOnePart, Shares, streams_in, journal_of, left_of, ticks_by_end}
 use Rattle.cab_book.specs.Shares.{shares}
 use Rattle.round_run.specs.Standings.{HaveRun}

@@ -3,3 +3,4 @@ pub mod Opening
 pub mod Replied
 pub mod Lines
 pub mod Joined
+pub mod Corridor

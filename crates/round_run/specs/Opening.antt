@@ -1,10 +1,10 @@
 -- What opening a round asks of its streams, and what it makes of a book.
 use Rattle.std.specs.Prelude.{ℕ, ◌+◌, ◌≡◌, ◌<◌, ◌≤◌, ◌⊎◌, List, [], length, get_or}
 use Rattle.scenario_data.specs.Content.{ScenarioContent}
-use Rattle.round_streams.specs.declared.Streams.{Streams}
-use Rattle.round_streams.specs.Items.{items_of}
-use Rattle.cabinet_story.specs.Story.{Story}
-use Rattle.run_lines.specs.Standing.{Standing, coming_streams}
+use Rattle.sig_types.specs.declared.streams.Streams.{Streams}
+use Rattle.sig_types.specs.Items.{items_of}
+use Rattle.cabinet_history.specs.Story.{Story}
+use Rattle.run_definition.specs.Standing.{Standing, coming_streams}
 use Rattle.cab_book.specs.declared.book.Book.{Book}
 use Rattle.cab_book.specs.Books.{BookStands, CanBeTaken, IsOnePart, streams_in, journal_of, story_now, ticks_by_end}
 

@@ -1,9 +1,9 @@
 -- What books have replied in a round, silence left out.
 use Rattle.std.specs.Prelude.{ℕ, ◌≡◌, ◌<◌, List, length, get_or}
-use Rattle.round_streams.specs.declared.Answers.{Answers}
-use Rattle.round_streams.specs.Items.{texts_of}
-use Rattle.round_streams.specs.Replies.{Reply, replied_on}
-use Rattle.run_lines.specs.Standing.{answers_in}
+use Rattle.sig_types.specs.declared.streams.Answers.{Answers}
+use Rattle.sig_types.specs.Items.{texts_of}
+use Rattle.sig_types.specs.Replies.{Reply, replied_on}
+use Rattle.run_definition.specs.Standing.{answers_in}
 use Rattle.cab_book.specs.declared.book.Book.{Book}
 use Rattle.cab_book.specs.Happenings.{replies_in}
 use Rattle.cab_book.specs.Books.{answered_in}

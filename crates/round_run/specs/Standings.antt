@@ -2,8 +2,8 @@
 -- streams that come to its cabinet. Cabinets are counted from 1, in their order.
 use Rattle.std.specs.Prelude.{ℕ, ◌+◌, ◌≡◌, ◌<◌, ◌≤◌, List, [], map, length, get_or}
 use Rattle.scenario_data.specs.Content.{ScenarioContent}
-use Rattle.cabinet_story.specs.Story.{Story}
-use Rattle.run_lines.specs.Standing.{Standing, coming_streams}
+use Rattle.cabinet_history.specs.Story.{Story}
+use Rattle.run_definition.specs.Standing.{Standing, coming_streams}
 use Rattle.cab_book.specs.declared.book.Book.{Book}
 use Rattle.cab_book.specs.Books.{BookStands, IsOnePart, streams_in, journal_of, story_now, ticks_by_end}
 

@@ -2,7 +2,7 @@
 
 ghost use Rattle.std.specs.Prelude.{ℕ, ◌≡◌, ◌≤◌, ◌⊎◌, List, [], All, length, vec_len, vec_capacity, IfOk, IfErr};
 ghost use Rattle.scenario_data.specs.Content.{ScenarioContent};
-ghost use Rattle.run_lines.specs.Standing.{Standing};
+ghost use Rattle.run_definition.specs.Standing.{Standing};
 ghost use Rattle.cab_book.specs.declared.book.Book.{Book as BookRow};
 ghost use Rattle.cab_book.specs.Books.{journal_of};
 ghost use Rattle.round_run.specs.Standings.{HaveRun, no_journals, TicksWithin};
@@ -10,7 +10,7 @@ ghost use Rattle.round_run.specs.Joined.{AreFresh, AreShared, HaveFewLeft, HaveM
 
 use crate::serial::serial_round;
 use cab_book::Book;
-use cab_workers::worked;
+use cab_row::worked;
 use io_edge::Gate;
 use sig_types::NoMemory;
 use std::alloc::Global;

@@ -1,16 +1,15 @@
 //! What the cabinets have replied in a round, on its way to the master's desk.
 
 ghost use Rattle.std.specs.Prelude.{ℕ, ◌≡◌, ◌++◌, IfOk, OnOk};
-ghost use Rattle.round_streams.specs.Items.{texts_of};
-ghost use Rattle.round_streams.specs.Replies.{replied_on};
-ghost use Rattle.run_lines.specs.Standing.{answers_in, answer_of};
+ghost use Rattle.sig_types.specs.Items.{texts_of};
+ghost use Rattle.sig_types.specs.Replies.{replied_on};
+ghost use Rattle.run_definition.specs.Standing.{answers_in, answer_of};
 ghost use Rattle.cab_book.specs.Happenings.{replies_in};
 ghost use Rattle.round_run.specs.Replied.{replied_in, AreAnswers, EachAnswers};
 
 use cab_book::{Answered, Book};
-use cabinet_story::Reply;
-use round_streams::Answers;
-use sig_types::{NoMemory, Octets};
+use cabinet_history::Reply;
+use sig_types::{Answers, NoMemory, Octets};
 use std::alloc::{AllocError, Global};
 
 /// The same octets.

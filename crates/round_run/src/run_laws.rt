@@ -2,9 +2,9 @@
 
 ghost use Rattle.std.specs.Prelude.{ℕ, ◌≡◌, ◌∷◌, List, [], length};
 ghost use Rattle.scenario_data.specs.Content.{ScenarioContent};
-ghost use Rattle.cabinet_story.specs.Story.{Story};
-ghost use Rattle.run_lines.specs.Standing.{Standing, next_standing, each_standing};
-ghost use Rattle.run_lines.specs.Lines.{cabinet_lines};
+ghost use Rattle.cabinet_history.specs.Story.{Story};
+ghost use Rattle.run_definition.specs.Standing.{Standing, next_standing, each_standing};
+ghost use Rattle.run_definition.specs.Lines.{cabinet_lines};
 ghost use Rattle.cab_book.specs.declared.book.Book.{Book as BookRow};
 ghost use Rattle.cab_book.specs.Books.{BookStands, journal_of, written_in, answered_in};
 ghost use Rattle.cab_book.specs.Happenings.{AreInOrder};

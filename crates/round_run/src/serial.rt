@@ -3,12 +3,12 @@
 
 ghost use Rattle.std.specs.Prelude.{ℕ, ◌≡◌, ◌≢◌, ◌<◌, ◌≤◌, ◌+◌, ◌++◌, List, [], length, replicate, get_or, vec_capacity};
 ghost use Rattle.scenario_data.specs.Content.{ScenarioContent};
-ghost use Rattle.cabinet_story.specs.Story.{Story};
-ghost use Rattle.cabinet_story.specs.Journals.{serial};
+ghost use Rattle.cabinet_history.specs.Story.{Story};
+ghost use Rattle.cabinet_history.specs.Journals.{serial};
 ghost use Rattle.cab_book.specs.declared.book.Book.{Book as BookRow};
 ghost use Rattle.cab_book.specs.Books.{BookStands, streams_in, journal_of, left_of, ticks_by_end};
-ghost use Rattle.run_lines.specs.Standing.{Standing, coming_streams};
-ghost use Rattle.run_lines.specs.Orders.{serial_round as serial_journals};
+ghost use Rattle.run_definition.specs.Standing.{Standing, coming_streams};
+ghost use Rattle.run_definition.specs.Orders.{serial_round as serial_journals};
 ghost use Rattle.round_run.specs.Standings.{HasRun, HaveRun, no_journals, TicksWithin};
 ghost use Rattle.round_run.specs.Joined.{BringsSome, Finishes};
 

@@ -2,14 +2,13 @@
 
 ghost use Rattle.std.specs.Prelude.{ℕ, ◌≡◌, ◌<◌, ◌+◌, List, length, OnOk, OnErr};
 ghost use Rattle.scenario_data.specs.Content.{ScenarioContent};
-ghost use Rattle.run_lines.specs.Standing.{Standing};
+ghost use Rattle.run_definition.specs.Standing.{Standing};
 ghost use Rattle.round_run.specs.Standings.{AreAt, HaveRun, no_journals, TicksWithin};
 ghost use Rattle.round_run.specs.Joined.{AreFresh, HaveFewLeft};
 ghost use Rattle.round_run.specs.Opening.{CanOpen, AreComing, TicksAtMost, BeginsSome};
 
 use cab_book::Book;
-use round_streams::Streams;
-use sig_types::NoMemory;
+use sig_types::{NoMemory, Streams};
 use std::alloc::Global;
 
 /// Begins a round on each book, with the streams that come to its cabinet; what was left of the round before is dropped. All memory

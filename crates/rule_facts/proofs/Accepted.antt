@@ -10,10 +10,10 @@ use Rattle.sig_tables.specs.Sides.{names, are_concurrent}
 use Rattle.rule_book.specs.Street.{neighbours, same_phases, keeps_layout}
 use Rattle.sig_tables.specs.Sums.{every}
 use Rattle.rule_book.specs.Rules.{all_rules, rows_of, breaks, broken, Consistent}
-use Rattle.laws.proofs.OneSide.{concurrent-enabled, concurrent-from}
+use Rattle.tick_laws.proofs.OneSide.{concurrent-enabled, concurrent-from}
 use Rattle.rule_facts.proofs.Kept.{kept, unbroken}
-use Rattle.laws.specs.Lawful.{SameLayout}
-use Rattle.laws.proofs.Standing.{enabled-phase}
+use Rattle.tick_laws.specs.Lawful.{SameLayout}
+use Rattle.tick_laws.proofs.Standing.{enabled-phase}
 use Rattle.rule_facts.proofs.Numbered.{layout-kept}
 use Rattle.rule_facts.proofs.Members.{same-answer}
 use Rattle.rule_facts.proofs.Street.{neighbour-is, same-member}

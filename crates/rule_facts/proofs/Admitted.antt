@@ -10,9 +10,9 @@ use Rattle.sig_tables.specs.Looking.{last_frame}
 use Rattle.sig_tables.specs.Decide.{past_of, since_opening}
 use Rattle.sig_tables.proofs.Histories.{each-event}
 use Rattle.rule_book.specs.Rules.{broken}
-use Rattle.laws.specs.Lawful.{Sound, SameLayout, IsLawfulAfter, Lawful, is_dark}
-use Rattle.laws.proofs.Apart.{holds}
-use Rattle.laws.proofs.Quiet.{each-quiet}
+use Rattle.tick_laws.specs.Lawful.{Sound, SameLayout, IsLawfulAfter, Lawful, is_dark}
+use Rattle.tick_laws.proofs.Apart.{holds}
+use Rattle.tick_laws.proofs.Quiet.{each-quiet}
 use Rattle.rule_facts.specs.Admitted.{is_flashing, IsAdmittedAfter, Admitted, KeepsApart}
 use Rattle.rule_facts.proofs.Facts.{accepted-consistent, same-layout, sound}
 

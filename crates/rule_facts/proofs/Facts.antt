@@ -7,7 +7,7 @@ use Rattle.sig_tables.specs.Slots.{is_defined, force_point}
 use Rattle.sig_tables.specs.Splits.{coordinated_phases}
 use Rattle.rule_book.specs.Street.{is_used}
 use Rattle.rule_book.specs.Rules.{broken, Consistent}
-use Rattle.laws.specs.Lawful.{Sound, SameLayout}
+use Rattle.tick_laws.specs.Lawful.{Sound, SameLayout}
 use Rattle.rule_facts.specs.Rules.{KeepsRules}
 use Rattle.rule_facts.specs.Sides.{SidesCut, SidesHold}
 use Rattle.rule_facts.specs.Sequences.{SequenceServes}

@@ -12,7 +12,7 @@ use Rattle.sig_tables.specs.Splits.{coordinated_phases}
 use Rattle.sig_tables.specs.Preempts.{track_set, dwell_set, exit_set}
 use Rattle.rule_book.specs.Street.{may_be_on_together}
 use Rattle.rule_book.specs.Rules.{all_preempts}
-use Rattle.laws.proofs.OneSide.{concurrent-enabled, concurrent-mutual, own, beside}
+use Rattle.tick_laws.proofs.OneSide.{concurrent-enabled, concurrent-mutual, own, beside}
 use Rattle.rule_facts.specs.Rules.{KeepsRules}
 use Rattle.plan_facts.specs.Goals.{GoTogether, PreemptFits}
 use Rattle.rule_facts.proofs.Numbered.{in-counted}

@@ -11,8 +11,8 @@ use Rattle.sig_tables.specs.Tables.{ring_of, is_enabled, order_of}
 use Rattle.sig_tables.specs.Sides.{are_of_one_side}
 use Rattle.sig_tables.specs.Sums.{times_in, every, before}
 use Rattle.rule_book.specs.Street.{serves_ring, is_of_ring, comes_after, side_comes_before}
-use Rattle.laws.proofs.Standing.{enabled-phase}
-use Rattle.laws.proofs.OneSide.{side-enabled, own, side-mutual}
+use Rattle.tick_laws.proofs.Standing.{enabled-phase}
+use Rattle.tick_laws.proofs.OneSide.{side-enabled, own, side-mutual}
 use Rattle.rule_facts.specs.Rules.{SequenceRules, KeepsRules}
 use Rattle.rule_facts.specs.Sequences.{RingServed, earlier_sides, SequenceServes}
 use Rattle.rule_facts.proofs.Kept.{none-listed}

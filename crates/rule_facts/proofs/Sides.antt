@@ -10,10 +10,10 @@ use Rattle.sig_tables.specs.Tables.{ring_of, is_enabled, starts_up}
 use Rattle.sig_tables.specs.Sides.{are_concurrent, are_incompatible, are_of_one_side}
 use Rattle.rule_book.specs.Street.{neighbours}
 use Rattle.rule_facts.specs.Sides.{SidesCut, SidesHold}
-use Rattle.laws.proofs.Standing.{enabled-phase}
+use Rattle.tick_laws.proofs.Standing.{enabled-phase}
 use Rattle.rule_facts.specs.Rules.{KeepsRules}
 use Rattle.rule_facts.proofs.Members.{Found, some-found, under}
-use Rattle.laws.proofs.OneSide.{Same, Beside, Through, one-side, concurrent-enabled, concurrent-mutual, side-enabled, own, beside, through, side-mutual}
+use Rattle.tick_laws.proofs.OneSide.{Same, Beside, Through, one-side, concurrent-enabled, concurrent-mutual, side-enabled, own, beside, through, side-mutual}
 use Rattle.rule_facts.proofs.Street.{concurrent-neighbour, across, in-ring, third, in-common}
 
 -- phases of one side and ring have the same concurrent phases; those of different rings are concurrent

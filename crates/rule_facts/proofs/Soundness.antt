@@ -6,7 +6,7 @@ use Rattle.sig_tables.specs.Tables.{ring_of, is_enabled}
 use Rattle.sig_tables.specs.Cells.{pattern_of}
 use Rattle.sig_tables.specs.Slots.{is_defined, pattern_order}
 use Rattle.plan_facts.specs.Plan.{NamesThere}
-use Rattle.laws.specs.Lawful.{Sound}
+use Rattle.tick_laws.specs.Lawful.{Sound}
 use Rattle.rule_facts.specs.Rules.{KeepsRules}
 use Rattle.rule_facts.specs.Sequences.{SequenceServes}
 use Rattle.rule_facts.proofs.Street.{across, in-ring}

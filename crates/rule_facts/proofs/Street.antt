@@ -9,8 +9,8 @@ use Rattle.sig_tables.specs.declared.tables.Tables.{Tables}
 use Rattle.sig_tables.specs.Tables.{listed, row, ring_of, is_enabled}
 use Rattle.sig_tables.specs.Sides.{names, are_concurrent}
 use Rattle.rule_book.specs.Street.{neighbours, same_phases, share_a_phase}
-use Rattle.laws.proofs.Standing.{enabled-phase}
-use Rattle.laws.proofs.OneSide.{concurrent-enabled, concurrent-from}
+use Rattle.tick_laws.proofs.Standing.{enabled-phase}
+use Rattle.tick_laws.proofs.OneSide.{concurrent-enabled, concurrent-from}
 use Rattle.rule_facts.specs.Rules.{KeepsRules}
 use Rattle.rule_facts.proofs.Members.{found-some, under}
 

@@ -8,8 +8,8 @@ use Rattle.sig_tables.specs.Modes.{same_mode}
 use Rattle.sig_tables.specs.Events.{EachEvent}
 use Rattle.sig_tables.specs.Decide.{past_of, past_at}
 use Rattle.rule_book.specs.Rules.{broken, Consistent}
-use Rattle.laws.specs.Safe.{EachApart, EachOne, EachEnabled}
-use Rattle.laws.specs.Walking.{EachQuiet}
+use Rattle.tick_laws.specs.Safe.{EachApart, EachOne, EachEnabled}
+use Rattle.tick_laws.specs.Walking.{EachQuiet}
 
 -- the cabinet flashes: its last frame is in Flash
 abbrev pub is_flashing : Past → Bool

@@ -2,6 +2,8 @@
 //! consistency rules. The functions do nothing: each stands for the law of its contract, which callers cite.
 #![tactic(auto)]
 
+mod broken_plans;
+
 ghost use Rattle.std.specs.Prelude.{◌≡◌, ◌≤◌, ◌+◌, ℕ, [], ◌∷◌, Bool, true, false, List};
 ghost use Rattle.sig_types.specs.Phases.{is_phase};
 ghost use Rattle.sig_tables.specs.declared.tables.Tables.{Tables};
@@ -14,7 +16,7 @@ ghost use Rattle.rule_book.specs.Street.{is_used, comes_after};
 ghost use Rattle.rule_book.specs.Rules.{broken, Consistent};
 ghost use Rattle.sig_tables.specs.Past.{Event, History};
 ghost use Rattle.sig_tables.specs.Decide.{since_opening};
-ghost use Rattle.laws.specs.Lawful.{Sound, SameLayout, Lawful};
+ghost use Rattle.tick_laws.specs.Lawful.{Sound, SameLayout, Lawful};
 ghost use Rattle.rule_facts.specs.Admitted.{Admitted, KeepsApart};
 ghost use Rattle.rule_facts.specs.Rules.{KeepsRules};
 ghost use Rattle.rule_facts.specs.Sides.{SidesCut, SidesHold};
@@ -25,6 +27,10 @@ ghost use Rattle.plan_facts.specs.Plan.{PlanHolds};
 ghost use Rattle.rule_facts.specs.Forces.{AreEnough, force_with, first_turn_out};
 ghost use Rattle.rule_facts.specs.Needed.{BreaksOnly, slow_clearance, long_slots, slots_past, crossed_sides, half_named, both_streets};
 
+pub use broken_plans::{
+    keeps_the_standard_plan, needs_rule_11_on_the_street, needs_rule_18_on_the_street,
+    needs_rule_19_on_the_street,
+};
 use rule_book::standard_consistent;
 
 /// Tables that break no rule keep each rule, by name and row.

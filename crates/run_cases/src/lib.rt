@@ -1,8 +1,13 @@
 //! Worked cases of the top call over sources and sinks in memory, each with its expected answer
 //! from outside. They stand in a crate of their own, above it, so that it is proved once and not
 //! again for its tests.
+//!
+//! Worked cases of cabinets shared by threads, and of sources and sinks that move small pieces.
+//! The cabinets are books as simple as can be. The cases stand in a crate of their own, above the parts, so that a part is proved
+//! once and not again for its tests.
 #![tactic(auto)]
 
+mod acts;
 #[cfg(test)]
 mod answer_cases;
 #[cfg(test)]
@@ -10,10 +15,18 @@ mod band_cases;
 #[cfg(test)]
 mod check_cases;
 #[cfg(test)]
+mod edge_cases;
+#[cfg(test)]
 mod overlap_cases;
 #[cfg(test)]
 mod respond_cases;
 #[cfg(test)]
+mod row_cases;
+mod tally;
+#[cfg(test)]
 mod text_cases;
 #[cfg(test)]
 mod worker_cases;
+
+pub use acts::acts_done;
+pub use tally::Tally;

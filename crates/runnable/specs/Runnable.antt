@@ -4,7 +4,7 @@ use Rattle.std.specs.List.{AllByRecursion}
 use Rattle.sig_types.specs.declared.frame.Field.{Field}
 use Rattle.sig_types.specs.declared.frame.Field.TheVariants.{Veh, Ped as Button, Preempt as PreemptInput}
 use Rattle.sig_types.specs.Phases.{is_phase}
-use Rattle.undisturbed.specs.Disturbances.{IsSlow}
+use Rattle.plan_facts.specs.Disturbances.{IsSlow}
 use Rattle.rule_book.specs.Rules.{Consistent}
 use Rattle.trace_text.specs.Words.{Lacks}
 use Rattle.scenario_data.specs.declared.scenario.Input.{Input}

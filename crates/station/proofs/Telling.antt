@@ -6,7 +6,7 @@ use Rattle.command_words.specs.declared.command.Command.{Command}
 use Rattle.command_words.specs.declared.command.Command.TheVariants.{Run, Check, Generate, Survey, Band, Respond, Overlaps, Help, Version}
 use Rattle.command_words.specs.declared.command.Overlap.{Overlap}
 use Rattle.command_words.specs.Words.{IsRun, IsCheck, IsOverlaps, AskFor, IsCommand}
-use Rattle.overlap_rules.specs.declared.faults.OverlapFault.{OverlapFault}
+use Rattle.overlap_run.specs.declared.faults.OverlapFault.{OverlapFault}
 use Rattle.station.specs.declared.status.Status.{Status}
 use Rattle.station.specs.declared.status.Status.TheVariants.{Done, Usage, Scenario, NotATrace, Overlap as BrokenOverlap, ReadFault, WriteFault, NoMemory}
 use Rattle.station.specs.Answers.{RunsWhole, StopsShort}

@@ -7,10 +7,10 @@ use Rattle.scenario_data.specs.Content.{ScenarioContent}
 use Rattle.scenario_read.specs.Answers.{IsScenario, IsFirstFault}
 use Rattle.station.specs.declared.status.Status.{Status}
 use Rattle.station.specs.declared.status.Status.TheVariants.{Done, Scenario, ReadFault, WriteFault, NoMemory}
-use Rattle.trace_out.specs.Bytes.{AppendsFront}
+use Rattle.whole_run.specs.Bytes.{AppendsFront}
 use Rattle.station.specs.Bytes.{AreInput, nothing_left}
-use Rattle.run_lines.specs.Lines.{run_text}
-use Rattle.one_trace.specs.Text.{TellsAllKept}
+use Rattle.run_definition.specs.Lines.{run_text}
+use Rattle.trace_laws.specs.Text.{TellsAllKept}
 use Rattle.whole_run.specs.Orders.{AreBroughtBy}
 
 -- a text was written whole, or a write failed, and a front of the text was written and not all of it

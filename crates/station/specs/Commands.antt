@@ -1,15 +1,15 @@
 -- What an answer tells, command by command.
 use Rattle.std.specs.Prelude.{◌≡◌, ◌⊎◌, ℕ, List, Option}
 use Rattle.io_edge.specs.Edge.{Appends}
-use Rattle.trace_out.specs.Bytes.{AppendsFront}
+use Rattle.whole_run.specs.Bytes.{AppendsFront}
 use Rattle.command_words.specs.declared.command.Command.{Command}
 use Rattle.command_words.specs.declared.command.Command.TheVariants.{Run, Check, Generate, Survey, Band, Respond, Overlaps, Help, Version}
 use Rattle.gen_arterial.specs.Written.{generated, generated_text}
-use Rattle.run_survey.specs.Counting.{surveyed_text}
+use Rattle.whole_run.specs.Counting.{surveyed_text}
 use Rattle.station.specs.declared.status.Status.{Status}
 use Rattle.scenario_data.specs.declared.refusal.Refusal.{Refusal}
 use Rattle.scenario_read.specs.Answers.{IsFirstFault}
-use Rattle.band_file.specs.Told.{TellsBands, IsFirstBandFault}
+use Rattle.band_report.specs.Told.{TellsBands, IsFirstBandFault}
 use Rattle.field_file.specs.Told.{TellsResult, IsFirstResultFault}
 use Rattle.command_words.specs.Words.{IsRun, IsBand, IsRespond}
 use Rattle.station.specs.declared.status.Status.TheVariants.{Done, WriteFault, NoMemory}

@@ -1,9 +1,9 @@
 -- What an answer to `overlaps` tells of the input and the output.
 use Rattle.std.specs.Prelude.{◌≡◌, ◌≤◌, ℕ, List, Option}
 use Rattle.io_edge.specs.Edge.{Appends}
-use Rattle.trace_out.specs.Bytes.{AppendsFront}
+use Rattle.whole_run.specs.Bytes.{AppendsFront}
 use Rattle.command_words.specs.declared.command.Overlap.{Overlap}
-use Rattle.overlap_rules.specs.declared.faults.OverlapFault.{OverlapFault}
+use Rattle.overlap_run.specs.declared.faults.OverlapFault.{OverlapFault}
 use Rattle.overlap_report.specs.declared.asking.Asked.{Asked}
 use Rattle.overlap_report.specs.Overlaps.{TellsOverlap, BreaksRule}
 use Rattle.trace_check.specs.declared.faults.TraceFault.{TraceFault}

@@ -2,13 +2,13 @@
 
 ghost use Rattle.std.specs.Prelude.{◌≡◌, ◌≤◌, ◌⊎◌, IfSome};
 ghost use Rattle.io_edge.specs.Edge.{Rises};
-ghost use Rattle.band_file.specs.Told.{AsksOfBands, TellsBands, IsFirstBandFault};
+ghost use Rattle.band_report.specs.Told.{AsksOfBands, TellsBands, IsFirstBandFault};
 ghost use Rattle.station.specs.Replied.{Replied, IsReplyDue};
 
 use crate::input::{Unread, whole_input};
 use crate::status::Status;
 use crate::texts::tell;
-use band_file::{bytes_have_one_answer, limits_have_names, report};
+use band_report::{bytes_have_one_answer, limits_have_names, report};
 use io_edge::{Sink, Source};
 use scenario_data::ReadFail;
 use std::alloc::Global;

@@ -13,7 +13,7 @@ mod status;
 mod texts;
 mod top;
 
-pub use overlap_rules::OverlapFault;
+pub use overlap_run::OverlapFault;
 pub use scenario_data::Refusal;
 pub use status::Status;
 pub use top::station;

@@ -1,6 +1,6 @@
 //! What the program answers.
 
-use overlap_rules::OverlapFault;
+use overlap_run::OverlapFault;
 use scenario_data::Refusal;
 use trace_check::TraceFault;
 

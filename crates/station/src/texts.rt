@@ -3,7 +3,7 @@
 ghost use Rattle.std.specs.Prelude.{◌≤◌};
 ghost use Rattle.io_edge.specs.Edge.{Rises};
 ghost use Rattle.gen_arterial.specs.Written.{CanMake, generated, generated_text};
-ghost use Rattle.run_survey.specs.Counting.{surveyed_text};
+ghost use Rattle.whole_run.specs.Counting.{surveyed_text};
 ghost use Rattle.station.specs.Answers.{WritesText};
 ghost use Rattle.station.specs.Commands.{MakesText};
 
@@ -11,11 +11,10 @@ use crate::status::Status;
 use command_words::Seeding;
 use gen_arterial::{make, text_of};
 use io_edge::{Failed, Sink};
-use run_survey::survey_text;
-use runnable_scenarios::scenarios_run;
+use scenario_checked::scenarios_run;
 use sig_types::NoMemory;
 use std::alloc::Global;
-use trace_out::put_all;
+use whole_run::{put_all, survey_text};
 
 /// Writes a text.
 pub fn tell<K: Sink>(sink: &mut K, text: &[u8]) -> Status

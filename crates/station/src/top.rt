@@ -10,11 +10,11 @@ ghost use Rattle.command_words.specs.Words.{IsRun, IsCheck, IsGenerate, IsSurvey
 ghost use Rattle.command_words.specs.declared.command.Seeding.{Seeding as SeedingRow};
 ghost use Rattle.command_words.specs.declared.command.Command.{Command as CommandRow};
 ghost use Rattle.command_words.specs.declared.command.Overlap.{Overlap as OverlapRow};
-ghost use Rattle.overlap_rules.specs.declared.faults.OverlapFault.{OverlapFault as OverlapFaultRow};
+ghost use Rattle.overlap_run.specs.declared.faults.OverlapFault.{OverlapFault as OverlapFaultRow};
 ghost use Rattle.gen_arterial.specs.Written.{generated, generated_text};
-ghost use Rattle.run_survey.specs.Counting.{surveyed_text};
+ghost use Rattle.whole_run.specs.Counting.{surveyed_text};
 ghost use Rattle.scenario_read.specs.Answers.{IsFirstFault};
-ghost use Rattle.band_file.specs.Told.{AsksOfBands, TellsBands, IsFirstBandFault};
+ghost use Rattle.band_report.specs.Told.{AsksOfBands, TellsBands, IsFirstBandFault};
 ghost use Rattle.field_file.specs.Told.{HasResult, TellsResult, IsFirstResultFault};
 ghost use Rattle.station.specs.Answers.{WritesText, IsRead, IsRefused};
 ghost use Rattle.station.specs.Replied.{Replied, IsReplyDue};
@@ -34,13 +34,12 @@ use crate::status::Status;
 use crate::texts::{generate, survey, tell};
 use command_words::{Command, command_of};
 use io_edge::{Gate, Sink, Source};
-use one_trace::run_texts_are_safe;
 use scenario_data::{ReadFail, Refusal, Scenario};
 use scenario_file::read;
 use std::alloc::Global;
 use std::thread::Threads;
-use trace_out::Stop;
-use whole_run::{Crew, write_trace};
+use trace_laws::run_texts_are_safe;
+use whole_run::{Crew, Stop, write_trace};
 
 /// The scenario that the whole input is. The memory of the input's bytes is given back.
 fn read_scenario<S: Source>(alloc: Global, source: &mut S) -> Result<Scenario, Unread>

@@ -1,8 +1,8 @@
 //! What a split asks of each phase, mode by mode (splitMode of NTCIP 1202).
 
+use pattern_plan::SplitOptions;
 use sig_tables::{Cell, CellValue, Tables};
 use sig_types::PhaseSet;
-use split_options::SplitOptions;
 
 /// The set of these phases.
 fn set_of(phases: &[u8]) -> PhaseSet {

@@ -8,22 +8,22 @@ use Rattle.trace_text.specs.declared.lines.Line.TheVariants.{J, A}
 use Rattle.trace_text.specs.IsLine.{AreLongest}
 use Rattle.trace_text.specs.Line.{line_text}
 use Rattle.scenario_data.specs.Content.{ScenarioContent}
-use Rattle.round_streams.specs.Items.{Item}
-use Rattle.cabinet_story.specs.declared.Reply.{Reply}
-use Rattle.cabinet_story.specs.Story.{Story}
-use Rattle.cabinet_story.specs.Journals.{times, passes_of, runs_of, IsMerge}
+use Rattle.sig_types.specs.Items.{Item}
+use Rattle.cabinet_history.specs.declared.Reply.{Reply}
+use Rattle.cabinet_history.specs.Story.{Story}
+use Rattle.cabinet_history.specs.Journals.{times, passes_of, runs_of, IsMerge}
 use Rattle.cab_book.specs.declared.book.Book.{Book}
 use Rattle.cab_book.specs.declared.happened.Answered.{Answered}
 use Rattle.cab_book.specs.Books.{BookStands, IsOnePart, streams_in, journal_of, left_of, written_in, answered_in}
 use Rattle.cab_book.specs.Happenings.{AreInOrder}
 use Rattle.cab_book.proofs.OnePart.{one-tally}
 use Rattle.cab_book.proofs.Bringing.{pass-within}
-use Rattle.run_lines.specs.Standing.{Standing, coming_streams, round_acts}
-use Rattle.run_lines.specs.Lines.{shown_line, frame_lines, load_lines, acts_lines, cabinet_lines}
+use Rattle.run_definition.specs.Standing.{Standing, coming_streams, round_acts}
+use Rattle.run_definition.specs.Lines.{shown_line, frame_lines, load_lines, acts_lines, cabinet_lines}
 use Rattle.round_run.specs.Lines.{frames_between, answer_lines, told_lines, book_lines}
 use Rattle.round_run.specs.Standings.{HasRun}
 use Rattle.trace_laws.specs.Runs.{events_in}
-use Rattle.safe_trace.specs.TraceText.{lines_text}
+use Rattle.safety_laws.specs.TraceText.{lines_text}
 use Rattle.trace_laws.specs.Script.{Script, Ends, Says, Hears, say, cabinet_script}
 use Rattle.trace_laws.proofs.Journals.{added, journal-goes}
 use Rattle.trace_laws.proofs.Longest.{longest-told}

@@ -10,8 +10,8 @@ use Rattle.sig_tables.specs.Past.{Install, Moment, History}
 use Rattle.sig_tables.specs.Looking.{last_frame}
 use Rattle.sig_tables.specs.Decide.{decide, frames, frames_in, past_at, since_opening, with_one}
 use Rattle.sig_tables.proofs.Histories.{over-moments}
-use Rattle.safe_trace.specs.Written.{tables_of}
-use Rattle.overlap_laws.specs.Trace.{frames_written}
+use Rattle.safety_laws.specs.Written.{tables_of}
+use Rattle.overlap_run.specs.Trace.{frames_written}
 use Rattle.stage_txn.specs.Calls.{Finish as FinishCall}
 use Rattle.stage_txn.specs.Answers.{answered, staged}
 use Rattle.agent.specs.declared.ask.Order.{Order}
@@ -19,13 +19,13 @@ use Rattle.agent.specs.declared.ask.Order.TheVariants.{Pattern, Clock, Request, 
 use Rattle.agent.specs.declared.ask.Wish.{Wish}
 use Rattle.agent.specs.declared.ask.Wish.TheVariants.{Get, Next, Direct, Begin, Part, Verify, Finish, Bad}
 use Rattle.agent.specs.declared.ask.Ask.{Ask}
-use Rattle.round_streams.specs.Items.{Item, Told, Came, Ticked}
-use Rattle.cabinet_story.specs.declared.Reply.{Reply}
-use Rattle.cabinet_story.specs.Story.{Story, with_item, after}
-use Rattle.cabinet_story.specs.Journals.{Act, items_in}
-use Rattle.cabinet_story.specs.Coming.{Coming, past_of, in_force, is_flashing, answer_in, coming, history_of, ask_after, order_event, installs, with_events, carried_out, heeded, outcome}
-use Rattle.cabinet_story.specs.Frames.{has_line}
-use Rattle.cabinet_story.specs.Told.{item_replies, item_written, acts_written, ask_end, wish_end, verify_end, finish_end}
+use Rattle.sig_types.specs.Items.{Item, Told, Came, Ticked}
+use Rattle.cabinet_history.specs.declared.Reply.{Reply}
+use Rattle.cabinet_history.specs.Story.{Story, with_item, after}
+use Rattle.cabinet_history.specs.Journals.{Act, items_in}
+use Rattle.cabinet_history.specs.Coming.{Coming, past_of, in_force, is_flashing, answer_in, coming, history_of, ask_after, order_event, installs, with_events, carried_out, heeded, outcome}
+use Rattle.cabinet_history.specs.Frames.{has_line}
+use Rattle.cabinet_history.specs.Told.{item_replies, item_written, acts_written, ask_end, wish_end, verify_end, finish_end}
 use Rattle.trace_check.specs.Watching.{is_put, AreTablesOf}
 
 -- ---- tables

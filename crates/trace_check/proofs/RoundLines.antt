@@ -6,13 +6,13 @@ use Rattle.sig_types.specs.declared.notes.MasterNote.{MasterNote}
 use Rattle.trace_text.specs.declared.lines.Line.{Line}
 use Rattle.trace_text.specs.declared.lines.Line.TheVariants.{R, M}
 use Rattle.scenario_data.specs.Content.{ScenarioContent}
-use Rattle.cabinet_story.specs.Journals.{IsMerge}
+use Rattle.cabinet_history.specs.Journals.{IsMerge}
 use Rattle.cab_book.specs.declared.book.Book.{Book}
 use Rattle.cab_book.specs.Books.{ticks_by_end}
-use Rattle.run_lines.specs.Standing.{Standing, coming_streams, next_standing, each_standing}
-use Rattle.run_lines.specs.Lines.{notes_lines, cabinet_lines, each_lines, round_lines}
-use Rattle.safe_trace.specs.TraceText.{lines_text}
-use Rattle.run_lines.specs.Orders.{EachMerges}
+use Rattle.run_definition.specs.Standing.{Standing, coming_streams, next_standing, each_standing}
+use Rattle.run_definition.specs.Lines.{notes_lines, cabinet_lines, each_lines, round_lines}
+use Rattle.safety_laws.specs.TraceText.{lines_text}
+use Rattle.run_definition.specs.Orders.{EachMerges}
 use Rattle.round_run.specs.Standings.{HasRun, HaveRun, no_journals, TicksWithin}
 use Rattle.trace_laws.specs.Script.{Script, Ends, Says, say, cabinet_script, cabinets_script, round_script}
 use Rattle.trace_check.specs.declared.faults.CheckFail.{CheckFail}

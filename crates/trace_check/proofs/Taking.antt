@@ -1,11 +1,11 @@
 -- The text of what was read: the lines themselves.
 use Rattle.std.proofs.Common.{◌≡◌, ◌+◌, ◌∙◌, ℕ, suc, List, [], ◌∷◌, ◌++◌, length, Ok, refl, sym, ap, arith, append_assoc, append-nil}
 use Rattle.trace_text.specs.declared.lines.Line.{Line}
-use Rattle.safe_trace.specs.TraceText.{lines_text}
+use Rattle.safety_laws.specs.TraceText.{lines_text}
 use Rattle.scenario_data.specs.Content.{ScenarioContent}
-use Rattle.run_lines.specs.Standing.{Standing, each_standing, standings_after}
-use Rattle.run_lines.specs.Lines.{cabinet_lines, each_lines, round_lines, rounds_lines}
-use Rattle.run_lines.specs.Orders.{EachMerges, AreMerges}
+use Rattle.run_definition.specs.Standing.{Standing, each_standing, standings_after}
+use Rattle.run_definition.specs.Lines.{cabinet_lines, each_lines, round_lines, rounds_lines}
+use Rattle.run_definition.specs.Orders.{EachMerges, AreMerges}
 use Rattle.round_run.proofs.Following.{each-length}
 use Rattle.trace_laws.specs.Script.{Ends, say, Goes}
 use Rattle.trace_laws.proofs.Paths.{unsay}

@@ -7,27 +7,27 @@ use Rattle.sig_types.specs.declared.frame.Frame.{Frame}
 use Rattle.sig_tables.specs.declared.tables.Tables.{Tables}
 use Rattle.sig_tables.specs.Past.{History}
 use Rattle.sig_tables.specs.Decide.{frames, last_frame_of, past_at}
-use Rattle.safe_trace.specs.Written.{tables_of}
-use Rattle.overlap_laws.specs.Trace.{frames_written}
+use Rattle.safety_laws.specs.Written.{tables_of}
+use Rattle.overlap_run.specs.Trace.{frames_written}
 use Rattle.scenario_data.specs.Content.{CabinetContent, ScenarioContent}
-use Rattle.round_streams.specs.Items.{Item}
+use Rattle.sig_types.specs.Items.{Item}
 use Rattle.runnable.specs.Cabinets.{IsNumbered, opening_history}
-use Rattle.cabinet_story.specs.declared.Reply.{Reply}
-use Rattle.cabinet_story.specs.Story.{Story, with_item, after}
-use Rattle.cabinet_story.specs.Journals.{Act, times, acts_of, items_in}
-use Rattle.cabinet_story.specs.Coming.{history_of}
-use Rattle.cabinet_story.specs.Frames.{has_line}
-use Rattle.cabinet_story.specs.Told.{item_replies, acts_replies}
-use Rattle.cabinet_story.proofs.Growing.{act_at, acts-more, story-more, told-more}
+use Rattle.cabinet_history.specs.declared.Reply.{Reply}
+use Rattle.cabinet_history.specs.Story.{Story, with_item, after}
+use Rattle.cabinet_history.specs.Journals.{Act, times, acts_of, items_in}
+use Rattle.cabinet_history.specs.Coming.{history_of}
+use Rattle.cabinet_history.specs.Frames.{has_line}
+use Rattle.cabinet_history.specs.Told.{item_replies, acts_replies}
+use Rattle.cabinet_history.proofs.Growing.{act_at, acts-more, story-more, told-more}
 use Rattle.cab_book.specs.declared.book.Book.{Book}
 use Rattle.cab_book.specs.declared.happened.Answered.{Answered}
 use Rattle.cab_book.specs.Happenings.{replies_in}
 use Rattle.cab_book.specs.Books.{BookStands, IsOnePart, streams_in, journal_of, left_of, acts_in, story_now, ticks_by_end, written_in, answered_in}
-use Rattle.run_lines.specs.Standing.{Standing, opened_standings, next_standing, each_standing, HasComeTo}
+use Rattle.run_definition.specs.Standing.{Standing, opened_standings, next_standing, each_standing, HasComeTo}
 use Rattle.round_run.specs.Standings.{HaveRun, IsAt, AreAt}
 use Rattle.round_run.proofs.Following.{each-here, each-length, acts-run}
-use Rattle.trace_seen.specs.declared.seen.Seen.{Seen}
-use Rattle.trace_seen.specs.Seen.{IsSeenOf}
+use Rattle.trace_laws.specs.declared.seen.Seen.{Seen}
+use Rattle.trace_laws.specs.Seen.{IsSeenOf}
 use Rattle.trace_check.specs.Watching.{tells_put, AreTablesOf, SeesOn, SeenSoFar, IsWatched}
 use Rattle.trace_check.proofs.Keeping.{puts_first, Keeps, item-keeps, acts-frames}
 

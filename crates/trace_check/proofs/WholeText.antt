@@ -7,23 +7,23 @@ use Rattle.trace_text.specs.declared.lines.Line.{Line}
 use Rattle.trace_text.specs.declared.lines.Line.TheVariants.{S, Z}
 use Rattle.trace_text.specs.IsLine.{IsLine}
 use Rattle.trace_text.specs.Line.{line_text}
-use Rattle.safe_trace.specs.TraceText.{lines_text}
+use Rattle.safety_laws.specs.TraceText.{lines_text}
 use Rattle.scenario_data.specs.Content.{ScenarioContent}
 use Rattle.scenario_read.specs.Answers.{IsScenario}
 use Rattle.scenario_read.proofs.OneAnswer.{one-scenario}
-use Rattle.cabinet_story.specs.Story.{Story}
-use Rattle.cabinet_story.specs.Coming.{history_of}
+use Rattle.cabinet_history.specs.Story.{Story}
+use Rattle.cabinet_history.specs.Coming.{history_of}
 use Rattle.cab_book.specs.declared.book.Book.{Book}
 use Rattle.cab_book.specs.Books.{BookStands, story_now}
-use Rattle.run_lines.specs.Standing.{Standing, opened_standings, each_standing, standings_after}
-use Rattle.run_lines.specs.Lines.{shown_line, opening_lines, round_lines, rounds_lines, rest_lines, run_text}
-use Rattle.run_lines.specs.Orders.{AreMerges, AreJournals}
+use Rattle.run_definition.specs.Standing.{Standing, opened_standings, each_standing, standings_after}
+use Rattle.run_definition.specs.Lines.{shown_line, opening_lines, round_lines, rounds_lines, rest_lines, run_text}
+use Rattle.run_definition.specs.Orders.{AreMerges, AreJournals}
 use Rattle.runnable.specs.Cabinets.{IsCabinet}
 use Rattle.runnable.specs.Runnable.{Runnable}
-use Rattle.one_trace.specs.Text.{TellsAllKept}
+use Rattle.trace_laws.specs.Text.{TellsAllKept}
 use Rattle.round_run.specs.Standings.{IsAt, AreAt}
-use Rattle.corridor.specs.declared.rounds.Corridor.{Corridor}
-use Rattle.corridor.specs.Corridor.{Between}
+use Rattle.round_run.specs.declared.rounds.Corridor.{Corridor}
+use Rattle.round_run.specs.Corridor.{Between}
 use Rattle.trace_laws.specs.Traces.{Opens, IsTrace, IsCheckable}
 use Rattle.trace_laws.specs.Faults.{first_piece, FirstFault, NoFirst, NoScenario}
 use Rattle.trace_laws.specs.Script.{Script, Ends, Says, say, rounds_script, round_script, script_of, FaultsAt, Walks, Beyond}
@@ -33,8 +33,8 @@ use Rattle.trace_check.specs.declared.faults.CheckFail.{CheckFail}
 use Rattle.trace_check.specs.declared.faults.CheckFail.TheVariants.{NotATrace, NoMemory}
 use Rattle.trace_check.specs.declared.places.Place.{Place}
 use Rattle.trace_check.specs.Reading.{Fails, Leads, ReadsWhole}
-use Rattle.trace_seen.specs.declared.seen.Seen.{Seen}
-use Rattle.trace_seen.specs.Seen.{IsSeenOf, HasSeen}
+use Rattle.trace_laws.specs.declared.seen.Seen.{Seen}
+use Rattle.trace_laws.specs.Seen.{IsSeenOf, HasSeen}
 use Rattle.trace_check.specs.Watching.{IsWatched}
 use Rattle.trace_check.specs.Rounds.{RoundRead, RoundsSeen}
 use Rattle.trace_check.specs.Checked.{TellsNone, Tells, RestSeen, TextSeen}

@@ -1,13 +1,13 @@
 -- What the check makes of a cabinet's round.
 use Rattle.std.specs.Prelude.{ℕ, ◌≡◌, List, [], ◌++◌, Result, Ok, Err, length, get_or}
-use Rattle.safe_trace.specs.TraceText.{lines_text}
+use Rattle.safety_laws.specs.TraceText.{lines_text}
 use Rattle.scenario_data.specs.Content.{ScenarioContent}
-use Rattle.round_streams.specs.Items.{Item}
-use Rattle.cabinet_story.specs.Journals.{IsMerge}
+use Rattle.sig_types.specs.Items.{Item}
+use Rattle.cabinet_history.specs.Journals.{IsMerge}
 use Rattle.cab_book.specs.declared.book.Book.{Book}
 use Rattle.cab_book.specs.Books.{left_of}
-use Rattle.run_lines.specs.Standing.{Standing, coming_streams}
-use Rattle.run_lines.specs.Lines.{cabinet_lines}
+use Rattle.run_definition.specs.Standing.{Standing, coming_streams}
+use Rattle.run_definition.specs.Lines.{cabinet_lines}
 use Rattle.round_run.specs.Standings.{HasRun}
 use Rattle.trace_laws.specs.Script.{Script, cabinet_script}
 use Rattle.trace_check.specs.declared.faults.CheckFail.{CheckFail}

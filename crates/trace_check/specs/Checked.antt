@@ -1,18 +1,18 @@
 -- What the check of a whole text answers.
 use Rattle.std.specs.Prelude.{ℕ, ◌≡◌, List, Result, Ok, Err}
-use Rattle.safe_trace.specs.TraceText.{lines_text}
+use Rattle.safety_laws.specs.TraceText.{lines_text}
 use Rattle.trace_text.specs.declared.lines.Line.{Line}
 use Rattle.scenario_data.specs.Content.{ScenarioContent}
 use Rattle.scenario_read.specs.Answers.{IsScenario}
-use Rattle.run_lines.specs.Standing.{opened_standings, standings_after}
-use Rattle.run_lines.specs.Lines.{rest_lines, run_text}
-use Rattle.run_lines.specs.Orders.{AreJournals}
+use Rattle.run_definition.specs.Standing.{opened_standings, standings_after}
+use Rattle.run_definition.specs.Lines.{rest_lines, run_text}
+use Rattle.run_definition.specs.Orders.{AreJournals}
 use Rattle.runnable.specs.Runnable.{Runnable}
 use Rattle.trace_laws.specs.Traces.{Opens, IsTrace, IsCheckable}
 use Rattle.trace_laws.specs.Faults.{FirstFault}
 use Rattle.trace_check.specs.declared.faults.CheckFail.{CheckFail}
 use Rattle.trace_check.specs.declared.faults.CheckFail.TheVariants.{NotATrace, NoMemory}
-use Rattle.trace_seen.specs.declared.seen.Seen.{Seen}
+use Rattle.trace_laws.specs.declared.seen.Seen.{Seen}
 use Rattle.trace_check.specs.Watching.{IsWatched}
 
 -- the first line of a text tells no scenario: the fault is that of rule 3 at line 1; or there was not memory enough to tell

@@ -1,18 +1,18 @@
 -- What the check makes of a round.
 use Rattle.std.specs.Prelude.{ℕ, ◌+◌, ◌≡◌, List, [], ◌++◌, Result, Ok, Err, length}
-use Rattle.safe_trace.specs.TraceText.{lines_text}
+use Rattle.safety_laws.specs.TraceText.{lines_text}
 use Rattle.scenario_data.specs.Content.{ScenarioContent}
 use Rattle.cab_book.specs.declared.book.Book.{Book}
-use Rattle.run_lines.specs.Standing.{Standing, each_standing, standings_after}
-use Rattle.run_lines.specs.Lines.{each_lines, round_lines, rounds_lines}
-use Rattle.run_lines.specs.Orders.{EachMerges, AreMerges}
+use Rattle.run_definition.specs.Standing.{Standing, each_standing, standings_after}
+use Rattle.run_definition.specs.Lines.{each_lines, round_lines, rounds_lines}
+use Rattle.run_definition.specs.Orders.{EachMerges, AreMerges}
 use Rattle.round_run.specs.Standings.{HaveRun}
-use Rattle.corridor.specs.declared.rounds.Corridor.{Corridor}
-use Rattle.corridor.specs.Corridor.{Between}
+use Rattle.round_run.specs.declared.rounds.Corridor.{Corridor}
+use Rattle.round_run.specs.Corridor.{Between}
 use Rattle.trace_laws.specs.Script.{Script, cabinets_script, round_script}
 use Rattle.trace_check.specs.declared.faults.CheckFail.{CheckFail}
 use Rattle.trace_check.specs.declared.places.Place.{Place}
-use Rattle.trace_seen.specs.declared.seen.Seen.{Seen}
+use Rattle.trace_laws.specs.declared.seen.Seen.{Seen}
 use Rattle.trace_check.specs.Reading.{Fails, Leads}
 use Rattle.trace_check.specs.Watching.{IsWatched}
 

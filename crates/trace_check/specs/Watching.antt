@@ -4,17 +4,17 @@ use Rattle.sig_types.specs.declared.notes.Broken.{Broken}
 use Rattle.sig_tables.specs.declared.tables.Tables.{Tables}
 use Rattle.sig_tables.specs.Past.{History}
 use Rattle.sig_tables.specs.Decide.{past_at}
-use Rattle.safe_trace.specs.Written.{tables_of}
-use Rattle.overlap_laws.specs.Trace.{AreByVersion}
-use Rattle.cabinet_story.specs.declared.Load.{Load}
-use Rattle.cabinet_story.specs.Story.{Story}
-use Rattle.cabinet_story.specs.Coming.{history_of}
+use Rattle.safety_laws.specs.Written.{tables_of}
+use Rattle.overlap_run.specs.Trace.{AreByVersion}
+use Rattle.cabinet_history.specs.declared.Load.{Load}
+use Rattle.cabinet_history.specs.Story.{Story}
+use Rattle.cabinet_history.specs.Coming.{history_of}
 use Rattle.cab_book.specs.declared.book.Book.{Book}
 use Rattle.cab_book.specs.declared.happened.Answered.{Answered}
 use Rattle.cab_book.specs.Books.{story_now}
-use Rattle.run_lines.specs.Standing.{Standing}
-use Rattle.trace_seen.specs.declared.seen.Seen.{Seen}
-use Rattle.trace_seen.specs.Seen.{IsSeenOf}
+use Rattle.run_definition.specs.Standing.{Standing}
+use Rattle.trace_laws.specs.declared.seen.Seen.{Seen}
+use Rattle.trace_laws.specs.Seen.{IsSeenOf}
 
 -- a download was put in force
 abbrev pub is_version : Result ℕ Broken → Bool

@@ -6,8 +6,8 @@ ghost use Rattle.trace_text.specs.declared.lines.Line.{Line as LineRow};
 ghost use Rattle.scenario_data.specs.Content.{ScenarioContent};
 ghost use Rattle.cab_book.specs.Books.{written_in, answered_in, story_now, ticks_by_end};
 ghost use Rattle.cab_book.specs.Happenings.{AreInOrder};
-ghost use Rattle.run_lines.specs.Standing.{Standing};
-ghost use Rattle.run_lines.specs.Lines.{shown_line, frame_lines, load_lines};
+ghost use Rattle.run_definition.specs.Standing.{Standing};
+ghost use Rattle.run_definition.specs.Lines.{shown_line, frame_lines, load_lines};
 ghost use Rattle.round_run.specs.Lines.{frames_between, answer_lines, told_lines};
 ghost use Rattle.round_run.specs.Standings.{HasRun};
 ghost use Rattle.trace_laws.specs.Script.{Script, say};
@@ -22,11 +22,11 @@ use crate::journals::journal_at;
 use crate::places::Place;
 use crate::watching::bring_round;
 use cab_book::{Answered, Book};
-use cabinet_story::{Load, Reply};
+use cabinet_history::{Load, Reply};
 use round_run::books_follow_runs;
 use sig_types::{Frame, Octets};
 use std::alloc::Global;
-use trace_seen::Seen;
+use trace_laws::Seen;
 use trace_text::Line;
 
 /// The line of what a cabinet shows after so many ticks.

@@ -6,9 +6,9 @@ ghost use Rattle.std.specs.Prelude.{◌≡◌, ◌≢◌, ◌≤◌, ◌+◌, �
 ghost use Rattle.trace_text.specs.declared.lines.Line.{Line as LineRow};
 ghost use Rattle.trace_text.specs.IsLine.{AreLongest};
 ghost use Rattle.trace_text.specs.Line.{line_text};
-ghost use Rattle.round_streams.specs.Items.{Item};
-ghost use Rattle.cabinet_story.specs.Story.{Story};
-ghost use Rattle.cabinet_story.specs.Journals.{IsMerge, passes_of};
+ghost use Rattle.sig_types.specs.Items.{Item};
+ghost use Rattle.cabinet_history.specs.Story.{Story};
+ghost use Rattle.cabinet_history.specs.Journals.{IsMerge, passes_of};
 ghost use Rattle.cab_book.specs.Books.{BookStands, streams_in, journal_of, left_of, ticks_by_end};
 ghost use Rattle.trace_laws.specs.Runs.{events_in};
 ghost use Rattle.trace_laws.specs.Script.{Script};

@@ -13,5 +13,5 @@ mod watching;
 mod whole;
 
 pub use faults::{CheckFail, TraceFault};
-pub use trace_seen::Seen;
+pub use trace_laws::Seen;
 pub use whole::{check, observe};

@@ -4,9 +4,9 @@ ghost use Rattle.std.specs.Prelude.{◌≡◌, ◌≤◌, ◌<◌, ◌+◌, ◌*
 ghost use Rattle.trace_text.specs.declared.lines.Line.{Line as LineRow};
 ghost use Rattle.scenario_data.specs.Content.{ScenarioContent, scenario_content};
 ghost use Rattle.runnable.specs.Runnable.{Runnable};
-ghost use Rattle.run_lines.specs.Standing.{Standing};
+ghost use Rattle.run_definition.specs.Standing.{Standing};
 ghost use Rattle.round_run.specs.Standings.{HaveRun, no_journals, TicksWithin};
-ghost use Rattle.corridor.specs.Corridor.{Between};
+ghost use Rattle.round_run.specs.Corridor.{Between};
 ghost use Rattle.trace_laws.specs.Script.{Script, say};
 ghost use Rattle.trace_laws.specs.Script.Script.{Says};
 ghost use Rattle.trace_check.specs.Reading.{ReadsOn};
@@ -18,11 +18,11 @@ use crate::expect::expect;
 use crate::faults::CheckFail;
 use crate::places::Place;
 use cab_book::Book;
-use corridor::Corridor;
+use round_run::Corridor;
 use scenario_data::Scenario;
 use sig_types::{MasterNote, NoMemory};
 use std::alloc::Global;
-use trace_seen::Seen;
+use trace_laws::Seen;
 use trace_text::Line;
 
 /// The line of a note of the master.

@@ -2,15 +2,15 @@
 
 ghost use Rattle.std.specs.Prelude.{◌≡◌, ◌≢◌, ◌≤◌, ◌++◌, ◌+◌, ◌⊎◌, ◌↔◌, IsTrue, ℕ, List, [], ◌∷◌, Bool, drop, length, replicate, get_or, IfErr, IfOk, OnOk};
 ghost use Rattle.sig_tables.specs.Decide.{last_frame_of, past_at};
-ghost use Rattle.cabinet_story.specs.Story.{Story};
-ghost use Rattle.cabinet_story.specs.Journals.{passes_of};
-ghost use Rattle.cabinet_story.specs.Coming.{history_of};
+ghost use Rattle.cabinet_history.specs.Story.{Story};
+ghost use Rattle.cabinet_history.specs.Journals.{passes_of};
+ghost use Rattle.cabinet_history.specs.Coming.{history_of};
 ghost use Rattle.cab_book.specs.Books.{BookStands, IsOnePart, streams_in, journal_of, left_of, story_now, ticks_by_end};
 ghost use Rattle.trace_laws.specs.Runs.{events_in};
 ghost use Rattle.scenario_data.specs.Content.{ScenarioContent};
-ghost use Rattle.run_lines.specs.Standing.{opened_standings};
+ghost use Rattle.run_definition.specs.Standing.{opened_standings};
 ghost use Rattle.round_run.specs.Standings.{AreAt};
-ghost use Rattle.trace_seen.specs.Seen.{IsSeenOf};
+ghost use Rattle.trace_laws.specs.Seen.{IsSeenOf};
 ghost use Rattle.trace_check.specs.Watching.{tells_put, AreTablesOf, IsWatched};
 
 use crate::faults::CheckFail;
@@ -19,7 +19,7 @@ use cab_book::{Answered, Book};
 use sig_tables::Tables;
 use sig_types::Frame;
 use std::alloc::Global;
-use trace_seen::Seen;
+use trace_laws::Seen;
 
 /// Nothing was seen.
 pub fn nothing_seen(alloc: Global) -> Seen

@@ -4,10 +4,10 @@ ghost use Rattle.std.specs.Prelude.{◌≡◌, ◌≢◌, ◌≤◌, ◌⊎◌, 
 ghost use Rattle.trace_text.specs.declared.lines.Line.{Line as LineRow};
 ghost use Rattle.scenario_data.specs.Content.{scenario_content};
 ghost use Rattle.runnable.specs.Runnable.{Runnable};
-ghost use Rattle.run_lines.specs.Standing.{Standing, opened_standings};
-ghost use Rattle.run_lines.specs.Lines.{opening_lines};
+ghost use Rattle.run_definition.specs.Standing.{Standing, opened_standings};
+ghost use Rattle.run_definition.specs.Lines.{opening_lines};
 ghost use Rattle.round_run.specs.Standings.{AreAt};
-ghost use Rattle.corridor.specs.Corridor.{Between};
+ghost use Rattle.round_run.specs.Corridor.{Between};
 ghost use Rattle.trace_laws.specs.Traces.{Opens, IsTrace, IsCheckable};
 ghost use Rattle.trace_laws.specs.Faults.{FirstFault};
 ghost use Rattle.trace_laws.specs.Laws.{TellsOfRun};
@@ -15,7 +15,7 @@ ghost use Rattle.trace_laws.specs.Script.{Script, say, rounds_script, script_of}
 ghost use Rattle.trace_laws.specs.Script.Script.{Ends};
 ghost use Rattle.trace_check.specs.Reading.{ReadsOn, ReadsWhole};
 ghost use Rattle.trace_check.specs.Rounds.{RoundsSeen};
-ghost use Rattle.trace_seen.specs.Seen.{HasSeen};
+ghost use Rattle.trace_laws.specs.Seen.{HasSeen};
 ghost use Rattle.trace_check.specs.Checked.{TellsNone, Tells, RestSeen, TextSeen};
 
 use crate::cabinets::expect_frame;
@@ -25,17 +25,16 @@ use crate::pieces::{cut, fault_at};
 use crate::places::Place;
 use crate::rounds::check_round;
 use crate::watching::{first_seen, nothing_seen};
-use cab_book::Book;
-use cab_control::Way;
-use corridor::Corridor;
-use one_trace::run_texts_are_safe;
-use runnable_scenarios::scenarios_run;
+use cab_book::{Book, Way};
+use round_run::Corridor;
+use scenario_checked::scenarios_run;
 use scenario_data::{ReadFail, Scenario};
 use scenario_file::read;
 use sig_types::NoMemory;
 use std::alloc::Global;
-use trace_laws::{faults_are_determined, traces_are_safe, traces_have_no_fault};
-use trace_seen::Seen;
+use trace_laws::{
+    Seen, faults_are_determined, run_texts_are_safe, traces_are_safe, traces_have_no_fault,
+};
 use trace_text::{Line, read_line};
 
 /// What each cabinet shows before any tick.

@@ -3,11 +3,11 @@ use Rattle.std.proofs.Common.{◌∙◌, inl, inr, ℕ, List, [], Bool, if◌the
 use Rattle.trace_text.specs.declared.lines.Line.{Line}
 use Rattle.trace_text.specs.declared.lines.Line.TheVariants.{J}
 use Rattle.scenario_data.specs.Content.{ScenarioContent}
-use Rattle.cabinet_story.specs.Journals.{serial, runs_of}
+use Rattle.cabinet_history.specs.Journals.{serial, runs_of}
 use Rattle.trace_laws.specs.Traces.{IsTraceOf, MayFollow}
 use Rattle.trace_laws.specs.Faults.{same_head, rule_of, IsRule, Departs, Short, Behind, NoLine, Differs, FaultOf}
 use Rattle.trace_laws.specs.Script.{Script, Ends, Says, Hears, Goes, Refuses, Stops, Lacking, Beyond, Unread, Other, FaultIn, script_of}
-use Rattle.run_lines.proofs.Merges.{serial-merge}
+use Rattle.run_definition.proofs.Merges.{serial-merge}
 use Rattle.trace_laws.proofs.Runs.{path-is-run}
 use Rattle.trace_laws.proofs.Faults.{place-of, step-of, step-may, same-heads, ends-whole}
 

@@ -7,7 +7,7 @@ use Rattle.trace_text.specs.declared.lines.Line.TheVariants.{J}
 use Rattle.trace_text.specs.Line.{line_text}
 use Rattle.trace_text.specs.IsLine.{IsLine}
 use Rattle.scenario_data.specs.Content.{ScenarioContent}
-use Rattle.cabinet_story.specs.Journals.{IsMerge, runs_of}
+use Rattle.cabinet_history.specs.Journals.{IsMerge, runs_of}
 use Rattle.trace_laws.specs.Traces.{Opens, IsTrace, IsCheckable}
 use Rattle.trace_laws.specs.Faults.{first_piece, FirstFault, TooLong, Empty, NoFirst, NoScenario}
 use Rattle.trace_laws.specs.Laws.{NothingElse}

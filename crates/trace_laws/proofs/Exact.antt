@@ -3,8 +3,8 @@ use Rattle.std.proofs.Common.{◌≡◌, ◌∙◌, ℕ, suc, List, [], ◌∷�
 use Rattle.trace_text.specs.declared.lines.Line.{Line}
 use Rattle.trace_text.specs.Line.{line_text}
 use Rattle.trace_text.specs.IsLine.{IsLine}
-use Rattle.safe_trace.specs.TraceText.{AreLines, lines_text}
-use Rattle.run_lines.proofs.Runs.{same-journal}
+use Rattle.safety_laws.specs.TraceText.{AreLines, lines_text}
+use Rattle.run_definition.proofs.Runs.{same-journal}
 use Rattle.trace_laws.specs.Faults.{first_piece}
 use Rattle.trace_laws.specs.Laws.{LinesTell}
 use Rattle.trace_laws.specs.Script.{Script, Ends, Says, Hears, Goes, Refuses, Stops, Lacking, Beyond, Unread, Other, FaultIn}

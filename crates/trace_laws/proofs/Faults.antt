@@ -5,12 +5,12 @@ use Rattle.trace_text.specs.declared.lines.Line.{Line}
 use Rattle.trace_text.specs.declared.lines.Line.TheVariants.{S, F, R, M, J, L, A, Z}
 use Rattle.trace_text.specs.Line.{line_text}
 use Rattle.scenario_data.specs.Content.{ScenarioContent}
-use Rattle.cabinet_story.specs.Journals.{serial, runs_of}
-use Rattle.safe_trace.specs.TraceText.{lines_text}
+use Rattle.cabinet_history.specs.Journals.{serial, runs_of}
+use Rattle.safety_laws.specs.TraceText.{lines_text}
 use Rattle.trace_laws.specs.Traces.{IsTraceOf, IsFrontOf, MayFollow}
 use Rattle.trace_laws.specs.Faults.{same_head, rule_of, IsRule, Departs, Short, Behind, NoLine, Differs, FaultOf}
 use Rattle.trace_laws.specs.Script.{Script, Ends, Says, Hears, Goes, Refuses, Stops, Lacking, Beyond, Unread, Other, FaultIn, script_of}
-use Rattle.run_lines.proofs.Merges.{serial-merge}
+use Rattle.run_definition.proofs.Merges.{serial-merge}
 use Rattle.trace_laws.proofs.Paths.{goes-append, goes-same, goes-split, finishes, says-goes-on, hears-goes-on}
 use Rattle.trace_laws.proofs.Runs.{path-is-run, run-path}
 

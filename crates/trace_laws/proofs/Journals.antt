@@ -3,9 +3,9 @@ use Rattle.std.proofs.Common.{◌≡◌, ◌+◌, ◌∙◌, ◌==◌, if◌then
 use Rattle.trace_text.specs.declared.lines.Line.{Line}
 use Rattle.trace_text.specs.declared.lines.Line.TheVariants.{J}
 use Rattle.trace_text.specs.IsLine.{AreLongest}
-use Rattle.round_streams.specs.Items.{Item}
-use Rattle.cabinet_story.specs.Journals.{times, runs_of, passes_of}
-use Rattle.run_lines.proofs.Runs.{runs-tell}
+use Rattle.sig_types.specs.Items.{Item}
+use Rattle.cabinet_history.specs.Journals.{times, runs_of, passes_of}
+use Rattle.run_definition.proofs.Runs.{runs-tell}
 use Rattle.trace_laws.specs.Runs.{events_in}
 use Rattle.trace_laws.specs.Script.{Script, Hears, Goes, Refuses, rule_for}
 use Rattle.trace_laws.proofs.Longest.{longest-told}

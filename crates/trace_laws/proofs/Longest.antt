@@ -1,7 +1,7 @@
 -- Longest runs are those of the journal that they tell.
 use Rattle.std.proofs.Common.{◌≡◌, ◌≢◌, ◌<◌, ◌+◌, ◌∙◌, ℕ, zero, suc, List, [], ◌∷◌, ◌++◌, length, replicate, get_or, refl, sym, ap, subst, arith}
 use Rattle.trace_text.specs.IsLine.{AreLongest}
-use Rattle.cabinet_story.specs.Journals.{with_run, runs_of, passes_of}
+use Rattle.cabinet_history.specs.Journals.{with_run, runs_of, passes_of}
 
 -- the next run, if there is one, is of another pass
 abbrev IsApart : ℕ → List (ℕ × ℕ) → Type 0

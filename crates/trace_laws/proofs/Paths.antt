@@ -2,10 +2,10 @@
 use Rattle.std.proofs.Common.{◌≡◌, ◌∙◌, ℕ, List, [], ◌∷◌, ◌++◌, refl, sym, ap, subst}
 use Rattle.trace_text.specs.declared.lines.Line.{Line}
 use Rattle.trace_text.specs.declared.lines.Line.TheVariants.{J}
-use Rattle.round_streams.specs.Items.{Item}
-use Rattle.cabinet_story.specs.Journals.{serial, runs_of}
-use Rattle.run_lines.proofs.Merges.{serial-merge}
-use Rattle.run_lines.proofs.Runs.{same-journal}
+use Rattle.sig_types.specs.Items.{Item}
+use Rattle.cabinet_history.specs.Journals.{serial, runs_of}
+use Rattle.run_definition.proofs.Merges.{serial-merge}
+use Rattle.run_definition.proofs.Runs.{same-journal}
 use Rattle.trace_laws.specs.Script.{Script, Ends, Says, Hears, say, Goes}
 
 -- one way and then another

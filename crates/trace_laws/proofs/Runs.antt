@@ -3,10 +3,10 @@ use Rattle.std.proofs.Common.{◌≡◌, ◌+◌, ◌∙◌, ℕ, zero, suc, Lis
 use Rattle.trace_text.specs.declared.lines.Line.{Line}
 use Rattle.trace_text.specs.declared.lines.Line.TheVariants.{J, Z}
 use Rattle.scenario_data.specs.Content.{ScenarioContent}
-use Rattle.cabinet_story.specs.Journals.{runs_of}
-use Rattle.run_lines.specs.Standing.{Standing, opened_standings, coming_streams, round_acts, next_standing, each_standing}
-use Rattle.run_lines.specs.Lines.{acts_lines, head_lines, each_lines, rounds_lines, opening_lines, rest_lines}
-use Rattle.run_lines.specs.Orders.{EachMerges, AreMerges, AreJournals}
+use Rattle.cabinet_history.specs.Journals.{runs_of}
+use Rattle.run_definition.specs.Standing.{Standing, opened_standings, coming_streams, round_acts, next_standing, each_standing}
+use Rattle.run_definition.specs.Lines.{acts_lines, head_lines, each_lines, rounds_lines, opening_lines, rest_lines}
+use Rattle.run_definition.specs.Orders.{EachMerges, AreMerges, AreJournals}
 use Rattle.trace_laws.specs.Traces.{IsTraceOf}
 use Rattle.trace_laws.specs.Script.{Script, Ends, say, Goes, cabinets_script, rounds_script, script_of}
 use Rattle.trace_laws.proofs.Paths.{goes-append, goes-say, unsay, says-goes-on, hears-goes-on}

@@ -12,15 +12,15 @@ use Rattle.trace_text.specs.IsLine.{IsLine, FitsRuns}
 use Rattle.trace_text.specs.Texts.{colour_letter, colours_text}
 use Rattle.trace_text.specs.Words.{Lacks}
 use Rattle.trace_text.proofs.Cuts.{held}
-use Rattle.safe_trace.specs.TraceText.{lines_text}
+use Rattle.safety_laws.specs.TraceText.{lines_text}
 use Rattle.scenario_data.specs.declared.scenario.Base.TheVariants.{Std8}
 use Rattle.scenario_data.specs.Content.{CabinetContent}
-use Rattle.cabinet_story.specs.Journals.{IsMerge, runs_of}
-use Rattle.run_lines.specs.Smallest.{smallest}
-use Rattle.run_lines.specs.Standing.{Standing, opened_standing, opened_standings, coming_streams}
-use Rattle.run_lines.specs.Lines.{head_lines}
-use Rattle.run_lines.proofs.Merges.{serial-merge}
-use Rattle.one_trace.proofs.SameLines.{front, front_ended}
+use Rattle.cabinet_history.specs.Journals.{IsMerge, runs_of}
+use Rattle.run_definition.specs.Smallest.{smallest}
+use Rattle.run_definition.specs.Standing.{Standing, opened_standing, opened_standings, coming_streams}
+use Rattle.run_definition.specs.Lines.{head_lines}
+use Rattle.run_definition.proofs.Merges.{serial-merge}
+use Rattle.trace_laws.proofs.SameLines.{front, front_ended}
 use Rattle.trace_laws.specs.Faults.{IsNoLine, FaultOf}
 use Rattle.trace_laws.specs.Script.{Script, Ends, Says, say, Goes, Stops, Lacking, Beyond, Unread, Other, cabinets_script, rounds_script, script_of}
 use Rattle.trace_laws.specs.Small.{ended, dark, small_lines, IsBehindFirst}

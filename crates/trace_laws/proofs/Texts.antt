@@ -7,11 +7,11 @@ use Rattle.trace_text.specs.Line.{line_text}
 use Rattle.trace_text.specs.IsLine.{IsLine}
 use Rattle.trace_text.specs.Words.{Lacks}
 use Rattle.trace_text.proofs.Cuts.{lacks_head, lacks_tail, one_cut}
-use Rattle.safe_trace.specs.TraceText.{AreLines}
+use Rattle.safety_laws.specs.TraceText.{AreLines}
 use Rattle.trace_laws.specs.Faults.{first_piece}
 use Rattle.trace_laws.specs.Laws.{LinesTell}
-use Rattle.one_trace.proofs.NoNewline.{no_newline}
-use Rattle.one_trace.proofs.SameLines.{front, front_ended, same_front}
+use Rattle.trace_laws.proofs.NoNewline.{no_newline}
+use Rattle.trace_laws.proofs.SameLines.{front, front_ended, same_front}
 
 -- a line, its newline, and what is behind it
 cut-first : (l : Line) (rest : List ℕ) → line_text l ++ rest ≡ front l ++ 10 ∷ rest

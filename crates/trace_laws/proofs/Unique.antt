@@ -3,10 +3,10 @@ use Rattle.std.proofs.Common.{◌∙◌, inl, inr, List, [], ◌∷◌, ◌++◌
 use Rattle.std.proofs.Common.{◌+◌}
 use Rattle.trace_text.specs.declared.lines.Line.{Line}
 use Rattle.trace_text.specs.declared.lines.Line.TheVariants.{Z}
-use Rattle.cabinet_story.specs.Journals.{runs_of}
-use Rattle.run_lines.specs.Standing.{opened_standings, standings_after}
-use Rattle.run_lines.specs.Lines.{front_lines, rounds_lines}
-use Rattle.run_lines.proofs.More.{fronts-more, continued}
+use Rattle.cabinet_history.specs.Journals.{runs_of}
+use Rattle.run_definition.specs.Standing.{opened_standings, standings_after}
+use Rattle.run_definition.specs.Lines.{front_lines, rounds_lines}
+use Rattle.run_definition.proofs.More.{fronts-more, continued}
 use Rattle.trace_laws.specs.Traces.{IsTraceOf}
 use Rattle.trace_laws.specs.Laws.{SameButJournals, DueIsDetermined, NothingFollows, RoundsAreFronts}
 use Rattle.trace_laws.specs.Script.{Script, Ends, Says, Hears, Goes}

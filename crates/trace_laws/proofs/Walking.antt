@@ -4,7 +4,7 @@ use Rattle.std.proofs.lemmas.List.{length-append}
 use Rattle.trace_text.specs.declared.lines.Line.{Line}
 use Rattle.trace_text.specs.declared.lines.Line.TheVariants.{S}
 use Rattle.trace_text.specs.Line.{line_text}
-use Rattle.safe_trace.specs.TraceText.{lines_text}
+use Rattle.safety_laws.specs.TraceText.{lines_text}
 use Rattle.scenario_data.specs.Content.{ScenarioContent}
 use Rattle.trace_laws.specs.Traces.{Opens, IsTrace, IsCheckable}
 use Rattle.trace_laws.specs.Faults.{FirstFault, Later}

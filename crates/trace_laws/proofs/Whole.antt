@@ -4,13 +4,13 @@ use Rattle.trace_text.specs.declared.lines.Line.{Line}
 use Rattle.trace_text.specs.declared.lines.Line.TheVariants.{S}
 use Rattle.trace_text.specs.Line.{line_text}
 use Rattle.trace_text.specs.IsLine.{IsLine}
-use Rattle.safe_trace.specs.TraceText.{AreLines, lines_text}
+use Rattle.safety_laws.specs.TraceText.{AreLines, lines_text}
 use Rattle.scenario_data.specs.Content.{ScenarioContent}
 use Rattle.scenario_read.specs.Answers.{IsScenario}
 use Rattle.runnable.specs.Runnable.{Runnable}
-use Rattle.run_lines.specs.Lines.{rest_lines, run_lines, run_text}
-use Rattle.run_lines.specs.Orders.{AreJournals}
-use Rattle.one_trace.specs.Text.{TellsAllKept}
+use Rattle.run_definition.specs.Lines.{rest_lines, run_lines, run_text}
+use Rattle.run_definition.specs.Orders.{AreJournals}
+use Rattle.trace_laws.specs.Text.{TellsAllKept}
 use Rattle.trace_laws.specs.Traces.{Opens, IsTrace, IsCheckable}
 use Rattle.trace_laws.specs.Faults.{IsNoLine, first_piece, FaultOf, FirstFault, TooLong, Empty, NoFirst, NoScenario, Later}
 use Rattle.trace_laws.specs.Laws.{FrontsAreProper, JournalsAreTold, FaultsAreDetermined, TracesHaveNoFault, TellsOfRun}

@@ -7,7 +7,7 @@ use Rattle.trace_text.specs.declared.lines.Line.{Line}
 use Rattle.trace_text.specs.declared.lines.Line.TheVariants.{F, R, M, J, L, A, Z}
 use Rattle.trace_text.specs.Line.{line_text}
 use Rattle.trace_text.specs.IsLine.{IsLine}
-use Rattle.safe_trace.specs.TraceText.{lines_text}
+use Rattle.safety_laws.specs.TraceText.{lines_text}
 use Rattle.scenario_data.specs.Content.{ScenarioContent}
 use Rattle.trace_laws.specs.Traces.{Opens, IsCheckable, IsTraceOf, IsFrontOf, MayFollow}
 

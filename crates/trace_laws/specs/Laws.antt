@@ -4,13 +4,13 @@ use Rattle.trace_text.specs.declared.lines.Line.{Line}
 use Rattle.trace_text.specs.declared.lines.Line.TheVariants.{J}
 use Rattle.trace_text.specs.Line.{line_text}
 use Rattle.trace_text.specs.IsLine.{IsLine}
-use Rattle.safe_trace.specs.TraceText.{AreLines}
+use Rattle.safety_laws.specs.TraceText.{AreLines}
 use Rattle.scenario_data.specs.Content.{ScenarioContent}
 use Rattle.scenario_read.specs.Answers.{IsScenario}
 use Rattle.runnable.specs.Runnable.{Runnable}
-use Rattle.run_lines.specs.Lines.{front_lines, run_text}
-use Rattle.run_lines.specs.Orders.{AreJournals, BeginJournals}
-use Rattle.one_trace.specs.Text.{TellsAllKept}
+use Rattle.run_definition.specs.Lines.{front_lines, run_text}
+use Rattle.run_definition.specs.Orders.{AreJournals, BeginJournals}
+use Rattle.trace_laws.specs.Text.{TellsAllKept}
 use Rattle.trace_laws.specs.Traces.{IsTrace, IsCheckable, IsTraceOf, IsFrontOf, MayFollow}
 use Rattle.trace_laws.specs.Faults.{first_piece, FirstFault}
 

@@ -1,6 +1,12 @@
+pub mod Messages
+pub mod Tables
+pub mod Items
+pub mod Rounds
+pub mod Text
 pub mod Traces
 pub mod Faults
 pub mod Runs
 pub mod Script
 pub mod Laws
 pub mod Small
+pub mod Seen

@@ -5,12 +5,12 @@ use Rattle.trace_text.specs.declared.lines.Line.{Line}
 use Rattle.trace_text.specs.declared.lines.Line.TheVariants.{J, Z}
 use Rattle.trace_text.specs.Line.{line_text}
 use Rattle.trace_text.specs.IsLine.{IsLine}
-use Rattle.safe_trace.specs.TraceText.{lines_text}
+use Rattle.safety_laws.specs.TraceText.{lines_text}
 use Rattle.scenario_data.specs.Content.{ScenarioContent}
-use Rattle.round_streams.specs.Items.{Item}
-use Rattle.cabinet_story.specs.Journals.{IsMerge, runs_of}
-use Rattle.run_lines.specs.Standing.{Standing, opened_standings, coming_streams, round_acts, next_standing}
-use Rattle.run_lines.specs.Lines.{acts_lines, head_lines, opening_lines}
+use Rattle.sig_types.specs.Items.{Item}
+use Rattle.cabinet_history.specs.Journals.{IsMerge, runs_of}
+use Rattle.run_definition.specs.Standing.{Standing, opened_standings, coming_streams, round_acts, next_standing}
+use Rattle.run_definition.specs.Lines.{acts_lines, head_lines, opening_lines}
 use Rattle.trace_laws.specs.Faults.{same_head, rule_of, first_piece, IsNoLine}
 
 -- nothing more is due; or a line; or a cabinet's journal, any merge of its streams, by which it goes on

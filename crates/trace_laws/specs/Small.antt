@@ -1,7 +1,7 @@
 -- Lines behind the first, as bytes, of the smallest run and of texts that depart from it.
 use Rattle.std.specs.Prelude.{ℕ, ◌≡◌, List, [], ◌∷◌, ◌++◌, codes}
 use Rattle.trace_text.specs.declared.lines.Line.{Line}
-use Rattle.safe_trace.specs.TraceText.{lines_text}
+use Rattle.safety_laws.specs.TraceText.{lines_text}
 use Rattle.scenario_data.specs.Content.{ScenarioContent}
 use Rattle.trace_laws.specs.Traces.{IsTraceOf}
 

@@ -4,8 +4,8 @@ use Rattle.trace_text.specs.declared.lines.Line.{Line}
 use Rattle.trace_text.specs.declared.lines.Line.TheVariants.{S}
 use Rattle.scenario_data.specs.Content.{ScenarioContent}
 use Rattle.scenario_read.specs.Answers.{IsScenario}
-use Rattle.run_lines.specs.Lines.{rest_lines, run_text}
-use Rattle.run_lines.specs.Orders.{AreJournals}
+use Rattle.run_definition.specs.Lines.{rest_lines, run_text}
+use Rattle.run_definition.specs.Orders.{AreJournals}
 
 -- the line tells a scenario, by its compact text
 abbrev pub Opens : Line → ScenarioContent → Type 0

@@ -1,20 +1,30 @@
 //! Which texts are traces, and which line of another text is the first at fault; the laws of both.
 //! A trace is the text of a run, for whatever journals; all runs of a scenario are one tree
 //! (`Script`), on which the laws stand. There is no code here.
+//!
+//! What may be seen of a cabinet in a trace: its frames, its tables by version and its ticks, and what it is for these to be all of them.
+//! It stands apart from whoever looks at a trace, and from whoever makes something of what was seen. There is no code here.
 #![tactic(auto)]
 
+mod frame_octets;
+mod one_trace;
+mod proper_lines;
+mod seen;
+
 ghost use Rattle.std.specs.Prelude.{ℕ, List, [], ◌∷◌, ◌++◌, codes};
-ghost use Rattle.run_lines.specs.Smallest.{smallest};
+ghost use Rattle.run_definition.specs.Smallest.{smallest};
 ghost use Rattle.trace_laws.specs.Traces.{IsTrace};
 ghost use Rattle.trace_laws.specs.Faults.{FaultOf};
 ghost use Rattle.trace_laws.specs.Laws.{DueIsDetermined, RoundsAreFronts, NothingFollows, JournalsAreTold, FaultsAreDetermined, TracesHaveNoFault, NothingElse, TellsOfRun, FrontsAreProper, LinesTell};
 ghost use Rattle.trace_laws.specs.Small.{ended, dark, small_lines, IsBehindFirst};
 
-use one_trace::{run_texts_are_safe, texts_have_one_list};
-use proper_lines::lines_are_proper;
-use run_lines::journals_are_told;
-use runnable_scenarios::scenarios_run;
+pub use frame_octets::{messages_are_of_octets, only_octets_go_over_the_line, replies_are_frames};
+pub use one_trace::{lines_differ, run_texts_are_safe, texts_have_one_list};
+pub use proper_lines::lines_are_proper;
+use run_definition::journals_are_told;
+use scenario_checked::scenarios_run;
 use scenario_read::bytes_have_one_answer;
+pub use seen::Seen;
 
 /// Behind the first lines of a run one line may follow, but for the journal of a cabinet, of which the line's kind and cabinet are
 /// determined.

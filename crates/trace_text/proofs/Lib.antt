@@ -1,6 +1,6 @@
 pub mod Endings
 pub mod Reading
-pub mod Digits
+pub mod DigitTexts
 pub mod BelowZero
 pub mod Letters
 pub mod Cuts

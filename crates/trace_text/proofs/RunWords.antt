@@ -7,7 +7,7 @@ use Rattle.trace_text.specs.Reads.{Reads}
 use Rattle.trace_text.specs.Texts.{run_word}
 use Rattle.trace_text.specs.Words.{Lacks}
 use Rattle.trace_text.proofs.Cuts.{one_cut, held}
-use Rattle.trace_text.proofs.Digits.{own}
+use Rattle.trace_text.proofs.DigitTexts.{own}
 use Rattle.trace_text.proofs.Reading.{reads_none, reads_some, none_reads, some_reads}
 
 -- a number's digits hold no other byte

@@ -8,9 +8,11 @@ mod numbers;
 mod pieces;
 mod read;
 mod signs;
+mod spaced;
 mod words;
 mod write;
 
 pub use lines::{Line, Runs, Text};
 pub use read::read_line;
+pub use spaced::{digits, hexadecimal, number, word};
 pub use write::write_line;

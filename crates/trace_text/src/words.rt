@@ -6,9 +6,9 @@ ghost use Rattle.hex.specs.Hex.{encode_lower};
 ghost use Rattle.trace_text.specs.Texts.{colours_text, signals_text, mode_text, run_word, colour_letter, signal_letter};
 ghost use Rattle.trace_text.specs.Words.{spaced};
 
+use crate::{digits, number, word};
 use sig_types::{Colour, Mode, Ped};
 use std::alloc::{AllocError, Global};
-use text_words::{digits, number, word};
 
 /// A space, and the letters of the colours, by phase.
 pub fn colours(out: &mut Vec<u8>, veh: &[Colour; 16]) -> Result<(), AllocError>
@@ -106,5 +106,5 @@ pub fn hexadecimal(alloc: Global, out: &mut Vec<u8>, octets: &[u8]) -> Result<()
     ensures { OnOk result (out.new.items ≡ out.old.items ++ 32 ∷ encode_lower octets.now) }
 {
     out.push(b' ')?;
-    text_words::hexadecimal(alloc, out, octets)
+    crate::hexadecimal(alloc, out, octets)
 }

@@ -7,9 +7,9 @@ ghost use Rattle.trace_text.specs.Words.{spaced, unended};
 
 use crate::lines::Line;
 use crate::words::{colours, hexadecimal, mode, runs, signals};
+use crate::{number, word};
 use sig_types::{Broken, Colour, MasterNote, Mode, NoMemory, Octets, Ped};
 use std::alloc::{AllocError, Global};
-use text_words::{number, word};
 
 /// The text of a line, with its newline; `NoMemory` where memory was refused. `read_line` gives the line back where it
 /// is proper: a scenario's text holds no newline, a journal is in longest runs, a reply has 1 to 1,472 octets.

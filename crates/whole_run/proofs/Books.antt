@@ -2,24 +2,24 @@
 use Rattle.std.proofs.Common.{◌≡◌, ◌<◌, ◌≤◌, ◌+◌, ◌∙◌, ℕ, List, [], ◌∷◌, ◌++◌, length, drop, get_or, sym, ap, subst, arith}
 use Rattle.trace_text.specs.declared.lines.Line.{Line}
 use Rattle.trace_text.specs.Line.{line_text}
-use Rattle.safe_trace.specs.TraceText.{lines_text}
+use Rattle.safety_laws.specs.TraceText.{lines_text}
 use Rattle.sig_types.specs.declared.frame.Frame.{Frame}
 use Rattle.sig_tables.specs.Decide.{last_frame_of}
 use Rattle.scenario_data.specs.Content.{ScenarioContent}
 use Rattle.runnable.specs.Runnable.{Runnable}
-use Rattle.cabinet_story.specs.Story.{Story}
-use Rattle.cabinet_story.specs.Coming.{history_of}
+use Rattle.cabinet_history.specs.Story.{Story}
+use Rattle.cabinet_history.specs.Coming.{history_of}
 use Rattle.cab_book.specs.declared.book.Book.{Book}
 use Rattle.cab_book.specs.Books.{BookStands, story_now, written_in, answered_in}
 use Rattle.cab_book.specs.Happenings.{AreInOrder}
-use Rattle.run_lines.specs.Standing.{Standing}
-use Rattle.run_lines.specs.Lines.{shown_line, cabinet_lines, opening_lines, each_lines}
+use Rattle.run_definition.specs.Standing.{Standing}
+use Rattle.run_definition.specs.Lines.{shown_line, cabinet_lines, opening_lines, each_lines}
 use Rattle.round_run.specs.Standings.{IsAt, AreAt, HasRun, HaveRun}
 use Rattle.round_run.specs.Lines.{book_lines}
-use Rattle.corridor.specs.declared.rounds.Corridor.{Corridor}
-use Rattle.corridor.specs.Corridor.{Between}
-use Rattle.corridor.proofs.Places.{Picked, pick}
-use Rattle.corridor.proofs.Streams.{many-of}
+use Rattle.round_run.specs.declared.rounds.Corridor.{Corridor}
+use Rattle.round_run.specs.Corridor.{Between}
+use Rattle.round_run.proofs.Places.{Picked, pick}
+use Rattle.round_run.proofs.Streams.{many-of}
 use Rattle.whole_run.proofs.Texts.{text_append}
 
 -- the frame of the next cabinet before any tick

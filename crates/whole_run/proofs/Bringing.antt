@@ -4,12 +4,12 @@ use Rattle.std.proofs.lemmas.List.{length-map, get_or-map, ext_get_or}
 use Rattle.scenario_data.specs.Content.{ScenarioContent}
 use Rattle.cab_book.specs.declared.book.Book.{Book}
 use Rattle.cab_book.specs.Books.{journal_of}
-use Rattle.run_lines.specs.Standing.{Standing}
-use Rattle.run_lines.specs.Orders.{EachMerges, serial_round}
-use Rattle.run_lines.proofs.Orders.{serial-merges}
+use Rattle.run_definition.specs.Standing.{Standing}
+use Rattle.run_definition.specs.Orders.{EachMerges, serial_round}
+use Rattle.run_definition.proofs.Orders.{serial-merges}
 use Rattle.round_run.specs.Standings.{HaveRun}
 use Rattle.round_run.specs.Joined.{HaveMerged, journals_in}
-use Rattle.corridor.proofs.Places.{pick}
+use Rattle.round_run.proofs.Places.{pick}
 
 -- books that have run these journals have them
 pub own_journals : (s : ScenarioContent) (ts : List Standing) (journals : List (List ℕ)) (books : List Book) → HaveRun s ts journals books

@@ -1,19 +1,19 @@
 -- A trace that is handed over round by round, and the whole trace of which a front was handed over where it stops short.
 use Rattle.std.proofs.Common.{◌≡◌, ◌+◌, ◌∙◌, ℕ, suc, List, [], ◌∷◌, ◌++◌, length, Option, Result, Ok, Err, refl, sym, ap, subst, arith}
 use Rattle.sig_types.specs.declared.notes.MasterNote.{MasterNote}
-use Rattle.safe_trace.specs.TraceText.{lines_text}
-use Rattle.trace_out.specs.declared.writer.Stop.{Stop}
-use Rattle.trace_out.specs.declared.writer.Stop.TheVariants.{NoMemory}
-use Rattle.trace_out.specs.declared.writer.Writer.{Writer}
-use Rattle.trace_out.specs.Handing.{HandsOver}
-use Rattle.trace_out.proofs.Handed.{hands-first, hands-then, hands-none}
+use Rattle.safety_laws.specs.TraceText.{lines_text}
+use Rattle.whole_run.specs.declared.writer.Stop.{Stop}
+use Rattle.whole_run.specs.declared.writer.Stop.TheVariants.{NoMemory}
+use Rattle.whole_run.specs.declared.writer.Writer.{Writer}
+use Rattle.whole_run.specs.Handing.{HandsOver}
+use Rattle.whole_run.proofs.Handed.{hands-first, hands-then, hands-none}
 use Rattle.scenario_data.specs.Content.{ScenarioContent}
-use Rattle.run_lines.specs.Standing.{Standing}
-use Rattle.run_lines.specs.Orders.{serial_rounds}
-use Rattle.run_lines.specs.Lines.{opening_lines, round_lines, rounds_lines, front_lines}
+use Rattle.run_definition.specs.Standing.{Standing}
+use Rattle.run_definition.specs.Orders.{serial_rounds}
+use Rattle.run_definition.specs.Lines.{opening_lines, round_lines, rounds_lines, front_lines}
 use Rattle.round_run.specs.Joined.{journals_in}
-use Rattle.corridor.specs.declared.rounds.Corridor.{Corridor}
-use Rattle.corridor.specs.Corridor.{Between}
+use Rattle.round_run.specs.declared.rounds.Corridor.{Corridor}
+use Rattle.round_run.specs.Corridor.{Between}
 use Rattle.whole_run.specs.Orders.{come_to, InSomeOrder}
 use Rattle.whole_run.specs.Rounds.{HasRunOn}
 use Rattle.whole_run.proofs.Orders.{AreSoFar, so-none, so-more, come-more, finished, finished-brought, all-brought}

@@ -1,3 +1,6 @@
+pub mod Writing
+mod ScenarioLine
+pub mod Handed
 mod Texts
 mod RoundLines
 mod Books
@@ -5,3 +8,9 @@ mod Orders
 mod WholeText
 mod Bringing
 mod Handing
+mod Totals
+mod Acts
+mod Tallying
+mod Cabinets
+mod Constant
+mod Whole

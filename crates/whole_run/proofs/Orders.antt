@@ -2,9 +2,9 @@
 use Rattle.std.proofs.Common.{◌≡◌, ◌+◌, ◌∙◌, ℕ, zero, suc, List, [], ◌∷◌, ◌++◌, length, add-one, add-zero, append-nil, refl, sym, ap, subst, arith}
 use Rattle.std.proofs.lemmas.List.{length-append, length_push}
 use Rattle.scenario_data.specs.Content.{ScenarioContent}
-use Rattle.run_lines.specs.Standing.{Standing, opened_standings, each_standing, standings_after}
-use Rattle.run_lines.specs.Orders.{EachMerges, AreMerges, AreJournals, serial_round, serial_rounds, serial_journals}
-use Rattle.run_lines.proofs.Orders.{serial-merges, serial-all}
+use Rattle.run_definition.specs.Standing.{Standing, opened_standings, each_standing, standings_after}
+use Rattle.run_definition.specs.Orders.{EachMerges, AreMerges, AreJournals, serial_round, serial_rounds, serial_journals}
+use Rattle.run_definition.proofs.Orders.{serial-merges, serial-all}
 use Rattle.whole_run.specs.Orders.{come_to, AreBroughtBy}
 
 after-more : (s : ScenarioContent) (ts : List Standing) (js : List (List (List ℕ))) (j : List (List ℕ))

@@ -5,13 +5,13 @@ use Rattle.sig_types.specs.declared.frame.Frame.{Frame}
 use Rattle.sig_types.specs.declared.notes.MasterNote.{MasterNote}
 use Rattle.trace_text.specs.declared.lines.Line.TheVariants.{M, A}
 use Rattle.trace_text.specs.Line.{line_text}
-use Rattle.safe_trace.specs.TraceText.{lines_text}
-use Rattle.cabinet_story.specs.declared.Reply.{Reply}
+use Rattle.safety_laws.specs.TraceText.{lines_text}
+use Rattle.cabinet_history.specs.declared.Reply.{Reply}
 use Rattle.cab_book.specs.declared.happened.Answered.{Answered}
 use Rattle.cab_book.specs.Happenings.{AreInOrder}
-use Rattle.run_lines.specs.Lines.{shown_line, frame_lines, load_lines}
+use Rattle.run_definition.specs.Lines.{shown_line, frame_lines, load_lines}
 use Rattle.round_run.specs.Lines.{frames_between, answer_lines, told_lines}
-use Rattle.corridor.proofs.Places.{next_item}
+use Rattle.round_run.proofs.Places.{next_item}
 use Rattle.whole_run.proofs.Texts.{text_append}
 
 -- the line of the next frame, and those behind it

@@ -3,8 +3,8 @@ use Rattle.std.proofs.Common.{◌≡◌, ◌≢◌, ◌∙◌, List, [], ◌∷�
 use Rattle.trace_text.specs.declared.lines.Line.{Line}
 use Rattle.trace_text.specs.Line.{line_text}
 use Rattle.trace_text.proofs.Ends.{some_text}
-use Rattle.safe_trace.specs.TraceText.{lines_text}
-use Rattle.trace_out.proofs.Writing.{some_before}
+use Rattle.safety_laws.specs.TraceText.{lines_text}
+use Rattle.whole_run.proofs.Writing.{some_before}
 
 pub text_append : (lines more : List Line) → lines_text (lines ++ more) ≡ lines_text lines ++ lines_text more
 text_append [] more = refl

@@ -3,14 +3,14 @@ use Rattle.std.proofs.Common.{◌≡◌, ◌≢◌, ◌+◌, ◌∙◌, ℕ, suc
 use Rattle.trace_text.specs.Line.{line_text}
 use Rattle.trace_text.specs.declared.lines.Line.{Line}
 use Rattle.trace_text.specs.declared.lines.Line.TheVariants.{R, S, Z}
-use Rattle.safe_trace.specs.TraceText.{lines_text}
+use Rattle.safety_laws.specs.TraceText.{lines_text}
 use Rattle.scenario_data.specs.Content.{ScenarioContent}
-use Rattle.run_lines.specs.Standing.{Standing, opened_standings, each_standing}
-use Rattle.run_lines.specs.Orders.{serial_round, serial_rounds}
-use Rattle.run_lines.specs.Lines.{notes_lines, each_lines, round_lines, opening_lines, rounds_lines, front_lines, rest_lines, run_text}
-use Rattle.run_lines.proofs.More.{fronts-more}
+use Rattle.run_definition.specs.Standing.{Standing, opened_standings, each_standing}
+use Rattle.run_definition.specs.Orders.{serial_round, serial_rounds}
+use Rattle.run_definition.specs.Lines.{notes_lines, each_lines, round_lines, opening_lines, rounds_lines, front_lines, rest_lines, run_text}
+use Rattle.run_definition.proofs.More.{fronts-more}
 use Rattle.trace_text.proofs.Ends.{some_text}
-use Rattle.trace_out.proofs.Writing.{some_behind}
+use Rattle.whole_run.proofs.Writing.{some_behind}
 use Rattle.whole_run.specs.Orders.{come_to}
 use Rattle.whole_run.proofs.Texts.{text_append, text_some}
 

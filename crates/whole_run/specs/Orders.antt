@@ -1,8 +1,8 @@
 -- In which order the items of a run come to its cabinets: journals of its rounds, and what they bring about.
 use Rattle.std.specs.Prelude.{ℕ, ◌≡◌, List}
 use Rattle.scenario_data.specs.Content.{ScenarioContent}
-use Rattle.run_lines.specs.Standing.{Standing, opened_standings, standings_after}
-use Rattle.run_lines.specs.Orders.{AreJournals, serial_journals}
+use Rattle.run_definition.specs.Standing.{Standing, opened_standings, standings_after}
+use Rattle.run_definition.specs.Orders.{AreJournals, serial_journals}
 
 -- what each cabinet has come to after rounds with these journals, of which the first comes first
 abbrev pub come_to : ScenarioContent → List (List (List ℕ)) → List Standing

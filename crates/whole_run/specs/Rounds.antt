@@ -3,12 +3,12 @@ use Rattle.std.specs.Prelude.{ℕ, ◌+◌, ◌≡◌, List, map}
 use Rattle.sig_types.specs.declared.notes.MasterNote.{MasterNote}
 use Rattle.trace_text.specs.declared.lines.Line.TheVariants.{M}
 use Rattle.scenario_data.specs.Content.{ScenarioContent}
-use Rattle.run_lines.specs.Standing.{Standing, each_standing}
-use Rattle.run_lines.specs.Orders.{serial_round}
-use Rattle.run_lines.specs.Lines.{notes_lines}
+use Rattle.run_definition.specs.Standing.{Standing, each_standing}
+use Rattle.run_definition.specs.Orders.{serial_round}
+use Rattle.run_definition.specs.Lines.{notes_lines}
 use Rattle.round_run.specs.Joined.{HaveMerged, journals_in}
-use Rattle.corridor.specs.declared.rounds.Corridor.{Corridor}
-use Rattle.corridor.specs.Corridor.{Between}
+use Rattle.round_run.specs.declared.rounds.Corridor.{Corridor}
+use Rattle.round_run.specs.Corridor.{Between}
 
 -- after so many rounds, by which the cabinets had come to this, so many workers have run one more: these are the master's notes at its
 -- start, and the books have brought each item once, by their journals, which with no worker are the serial ones

@@ -4,18 +4,18 @@
 ghost use Rattle.std.specs.Prelude.{◌≡◌, ◌≤◌, drop, length, map};
 ghost use Rattle.trace_text.specs.declared.lines.Line.{Line as LineRow};
 ghost use Rattle.trace_text.specs.Line.{line_text};
-ghost use Rattle.safe_trace.specs.TraceText.{lines_text};
-ghost use Rattle.trace_out.specs.Handing.{HandsOver};
+ghost use Rattle.safety_laws.specs.TraceText.{lines_text};
+ghost use Rattle.whole_run.specs.Handing.{HandsOver};
 ghost use Rattle.cab_book.specs.Books.{written_in, answered_in};
 ghost use Rattle.cab_book.specs.Happenings.{AreInOrder};
-ghost use Rattle.run_lines.specs.Lines.{shown_line, frame_lines, load_lines};
+ghost use Rattle.run_definition.specs.Lines.{shown_line, frame_lines, load_lines};
 ghost use Rattle.round_run.specs.Lines.{frames_between, answer_lines, told_lines, book_lines};
 
+use crate::{Stop, Writer};
 use cab_book::{Answered, Book};
-use cabinet_story::{Load, Reply};
+use cabinet_history::{Load, Reply};
 use io_edge::Sink;
 use sig_types::{Frame, MasterNote};
-use trace_out::{Stop, Writer};
 use trace_text::Line;
 
 /// Hands over the line of what a cabinet shows after so many ticks.

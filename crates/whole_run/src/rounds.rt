@@ -4,18 +4,17 @@
 ghost use Rattle.std.specs.Prelude.{◌≡◌, ◌≤◌, ◌<◌, ℕ, List, length, vec_len, IfOk};
 ghost use Rattle.scenario_data.specs.Content.{ScenarioContent, scenario_content};
 ghost use Rattle.runnable.specs.Runnable.{Runnable};
-ghost use Rattle.run_lines.specs.Standing.{Standing};
-ghost use Rattle.run_lines.specs.Orders.{serial_round as serial_journals};
+ghost use Rattle.run_definition.specs.Standing.{Standing};
+ghost use Rattle.run_definition.specs.Orders.{serial_round as serial_journals};
 ghost use Rattle.round_run.specs.Standings.{HaveRun, no_journals, TicksWithin};
 ghost use Rattle.round_run.specs.Joined.{AreFresh, HaveFewLeft, HaveMerged, journals_in};
-ghost use Rattle.corridor.specs.Corridor.{Between};
+ghost use Rattle.round_run.specs.Corridor.{Between};
 ghost use Rattle.whole_run.specs.Rounds.{HasRunOn};
 
 use crate::crew::Crew;
 use cab_book::Book;
-use corridor::Corridor;
 use io_edge::Gate;
-use round_run::{joined_round, serial_round};
+use round_run::{Corridor, joined_round, serial_round};
 use scenario_data::Scenario;
 use sig_types::{MasterNote, NoMemory};
 use std::alloc::Global;

@@ -2,29 +2,27 @@
 
 ghost use Rattle.std.specs.Prelude.{◌≡◌, ◌≤◌, ℕ, List, [], length, map};
 ghost use Rattle.trace_text.specs.declared.lines.Line.{Line as LineRow};
-ghost use Rattle.safe_trace.specs.TraceText.{lines_text};
-ghost use Rattle.trace_out.specs.Handing.{HandsOver, Writes, held_by};
+ghost use Rattle.safety_laws.specs.TraceText.{lines_text};
+ghost use Rattle.whole_run.specs.Handing.{HandsOver, Writes, held_by};
 ghost use Rattle.scenario_data.specs.Content.{ScenarioContent, scenario_content};
 ghost use Rattle.runnable.specs.Runnable.{Runnable};
-ghost use Rattle.run_lines.specs.Standing.{Standing};
-ghost use Rattle.run_lines.specs.Lines.{opening_lines, notes_lines, each_lines, round_lines, front_lines, rest_lines, run_text};
+ghost use Rattle.run_definition.specs.Standing.{Standing};
+ghost use Rattle.run_definition.specs.Lines.{opening_lines, notes_lines, each_lines, round_lines, front_lines, rest_lines, run_text};
 ghost use Rattle.round_run.specs.Standings.{AreAt, HaveRun};
-ghost use Rattle.corridor.specs.Corridor.{Between};
+ghost use Rattle.round_run.specs.Corridor.{Between};
 ghost use Rattle.whole_run.specs.Orders.{come_to, InSomeOrder};
 
 use crate::crew::Crew;
 use crate::lines::{put_book, put_frame, put_notes};
 use crate::rounds::run_round;
-use cab_book::Book;
-use cab_control::Way;
-use corridor::Corridor;
+use crate::{Stop, Writer};
+use cab_book::{Book, Way};
 use io_edge::{Gate, Sink};
-use round_run::books_follow_runs;
+use round_run::{Corridor, books_follow_runs};
 use scenario_data::Scenario;
 use sig_types::{MasterNote, NoMemory};
 use std::alloc::Global;
 use std::thread::Threads;
-use trace_out::{Stop, Writer};
 use trace_text::Line;
 
 /// Hands over what each cabinet shows before any tick.

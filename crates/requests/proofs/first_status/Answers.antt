@@ -4,7 +4,7 @@ use Rattle.std.specs.List.{find}
 use Rattle.std.proofs.lemmas.Int.{to_z-of_z}
 use Rattle.arrayvec.specs.ArrayVec.{ArrayVec}
 use Rattle.snmp_msg.specs.Reading.{message_of}
-use Rattle.round_streams.specs.Items.{texts_of}
+use Rattle.sig_types.specs.Items.{texts_of}
 use Rattle.requests.specs.Requests.{answers, messages, status_of}
 use Rattle.requests.proofs.Readings.{found_there}
 use Rattle.requests.proofs.first_status.Goals as goal

@@ -4,7 +4,7 @@ use Rattle.sig_tables.specs.declared.cells.Cell.{Cell}
 use Rattle.sig_tables.specs.declared.cells.CellValue.{CellValue}
 use Rattle.sig_tables.specs.Decide.{last_frame_of}
 use Rattle.stage_txn.specs.Calls.{Begin as BeginCall, Part as PartCall, Verify as VerifyCall, Finish as FinishCall}
-use Rattle.cabinet_story.specs.Coming.{call_of}
+use Rattle.cabinet_history.specs.Coming.{call_of}
 use Rattle.cab_book.proofs.Wishes.{same_flash, outcome-is, calls-stand, begin-call, verify-call, finish-call}
 use Rattle.cab_book.proofs.carrying.call_stage.Goals as goal
 

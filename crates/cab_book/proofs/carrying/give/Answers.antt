@@ -1,9 +1,9 @@
 use Rattle.std.proofs.Common.{◌≡◌, ◌∙◌, List, map, take, add-one, sym, subst}
 use Rattle.std.proofs.lemmas.List.{take_all}
 use Rattle.sig_tables.specs.Past.{History}
-use Rattle.cab_control.specs.Controls.{StandsFor}
+use Rattle.cab_book.specs.Controls.{StandsFor}
 use Rattle.agent.specs.declared.ask.Order.{Order}
-use Rattle.cabinet_story.specs.Coming.{order_event, with_events}
+use Rattle.cabinet_history.specs.Coming.{order_event, with_events}
 use Rattle.cab_book.proofs.Wishes.{given-more}
 use Rattle.cab_book.proofs.carrying.give.Goals as goal
 

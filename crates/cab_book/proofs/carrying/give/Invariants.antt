@@ -1,7 +1,7 @@
 use Rattle.std.proofs.Common.{◌≡◌, map, take}
 use Rattle.sig_tables.specs.Past.{History}
-use Rattle.cab_control.specs.Controls.{StandsFor, tick_count}
-use Rattle.cabinet_story.specs.Coming.{order_event, with_events}
+use Rattle.cab_book.specs.Controls.{StandsFor, tick_count}
+use Rattle.cabinet_history.specs.Coming.{order_event, with_events}
 use Rattle.cab_book.proofs.carrying.give.Given as goal
 
 abbrev pub invariant-loop-order : goal.invariant-loop-order

@@ -1,5 +1,5 @@
 use Rattle.std.proofs.Common.{◌≡◌, ◌<◌, ◌≤◌, ◌+◌, ◌++◌, ◌∙◌, ℕ, List, length, take, drop, get_or, sym, ap, subst, arith}
-use Rattle.cabinet_story.specs.Journals.{times, runs_of, passes_of}
+use Rattle.cabinet_history.specs.Journals.{times, runs_of, passes_of}
 use Rattle.cab_book.specs.Runs.{with_run_last}
 use Rattle.cab_book.specs.Shares.{read_pass, read_journal}
 use Rattle.cab_book.proofs.Runs.{run-longest}

@@ -1,5 +1,5 @@
 use Rattle.std.proofs.Common.{◌≡◌, ◌≤◌, ◌++◌, ℕ, length, take, drop, get_or}
-use Rattle.cabinet_story.specs.Journals.{runs_of, passes_of}
+use Rattle.cabinet_history.specs.Journals.{runs_of, passes_of}
 use Rattle.cab_book.specs.Shares.{read_journal}
 use Rattle.cab_book.proofs.journal.join_runs.Given as goal
 

@@ -4,8 +4,8 @@ use Rattle.sig_types.specs.declared.frame.Mode.TheVariants.{Coord}
 use Rattle.sig_tables.specs.Priority.{active_in}
 use Rattle.sig_tables.specs.Seen.{moment_seen}
 use Rattle.prio_queue.specs.Places.{some_number}
-use Rattle.tick_sight.specs.Binds.{BindingIs, IsBound}
-use Rattle.tick_sight.proofs.Binds.{in-coord, no-request}
+use Rattle.tick_context.specs.Binds.{BindingIs, IsBound}
+use Rattle.tick_context.proofs.Binds.{in-coord, no-request}
 use Rattle.controller.proofs.Controller.active_request.Goals as goal
 
 pub returns-then-is_coord : goal.returns-then-is_coord

@@ -8,9 +8,9 @@ use Rattle.sig_tables.specs.Modes.{bound}
 use Rattle.sig_tables.specs.View.{is_done}
 use Rattle.sig_tables.specs.Seen.{view_seen, demand_with}
 use Rattle.call_store.proofs.Listed.{none-has}
-use Rattle.tick_sight.proofs.Again.{rings-rest, rings-undone}
+use Rattle.tick_context.proofs.Again.{rings-rest, rings-undone}
 use Rattle.controller.proofs.Alone.{of-two}
-use Rattle.tick_sight.proofs.Seen.{done-not}
+use Rattle.tick_context.proofs.Seen.{done-not}
 use Rattle.controller.proofs.Controller.all_stay.Goals as goal
 
 off : (a b : Bool) → b ≡ false → (a && b) ≡ false

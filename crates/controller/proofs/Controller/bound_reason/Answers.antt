@@ -8,8 +8,8 @@ use Rattle.sig_tables.specs.Course.{course_of}
 use Rattle.sig_tables.specs.Seen.{frame_seen}
 use Rattle.sig_tables.proofs.Below.{phase-is}
 use Rattle.controller.proofs.Running.{binding-in}
-use Rattle.tick_sight.proofs.Seen.{green-is}
-use Rattle.tick_sight.proofs.Causes.{held-reason, asked-reason, gap-reason, fill-reason}
+use Rattle.tick_context.proofs.Seen.{green-is}
+use Rattle.tick_context.proofs.Causes.{held-reason, asked-reason, gap-reason, fill-reason}
 use Rattle.controller.proofs.Controller.bound_reason.Goals as goal
 
 pub returns-then-has : goal.returns-then-has

@@ -4,7 +4,7 @@ use Rattle.sig_types.specs.declared.frame.Colour.TheVariants.{Yellow, Clear}
 use Rattle.sig_types.specs.declared.frame.Frame.{Frame}
 use Rattle.sig_types.specs.Colour.{same_colour, colour_of}
 use Rattle.sig_tables.specs.Seen.{frame_seen}
-use Rattle.tick_sight.proofs.Left.{steady-lasts, yellow-lasts, clear-lasts}
+use Rattle.tick_context.proofs.Left.{steady-lasts, yellow-lasts, clear-lasts}
 use Rattle.controller.proofs.Controller.colour_left.Goals as goal
 
 pub returns-in-Green : goal.returns-in-Green

@@ -12,12 +12,12 @@ use Rattle.sig_tables.specs.Course.{course_of}
 use Rattle.sig_tables.specs.Decide.{next_moment, colours_of}
 use Rattle.sig_tables.specs.Seen.{mode_seen, moves_seen}
 use Rattle.coord_count.specs.Stands.{CountStands}
-use Rattle.tick_sight.specs.Modes.{is_coord}
+use Rattle.tick_context.specs.Modes.{is_coord}
 use Rattle.controller.proofs.Running.{coord-of}
-use Rattle.tick_sight.proofs.Sought.{reached-from}
-use Rattle.tick_sight.proofs.Counted.{counters-head, counters-none, some-cycle}
-use Rattle.tick_sight.proofs.Steps.{coord-step, seek-step, seek-defined}
-use Rattle.tick_sight.proofs.Pickups.{kept-on, picked-up}
+use Rattle.tick_context.proofs.Sought.{reached-from}
+use Rattle.tick_context.proofs.Counted.{counters-head, counters-none, some-cycle}
+use Rattle.tick_context.proofs.Steps.{coord-step, seek-step, seek-defined}
+use Rattle.tick_context.proofs.Pickups.{kept-on, picked-up}
 use Rattle.controller.proofs.Controller.count_after.Goals as goal
 
 pub returns-then-is_coord : goal.returns-then-is_coord

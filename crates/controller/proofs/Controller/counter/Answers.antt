@@ -2,9 +2,9 @@ use Rattle.std.proofs.Common.{sym, ◌∙◌, ap, subst}
 use Rattle.std.proofs.lemmas.Bool.{false≢true}
 use Rattle.sig_types.specs.declared.frame.Mode.{Mode}
 use Rattle.sig_tables.specs.Counters.{counter_in}
-use Rattle.tick_sight.specs.Modes.{is_coord}
-use Rattle.tick_sight.specs.Binds.{IsBound}
-use Rattle.tick_sight.proofs.Binds.{in-coord, no-counter}
+use Rattle.tick_context.specs.Modes.{is_coord}
+use Rattle.tick_context.specs.Binds.{IsBound}
+use Rattle.tick_context.proofs.Binds.{in-coord, no-counter}
 use Rattle.controller.proofs.Controller.counter.Goals as goal
 
 pub returns-then-is_coord : goal.returns-then-is_coord

@@ -8,8 +8,8 @@ use Rattle.sig_tables.specs.Counting.{Correction, next_counter}
 use Rattle.sig_tables.specs.Counters.{correction_of, counters_since}
 use Rattle.sig_tables.specs.Looking.{last_frame}
 use Rattle.coord_count.specs.Limits.{correction_in}
-use Rattle.tick_sight.proofs.Counted.{step-version, window-within}
-use Rattle.tick_sight.proofs.Steps.{coord-step, coord-defined}
+use Rattle.tick_context.proofs.Counted.{step-version, window-within}
+use Rattle.tick_context.proofs.Steps.{coord-step, coord-defined}
 use Rattle.controller.proofs.Controller.counter_on.Goals as goal
 
 pub returns-then-counter-self : goal.returns-then-counter-self

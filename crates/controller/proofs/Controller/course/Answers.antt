@@ -11,7 +11,7 @@ use Rattle.sig_tables.specs.Course.{turn_of}
 use Rattle.sig_tables.specs.Layout.{Has}
 use Rattle.sig_tables.specs.Seen.{mode_seen, moment_seen}
 use Rattle.prio_queue.specs.Places.{some_number}
-use Rattle.tick_sight.proofs.Binds.{of-ticks}
+use Rattle.tick_context.proofs.Binds.{of-ticks}
 use Rattle.controller.proofs.Controller.course.Goals as goal
 
 pub returns : goal.returns

@@ -5,7 +5,7 @@ use Rattle.sig_tables.specs.Calls.{is_green}
 use Rattle.sig_tables.specs.View.{is_done}
 use Rattle.sig_tables.specs.Seen.{frame_seen, view_seen}
 use Rattle.sig_tables.proofs.Below.{phase-is}
-use Rattle.tick_sight.proofs.Seen.{done-not, active-is}
+use Rattle.tick_context.proofs.Seen.{done-not, active-is}
 use Rattle.controller.proofs.Visiting.{first-phase, first-in, first-out, visited-start, visited-more, visited-none, visited-all}
 use Rattle.controller.proofs.Controller.done.Goals as goal
 

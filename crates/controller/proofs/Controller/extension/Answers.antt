@@ -1,7 +1,7 @@
 use Rattle.std.proofs.Common.{sym, ◌∙◌, ap}
 use Rattle.sig_tables.specs.declared.tables.Tables.{Tables}
 use Rattle.sig_tables.specs.declared.tables.Corrections.{Corrections}
-use Rattle.tick_sight.proofs.Causes.{extension-some, extension-none}
+use Rattle.tick_context.proofs.Causes.{extension-some, extension-none}
 use Rattle.controller.proofs.Controller.extension.Goals as goal
 
 pub returns-in-Some : goal.returns-in-Some

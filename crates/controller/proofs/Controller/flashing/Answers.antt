@@ -1,6 +1,6 @@
 use Rattle.std.proofs.Common.{◌∙◌, ap}
 use Rattle.sig_types.specs.declared.frame.Frame.{Frame}
-use Rattle.tick_sight.specs.Modes.{is_flash}
+use Rattle.tick_context.specs.Modes.{is_flash}
 use Rattle.controller.proofs.Controller.flashing.Goals as goal
 
 pub returns : goal.returns

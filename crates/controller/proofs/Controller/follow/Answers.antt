@@ -1,8 +1,8 @@
 use Rattle.std.proofs.Common.{sym, subst}
 use Rattle.sig_types.specs.declared.frame.Mode.{Mode}
 use Rattle.sig_tables.specs.declared.tables.Tables.{Tables}
-use Rattle.tick_sight.specs.Binds.{BindingStands, IsBound, Names}
-use Rattle.tick_sight.proofs.Steps.{mode-named}
+use Rattle.tick_context.specs.Binds.{BindingStands, IsBound, Names}
+use Rattle.tick_context.proofs.Steps.{mode-named}
 use Rattle.controller.proofs.Controller.follow.Goals as goal
 
 pub returns-clause-keeps : goal.returns-clause-keeps

@@ -3,7 +3,7 @@ use Rattle.sig_types.specs.declared.frame.Frame.{Frame}
 use Rattle.sig_tables.specs.Slots.{force_point}
 use Rattle.sig_tables.specs.Seen.{frame_seen}
 use Rattle.sig_tables.proofs.Below.{phase-is}
-use Rattle.tick_sight.proofs.Left.{force-kept}
+use Rattle.tick_context.proofs.Left.{force-kept}
 use Rattle.controller.proofs.Controller.force_left.Goals as goal
 
 pub returns : goal.returns

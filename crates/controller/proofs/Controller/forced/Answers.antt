@@ -8,9 +8,9 @@ use Rattle.sig_tables.specs.Coordinating.{is_forced_off}
 use Rattle.sig_tables.specs.Course.{course_of}
 use Rattle.sig_tables.specs.Seen.{frame_seen, mode_seen, view_seen}
 use Rattle.sig_tables.proofs.FreeCourse.{forced-unbound}
-use Rattle.tick_sight.proofs.Binds.{in-coord, unbound}
+use Rattle.tick_context.proofs.Binds.{in-coord, unbound}
 use Rattle.controller.proofs.Running.{coord-of, binding-in}
-use Rattle.tick_sight.proofs.Wanting.{three}
+use Rattle.tick_context.proofs.Wanting.{three}
 use Rattle.controller.proofs.Controller.forced.Goals as goal
 
 pub returns-then-is_coord : goal.returns-then-is_coord

@@ -1,5 +1,5 @@
 use Rattle.std.proofs.Common.{refl}
-use Rattle.tick_sight.proofs.Frames.{frame-parts}
+use Rattle.tick_context.proofs.Frames.{frame-parts}
 use Rattle.controller.proofs.Controller.frame_after.Goals as goal
 
 pub returns : goal.returns

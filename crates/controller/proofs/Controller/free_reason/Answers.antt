@@ -1,7 +1,7 @@
 use Rattle.std.proofs.Common.{◌≡◌, ◌||◌, Bool, true, false, sym, ◌∙◌, ap}
 use Rattle.sig_tables.specs.View.{has_gap, has_maximum}
 use Rattle.sig_tables.specs.Seen.{view_seen}
-use Rattle.tick_sight.proofs.Seen.{gap-not-quiet, flip}
+use Rattle.tick_context.proofs.Seen.{gap-not-quiet, flip}
 use Rattle.controller.proofs.Controller.free_reason.Goals as goal
 
 pub returns-then-active : goal.returns-then-active

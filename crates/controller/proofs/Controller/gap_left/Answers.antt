@@ -4,7 +4,7 @@ use Rattle.sig_tables.specs.declared.tables.Tables.{Tables}
 use Rattle.sig_tables.specs.declared.tables.PhaseTimes.{PhaseTimes}
 use Rattle.sig_tables.specs.Tables.{row, gap_time}
 use Rattle.sig_tables.specs.Looking.{in_a_row}
-use Rattle.tick_sight.proofs.Seen.{flip}
+use Rattle.tick_context.proofs.Seen.{flip}
 use Rattle.controller.proofs.Controller.gap_left.Goals as goal
 
 pub returns-then-active : goal.returns-then-active

@@ -1,5 +1,5 @@
 use Rattle.std.proofs.Common.{sym}
-use Rattle.tick_sight.proofs.Seen.{gap-not-quiet, flip}
+use Rattle.tick_context.proofs.Seen.{gap-not-quiet, flip}
 use Rattle.controller.proofs.Controller.gaps.Goals as goal
 
 pub returns-then-active : goal.returns-then-active

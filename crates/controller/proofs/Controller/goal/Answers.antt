@@ -4,7 +4,7 @@ use Rattle.sig_tables.specs.declared.tables.Tables.{Tables}
 use Rattle.sig_tables.specs.Goals.{goal_in}
 use Rattle.sig_tables.specs.Layout.{Has}
 use Rattle.preempt_run.specs.Goals.{AreSought}
-use Rattle.tick_sight.proofs.Binds.{sought-set}
+use Rattle.tick_context.proofs.Binds.{sought-set}
 use Rattle.controller.proofs.Controller.goal.Goals as goal
 
 pub returns : goal.returns

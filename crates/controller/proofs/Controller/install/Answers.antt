@@ -2,7 +2,7 @@ use Rattle.std.proofs.Common.{◌≡◌, ◌≤◌, ◌+◌, ℕ, refl, ap, arit
 use Rattle.sig_tables.specs.Past.{Install}
 use Rattle.sig_tables.specs.Decide.{with_event}
 use Rattle.sig_tables.specs.Seen.{frame_seen, moment_seen}
-use Rattle.tick_sight.proofs.Events.{moment-kept, calls-kept, orders-kept, queue-kept, not-yet}
+use Rattle.tick_context.proofs.Events.{moment-kept, calls-kept, orders-kept, queue-kept, not-yet}
 use Rattle.sig_tables.specs.Past.{Past}
 use Rattle.sig_tables.specs.Decide.{past_at}
 use Rattle.controller.proofs.Controller.install.Goals as goal

@@ -7,8 +7,8 @@ use Rattle.sig_types.specs.Phases.{is_phase, is_in}
 use Rattle.sig_tables.specs.Looking.{runs_on}
 use Rattle.sig_tables.specs.Modes.{bound}
 use Rattle.sig_tables.specs.Seen.{frame_seen, mode_seen, demand_with, opposed_seen}
-use Rattle.tick_sight.specs.Shows.{is_clearing}
-use Rattle.tick_sight.proofs.Again.{frame-again, rings-rest, shut, unopposed}
+use Rattle.tick_context.specs.Shows.{is_clearing}
+use Rattle.tick_context.proofs.Again.{frame-again, rings-rest, shut, unopposed}
 use Rattle.controller.proofs.Controller.is_at_rest.Goals as goal
 
 pub returns-else-not-is_current : goal.returns-else-not-is_current

@@ -1,5 +1,5 @@
 use Rattle.std.proofs.Common.{sym, ◌∙◌}
-use Rattle.tick_sight.proofs.Again.{no-preempts}
+use Rattle.tick_context.proofs.Again.{no-preempts}
 use Rattle.controller.proofs.Controller.is_beside.Goals as goal
 
 pub returns : goal.returns

@@ -1,7 +1,7 @@
 use Rattle.std.proofs.Common.{◌≡◌, ℕ, sym, ◌∙◌, subst}
 use Rattle.std.proofs.lemmas.Bool.Decides.{Decides-eqb}
 use Rattle.sig_types.specs.declared.frame.Mode.{Mode}
-use Rattle.tick_sight.specs.Binds.{IsBound, BindingIs}
+use Rattle.tick_context.specs.Binds.{IsBound, BindingIs}
 use Rattle.controller.proofs.Controller.is_bound.Goals as goal
 
 pub returns-in-Free : goal.returns-in-Free

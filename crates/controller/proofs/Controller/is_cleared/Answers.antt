@@ -10,7 +10,7 @@ use Rattle.sig_tables.specs.Goals.{lesser_green}
 use Rattle.sig_tables.specs.Looking.{run}
 use Rattle.sig_tables.specs.Seen.{frame_seen, mode_seen}
 use Rattle.call_store.proofs.Same.{same_signal-is}
-use Rattle.tick_sight.proofs.Seen.{green-is, cleared-early, cleared-signal}
+use Rattle.tick_context.proofs.Seen.{green-is, cleared-early, cleared-signal}
 use Rattle.controller.proofs.Controller.is_cleared.Goals as goal
 
 pub returns-then-run-least : goal.returns-then-run-least

@@ -3,7 +3,7 @@ use Rattle.sig_types.specs.declared.frame.Mode.{Mode}
 use Rattle.sig_tables.specs.Modes.{bound}
 use Rattle.sig_tables.specs.View.{is_reasoned}
 use Rattle.sig_tables.specs.Seen.{view_seen}
-use Rattle.tick_sight.proofs.Seen.{done-unreasoned, done-served}
+use Rattle.tick_context.proofs.Seen.{done-unreasoned, done-served}
 use Rattle.controller.proofs.Controller.is_free_done.Goals as goal
 
 pub returns-then-free_reason : goal.returns-then-free_reason

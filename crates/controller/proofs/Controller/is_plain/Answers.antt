@@ -4,8 +4,8 @@ use Rattle.sig_types.specs.Colour.{on_in, colour_of}
 use Rattle.sig_types.specs.Phases.{is_phase, is_in}
 use Rattle.sig_tables.specs.Looking.{runs_on}
 use Rattle.sig_tables.specs.Seen.{frame_seen, opposed_seen}
-use Rattle.tick_sight.specs.Shows.{is_clearing}
-use Rattle.tick_sight.proofs.Again.{frame-again, shut}
+use Rattle.tick_context.specs.Shows.{is_clearing}
+use Rattle.tick_context.proofs.Again.{frame-again, shut}
 use Rattle.controller.proofs.Controller.is_plain.Goals as goal
 
 pub returns-else-not-is_current : goal.returns-else-not-is_current

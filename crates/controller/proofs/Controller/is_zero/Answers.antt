@@ -4,7 +4,7 @@ use Rattle.sig_types.specs.declared.frame.Mode.TheVariants.{Coord}
 use Rattle.sig_types.specs.Colour.{same_mode}
 use Rattle.sig_tables.specs.Course.{course_of}
 use Rattle.sig_tables.specs.Seen.{frame_seen}
-use Rattle.tick_sight.proofs.Pickups.{zero-is}
+use Rattle.tick_context.proofs.Pickups.{zero-is}
 use Rattle.controller.proofs.Controller.is_zero.Goals as goal
 
 pub returns-else-self-ne0 : goal.returns-else-self-ne0

@@ -8,7 +8,7 @@ use Rattle.sig_tables.specs.Course.{course_of}
 use Rattle.sig_tables.specs.View.{is_startable}
 use Rattle.sig_tables.specs.Seen.{mode_seen, view_seen}
 use Rattle.sig_tables.proofs.Below.{is-within}
-use Rattle.tick_sight.proofs.Wanting.{joins}
+use Rattle.tick_context.proofs.Wanting.{joins}
 use Rattle.controller.proofs.Controller.joining.Goals as goal
 
 pub returns : goal.returns

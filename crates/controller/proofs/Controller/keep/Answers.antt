@@ -14,11 +14,11 @@ use Rattle.preempt_run.proofs.OnPhases.{names-phases}
 use Rattle.sig_tables.specs.Layout.{Has}
 use Rattle.call_store.specs.Stands.{is_walking}
 use Rattle.controller.specs.Shows.{ShowsColours}
-use Rattle.tick_sight.specs.Shows.{is_signalling}
-use Rattle.tick_sight.proofs.Rings.{each-ring, last-next, latest-next}
-use Rattle.tick_sight.proofs.Seen.{opposed-green}
-use Rattle.tick_sight.proofs.Sought.{start-again}
-use Rattle.tick_sight.proofs.Pickups.{start-next, few-next, one-more, same-most}
+use Rattle.tick_context.specs.Shows.{is_signalling}
+use Rattle.tick_context.proofs.Rings.{each-ring, last-next, latest-next}
+use Rattle.tick_context.proofs.Seen.{opposed-green}
+use Rattle.tick_context.proofs.Sought.{start-again}
+use Rattle.tick_context.proofs.Pickups.{start-next, few-next, one-more, same-most}
 use Rattle.controller.proofs.Controller.keep.Goals as goal
 
 pub returns-clause-keeps : goal.returns-clause-keeps

@@ -2,7 +2,7 @@ use Rattle.std.proofs.Common.{ap}
 use Rattle.sig_types.specs.declared.frame.Frame.{Frame}
 use Rattle.sig_types.specs.Colour.{on_in}
 use Rattle.sig_tables.specs.Seen.{view_seen}
-use Rattle.tick_sight.proofs.Wanting.{are-phases}
+use Rattle.tick_context.proofs.Wanting.{are-phases}
 use Rattle.controller.proofs.Controller.looking.Goals as goal
 
 pub returns : goal.returns

@@ -3,8 +3,8 @@ use Rattle.sig_types.specs.declared.frame.Mode.{Mode}
 use Rattle.sig_types.specs.Phases.{is_in}
 use Rattle.sig_tables.specs.Layout.{Has}
 use Rattle.sig_tables.specs.Modes.{bound}
-use Rattle.tick_sight.specs.Binds.{IsBound}
-use Rattle.tick_sight.specs.Lasting.{ModeLasts, opposed_with}
+use Rattle.tick_context.specs.Binds.{IsBound}
+use Rattle.tick_context.specs.Lasting.{ModeLasts, opposed_with}
 use Rattle.controller.proofs.Controller.mode_left.Goals as goal
 
 pub returns-then-stays_at_free-clause-left : goal.returns-then-stays_at_free-clause-left

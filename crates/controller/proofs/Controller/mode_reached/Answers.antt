@@ -2,7 +2,7 @@ use Rattle.std.proofs.Common.{◌∙◌, ap}
 use Rattle.sig_types.specs.declared.frame.Mode.{Mode}
 use Rattle.sig_tables.specs.Choosing.{mode_reached}
 use Rattle.sig_tables.specs.Seen.{mode_seen}
-use Rattle.tick_sight.proofs.Binds.{sought-phases}
+use Rattle.tick_context.proofs.Binds.{sought-phases}
 use Rattle.controller.proofs.Controller.mode_reached.Goals as goal
 
 pub returns : goal.returns

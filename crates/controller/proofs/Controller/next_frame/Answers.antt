@@ -10,7 +10,7 @@ use Rattle.sig_tables.specs.Ticking.{frame_of, frame_with}
 use Rattle.sig_tables.specs.Decide.{colours_of, next_moment}
 use Rattle.sig_tables.specs.Seen.{frame_seen, sight_seen, mode_seen, moves_seen}
 use Rattle.controller.specs.Shows.{ShowsColours}
-use Rattle.tick_sight.specs.Walks.{walk_after, signal_seen}
+use Rattle.tick_context.specs.Walks.{walk_after, signal_seen}
 use Rattle.controller.proofs.Controller.next_frame.Goals as goal
 
 pub returns : goal.returns

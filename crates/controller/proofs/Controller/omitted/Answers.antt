@@ -2,7 +2,7 @@ use Rattle.std.proofs.Common.{◌≡◌, ℕ, Option, None, sym, ◌∙◌, ap}
 use Rattle.sig_tables.specs.Modes.{bound}
 use Rattle.sig_tables.specs.Splits.{omits}
 use Rattle.sig_tables.specs.Seen.{mode_seen}
-use Rattle.tick_sight.proofs.Binds.{in-coord, unbound}
+use Rattle.tick_context.proofs.Binds.{in-coord, unbound}
 use Rattle.controller.proofs.Running.{coord-of, binding-in}
 use Rattle.controller.proofs.Controller.omitted.Goals as goal
 

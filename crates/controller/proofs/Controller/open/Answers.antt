@@ -7,7 +7,7 @@ use Rattle.sig_tables.specs.Looking.{last_on}
 use Rattle.sig_tables.specs.Past.{first_moment, first_frame}
 use Rattle.controller.specs.Shows.{ShowsColours}
 use Rattle.controller.proofs.Opens.{first-steady, first-no-walk}
-use Rattle.tick_sight.proofs.Rings.{each-ring}
+use Rattle.tick_context.proofs.Rings.{each-ring}
 use Rattle.controller.proofs.Controller.open.Goals as goal
 
 pub returns-clause-stands : goal.returns-clause-stands

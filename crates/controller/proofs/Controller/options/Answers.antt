@@ -1,7 +1,7 @@
 use Rattle.std.proofs.Common.{ap}
 use Rattle.sig_tables.specs.Modes.{bound}
 use Rattle.sig_tables.specs.Seen.{mode_seen}
-use Rattle.tick_sight.proofs.Binds.{in-coord, unbound, options-some, options-none}
+use Rattle.tick_context.proofs.Binds.{in-coord, unbound, options-some, options-none}
 use Rattle.controller.proofs.Running.{coord-of, binding-in}
 use Rattle.controller.proofs.Controller.options.Goals as goal
 

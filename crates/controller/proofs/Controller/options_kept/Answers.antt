@@ -1,8 +1,8 @@
 use Rattle.std.proofs.Common.{sym, ◌∙◌, ap, subst}
 use Rattle.sig_types.specs.declared.frame.Mode.{Mode}
 use Rattle.sig_tables.specs.Modes.{bound}
-use Rattle.tick_sight.specs.Binds.{IsBound, BindingIs}
-use Rattle.tick_sight.proofs.Binds.{in-coord, unbound, options-some, options-none}
+use Rattle.tick_context.specs.Binds.{IsBound, BindingIs}
+use Rattle.tick_context.proofs.Binds.{in-coord, unbound, options-some, options-none}
 use Rattle.controller.proofs.Controller.options_kept.Goals as goal
 
 pub returns-then-is_coord : goal.returns-then-is_coord

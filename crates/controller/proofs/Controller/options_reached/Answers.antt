@@ -1,6 +1,6 @@
 use Rattle.std.proofs.Common.{refl, sym, ◌∙◌}
 use Rattle.sig_tables.specs.Seen.{mode_seen}
-use Rattle.tick_sight.proofs.Binds.{says-some, says-none}
+use Rattle.tick_context.proofs.Binds.{says-some, says-none}
 use Rattle.controller.proofs.Controller.options_reached.Goals as goal
 
 pub returns-then-is_coord : goal.returns-then-is_coord

@@ -1,7 +1,7 @@
 use Rattle.std.proofs.Common.{◌<◌, ℕ, refl, arith}
 use Rattle.sig_tables.specs.Decide.{past_at, ticked}
 use Rattle.controller.proofs.Striding.{keeps-by}
-use Rattle.tick_sight.proofs.Striding.{lasts-plain}
+use Rattle.tick_context.proofs.Striding.{lasts-plain}
 use Rattle.controller.proofs.Controller.pass_on.Goals as goal
 
 pub returns-clause-stands : goal.returns-clause-stands

@@ -4,8 +4,8 @@ use Rattle.sig_types.specs.PhaseSet.{has}
 use Rattle.sig_types.specs.Phases.{is_phase}
 use Rattle.sig_tables.specs.Modes.{bound}
 use Rattle.call_store.proofs.Listed.{none-has}
-use Rattle.tick_sight.specs.Lasting.{PhaseLasts}
-use Rattle.tick_sight.proofs.Left.{dark-lasts, neither-of}
+use Rattle.tick_context.specs.Lasting.{PhaseLasts}
+use Rattle.tick_context.proofs.Left.{dark-lasts, neither-of}
 use Rattle.controller.proofs.Alone.{of-two}
 use Rattle.controller.proofs.Controller.phases_left.Goals as goal
 

@@ -3,9 +3,9 @@ use Rattle.sig_types.specs.declared.frame.Mode.{Mode}
 use Rattle.sig_types.specs.Phases.{is_in}
 use Rattle.sig_tables.specs.Modes.{bound}
 use Rattle.sig_tables.specs.Seen.{quiet_with}
-use Rattle.tick_sight.specs.Binds.{IsBound}
-use Rattle.tick_sight.specs.Lasting.{HasNoReason, opposed_with}
-use Rattle.tick_sight.proofs.Binds.{in-coord, unbound}
+use Rattle.tick_context.specs.Binds.{IsBound}
+use Rattle.tick_context.specs.Lasting.{HasNoReason, opposed_with}
+use Rattle.tick_context.proofs.Binds.{in-coord, unbound}
 use Rattle.controller.proofs.Controller.reason_left.Goals as goal
 
 pub returns-then-is_coord : goal.returns-then-is_coord

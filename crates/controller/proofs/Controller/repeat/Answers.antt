@@ -20,12 +20,12 @@ use Rattle.preempt_run.proofs.Called.{seen-is}
 use Rattle.preempt_run.proofs.OnPhases.{last-wide}
 use Rattle.prio_queue.specs.Places.{some_number}
 use Rattle.controller.specs.Shows.{ShowsColours}
-use Rattle.tick_sight.specs.Shows.{is_signalling}
-use Rattle.tick_sight.proofs.Rings.{each-ring, last-again, latest-again}
-use Rattle.tick_sight.proofs.Seen.{opposed-green}
-use Rattle.tick_sight.proofs.Sought.{start-again}
-use Rattle.tick_sight.proofs.Pickups.{start-zero, start-next, few-next, one-more, same-most}
-use Rattle.tick_sight.proofs.Again.{free-apart, free-started}
+use Rattle.tick_context.specs.Shows.{is_signalling}
+use Rattle.tick_context.proofs.Rings.{each-ring, last-again, latest-again}
+use Rattle.tick_context.proofs.Seen.{opposed-green}
+use Rattle.tick_context.proofs.Sought.{start-again}
+use Rattle.tick_context.proofs.Pickups.{start-zero, start-next, few-next, one-more, same-most}
+use Rattle.tick_context.proofs.Again.{free-apart, free-started}
 use Rattle.controller.proofs.Controller.repeat.Goals as goal
 
 pub returns-clause-keeps : goal.returns-clause-keeps

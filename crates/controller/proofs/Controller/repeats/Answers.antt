@@ -6,8 +6,8 @@ use Rattle.sig_types.specs.Colour.{on_in}
 use Rattle.sig_tables.specs.Choosing.{mode_reached}
 use Rattle.sig_tables.specs.Decide.{colours_of}
 use Rattle.sig_tables.specs.Seen.{frame_seen, moves_seen}
-use Rattle.tick_sight.specs.Walks.{walk_after}
-use Rattle.tick_sight.proofs.Again.{frame-same}
+use Rattle.tick_context.specs.Walks.{walk_after}
+use Rattle.tick_context.proofs.Again.{frame-same}
 use Rattle.controller.proofs.Controller.repeats.Goals as goal
 
 pub returns-else-not-is_current : goal.returns-else-not-is_current

@@ -3,7 +3,7 @@ use Rattle.sig_types.specs.declared.frame.Mode.{Mode}
 use Rattle.sig_types.specs.Phases.{is_in}
 use Rattle.sig_tables.specs.Modes.{bound}
 use Rattle.sig_tables.specs.Seen.{frame_seen, mode_seen, quiet_with, demand_with}
-use Rattle.tick_sight.proofs.Again.{unopposed}
+use Rattle.tick_context.proofs.Again.{unopposed}
 use Rattle.controller.proofs.Controller.rest.Goals as goal
 
 pub returns-clause-keeps : goal.returns-clause-keeps

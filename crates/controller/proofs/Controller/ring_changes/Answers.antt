@@ -4,8 +4,8 @@ use Rattle.sig_tables.specs.Moves.{Moves, ring_moves}
 use Rattle.sig_tables.specs.Layout.{Ordered}
 use Rattle.sig_tables.specs.Modes.{sequence_in}
 use Rattle.sig_tables.specs.Seen.{mode_seen, view_seen}
-use Rattle.tick_sight.specs.Moves.{AreMoves}
-use Rattle.tick_sight.proofs.Binds.{in-coord, first-sequence}
+use Rattle.tick_context.specs.Moves.{AreMoves}
+use Rattle.tick_context.proofs.Binds.{in-coord, first-sequence}
 use Rattle.controller.proofs.Running.{coord-of, binding-in}
 use Rattle.controller.proofs.Controller.ring_changes.Goals as goal
 

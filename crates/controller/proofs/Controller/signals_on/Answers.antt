@@ -4,7 +4,7 @@ use Rattle.sig_types.specs.Phases.{is_phase}
 use Rattle.sig_types.specs.Colour.{signal_of}
 use Rattle.sig_tables.specs.Seen.{frame_seen}
 use Rattle.call_store.proofs.Listed.{none-has}
-use Rattle.tick_sight.specs.Walks.{signal_seen}
+use Rattle.tick_context.specs.Walks.{signal_seen}
 use Rattle.controller.proofs.Alone.{of-two}
 use Rattle.controller.proofs.Controller.signals_on.Goals as goal
 

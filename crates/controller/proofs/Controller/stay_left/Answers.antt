@@ -1,7 +1,7 @@
 use Rattle.std.proofs.Common.{◌<◌, nat_le, inl, inr, ◌∙◌, arith}
 use Rattle.std.proofs.lemmas.Bool.{cases_Bool, leb-true, leb-false}
 use Rattle.sig_tables.proofs.Below.{phase-is}
-use Rattle.tick_sight.proofs.Seen.{active-is}
+use Rattle.tick_context.proofs.Seen.{active-is}
 use Rattle.controller.proofs.Controller.stay_left.Goals as goal
 
 pub returns : goal.returns

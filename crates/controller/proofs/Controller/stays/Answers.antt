@@ -4,7 +4,7 @@ use Rattle.sig_types.specs.declared.frame.Colour.TheVariants.{Green}
 use Rattle.sig_types.specs.Colour.{same_colour, colour_of}
 use Rattle.sig_tables.specs.Tables.{is_enabled}
 use Rattle.sig_tables.specs.Seen.{frame_seen}
-use Rattle.tick_sight.proofs.Seen.{active-is, done-not}
+use Rattle.tick_context.proofs.Seen.{active-is, done-not}
 use Rattle.controller.proofs.Controller.stays.Goals as goal
 
 unnot : (b : Bool) → not b ≡ true → b ≡ false

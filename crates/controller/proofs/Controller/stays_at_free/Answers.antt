@@ -4,7 +4,7 @@ use Rattle.sig_types.specs.Phases.{is_in}
 use Rattle.sig_tables.specs.declared.tables.Tables.{Tables}
 use Rattle.sig_tables.specs.Slots.{is_defined}
 use Rattle.sig_tables.specs.Seen.{moment_seen}
-use Rattle.tick_sight.specs.Lasting.{opposed_with}
+use Rattle.tick_context.specs.Lasting.{opposed_with}
 use Rattle.controller.proofs.Controller.stays_at_free.Goals as goal
 
 pub returns-else-self-ne0-2 : goal.returns-else-self-ne0-2

@@ -6,7 +6,7 @@ use Rattle.sig_tables.specs.Slots.{is_defined}
 use Rattle.sig_tables.specs.Command.{command_now}
 use Rattle.preempt_run.specs.Stands.{preempts_seen}
 use Rattle.preempt_run.proofs.Called.{seen-is}
-use Rattle.tick_sight.proofs.Again.{free-is, no-preempts, free-on}
+use Rattle.tick_context.proofs.Again.{free-is, no-preempts, free-on}
 use Rattle.controller.proofs.Controller.stays_free.Goals as goal
 
 denied : (b : Bool) → not b ≡ true → b ≡ false

@@ -3,7 +3,7 @@ use Rattle.sig_types.specs.declared.frame.Frame.{Frame}
 use Rattle.sig_tables.specs.declared.tables.Tables.{Tables}
 use Rattle.sig_tables.specs.Slots.{is_defined, cycle_time}
 use Rattle.sig_tables.specs.Seen.{frame_seen, moment_seen}
-use Rattle.tick_sight.proofs.InStep.{backup-left}
+use Rattle.tick_context.proofs.InStep.{backup-left}
 use Rattle.controller.proofs.Controller.step_left.Goals as goal
 
 pub returns-else-not-is_over-clause-left : goal.returns-else-not-is_over-clause-left

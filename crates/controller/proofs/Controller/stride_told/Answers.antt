@@ -2,9 +2,9 @@ use Rattle.std.proofs.Common.{◌≡◌, ◌≤◌, ◌+◌, ℕ, suc, Bool, fal
 use Rattle.sig_types.specs.declared.frame.Frame.{Frame}
 use Rattle.sig_tables.specs.Past.{History}
 use Rattle.sig_tables.specs.Decide.{decide, last_frame_of}
-use Rattle.tick_sight.specs.Strides.{has_line, is_told, ticks_more}
+use Rattle.tick_context.specs.Strides.{has_line, is_told, ticks_more}
 use Rattle.controller.specs.StandsFor.{StandsFor}
-use Rattle.tick_sight.proofs.Striding.{more-more, plain-on}
+use Rattle.tick_context.proofs.Striding.{more-more, plain-on}
 use Rattle.controller.proofs.Controller.stride_told.Goals as goal
 
 -- what the test of the two frames said of the tick

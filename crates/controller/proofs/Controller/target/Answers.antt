@@ -1,5 +1,5 @@
 use Rattle.std.proofs.Common.{sym, ◌∙◌}
-use Rattle.tick_sight.proofs.Binds.{target-some, target-none}
+use Rattle.tick_context.proofs.Binds.{target-some, target-none}
 use Rattle.controller.proofs.Controller.target.Goals as goal
 
 pub returns-then-has_pattern : goal.returns-then-has_pattern

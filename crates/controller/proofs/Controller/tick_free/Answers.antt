@@ -1,6 +1,6 @@
 use Rattle.std.proofs.Common.{sym, ◌∙◌, subst}
 use Rattle.sig_types.specs.declared.frame.Mode.{Mode}
-use Rattle.tick_sight.specs.Binds.{IsBound}
+use Rattle.tick_context.specs.Binds.{IsBound}
 use Rattle.controller.specs.Runs.{Runs}
 use Rattle.controller.proofs.Controller.tick_free.Goals as goal
 

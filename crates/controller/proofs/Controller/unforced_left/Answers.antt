@@ -2,9 +2,9 @@ use Rattle.std.proofs.Common.{ℕ, Option, inl, inr, sym, ◌∙◌, ap, subst}
 use Rattle.sig_types.specs.declared.frame.Mode.{Mode}
 use Rattle.sig_tables.specs.Modes.{bound}
 use Rattle.sig_tables.proofs.Below.{phase-is}
-use Rattle.tick_sight.specs.Binds.{IsBound, BindingIs}
-use Rattle.tick_sight.specs.Lasting.{StaysUnforced}
-use Rattle.tick_sight.proofs.Binds.{in-coord, unbound}
+use Rattle.tick_context.specs.Binds.{IsBound, BindingIs}
+use Rattle.tick_context.specs.Lasting.{StaysUnforced}
+use Rattle.tick_context.proofs.Binds.{in-coord, unbound}
 use Rattle.controller.proofs.Controller.unforced_left.Goals as goal
 
 pub returns-then-not-is_coord : goal.returns-then-not-is_coord

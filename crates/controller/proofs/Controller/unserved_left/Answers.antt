@@ -6,7 +6,7 @@ use Rattle.sig_tables.specs.Tables.{least_green}
 use Rattle.sig_tables.specs.Looking.{run, latched}
 use Rattle.sig_tables.specs.Seen.{frame_seen}
 use Rattle.sig_tables.proofs.Below.{phase-is}
-use Rattle.tick_sight.proofs.Seen.{green-is}
+use Rattle.tick_context.proofs.Seen.{green-is}
 use Rattle.controller.proofs.Controller.unserved_left.Goals as goal
 
 pub returns-then-has : goal.returns-then-has

@@ -6,9 +6,9 @@ use Rattle.sig_tables.proofs.Below.{is-within}
 use Rattle.sig_tables.specs.Decide.{colour_after, colours_of}
 use Rattle.sig_tables.specs.Seen.{frame_seen}
 use Rattle.ped_clock.specs.Walks.{greens_of}
-use Rattle.tick_sight.specs.Walks.{crossing_seen}
-use Rattle.tick_sight.proofs.Filling.{made-at}
-use Rattle.tick_sight.proofs.Signals.{begins-is, rests-is}
+use Rattle.tick_context.specs.Walks.{crossing_seen}
+use Rattle.tick_context.proofs.Filling.{made-at}
+use Rattle.tick_context.proofs.Signals.{begins-is, rests-is}
 use Rattle.controller.proofs.Controller.walks.Goals as goal
 
 pub returns : goal.returns

@@ -4,7 +4,7 @@ use Rattle.sig_types.specs.Colour.{on_in}
 use Rattle.sig_tables.specs.Layout.{Has}
 use Rattle.sig_tables.specs.View.{is_wanted, on_phase, clearance_of, greatest_clearance}
 use Rattle.sig_tables.specs.Seen.{frame_seen, view_seen}
-use Rattle.tick_sight.proofs.Wanting.{wanted-room, each-set}
+use Rattle.tick_context.proofs.Wanting.{wanted-room, each-set}
 use Rattle.controller.proofs.Controller.wanted.Goals as goal
 
 pub returns : goal.returns

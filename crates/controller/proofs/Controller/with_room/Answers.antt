@@ -6,7 +6,7 @@ use Rattle.sig_tables.specs.Modes.{bound}
 use Rattle.sig_tables.specs.Coordinating.{has_room}
 use Rattle.sig_tables.specs.Course.{course_of}
 use Rattle.sig_tables.specs.Seen.{mode_seen}
-use Rattle.tick_sight.proofs.Binds.{in-coord, unbound}
+use Rattle.tick_context.proofs.Binds.{in-coord, unbound}
 use Rattle.controller.proofs.Running.{coord-of, binding-in}
 use Rattle.controller.proofs.Controller.with_room.Goals as goal
 

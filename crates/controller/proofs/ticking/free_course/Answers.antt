@@ -7,8 +7,8 @@ use Rattle.sig_tables.specs.Goals.{goal_in, lesser_times}
 use Rattle.sig_tables.specs.Priority.{active_in}
 use Rattle.sig_tables.specs.Seen.{mode_seen, moment_seen}
 use Rattle.prio_queue.specs.Places.{some_number}
-use Rattle.tick_sight.specs.Modes.{is_free}
-use Rattle.tick_sight.proofs.Again.{rings-turn, no-counter, no-target}
+use Rattle.tick_context.specs.Modes.{is_free}
+use Rattle.tick_context.proofs.Again.{rings-turn, no-counter, no-target}
 use Rattle.controller.proofs.ticking.free_course.Goals as goal
 
 pub returns-clause-course : goal.returns-clause-course

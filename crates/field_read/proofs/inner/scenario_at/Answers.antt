@@ -6,7 +6,7 @@ use Rattle.serde_json.specs.Read.{max_depth}
 use Rattle.serde_json.specs.View.{view}
 use Rattle.scenario_data.specs.Content.{ScenarioContent, cabinet_content}
 use Rattle.scenario_read.specs.Content.{cabinets_of, scenario_of}
-use Rattle.scenario_inside.proofs.Around.{few-cabinets, scenario-clean, scenario-held}
+use Rattle.scenario_checked.proofs.Around.{few-cabinets, scenario-clean, scenario-held}
 use Rattle.field_read.proofs.Inside.{member-sorted, member-nests}
 use Rattle.field_read.proofs.inner.scenario_at.Goals as goal
 

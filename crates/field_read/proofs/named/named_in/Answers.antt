@@ -9,11 +9,11 @@ use Rattle.scenario_read.specs.Content.{scenario_of}
 use Rattle.scenario_read.specs.Readers.{Refuses}
 use Rattle.scenario_read.specs.Answers.{IsScenario}
 use Rattle.scenario_read.proofs.Objects.{at-same}
-use Rattle.scenario_inside.specs.Inside.{scenario}
+use Rattle.scenario_checked.specs.Inside.{scenario}
 use Rattle.field_read.specs.Table.{traffic_fields}
 use Rattle.field_read.specs.Content.{respond_content, rounds_run, cabinets_run, field_of}
 use Rattle.field_read.specs.Places.{SaysTraffic}
-use Rattle.field_read.proofs.Whole.{two-parts, at-first, at-second, none-of-two, content-from}
+use Rattle.field_read.proofs.WholeFields.{two-parts, at-first, at-second, none-of-two, content-from}
 use Rattle.field_read.proofs.named.named_in.Goals as goal
 
 pub returns-in-Err-clause-read : goal.returns-in-Err-clause-read

@@ -3,7 +3,7 @@ use Rattle.serde_json.specs.View.{view}
 use Rattle.field_read.specs.Content.{FieldContent, field_content}
 use Rattle.field_read.specs.Places.{BankPlaced, PulsesPlaced}
 use Rattle.field_read.proofs.Placed.{bank-placed, pulses-placed}
-use Rattle.field_read.proofs.Whole.{across-refused, across-clean}
+use Rattle.field_read.proofs.WholeFields.{across-refused, across-clean}
 use Rattle.field_read.proofs.reading.field_in.Goals as goal
 
 pub lists_fit-requires : goal.lists_fit-requires

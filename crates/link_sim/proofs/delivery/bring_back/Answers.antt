@@ -1,7 +1,7 @@
 use Rattle.std.proofs.Common.{ap}
 use Rattle.sig_types.specs.declared.notes.Way.TheVariants.{Poll, Load, Prio}
 use Rattle.scenario_data.specs.declared.scenario.Direction.TheVariants.{Up}
-use Rattle.round_streams.specs.Items.{texts_of}
+use Rattle.sig_types.specs.Items.{texts_of}
 use Rattle.link_sim.specs.Kept.{faults_in}
 use Rattle.link_sim.specs.Reaching.{line_up}
 use Rattle.link_sim.proofs.Reached.{carried_is, held_is}

@@ -3,7 +3,7 @@ use Rattle.sig_types.specs.declared.notes.Way.TheVariants.{Poll, Load, Prio}
 use Rattle.scenario_data.specs.declared.scenario.Direction.TheVariants.{Down}
 use Rattle.scenario_data.specs.Content.{scenario_content}
 use Rattle.scenario_data.specs.Inputs.{inputs_of}
-use Rattle.round_streams.specs.Items.{Ticked, texts_of}
+use Rattle.sig_types.specs.Items.{Ticked, texts_of}
 use Rattle.link_sim.specs.Kept.{faults_in}
 use Rattle.link_sim.specs.Priority.{priority_texts}
 use Rattle.link_sim.specs.Reaching.{requested, reaching}

@@ -2,7 +2,7 @@ use Rattle.std.proofs.Common.{sym, append-nil, [], arith}
 use Rattle.std.proofs.lemmas.Grind.{common_steps}
 use Rattle.sig_types.specs.declared.notes.Way.TheVariants.{Poll}
 use Rattle.scenario_data.specs.Content.{frame_content}
-use Rattle.round_streams.specs.Items.{texts_of}
+use Rattle.sig_types.specs.Items.{texts_of}
 use Rattle.link_sim.specs.Made.{frame_made}
 use Rattle.link_sim.proofs.Lookups.{made_seen, made_unseen}
 use Rattle.link_sim.proofs.items.push_frame.Goals as goal

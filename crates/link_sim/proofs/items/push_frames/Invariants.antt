@@ -1,6 +1,6 @@
 use Rattle.std.proofs.Common.{◌≡◌, ◌++◌, drop, map}
 use Rattle.scenario_data.specs.Content.{frame_content}
-use Rattle.round_streams.specs.Items.{texts_of}
+use Rattle.sig_types.specs.Items.{texts_of}
 use Rattle.link_sim.specs.Agenda.{made}
 use Rattle.link_sim.specs.Made.{frame_made}
 use Rattle.link_sim.proofs.items.push_frames.Given as goal

@@ -1,7 +1,7 @@
 use Rattle.std.proofs.Common.{◌≡◌, ◌+◌, [], ◌∷◌, ◌++◌, subst, ◌∙◌, arith}
 use Rattle.std.proofs.lemmas.Grind.{common_steps}
 use Rattle.std.proofs.lemmas.List.{get_or_default}
-use Rattle.round_streams.specs.declared.Answers.{Answers}
+use Rattle.sig_types.specs.declared.streams.Answers.{Answers}
 use Rattle.link_sim.specs.Link.{Returns}
 use Rattle.link_sim.proofs.Goes.{goes_next, stays_all}
 use Rattle.link_sim.proofs.link.bring_all_back.Goals as goal

@@ -1,7 +1,7 @@
 use Rattle.std.proofs.Common.{◌+◌, get_or}
 use Rattle.scenario_data.specs.Content.{ScenarioContent}
 use Rattle.scenario_data.specs.declared.scenario.Direction.TheVariants.{Up}
-use Rattle.round_streams.specs.declared.Answers.{Answers}
+use Rattle.sig_types.specs.declared.streams.Answers.{Answers}
 use Rattle.link_sim.specs.Kept.{faults_in}
 use Rattle.link_sim.specs.Link.{Stays, Returns}
 use Rattle.link_sim.proofs.Goes.{Goes}

@@ -2,7 +2,7 @@ use Rattle.std.proofs.Common.{◌≡◌, ◌+◌, ℕ, [], ◌∷◌, ◌++◌, 
 use Rattle.std.proofs.lemmas.Grind.{common_steps}
 use Rattle.std.proofs.lemmas.List.{get_or_default}
 use Rattle.scenario_data.specs.Content.{scenario_content}
-use Rattle.round_streams.specs.declared.Sending.{Sending}
+use Rattle.sig_types.specs.declared.streams.Sending.{Sending}
 use Rattle.scenario_data.specs.declared.scenario.Direction.TheVariants.{Down}
 use Rattle.link_sim.specs.Kept.{faults_in}
 use Rattle.link_sim.specs.Link.{Delivers, Stays}

@@ -1,7 +1,7 @@
 use Rattle.std.proofs.Common.{◌≡◌, ◌+◌, get_or}
 use Rattle.scenario_data.specs.Content.{scenario_content}
 use Rattle.scenario_data.specs.declared.scenario.Direction.TheVariants.{Down}
-use Rattle.round_streams.specs.declared.Sending.{Sending}
+use Rattle.sig_types.specs.declared.streams.Sending.{Sending}
 use Rattle.link_sim.specs.Kept.{faults_in}
 use Rattle.link_sim.specs.Link.{Stays, Delivers}
 use Rattle.link_sim.proofs.Goes.{Goes}

@@ -1,7 +1,7 @@
 use Rattle.std.proofs.Common.{sym, append-nil, arith}
 use Rattle.std.proofs.lemmas.Grind.{common_steps}
 use Rattle.scenario_data.specs.declared.scenario.PriorityAct.TheVariants.{Request as RequestAct}
-use Rattle.round_streams.specs.Items.{texts_of}
+use Rattle.sig_types.specs.Items.{texts_of}
 use Rattle.link_sim.specs.Made.{request_made}
 use Rattle.link_sim.proofs.Lookups.{made_here, made_past}
 use Rattle.link_sim.proofs.priority.push_request.Goals as goal

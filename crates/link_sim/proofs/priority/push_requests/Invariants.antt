@@ -1,5 +1,5 @@
 use Rattle.std.proofs.Common.{◌≡◌, ◌++◌, drop}
-use Rattle.round_streams.specs.Items.{texts_of}
+use Rattle.sig_types.specs.Items.{texts_of}
 use Rattle.link_sim.specs.Agenda.{made}
 use Rattle.link_sim.specs.Made.{request_made}
 use Rattle.link_sim.proofs.priority.push_requests.Given as goal

@@ -1,5 +1,5 @@
 use Rattle.std.proofs.Common.{◌≡◌, ◌++◌, drop}
-use Rattle.round_streams.specs.Items.{texts_of}
+use Rattle.sig_types.specs.Items.{texts_of}
 use Rattle.link_sim.specs.Due.{due_texts}
 use Rattle.link_sim.proofs.wire.push_all_due.Given as goal
 

@@ -1,6 +1,6 @@
 use Rattle.std.proofs.Common.{◌≡◌, ◌%◌, ◌++◌, List, sym, subst, arith}
 use Rattle.std.specs.Prelude.{OnOk}
-use Rattle.round_streams.specs.Items.{texts_of}
+use Rattle.sig_types.specs.Items.{texts_of}
 use Rattle.link_sim.specs.declared.wire.Late.{Late}
 use Rattle.link_sim.specs.Due.{due_texts}
 use Rattle.link_sim.proofs.Shelves.{on_shelf-get}

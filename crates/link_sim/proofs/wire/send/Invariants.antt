@@ -1,5 +1,5 @@
 use Rattle.std.proofs.Common.{◌≡◌, ℕ, ◌≤◌, ◌+◌, ◌++◌, drop}
-use Rattle.round_streams.specs.Items.{texts_of}
+use Rattle.sig_types.specs.Items.{texts_of}
 use Rattle.link_sim.specs.Shelves.{shelved, NoneAfter}
 use Rattle.link_sim.specs.Kept.{faults_in}
 use Rattle.link_sim.specs.Carried.{arriving_from, copies_from}

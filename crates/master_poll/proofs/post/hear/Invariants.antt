@@ -1,6 +1,6 @@
 use Rattle.std.proofs.Common.{◌++◌, ℕ, List, drop}
 use Rattle.scenario_data.specs.Content.{LoadContent}
-use Rattle.round_streams.specs.Items.{texts_of}
+use Rattle.sig_types.specs.Items.{texts_of}
 use Rattle.requests.specs.Requests.{messages}
 use Rattle.master_load.specs.Loading.{LoadEvent}
 use Rattle.master_load.specs.Stands.{StandsFor}

@@ -3,7 +3,7 @@ use Rattle.overlap_run.specs.declared.overlap.Timing.{Timing}
 use Rattle.overlap_run.specs.Overlap.{timed}
 use Rattle.overlap_run.specs.Text.{overlap_text}
 use Rattle.overlap_run.specs.Parents.{parents_of, green_at}
-use Rattle.overlap_rules.specs.declared.faults.OverlapFault.{OverlapFault}
+use Rattle.overlap_run.specs.declared.faults.OverlapFault.{OverlapFault}
 use Rattle.overlap_report.specs.declared.reporting.ReportFail.TheVariants.{Overlap}
 use Rattle.overlap_report.specs.Overlaps.{times_of, BreaksRule, TellsOverlap}
 use Rattle.overlap_report.specs.BySeen.{SaysOfOverlap}

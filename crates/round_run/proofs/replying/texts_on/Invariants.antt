@@ -1,5 +1,5 @@
 use Rattle.std.proofs.Common.{◌≡◌, ◌++◌, drop}
-use Rattle.round_streams.specs.Items.{texts_of}
+use Rattle.sig_types.specs.Items.{texts_of}
 use Rattle.round_run.proofs.Texts.{left_on}
 use Rattle.round_run.proofs.replying.texts_on.Given as goal
 

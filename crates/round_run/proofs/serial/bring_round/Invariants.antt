@@ -1,6 +1,6 @@
 use Rattle.std.proofs.Common.{◌≡◌, ℕ, []}
 use Rattle.scenario_data.specs.Content.{ScenarioContent}
-use Rattle.run_lines.specs.Standing.{Standing}
+use Rattle.run_definition.specs.Standing.{Standing}
 use Rattle.cab_book.specs.Books.{ticks_by_end}
 use Rattle.round_run.specs.Standings.{HasRun}
 use Rattle.round_run.proofs.InSerial.{BroughtTo, FinishedTo}

@@ -1,6 +1,6 @@
 use Rattle.std.proofs.Common.{inl, ◌≡◌, ◌⊎◌, ℕ, List, IfSome, Err, refl, sym, ap, subst}
 use Rattle.scenario_data.specs.declared.refusal.Refusal.{Refusal}
-use Rattle.band_file.specs.Told.{AsksOfBands, TellsBands, IsFirstBandFault}
+use Rattle.band_report.specs.Told.{AsksOfBands, TellsBands, IsFirstBandFault}
 use Rattle.station.specs.declared.status.Status.TheVariants.{Scenario, NoMemory}
 use Rattle.io_edge.specs.Edge.{Rises}
 use Rattle.station.specs.Replied.{IsReplyDue}

@@ -1,6 +1,6 @@
 use Rattle.std.proofs.Common.{inl, inr, ◌≡◌, ◌⊎◌, ℕ, List, IfSome, Err, refl, sym, ap, subst}
 use Rattle.io_edge.specs.Edge.{Rises}
-use Rattle.overlap_rules.specs.declared.faults.OverlapFault.{OverlapFault}
+use Rattle.overlap_run.specs.declared.faults.OverlapFault.{OverlapFault}
 use Rattle.overlap_report.specs.declared.asking.Asked.{Asked}
 use Rattle.overlap_report.specs.Overlaps.{TellsOverlap, BreaksRule}
 use Rattle.trace_check.specs.declared.faults.TraceFault.{TraceFault}

@@ -2,7 +2,7 @@ use Rattle.std.proofs.Common.{◌≡◌, subst}
 use Rattle.scenario_data.specs.declared.refusal.Refusal.{Refusal}
 use Rattle.scenario_data.specs.Content.{scenario_content}
 use Rattle.scenario_read.specs.Answers.{IsFirstFault}
-use Rattle.runnable_scenarios.proofs.Ranges.{runs}
+use Rattle.scenario_checked.proofs.Ranges.{runs}
 use Rattle.station.proofs.Refusals.{whole_scenario, fault_elsewhere, refused_first}
 use Rattle.station.proofs.top.read_scenario.Goals as goal
 

@@ -1,12 +1,12 @@
 use Rattle.std.proofs.Common.{◌++◌, ◌∙◌, ℕ, List, length, inl, inr, ap, sym, subst}
 use Rattle.std.proofs.lemmas.Bool.{eq-eqb, eqb-true}
 use Rattle.sig_types.specs.declared.frame.Frame.{Frame}
-use Rattle.cabinet_story.specs.Journals.{passes_of}
+use Rattle.cabinet_history.specs.Journals.{passes_of}
 use Rattle.cab_book.specs.declared.happened.Answered.{Answered}
 use Rattle.cab_book.specs.Books.{journal_of, written_in, answered_in}
 use Rattle.cab_book.specs.Happenings.{AreInOrder}
-use Rattle.run_lines.specs.Standing.{coming_streams, round_acts}
-use Rattle.run_lines.specs.Lines.{acts_lines}
+use Rattle.run_definition.specs.Standing.{coming_streams, round_acts}
+use Rattle.run_definition.specs.Lines.{acts_lines}
 use Rattle.round_run.specs.Lines.{told_lines}
 use Rattle.trace_laws.specs.Runs.{events_in}
 use Rattle.trace_laws.specs.Script.{say}

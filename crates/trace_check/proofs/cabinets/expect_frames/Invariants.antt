@@ -1,5 +1,5 @@
 use Rattle.std.proofs.Common.{drop}
-use Rattle.run_lines.specs.Lines.{frame_lines}
+use Rattle.run_definition.specs.Lines.{frame_lines}
 use Rattle.trace_laws.specs.Script.{Script, say}
 use Rattle.trace_check.specs.Reading.{Leads}
 use Rattle.trace_check.proofs.cabinets.expect_frames.Given as goal

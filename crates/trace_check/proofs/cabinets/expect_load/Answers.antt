@@ -1,6 +1,6 @@
 use Rattle.std.proofs.Common.{Option, sym, subst}
-use Rattle.cabinet_story.specs.declared.Load.{Load}
-use Rattle.run_lines.specs.Lines.{load_lines}
+use Rattle.cabinet_history.specs.declared.Load.{Load}
+use Rattle.run_definition.specs.Lines.{load_lines}
 use Rattle.trace_laws.specs.Script.{say}
 use Rattle.trace_check.specs.Reading.{ReadsOn}
 use Rattle.trace_check.proofs.cabinets.expect_load.Goals as goal

@@ -2,7 +2,7 @@ use Rattle.std.proofs.Common.{◌+◌, ℕ, List, length, drop, ap, subst, arith
 use Rattle.std.proofs.lemmas.List.{drop_all}
 use Rattle.sig_types.specs.declared.frame.Frame.{Frame}
 use Rattle.cab_book.specs.declared.happened.Answered.{Answered}
-use Rattle.run_lines.specs.Lines.{frame_lines}
+use Rattle.run_definition.specs.Lines.{frame_lines}
 use Rattle.round_run.specs.Lines.{answer_lines, told_lines}
 use Rattle.trace_laws.specs.Script.{Script, say}
 use Rattle.trace_check.specs.Reading.{ReadsOn, Fails, Leads}

@@ -1,5 +1,5 @@
 use Rattle.std.proofs.Common.{◌≡◌, ◌≢◌, ◌+◌, ◌++◌, ℕ, replicate}
-use Rattle.cabinet_story.specs.Story.{Story}
+use Rattle.cabinet_history.specs.Story.{Story}
 use Rattle.cab_book.specs.Books.{BookStands, streams_in, journal_of, left_of, ticks_by_end}
 use Rattle.trace_check.proofs.journals.bring_ticks.Given as goal
 

@@ -1,6 +1,6 @@
 use Rattle.std.proofs.Common.{◌≡◌, ℕ, List, length}
 use Rattle.scenario_data.specs.Content.{ScenarioContent}
-use Rattle.run_lines.specs.Standing.{Standing}
+use Rattle.run_definition.specs.Standing.{Standing}
 use Rattle.round_run.specs.Standings.{HaveRun, no_journals, TicksWithin}
 use Rattle.trace_check.specs.Watching.{SeenSoFar}
 use Rattle.trace_check.proofs.RoundLines.{CabinetsSoFar}

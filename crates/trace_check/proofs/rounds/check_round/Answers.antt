@@ -2,7 +2,7 @@ use Rattle.std.proofs.Common.{◌+◌, ◌∙◌, List, map, [], ap, sym, subst}
 use Rattle.sig_types.specs.declared.notes.MasterNote.{MasterNote}
 use Rattle.trace_text.specs.declared.lines.Line.TheVariants.{M}
 use Rattle.scenario_data.specs.Content.{scenario_content}
-use Rattle.run_lines.specs.Standing.{each_standing}
+use Rattle.run_definition.specs.Standing.{each_standing}
 use Rattle.trace_laws.specs.Script.{Script, cabinets_script}
 use Rattle.trace_check.specs.Reading.{Fails, Leads}
 use Rattle.trace_check.proofs.RoundLines.{head-due, round-text}

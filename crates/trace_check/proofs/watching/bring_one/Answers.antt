@@ -1,6 +1,6 @@
 use Rattle.std.proofs.Common.{◌∙◌, List, sym, subst}
 use Rattle.sig_tables.specs.declared.tables.Tables.{Tables}
-use Rattle.cabinet_story.specs.Coming.{history_of}
+use Rattle.cabinet_history.specs.Coming.{history_of}
 use Rattle.cab_book.specs.Books.{story_now}
 use Rattle.trace_check.specs.Watching.{AreTablesOf}
 use Rattle.trace_check.proofs.Walking.{so-ok}

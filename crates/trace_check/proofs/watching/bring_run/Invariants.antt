@@ -1,6 +1,6 @@
 use Rattle.std.proofs.Common.{◌≡◌, ◌≢◌, ◌+◌, ◌++◌, ℕ, replicate}
-use Rattle.cabinet_story.specs.Story.{Story}
-use Rattle.cabinet_story.specs.Coming.{history_of}
+use Rattle.cabinet_history.specs.Story.{Story}
+use Rattle.cabinet_history.specs.Coming.{history_of}
 use Rattle.cab_book.specs.Books.{BookStands, streams_in, journal_of, left_of, story_now, ticks_by_end}
 use Rattle.trace_check.specs.Watching.{AreTablesOf}
 use Rattle.trace_check.proofs.watching.bring_run.Given as goal

@@ -1,8 +1,8 @@
 use Rattle.std.proofs.Common.{List, arith}
 use Rattle.trace_text.specs.declared.lines.Line.TheVariants.{Z}
 use Rattle.scenario_data.specs.Content.{scenario_content}
-use Rattle.run_lines.specs.Standing.{Standing, opened_standings}
-use Rattle.corridor.proofs.Streams.{many-of}
+use Rattle.run_definition.specs.Standing.{Standing, opened_standings}
+use Rattle.round_run.proofs.Streams.{many-of}
 use Rattle.trace_laws.specs.Script.{Script, Ends, Says, rounds_script, script_of}
 use Rattle.trace_check.proofs.Walking.{leads-on, fails-on, whole-on, fails-none}
 use Rattle.trace_check.proofs.WholeText.{rest-seen}

@@ -1,6 +1,6 @@
 use Rattle.std.proofs.Common.{arith}
 use Rattle.scenario_data.specs.Content.{scenario_content}
-use Rattle.run_lines.specs.Standing.{opened_standings, standings_after}
+use Rattle.run_definition.specs.Standing.{opened_standings, standings_after}
 use Rattle.trace_check.proofs.WholeText.{rounds-none, rounds-more, rounds-fail, rounds-all, rounds-seen}
 use Rattle.trace_check.proofs.whole.check_rounds.Goals as goal
 

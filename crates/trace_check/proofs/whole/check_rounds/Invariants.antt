@@ -1,5 +1,5 @@
 use Rattle.scenario_data.specs.Content.{scenario_content}
-use Rattle.run_lines.specs.Standing.{opened_standings}
+use Rattle.run_definition.specs.Standing.{opened_standings}
 use Rattle.trace_check.proofs.WholeText.{RoundsSoFar}
 use Rattle.trace_check.proofs.whole.check_rounds.Given as goal
 

@@ -1,5 +1,5 @@
 use Rattle.std.proofs.Common.{◌+◌, drop, arith}
-use Rattle.run_lines.specs.Lines.{opening_lines}
+use Rattle.run_definition.specs.Lines.{opening_lines}
 use Rattle.trace_laws.specs.Script.{say}
 use Rattle.trace_check.proofs.WholeText.{next-opening}
 use Rattle.trace_check.proofs.Walking.{leads-next, fails-next}

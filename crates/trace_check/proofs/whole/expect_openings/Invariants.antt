@@ -1,6 +1,6 @@
 use Rattle.std.proofs.Common.{◌+◌, List, drop}
-use Rattle.run_lines.specs.Standing.{Standing}
-use Rattle.run_lines.specs.Lines.{opening_lines}
+use Rattle.run_definition.specs.Standing.{Standing}
+use Rattle.run_definition.specs.Lines.{opening_lines}
 use Rattle.round_run.specs.Standings.{AreAt}
 use Rattle.trace_laws.specs.Script.{Script, say}
 use Rattle.trace_check.specs.Reading.{Leads}

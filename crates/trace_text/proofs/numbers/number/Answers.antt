@@ -1,7 +1,7 @@
 use Rattle.std.proofs.Common.{◌≡◌, ◌+◌, ◌-◌, ◌*◌, [], true, false, refl, sym, ◌∙◌, arith, drop, get_or, drop_of_length-le}
 use Rattle.std.proofs.lemmas.List.{at_drop_more}
 use Rattle.std.specs.Str.{all_ascii_digits}
-use Rattle.trace_text.proofs.Digits.{none_begins, none_digit, none_within, some_number, read_on, read_on-grows}
+use Rattle.trace_text.proofs.DigitTexts.{none_begins, none_digit, none_within, some_number, read_on, read_on-grows}
 use Rattle.trace_text.proofs.numbers.number.Goals as goal
 
 pub returns-then-not-begins_as_number : goal.returns-then-not-begins_as_number

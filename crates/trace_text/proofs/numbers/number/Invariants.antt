@@ -1,6 +1,6 @@
 use Rattle.std.proofs.Common.{◌≡◌, ◌≤◌, drop}
 use Rattle.std.specs.Str.{all_ascii_digits}
-use Rattle.trace_text.proofs.Digits.{read_on}
+use Rattle.trace_text.proofs.DigitTexts.{read_on}
 use Rattle.trace_text.proofs.numbers.number.Given as goal
 
 abbrev pub invariant-loop-digit : goal.invariant-loop-digit

@@ -2,14 +2,14 @@ use Rattle.std.proofs.Common.{ℕ, List, Ok, Err, length, subst, sym}
 use Rattle.sig_types.specs.declared.frame.Frame.{Frame}
 use Rattle.trace_text.specs.Line.{line_text}
 use Rattle.trace_text.specs.declared.lines.Line.TheVariants.{J}
-use Rattle.safe_trace.specs.TraceText.{lines_text}
-use Rattle.cabinet_story.specs.Journals.{runs_of}
+use Rattle.safety_laws.specs.TraceText.{lines_text}
+use Rattle.cabinet_history.specs.Journals.{runs_of}
 use Rattle.cab_book.specs.declared.happened.Answered.{Answered}
 use Rattle.cab_book.specs.Books.{journal_of, written_in, answered_in}
 use Rattle.cab_book.specs.Happenings.{AreInOrder}
 use Rattle.round_run.specs.Lines.{told_lines}
-use Rattle.trace_out.specs.Handing.{HandsOver}
-use Rattle.trace_out.proofs.Handed.{hands-first, hands-then}
+use Rattle.whole_run.specs.Handing.{HandsOver}
+use Rattle.whole_run.proofs.Handed.{hands-first, hands-then}
 use Rattle.whole_run.proofs.lines.put_book.Goals as goal
 
 pub returns-in-Err : goal.returns-in-Err

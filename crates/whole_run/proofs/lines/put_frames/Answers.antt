@@ -1,9 +1,9 @@
 use Rattle.std.proofs.Common.{ℕ, List, ap, arith}
 use Rattle.std.proofs.lemmas.List.{drop_all}
 use Rattle.sig_types.specs.declared.frame.Frame.{Frame}
-use Rattle.safe_trace.specs.TraceText.{lines_text}
-use Rattle.run_lines.specs.Lines.{frame_lines}
-use Rattle.trace_out.proofs.Handed.{left-all, left-next, left-stops, left-none}
+use Rattle.safety_laws.specs.TraceText.{lines_text}
+use Rattle.run_definition.specs.Lines.{frame_lines}
+use Rattle.whole_run.proofs.Handed.{left-all, left-next, left-stops, left-none}
 use Rattle.whole_run.proofs.RoundLines.{next_frame}
 use Rattle.whole_run.proofs.lines.put_frames.Goals as goal
 

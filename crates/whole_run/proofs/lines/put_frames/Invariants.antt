@@ -1,7 +1,7 @@
 use Rattle.std.proofs.Common.{drop}
-use Rattle.safe_trace.specs.TraceText.{lines_text}
-use Rattle.run_lines.specs.Lines.{frame_lines}
-use Rattle.trace_out.proofs.Handed.{Left}
+use Rattle.safety_laws.specs.TraceText.{lines_text}
+use Rattle.run_definition.specs.Lines.{frame_lines}
+use Rattle.whole_run.proofs.Handed.{Left}
 use Rattle.whole_run.proofs.lines.put_frames.Given as goal
 
 -- the lines of the frames before this place were handed over

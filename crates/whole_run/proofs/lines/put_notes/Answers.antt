@@ -3,8 +3,8 @@ use Rattle.std.proofs.lemmas.List.{drop_all}
 use Rattle.sig_types.specs.declared.notes.MasterNote.{MasterNote}
 use Rattle.sig_types.specs.declared.notes.MasterNote.TheVariants.{Fail}
 use Rattle.trace_text.specs.declared.lines.Line.TheVariants.{M}
-use Rattle.safe_trace.specs.TraceText.{lines_text}
-use Rattle.trace_out.proofs.Handed.{left-all, left-next, left-stops, left-none}
+use Rattle.safety_laws.specs.TraceText.{lines_text}
+use Rattle.whole_run.proofs.Handed.{left-all, left-next, left-stops, left-none}
 use Rattle.whole_run.proofs.RoundLines.{next_note}
 use Rattle.whole_run.proofs.lines.put_notes.Goals as goal
 

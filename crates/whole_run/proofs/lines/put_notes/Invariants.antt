@@ -1,7 +1,7 @@
 use Rattle.std.proofs.Common.{drop, map}
 use Rattle.trace_text.specs.declared.lines.Line.TheVariants.{M}
-use Rattle.safe_trace.specs.TraceText.{lines_text}
-use Rattle.trace_out.proofs.Handed.{Left}
+use Rattle.safety_laws.specs.TraceText.{lines_text}
+use Rattle.whole_run.proofs.Handed.{Left}
 use Rattle.whole_run.proofs.lines.put_notes.Given as goal
 
 -- the lines of the notes before this place were handed over

@@ -1,8 +1,8 @@
 use Rattle.std.proofs.Common.{List, ℕ, Err, subst, sym}
 use Rattle.trace_text.specs.Line.{line_text}
 use Rattle.trace_text.specs.declared.lines.Line.TheVariants.{A}
-use Rattle.trace_out.specs.Handing.{HandsOver}
-use Rattle.trace_out.proofs.Handed.{hands-first, hands-then}
+use Rattle.whole_run.specs.Handing.{HandsOver}
+use Rattle.whole_run.proofs.Handed.{hands-first, hands-then}
 use Rattle.whole_run.proofs.RoundLines.{reply_text}
 use Rattle.whole_run.proofs.lines.put_reply.Goals as goal
 

@@ -1,12 +1,12 @@
 use Rattle.std.proofs.Common.{◌∙◌, ℕ, List, Ok, Err, length, ap, sym, refl, subst, arith}
 use Rattle.std.proofs.lemmas.List.{drop_all}
 use Rattle.sig_types.specs.declared.frame.Frame.{Frame}
-use Rattle.safe_trace.specs.TraceText.{lines_text}
+use Rattle.safety_laws.specs.TraceText.{lines_text}
 use Rattle.cab_book.specs.declared.happened.Answered.{Answered}
-use Rattle.run_lines.specs.Lines.{frame_lines}
+use Rattle.run_definition.specs.Lines.{frame_lines}
 use Rattle.round_run.specs.Lines.{told_lines}
-use Rattle.trace_out.specs.Handing.{HandsOver}
-use Rattle.trace_out.proofs.Handed.{left-all, left-next, left-stops, left-last}
+use Rattle.whole_run.specs.Handing.{HandsOver}
+use Rattle.whole_run.proofs.Handed.{left-all, left-next, left-stops, left-last}
 use Rattle.whole_run.proofs.RoundLines.{next_reply, order_next, in_order_most}
 use Rattle.whole_run.proofs.lines.put_told.Goals as goal
 

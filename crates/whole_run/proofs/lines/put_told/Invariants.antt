@@ -1,8 +1,8 @@
 use Rattle.std.proofs.Common.{drop, length}
-use Rattle.safe_trace.specs.TraceText.{lines_text}
+use Rattle.safety_laws.specs.TraceText.{lines_text}
 use Rattle.cab_book.specs.Happenings.{AreInOrder}
 use Rattle.round_run.specs.Lines.{told_lines}
-use Rattle.trace_out.proofs.Handed.{Left}
+use Rattle.whole_run.proofs.Handed.{Left}
 use Rattle.whole_run.proofs.lines.put_told.Given as goal
 
 -- the lines of the replies before this place, and of the frames before them, were handed over

@@ -1,10 +1,10 @@
 use Rattle.std.proofs.Common.{◌≡◌, ◌+◌, ◌*◌, ◌∙◌, ℕ, List, length, sym, ap, subst}
 use Rattle.scenario_data.specs.Content.{scenario_content}
 use Rattle.cab_book.specs.declared.book.Book.{Book}
-use Rattle.run_lines.specs.Standing.{each_standing}
+use Rattle.run_definition.specs.Standing.{each_standing}
 use Rattle.round_run.specs.Standings.{HaveRun, no_journals, TicksWithin}
 use Rattle.round_run.specs.Joined.{HaveMerged, journals_in}
-use Rattle.corridor.specs.Corridor.{Between}
+use Rattle.round_run.specs.Corridor.{Between}
 use Rattle.whole_run.proofs.rounds.run_round.Goals as goal
 
 pub end_round-requires-clause-begun : goal.end_round-requires-clause-begun

@@ -1,10 +1,10 @@
 use Rattle.std.proofs.Common.{List, ℕ, ◌+◌, drop}
-use Rattle.safe_trace.specs.TraceText.{lines_text}
+use Rattle.safety_laws.specs.TraceText.{lines_text}
 use Rattle.scenario_data.specs.Content.{ScenarioContent}
-use Rattle.run_lines.specs.Standing.{Standing}
-use Rattle.run_lines.specs.Lines.{each_lines}
+use Rattle.run_definition.specs.Standing.{Standing}
+use Rattle.run_definition.specs.Lines.{each_lines}
 use Rattle.round_run.specs.Standings.{HaveRun}
-use Rattle.trace_out.proofs.Handed.{Left}
+use Rattle.whole_run.proofs.Handed.{Left}
 use Rattle.whole_run.proofs.trace.put_books.Given as goal
 
 -- the lines of the cabinets before this place were handed over

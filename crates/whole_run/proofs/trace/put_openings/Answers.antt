@@ -1,9 +1,9 @@
 use Rattle.std.proofs.Common.{List, ◌+◌, ap, arith}
 use Rattle.std.proofs.lemmas.List.{drop_all}
-use Rattle.safe_trace.specs.TraceText.{lines_text}
-use Rattle.run_lines.specs.Standing.{Standing}
-use Rattle.run_lines.specs.Lines.{opening_lines}
-use Rattle.trace_out.proofs.Handed.{left-all, left-next, left-stops, left-none}
+use Rattle.safety_laws.specs.TraceText.{lines_text}
+use Rattle.run_definition.specs.Standing.{Standing}
+use Rattle.run_definition.specs.Lines.{opening_lines}
+use Rattle.whole_run.proofs.Handed.{left-all, left-next, left-stops, left-none}
 use Rattle.whole_run.proofs.Books.{next_opening}
 use Rattle.whole_run.proofs.trace.put_openings.Goals as goal
 

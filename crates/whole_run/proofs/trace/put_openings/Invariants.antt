@@ -1,9 +1,9 @@
 use Rattle.std.proofs.Common.{List, ◌+◌, drop}
-use Rattle.safe_trace.specs.TraceText.{lines_text}
-use Rattle.run_lines.specs.Standing.{Standing}
-use Rattle.run_lines.specs.Lines.{opening_lines}
+use Rattle.safety_laws.specs.TraceText.{lines_text}
+use Rattle.run_definition.specs.Standing.{Standing}
+use Rattle.run_definition.specs.Lines.{opening_lines}
 use Rattle.round_run.specs.Standings.{AreAt}
-use Rattle.trace_out.proofs.Handed.{Left}
+use Rattle.whole_run.proofs.Handed.{Left}
 use Rattle.whole_run.proofs.trace.put_openings.Given as goal
 
 -- what the cabinets before this place show was handed over

@@ -1,10 +1,10 @@
 use Rattle.std.proofs.Common.{List, ℕ, Err, map, subst, sym}
 use Rattle.trace_text.specs.Line.{line_text}
 use Rattle.trace_text.specs.declared.lines.Line.TheVariants.{R, M}
-use Rattle.safe_trace.specs.TraceText.{lines_text}
-use Rattle.run_lines.specs.Lines.{each_lines}
-use Rattle.trace_out.specs.Handing.{HandsOver}
-use Rattle.trace_out.proofs.Handed.{hands-first, hands-then}
+use Rattle.safety_laws.specs.TraceText.{lines_text}
+use Rattle.run_definition.specs.Lines.{each_lines}
+use Rattle.whole_run.specs.Handing.{HandsOver}
+use Rattle.whole_run.proofs.Handed.{hands-first, hands-then}
 use Rattle.whole_run.proofs.WholeText.{round_spelled}
 use Rattle.whole_run.proofs.trace.put_round.Goals as goal
 

@@ -1,12 +1,12 @@
 use Rattle.std.proofs.Common.{List, ℕ, Ok, Err, subst}
 use Rattle.trace_text.specs.Line.{line_text}
 use Rattle.trace_text.specs.declared.lines.Line.TheVariants.{S}
-use Rattle.safe_trace.specs.TraceText.{lines_text}
+use Rattle.safety_laws.specs.TraceText.{lines_text}
 use Rattle.scenario_data.specs.Content.{scenario_content}
-use Rattle.run_lines.specs.Orders.{serial_journals}
-use Rattle.run_lines.specs.Lines.{rest_lines}
-use Rattle.trace_out.specs.Handing.{HandsOver}
-use Rattle.trace_out.proofs.Handed.{hands-first, hands-then}
+use Rattle.run_definition.specs.Orders.{serial_journals}
+use Rattle.run_definition.specs.Lines.{rest_lines}
+use Rattle.whole_run.specs.Handing.{HandsOver}
+use Rattle.whole_run.proofs.Handed.{hands-first, hands-then}
 use Rattle.whole_run.proofs.Orders.{serial-brought}
 use Rattle.whole_run.proofs.trace.put_trace.Goals as goal
 

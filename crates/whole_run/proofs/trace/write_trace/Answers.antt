@@ -1,6 +1,6 @@
 use Rattle.scenario_data.specs.Content.{scenario_content}
-use Rattle.run_lines.specs.Orders.{serial_journals}
-use Rattle.trace_out.proofs.Handed.{writes-all, writes-front, writes-none}
+use Rattle.run_definition.specs.Orders.{serial_journals}
+use Rattle.whole_run.proofs.Handed.{writes-all, writes-front, writes-none}
 use Rattle.whole_run.proofs.Orders.{serial-brought}
 use Rattle.whole_run.proofs.WholeText.{trace_some}
 use Rattle.whole_run.proofs.trace.write_trace.Goals as goal

@@ -1,6 +1,6 @@
 use Rattle.std.proofs.Common.{◌≡◌, ◌+◌, ◌∙◌, ℕ, List, [], get_or, length, refl, ap, arith}
-use Rattle.round_streams.specs.Items.{items_of}
-use Rattle.cabinet_story.specs.Journals.{times}
+use Rattle.sig_types.specs.Items.{items_of}
+use Rattle.cabinet_history.specs.Journals.{times}
 use Rattle.cab_book.specs.Happened.{journal_in}
 use Rattle.cab_book.specs.Rounds.{frames_left, items_left}
 use Rattle.cab_book.specs.Shares.{ticks_left, shares}

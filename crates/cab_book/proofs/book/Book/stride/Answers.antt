@@ -1,6 +1,6 @@
 use Rattle.std.proofs.Common.{◌+◌, ◌-◌, ℕ, get_or, slice_set, option_to_list, refl, sym, ap, subst, arith}
 use Rattle.std.proofs.Math.Logic.{∥∥₁_map}
-use Rattle.cabinet_story.specs.Story.{Story}
+use Rattle.cabinet_history.specs.Story.{Story}
 use Rattle.cab_book.specs.Books.{BookStands}
 use Rattle.cab_book.specs.Shares.{ticks_left}
 use Rattle.cab_book.specs.declared.cabinet.Cabinet.{Cabinet}

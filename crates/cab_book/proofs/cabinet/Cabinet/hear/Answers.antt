@@ -1,4 +1,4 @@
-use Rattle.cabinet_story.specs.Coming.{history_of}
+use Rattle.cabinet_history.specs.Coming.{history_of}
 use Rattle.cab_book.proofs.Hearing.{hear-stands}
 use Rattle.cab_book.proofs.cabinet.Cabinet.hear.Goals as goal
 

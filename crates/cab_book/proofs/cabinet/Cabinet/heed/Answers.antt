@@ -1,13 +1,13 @@
 use Rattle.std.proofs.Common.{◌∙◌, ◌<◌, ap, arith, is_some}
 use Rattle.std.specs.Coded.{le_prop, Coded-set, coded_bool}
 use Rattle.std.proofs.Math.Logic.{∥∥₁_elim, ∥∥₁_map}
-use Rattle.cabinet_story.specs.Told.{wish_end}
+use Rattle.cabinet_history.specs.Told.{wish_end}
 use Rattle.sig_types.specs.declared.notes.StageAnswer.{StageAnswer}
 use Rattle.std.specs.Prelude.{Option}
 use Rattle.stage_txn.specs.Answers.{answered, kept, standing}
-use Rattle.cabinet_story.specs.Coming.{Coming, past_of}
+use Rattle.cabinet_history.specs.Coming.{Coming, past_of}
 use Rattle.cab_book.specs.Stands.{Keeps}
-use Rattle.cabinet_story.proofs.Installing.{few-within}
+use Rattle.cabinet_history.proofs.Installing.{few-within}
 use Rattle.cab_book.proofs.Wishes.{has-outcome}
 use Rattle.cab_book.proofs.Heeding.{carried-sound}
 use Rattle.cab_book.proofs.Answering.{shown-is, seen-is, text-is, shown-within}

@@ -3,9 +3,9 @@ use Rattle.std.proofs.Math.Logic.{∥∥₁_map}
 use Rattle.sig_tables.specs.declared.tables.Tables.{Tables}
 use Rattle.agent.specs.declared.ask.Ask.{Ask}
 use Rattle.agent.specs.Asks.{ask_of}
-use Rattle.cabinet_story.specs.Story.{Story}
-use Rattle.cabinet_story.specs.Coming.{coming, in_force, heeded, ask_after}
-use Rattle.cabinet_story.specs.Told.{replied, ask_end, in_frame}
+use Rattle.cabinet_history.specs.Story.{Story}
+use Rattle.cabinet_history.specs.Coming.{coming, in_force, heeded, ask_after}
+use Rattle.cabinet_history.specs.Told.{replied, ask_end, in_frame}
 use Rattle.cab_book.specs.Stands.{Keeps}
 use Rattle.cab_book.proofs.cabinet.Cabinet.receive.Goals as goal
 

@@ -3,8 +3,8 @@ use Rattle.std.specs.Coded.{le_prop}
 use Rattle.std.proofs.Math.Logic.{∥∥₁_elim}
 use Rattle.sig_types.specs.declared.frame.Frame.{Frame}
 use Rattle.sig_tables.specs.Decide.{last_frame_of}
-use Rattle.tick_sight.specs.Strides.{ticks_more}
-use Rattle.cabinet_story.specs.Coming.{history_of}
+use Rattle.tick_context.specs.Strides.{ticks_more}
+use Rattle.cabinet_history.specs.Coming.{history_of}
 use Rattle.cab_book.proofs.Striding.{stride-written, stride-stands}
 use Rattle.cab_book.proofs.cabinet.Cabinet.stride.Goals as goal
 

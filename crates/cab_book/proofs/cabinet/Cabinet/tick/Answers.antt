@@ -1,7 +1,7 @@
 use Rattle.std.proofs.Common.{◌∙◌, ◌+◌, arith, sym, ap, Bool, [], ◌∷◌, if◌then◌else◌}
 use Rattle.std.specs.Coded.{le_prop}
 use Rattle.std.proofs.Math.Logic.{∥∥₁_elim}
-use Rattle.cabinet_story.specs.Coming.{history_of}
+use Rattle.cabinet_history.specs.Coming.{history_of}
 use Rattle.cab_book.proofs.Ticking.{tick-stands, line-written}
 use Rattle.cab_book.proofs.cabinet.Cabinet.tick.Goals as goal
 

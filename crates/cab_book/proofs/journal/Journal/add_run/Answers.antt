@@ -1,5 +1,5 @@
 use Rattle.std.proofs.Common.{◌≡◌, ◌<◌, ◌+◌, ◌++◌, ◌∷◌, [], replicate, ◌∙◌, ℕ, ◌-◌, length, List, sym, subst, arith}
-use Rattle.cabinet_story.specs.Journals.{runs_of, passes_of}
+use Rattle.cabinet_history.specs.Journals.{runs_of, passes_of}
 use Rattle.cab_book.specs.Runs.{with_run_last}
 use Rattle.cab_book.proofs.Runs.{passes-run, run-longest, last-few, made-longer, made-new, begins-first}
 use Rattle.cab_book.proofs.journal.Journal.add_run.Goals as goal

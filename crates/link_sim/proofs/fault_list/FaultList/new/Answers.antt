@@ -1,6 +1,6 @@
 use Rattle.std.proofs.Common.{rules, List, ap, ◌∙◌}
 use Rattle.std.proofs.lemmas.List.Sorted.{answers_always}
-use Rattle.round_streams.specs.Passes.{pass_of}
+use Rattle.sig_types.specs.Passes.{pass_of}
 use Rattle.scenario_data.specs.declared.scenario.Fault.{Fault}
 use Rattle.link_sim.specs.Faults.{fault_of}
 use Rattle.link_sim.specs.Order.{rank_of}

@@ -1,7 +1,7 @@
 use Rattle.std.proofs.Common.{◌≡◌, ◌+◌, ◌<◌, pos, ◌∷◌, ◌++◌, if◌then◌else◌, map, ◌∙◌, ap, subst, arith, w32, to_z, of_z}
 use Rattle.std.specs.Option.{option_map}
 use Rattle.std.proofs.lemmas.Int.{to_z_pos}
-use Rattle.round_streams.specs.Items.{texts_of}
+use Rattle.sig_types.specs.Items.{texts_of}
 use Rattle.scenario_data.specs.Content.{load_content, master_content}
 use Rattle.requests.specs.Requests.{messages, status_of}
 use Rattle.master_load.specs.Downloads.{frame_text}

@@ -1,0 +1,27 @@
+-- What gives the frames of a cabinet stands for a history, whichever it is.
+use Rattle.std.specs.Prelude.{ℕ}
+use Rattle.sig_tables.specs.Past.{Past, History}
+use Rattle.sig_tables.specs.Decide.{past_at}
+use Rattle.controller.specs.StandsFor.{Keeps as Keeps_kept, tick_count as ticks_kept, install_count as installs_kept}
+use Rattle.observer.specs.Remembers.{Remembers, tick_count as ticks_looked, install_count as installs_looked}
+use Rattle.cab_book.specs.declared.control.Control.{Control}
+use Rattle.cab_book.specs.declared.control.Control.TheVariants.{Registers, LookingBack}
+
+-- what it keeps is what the past gives
+abbrev pub Keeps : Control → Past → Type 0
+Keeps (Registers c) past = Keeps_kept c past
+Keeps (LookingBack o) past = Remembers o past
+
+-- it stands for a history
+abbrev pub StandsFor : Control → History → Type 0
+StandsFor c h = Keeps c (past_at h)
+
+-- the number of ticks so far
+abbrev pub tick_count : Control → ℕ
+tick_count (Registers c) = ticks_kept c
+tick_count (LookingBack o) = ticks_looked o
+
+-- the number of tables put in force since the opening
+abbrev pub install_count : Control → ℕ
+install_count (Registers c) = installs_kept c
+install_count (LookingBack o) = installs_looked o

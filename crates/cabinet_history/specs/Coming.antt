@@ -1,0 +1,118 @@
+-- What a story comes to: the history of the cabinet's controller, and the calls of its download stage, the newest first. A frame
+-- stands for the calls that it asks for.
+use Rattle.std.specs.Prelude.{ℕ, Bool, List, [], ◌∷◌, map, Option, Some, None}
+use Rattle.sig_types.specs.declared.frame.Mode.TheVariants.{Flash}
+use Rattle.sig_types.specs.Colour.{same_mode}
+use Rattle.sig_types.specs.declared.notes.StageAnswer.{StageAnswer}
+use Rattle.sig_types.specs.declared.notes.StageAnswer.TheVariants.{Accepted}
+use Rattle.sig_tables.specs.declared.tables.Tables.{Tables}
+use Rattle.sig_tables.specs.Past.{Event, Input, Install, SetPattern, SetClock, Ask as GivePriority, Cancel, History, Past}
+use Rattle.sig_tables.specs.Looking.{last_frame}
+use Rattle.sig_tables.specs.Decide.{past_at, with_one, ticked}
+use Rattle.sig_tables.specs.Putting.{put_content}
+use Rattle.stage_txn.specs.Calls.{Call, Begin as BeginCall, Part as PartCall, Verify as VerifyCall, Finish as FinishCall}
+use Rattle.stage_txn.specs.Answers.{answered, answer_to, staged}
+use Rattle.agent.specs.declared.ask.Order.{Order}
+use Rattle.agent.specs.declared.ask.Order.TheVariants.{Pattern as PatternOrder, Clock as ClockOrder, Request as RequestOrder, Cancel as CancelOrder}
+use Rattle.agent.specs.declared.ask.Wish.{Wish}
+use Rattle.agent.specs.declared.ask.Wish.TheVariants.{Direct, Begin, Part, Verify, Finish}
+use Rattle.agent.specs.declared.ask.Ask.{Ask}
+use Rattle.agent.specs.Asks.{ask_of}
+use Rattle.sig_types.specs.Items.{Item, Told, Came, Ticked}
+use Rattle.cabinet_history.specs.Story.{Story}
+
+pub record Coming : Type 0 where
+  pub history : History
+  pub calls : List Call
+
+-- what the controller's history has come to
+abbrev pub past_of : Coming → Past
+past_of c = past_at c.history
+
+-- the tables in force
+abbrev pub in_force : Coming → Tables
+in_force c = (past_of c).tables
+
+-- the last frame is in flash
+abbrev pub is_flashing : Past → Bool
+is_flashing past = same_mode (last_frame past.moments).mode Flash
+
+-- the call of the stage that a wish stands for, if it does for one
+abbrev pub call_of : Coming → Wish → Option Call
+call_of c (Begin id) = Some (BeginCall id (in_force c))
+call_of c (Part id number puts) = Some (PartCall id number (map put_content puts.items))
+call_of c (Verify id total) = Some (VerifyCall id total (in_force c) (is_flashing (past_of c)))
+call_of c (Finish id) = Some (FinishCall id (in_force c) (is_flashing (past_of c)))
+call_of c _ = None
+
+-- what the stage answers to a call
+abbrev pub answer_in : Coming → Call → StageAnswer
+answer_in c call = answer_to (answered c.calls) call
+
+-- what the stage answers, where it is called
+abbrev pub outcome_in : Coming → Option Call → Option StageAnswer
+outcome_in c None = None
+outcome_in c (Some call) = Some (answer_in c call)
+
+abbrev pub outcome : Coming → Wish → Option StageAnswer
+outcome c wish = outcome_in c (call_of c wish)
+
+-- what an order does to the controller
+abbrev pub order_event : Order → Event
+order_event (PatternOrder n) = SetPattern n
+order_event (ClockOrder tick) = SetClock tick
+order_event (RequestOrder r) = GivePriority r
+order_event (CancelOrder number) = Cancel number
+
+-- a finish that was accepted puts the staged tables in force
+abbrev pub installs : Tables → StageAnswer → List Event
+installs t Accepted = Install t ∷ []
+installs t _ = []
+
+-- what a wish does to the controller, in order: one event for each order, the staged tables for a finish that is accepted
+abbrev pub events_of : Coming → Wish → List Event
+events_of c (Direct orders) = map order_event orders.items
+events_of c (Finish id) = installs (staged (answered c.calls)) (answer_in c (FinishCall id (in_force c) (is_flashing (past_of c))))
+events_of c _ = []
+
+-- the history after these events, which are in their order
+abbrev pub with_events : History → List Event → History
+with_events h [] = h
+with_events h (e ∷ events) = with_events (with_one h e) events
+
+-- the calls with one more, where there is one
+abbrev pub with_call : List Call → Option Call → List Call
+with_call calls None = calls
+with_call calls (Some call) = call ∷ calls
+
+-- a wish is carried out
+abbrev pub carried_out : Coming → Wish → Coming
+carried_out c wish = record { history = with_events c.history (events_of c wish); calls = with_call c.calls (call_of c wish) }
+
+-- what was asked is carried out; where nothing was, nothing changes
+abbrev pub heeded : Coming → Option Ask → Coming
+heeded c None = c
+heeded c (Some ask) = carried_out c ask.wish
+
+-- one item more comes to a cabinet of this community
+abbrev pub with_item : List ℕ → Item → Coming → Coming
+with_item community (Told field) c = record { history = with_one c.history (Input field); calls = c.calls }
+with_item community (Came octets) c = heeded c (ask_of octets community (in_force c))
+with_item community Ticked c = record { history = ticked c.history; calls = c.calls }
+
+-- what these items come to, the newest first
+abbrev pub coming_from : List ℕ → History → List Item → Coming
+coming_from community opening [] = record { history = opening; calls = [] }
+coming_from community opening (item ∷ items) = with_item community item (coming_from community opening items)
+
+-- what a story comes to
+abbrev pub coming : Story → Coming
+coming story = coming_from story.community story.opening story.items
+
+-- the history of the controller
+abbrev pub history_of : Story → History
+history_of story = (coming story).history
+
+-- what a frame asks after a story
+abbrev pub ask_after : Story → List ℕ → Option Ask
+ask_after story octets = ask_of octets story.community (in_force (coming story))

@@ -1,0 +1,84 @@
+-- The downloads that a cabinet has accepted, and the tables that they make. Lists have the newest first; the cells of a content are
+-- in order.
+use Rattle.std.specs.Prelude.{◌+◌, ◌≡◌, ◌≤◌, Bool, true, false, List, [], ◌∷◌, ◌++◌, length}
+use Rattle.sig_tables.specs.declared.tables.Tables.{Tables}
+use Rattle.sig_tables.specs.declared.cells.Cell.{Cell}
+use Rattle.sig_tables.specs.Cells.{Content}
+use Rattle.sig_tables.specs.Putting.{with_cells}
+use Rattle.sig_tables.specs.Standard.{std8}
+use Rattle.sig_tables.specs.Decide.{past_at}
+use Rattle.stage_txn.specs.Calls.{Call, Begin, Part, Verify, Finish, Deed, Began, Took, Closed, Installed, Reopened, Idle, deeds}
+use Rattle.stage_txn.specs.Answers.{answered}
+use Rattle.cabinet_history.specs.Story.{Story}
+use Rattle.cabinet_history.specs.Coming.{Coming, past_of, in_force, coming}
+
+-- the cells of the parts that were taken since the last download began
+abbrev pub content_by : List Deed → List (Cell × Content)
+content_by [] = []
+content_by (Began id in_force ∷ past) = []
+content_by (Took cells ∷ past) = content_by past ++ cells
+content_by (Closed ∷ past) = content_by past
+content_by (Installed ∷ past) = content_by past
+content_by (Reopened ∷ past) = content_by past
+content_by (Idle ∷ past) = content_by past
+
+-- the contents of the downloads that were put in force
+abbrev pub accepted_by : List Deed → List (List (Cell × Content))
+accepted_by [] = []
+accepted_by (Began id in_force ∷ past) = accepted_by past
+accepted_by (Took cells ∷ past) = accepted_by past
+accepted_by (Closed ∷ past) = accepted_by past
+accepted_by (Installed ∷ past) = content_by past ∷ accepted_by past
+accepted_by (Reopened ∷ past) = accepted_by past
+accepted_by (Idle ∷ past) = accepted_by past
+
+-- a download has begun, and was not put in force since
+abbrev pub is_under_way : List Deed → Bool
+is_under_way [] = false
+is_under_way (Began id in_force ∷ past) = true
+is_under_way (Took cells ∷ past) = is_under_way past
+is_under_way (Closed ∷ past) = is_under_way past
+is_under_way (Installed ∷ past) = false
+is_under_way (Reopened ∷ past) = is_under_way past
+is_under_way (Idle ∷ past) = is_under_way past
+
+-- the tables that were in force when the last download began
+abbrev pub base_by : List Deed → Tables
+base_by [] = std8
+base_by (Began id in_force ∷ past) = in_force
+base_by (Took cells ∷ past) = base_by past
+base_by (Closed ∷ past) = base_by past
+base_by (Installed ∷ past) = base_by past
+base_by (Reopened ∷ past) = base_by past
+base_by (Idle ∷ past) = base_by past
+
+-- tables with the whole content of each of these put in order, the oldest first
+abbrev pub with_downloads : Tables → List (List (Cell × Content)) → Tables
+with_downloads t [] = t
+with_downloads t (content ∷ earlier) = with_cells (with_downloads t earlier) content
+
+-- what the calls of a cabinet's stage did
+abbrev pub deeds_of : Coming → List Deed
+deeds_of c = deeds (answered c.calls)
+
+-- each call has an id, 1 or greater
+abbrev pub HaveIds : List Call → Type 0
+HaveIds [] = Unit {0}
+HaveIds (Begin id in_force ∷ calls) = (1 ≤ id) × HaveIds calls
+HaveIds (Part id number cells ∷ calls) = (1 ≤ id) × HaveIds calls
+HaveIds (Verify id total in_force flashing ∷ calls) = (1 ≤ id) × HaveIds calls
+HaveIds (Finish id in_force flashing ∷ calls) = (1 ≤ id) × HaveIds calls
+
+-- the version is the number of downloads that were put in force
+abbrev pub VersionCounts : Story → Type 0
+VersionCounts story =
+    (past_of (coming story)).version ≡ (past_at story.opening).version + length (accepted_by (deeds_of (coming story)))
+
+-- while a download is under way, the tables in force are those over which it began
+abbrev pub NothingElseInstalled : Story → Type 0
+NothingElseInstalled story = is_under_way (deeds_of (coming story)) ≡ true → base_by (deeds_of (coming story)) ≡ in_force (coming story)
+
+-- the tables in force are the opening ones with the whole content of each accepted download put in order
+abbrev pub TablesAreWhole : Story → Type 0
+TablesAreWhole story =
+    HaveIds (coming story).calls → in_force (coming story) ≡ with_downloads (past_at story.opening).tables (accepted_by (deeds_of (coming story)))

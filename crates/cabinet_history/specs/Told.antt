@@ -1,0 +1,113 @@
+-- What a cabinet tells of its items: the replies to frames, the ends of downloads, and the frames of ticks that have a line.
+use Rattle.std.specs.Prelude.{ℕ, ◌+◌, List, [], ◌∷◌, ◌++◌, Option, Some, None, Ok, Err}
+use Rattle.arrayvec.specs.ArrayVec.{ArrayVec}
+use Rattle.sig_types.specs.declared.notes.StageAnswer.{StageAnswer}
+use Rattle.sig_types.specs.declared.notes.StageAnswer.TheVariants.{Accepted, Refused}
+use Rattle.sig_types.specs.declared.frame.Frame.{Frame}
+use Rattle.sig_tables.specs.declared.shown.Shown.{Shown}
+use Rattle.sig_tables.specs.Past.{Past}
+use Rattle.sig_tables.specs.Seen.{frame_seen, vehicle_seen, pedestrian_seen}
+use Rattle.sig_tables.specs.Showing.{command_shown, clock_shown, states_shown}
+use Rattle.sig_types.specs.declared.phase_set.PhaseSet.{PhaseSet}
+use Rattle.sig_types.specs.Phases.{is_in}
+use Rattle.stage_txn.specs.Answers.{answered, standing, state_code, last_answer}
+use Rattle.snmp_msg.specs.Shortest.{shortest}
+use Rattle.agent.specs.declared.ask.Wish.{Wish}
+use Rattle.agent.specs.declared.ask.Wish.TheVariants.{Verify, Finish}
+use Rattle.agent.specs.declared.ask.Ask.{Ask}
+use Rattle.agent.specs.Groups.{bits}
+use Rattle.agent.specs.Seen.{Seen}
+use Rattle.agent.specs.Replies.{reply}
+use Rattle.sig_types.specs.Items.{Item, Told, Came, Ticked}
+use Rattle.cabinet_history.specs.declared.Load.{Load}
+use Rattle.cabinet_history.specs.declared.Reply.{Reply}
+use Rattle.cabinet_history.specs.Story.{Story, with_item}
+use Rattle.cabinet_history.specs.Journals.{Act}
+use Rattle.cabinet_history.specs.Coming.{Coming, past_of, in_force, coming, history_of, ask_after, outcome}
+use Rattle.cabinet_history.specs.Frames.{tick_written}
+
+-- the set of these phases
+abbrev pub set_of : List ℕ → PhaseSet
+set_of phases = record { 0 = bits (is_in phases) 16 1 }
+
+-- what a cabinet shows beside its tables
+abbrev pub shown_at : Past → Shown
+shown_at past = record {
+  frame = frame_seen past;
+  command = command_shown past;
+  clock = clock_shown past;
+  veh_calls = set_of (vehicle_seen past);
+  ped_calls = set_of (pedestrian_seen past);
+  requests = states_shown past;
+  version = past.version;
+}
+
+-- what an answer speaks of
+abbrev pub seen_in : Coming → Seen
+seen_in c = record {
+  tables = in_force c;
+  shown = shown_at (past_of c);
+  state = state_code (standing (answered c.calls));
+  last = last_answer (answered c.calls);
+}
+
+-- the octets of the reply to what is asked, by what the cabinet has come to before it; silence where nothing is asked
+abbrev pub replied : Coming → Option Ask → Option (List ℕ)
+replied c None = None
+replied c (Some ask) = Some (shortest (reply (seen_in c) ask.message ask.wish (outcome c ask.wish)))
+
+-- the reply to a frame after a story
+abbrev pub reply_to : Story → List ℕ → Option (List ℕ)
+reply_to story octets = replied (coming story) (ask_after story octets)
+
+-- a verify that a rule refused ends a load
+abbrev pub verify_end : ℕ → Option StageAnswer → Option Load
+verify_end id (Some (Refused broken)) = Some (record { id = id; result = Err broken })
+verify_end id _ = None
+
+-- and so does a finish that was accepted, with the version that it makes, or that a rule refused
+abbrev pub finish_end : ℕ → ℕ → Option StageAnswer → Option Load
+finish_end version id (Some Accepted) = Some (record { id = id; result = Ok (version + 1) })
+finish_end version id (Some (Refused broken)) = Some (record { id = id; result = Err broken })
+finish_end version id _ = None
+
+-- the end of a load that a wish brings, with what the stage answers
+abbrev pub wish_end : ℕ → Wish → Option StageAnswer → Option Load
+wish_end version (Verify id total) answer = verify_end id answer
+wish_end version (Finish id) answer = finish_end version id answer
+wish_end version _ answer = None
+
+abbrev pub ask_end : Coming → Option Ask → Option Load
+ask_end c None = None
+ask_end c (Some ask) = wish_end (past_of c).version ask.wish (outcome c ask.wish)
+
+-- the end of a load that a frame brings after a story, if it brings one
+abbrev pub load_end : Story → List ℕ → Option Load
+load_end story octets = ask_end (coming story) (ask_after story octets)
+
+-- octets in a frame
+abbrev pub in_frame : Option (List ℕ) → Option (ArrayVec ℕ)
+in_frame None = None
+in_frame (Some octets) = Some (record { items = octets })
+
+-- what is told of an item that a pass brings after a story: of a frame the reply, which may be silence, and the end of a load
+abbrev pub item_replies : Story → ℕ → Item → List Reply
+item_replies story pass (Told field) = []
+item_replies story pass (Came octets) = record { pass = pass; text = in_frame (reply_to story octets); load = load_end story octets } ∷ []
+item_replies story pass Ticked = []
+
+-- the frame that an item gives, where it has a line
+abbrev pub item_written : Story → Item → List (ℕ × Frame)
+item_written story (Told field) = []
+item_written story (Came octets) = []
+item_written story Ticked = tick_written (history_of story)
+
+-- what is told of these acts, in order
+abbrev pub acts_replies : Story → List Act → List Reply
+acts_replies story [] = []
+acts_replies story (act ∷ acts) = item_replies story act.pass act.item ++ acts_replies (with_item story act.item) acts
+
+-- the frames with a line that these acts give, in order
+abbrev pub acts_written : Story → List Act → List (ℕ × Frame)
+acts_written story [] = []
+acts_written story (act ∷ acts) = item_written story act.item ++ acts_written (with_item story act.item) acts

@@ -1,0 +1,49 @@
+-- What a cabinet tells of its items, in their order: the frame before any tick, each frame that has a line, and each download whose
+-- finish was accepted.
+use Rattle.std.specs.Prelude.{ℕ, List, [], ◌∷◌, ◌++◌, Option, Some, None, Result, Ok, Err}
+use Rattle.sig_types.specs.declared.notes.Broken.{Broken}
+use Rattle.sig_types.specs.declared.frame.Frame.{Frame}
+use Rattle.sig_tables.specs.Past.{History, first_frame}
+use Rattle.safety_laws.specs.Written.{shown_by}
+use Rattle.safety_laws.specs.Told.{Told, Shows, Loads}
+use Rattle.sig_types.specs.Items.{Item, Told as Input, Came, Ticked}
+use Rattle.cabinet_history.specs.declared.Load.{Load}
+use Rattle.cabinet_history.specs.Story.{Story, with_item}
+use Rattle.cabinet_history.specs.Journals.{Act}
+use Rattle.cabinet_history.specs.Told.{load_end, item_written}
+
+-- a version that was made
+abbrev pub version_told : Result ℕ Broken → List Told
+version_told (Ok version) = Loads version ∷ []
+version_told (Err broken) = []
+
+-- the end of a load tells the version that it made
+abbrev pub load_told : Option Load → List Told
+load_told None = []
+load_told (Some load) = version_told load.result
+
+-- frames with their numbers tell what they show
+abbrev pub frames_told : List (ℕ × Frame) → List Told
+frames_told [] = []
+frames_told (f ∷ frames) = Shows f.0 (shown_by f.1) ∷ frames_told frames
+
+-- what an item tells after a story
+abbrev pub item_told : Story → Item → List Told
+item_told story (Input field) = []
+item_told story (Came octets) = load_told (load_end story octets)
+item_told story Ticked = frames_told (item_written story Ticked)
+
+-- what items tell, of which the newest stands first, in the order in which they came
+abbrev pub items_told : List ℕ → History → List Item → List Told
+items_told community opening [] = Shows 0 (shown_by first_frame) ∷ []
+items_told community opening (item ∷ items) =
+    items_told community opening items ++ item_told (record { community = community; opening = opening; items = items }) item
+
+-- what a story tells
+abbrev pub story_told : Story → List Told
+story_told story = items_told story.community story.opening story.items
+
+-- what these acts tell after a story, in order
+abbrev pub acts_told : Story → List Act → List Told
+acts_told story [] = []
+acts_told story (act ∷ acts) = item_told story act.item ++ acts_told (with_item story act.item) acts

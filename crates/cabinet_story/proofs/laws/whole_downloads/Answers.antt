@@ -1,9 +1,0 @@
-use Rattle.cabinet_story.proofs.Whole.{whole}
-use Rattle.cabinet_story.proofs.laws.whole_downloads.Goals as goal
-
-pub returns : goal.returns
-returns c = record {
-  version = λ story. (whole story.community story.opening story.items).version;
-  nothing_else = λ story. (whole story.community story.opening story.items).base;
-  tables = λ story. (whole story.community story.opening story.items).tables;
-}

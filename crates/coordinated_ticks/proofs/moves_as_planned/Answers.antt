@@ -1,8 +1,0 @@
-use Rattle.coordinated_ticks.proofs.Moving.{other-moves, held-moves}
-use Rattle.coordinated_ticks.proofs.moves_as_planned.Goals as goal
-
-pub returns-clause-others : goal.returns-clause-others
-returns-clause-others c = other-moves
-
-pub returns-clause-held : goal.returns-clause-held
-returns-clause-held c = held-moves

@@ -1,8 +1,0 @@
-use Rattle.coordination_kept.proofs.Telling.{goes-on, target-later}
-use Rattle.coordination_kept.proofs.quiet_tells.Goals as goal
-
-pub returns-clause-goes_on : goal.returns-clause-goes_on
-returns-clause-goes_on c = goes-on
-
-pub returns-clause-later : goal.returns-clause-later
-returns-clause-later c = target-later

@@ -1,0 +1,8 @@
+pub mod Search
+pub mod Versions
+pub mod Lasting
+pub mod Cycles
+pub mod Facts
+pub mod Goes
+pub mod Told
+pub mod Ranged

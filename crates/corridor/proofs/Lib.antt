@@ -1,4 +1,0 @@
-pub mod Places
-pub mod Opening
-pub mod Streams
-pub mod Ending

@@ -1,5 +1,0 @@
-pub mod Lines
-pub mod Short
-pub mod Turn
-pub mod Back
-pub mod Heard

@@ -1,9 +1,0 @@
-use Rattle.desk.proofs.Lines.{carries_few}
-use Rattle.desk.proofs.Short.{round_is_short}
-use Rattle.desk.proofs.rounds_are_short.Goals as goal
-
-pub returns-clause-carried : goal.returns-clause-carried
-returns-clause-carried c = carries_few
-
-pub returns-clause-streams : goal.returns-clause-streams
-returns-clause-streams c = round_is_short

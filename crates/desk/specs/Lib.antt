@@ -1,5 +1,0 @@
-pub mod Served
-pub mod Bounds
-pub mod Answered
-pub mod Stands
-pub mod Begun

@@ -1,2 +1,0 @@
-pub mod Drifting
-pub mod Known

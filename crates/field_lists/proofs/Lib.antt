@@ -1,4 +1,0 @@
-pub mod Names
-pub mod Standing
-pub mod Narrow
-pub mod Saying

@@ -1,0 +1,22 @@
+use Rattle.std.proofs.Common.{rules, ◌≡◌, ◌++◌, ◌∷◌, ◌≤◌, [], length, codes, ap, ◌∙◌, subst, arith}
+use Rattle.std.proofs.lemmas.List.{length-append}
+use Rattle.serde_json.specs.View.{view}
+use Rattle.scenario_read.specs.Paths.{then_item}
+use Rattle.scenario_file.specs.Listing.{list_path}
+use Rattle.scenario_file.proofs.Growth.{told-next}
+use Rattle.field_read.specs.Content.{pulse_of}
+use Rattle.field_read.specs.Lists.{any_pulse}
+use Rattle.field_read.proofs.found.add_pulse.Goals as goal
+
+pub returns-in-Ok-push : goal.returns-in-Ok-push
+returns-in-Ok-push c = λ ds told.
+    let d = view c.args.object.now in
+    let place = c.len-place.result in
+    let old = c.args.pulses.now.items in
+    let new = c.push.new.self.items in
+    let path = list_path (codes "pulses") in
+    let counted : place ≡ length old = search rules in
+    let more : new ≡ old ++ pulse_of 86400 64 d ∷ [] = c.in-Ok-push.ensures.items ∙ ap (λ i. old ++ i ∷ []) c.in-Ok.ensures.1 in
+    let few : length new ≤ 1000000 = rw more (omega (arith, counted, length-append old (pulse_of 86400 64 d ∷ []), c.if-place-ge1000000.false)) in
+    told-next path any_pulse (pulse_of 86400 64) 1000000 old new ds d told
+    record { causes = subst (λ n. any_pulse (then_item path n) d ≡ []) counted c.in-Ok.ensures.0; more = more; few = few }

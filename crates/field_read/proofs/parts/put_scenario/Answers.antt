@@ -1,0 +1,18 @@
+use Rattle.std.proofs.Common.{[], codes, refl}
+use Rattle.field_read.specs.declared.found.Found.TheVariants.{Bank, Pulses}
+use Rattle.field_read.specs.Parts.{known, SaysScenario, SaysRespond}
+use Rattle.field_read.proofs.Names.{known-put}
+use Rattle.field_read.proofs.Standing.{is-here, is-there, list-there}
+use Rattle.field_read.proofs.parts.put_scenario.Goals as goal
+
+pub returns : goal.returns
+returns c = λ ms d s says.
+    let name = codes "scenario" in
+    let old = c.args.parts.now in
+    record {
+      names = known-put known [] name d ms refl s.names;
+      scenario = is-here SaysScenario c.args.source name d ms says;
+      bank = list-there (Bank old.bank) name d ms refl s.bank;
+      pulses = list-there (Pulses old.pulses) name d ms refl s.pulses;
+      respond = is-there SaysRespond old.respond (codes "respond") name d ms refl s.respond;
+    }

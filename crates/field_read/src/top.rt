@@ -1,0 +1,128 @@
+//! The whole text of a field file: an object with none but the four names, whose lists are read item by item.
+
+ghost use Rattle.std.specs.Prelude.{◌≡◌, ◌<◌, length, Some, IfSome, IsUtf8, codes};
+ghost use Rattle.json.specs.Json.{value, members};
+ghost use Rattle.serde_json.specs.Data.{Data, Members, object, no_members, no_items};
+ghost use Rattle.serde_json.specs.Read.{of_json, of_members, converted, read};
+ghost use Rattle.field_read.specs.Lists.{Holds, name_of};
+ghost use Rattle.field_read.specs.Parts.{Stands, Puts};
+
+use crate::found::Found;
+use crate::lists::list_at;
+use crate::parts::{Parts, no_parts, put_list, put_respond, put_scenario};
+use crate::respond_in;
+use json::{Reader, Scratch, Token};
+use scenario_file::{Level, scenario_at, tree};
+use std::alloc::Global;
+
+/// An object with a list of sections, each with a list of steps.
+const RULES: [Level; 5] = [
+    Level::Members,
+    Level::Items(8),
+    Level::Members,
+    Level::Items(8),
+    Level::Members,
+];
+
+/// Reads the scenario.
+fn scenario_member<'a>(
+    alloc: Global,
+    reader: &mut Reader<'_>,
+    parts: &mut Parts<'a>,
+    file: &'a [u8],
+) -> Option<()>
+    ensures ok { IfSome result (λ _. (d : Data) × (converted of_json (value 126 reader.old) ≡ Some (d, reader.new)) × Puts parts.old parts.new (codes "scenario") d) }
+    ensures shorter { IfSome result (λ _. length reader.new < length reader.old) }
+{
+    let source = scenario_at(alloc, reader, file)?;
+    put_scenario(parts, source);
+    Some(())
+}
+
+/// Reads a list.
+fn list_member(
+    alloc: Global,
+    reader: &mut Reader<'_>,
+    parts: &mut Parts<'_>,
+    found: Found,
+) -> Option<()>
+    requires begins { Holds found no_items }
+    ensures ok { IfSome result (λ _. (d : Data) × (converted of_json (value 126 reader.old) ≡ Some (d, reader.new)) × Puts parts.old parts.new (name_of found) d) }
+    ensures shorter { IfSome result (λ _. length reader.new < length reader.old) }
+{
+    let list = list_at(alloc, reader, found)?;
+    put_list(parts, list);
+    Some(())
+}
+
+/// Reads how patterns follow the traffic.
+fn respond_member(alloc: Global, reader: &mut Reader<'_>, parts: &mut Parts<'_>) -> Option<()>
+    ensures ok { IfSome result (λ _. (d : Data) × (converted of_json (value 126 reader.old) ≡ Some (d, reader.new)) × Puts parts.old parts.new (codes "respond") d) }
+    ensures shorter { IfSome result (λ _. length reader.new < length reader.old) }
+{
+    let object = tree(alloc, reader, 126, &RULES)?;
+    let Ok(respond) = respond_in(alloc, &object) else {
+        return None;
+    };
+    put_respond(parts, respond);
+    Some(())
+}
+
+/// Reads what stands at the next name.
+fn member_at<'a>(
+    alloc: Global,
+    reader: &mut Reader<'_>,
+    name: &str,
+    parts: &mut Parts<'a>,
+    file: &'a [u8],
+) -> Option<()>
+    ensures ok { IfSome result (λ _. (d : Data) × (converted of_json (value 126 reader.old) ≡ Some (d, reader.new)) × Puts parts.old parts.new name.now d) }
+    ensures shorter { IfSome result (λ _. length reader.new < length reader.old) }
+{
+    match name {
+        "scenario" => scenario_member(alloc, reader, parts, file),
+        "bank" => list_member(alloc, reader, parts, Found::Bank(Vec::new(alloc))),
+        "pulses" => list_member(alloc, reader, parts, Found::Pulses(Vec::new(alloc))),
+        "respond" => respond_member(alloc, reader, parts),
+        _ => None,
+    }
+}
+
+/// The members up to the brace that closes the whole object. Of equal names the last counts.
+fn members_of<'a>(alloc: Global, reader: &mut Reader<'_>, file: &'a [u8]) -> Option<Parts<'a>>
+    ensures { IfSome result (λ parts. (ms : Members)
+        × (converted (λ es. of_members es no_members) (members (value 126) (length reader.old) reader.old) ≡ Some (ms, reader.new)) × Stands parts ms) }
+{
+    let mut parts = no_parts(alloc);
+    'members: loop {
+        let name = match reader.next_key() {
+            Ok(Some(name)) => name,
+            Ok(None) => return Some(parts),
+            Err(_) => return None,
+        };
+        member_at(alloc, reader, name, &mut parts, file)?;
+    }
+}
+
+/// The parts of a text that is one object.
+pub(crate) fn parts_of<'a>(alloc: Global, bytes: &'a [u8]) -> Option<Parts<'a>>
+    ensures utf8 { IfSome result (λ _. IsUtf8 bytes.now) }
+    ensures ok { IfSome result (λ parts. (ms : Members) × (read bytes.now ≡ Some (object ms)) × Stands parts ms) }
+{
+    let Ok(text) = std::str::from_utf8(bytes) else {
+        return None;
+    };
+    let mut scratch = Scratch::new(alloc);
+    let Ok(mut reader) = Reader::new(text, &mut scratch) else {
+        return None;
+    };
+    match reader.next() {
+        Some(Token::BeginObject) => {}
+        _ => return None,
+    }
+    let parts = members_of(alloc, &mut reader, bytes)?;
+    match reader.next() {
+        Some(_) => None,
+        None => Some(parts),
+    }
+}

@@ -1,8 +1,0 @@
-use Rattle.force_offs.proofs.Others.{other-step, other-at_zero}
-use Rattle.force_offs.proofs.others_in_time.Goals as goal
-
-pub returns-clause-step : goal.returns-clause-step
-returns-clause-step c = other-step
-
-pub returns-clause-at_zero : goal.returns-clause-at_zero
-returns-clause-at_zero c = other-at_zero

@@ -1,9 +1,0 @@
-pub mod Texts
-pub mod Read
-pub mod Tables
-pub mod Carried
-pub mod Named
-pub mod Stories
-pub mod Replies
-pub mod Sent
-pub mod Rounds

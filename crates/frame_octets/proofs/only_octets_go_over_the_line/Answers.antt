@@ -1,8 +1,0 @@
-use Rattle.frame_octets.proofs.Rounds.{streams-octets, arrivals-octets}
-use Rattle.frame_octets.proofs.only_octets_go_over_the_line.Goals as goal
-
-pub returns-clause-down : goal.returns-clause-down
-returns-clause-down c = streams-octets
-
-pub returns-clause-up : goal.returns-clause-up
-returns-clause-up c = arrivals-octets

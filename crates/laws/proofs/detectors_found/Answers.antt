@@ -1,6 +1,0 @@
-use Rattle.sig_tables.specs.Decide.{since_opening}
-use Rattle.laws.proofs.Search.{detector-found}
-use Rattle.laws.proofs.detectors_found.Goals as goal
-
-pub returns : goal.returns
-returns c = λ h p ph. detector-found h.tables (since_opening h) p ph

@@ -1,6 +1,0 @@
-use Rattle.sig_tables.specs.Decide.{since_opening}
-use Rattle.laws.proofs.Serving.{lawful-served}
-use Rattle.laws.proofs.forces_off_served.Goals as goal
-
-pub returns : goal.returns
-returns c = λ h l. lawful-served h.tables (since_opening h) l

@@ -1,7 +1,0 @@
-use Rattle.sig_tables.specs.Decide.{since_opening}
-use Rattle.laws.proofs.Signals.{each-on-green}
-use Rattle.laws.proofs.Serving.{lawful-served}
-use Rattle.laws.proofs.on_green.Goals as goal
-
-pub returns : goal.returns
-returns c = λ h l. each-on-green h.tables (since_opening h) (lawful-served h.tables (since_opening h) l)

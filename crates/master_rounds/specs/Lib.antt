@@ -1,0 +1,6 @@
+pub mod Rounds
+pub mod Served
+pub mod Bounds
+pub mod Answered
+pub mod Stands
+pub mod Begun

@@ -1,0 +1,23 @@
+//! The master's desk as a whole: the master, and the link with its faults. A round begins with what the master notes and with the
+//! streams that reach each cabinet, and ends with what the cabinets have answered.
+#![tactic(auto)]
+
+mod desk;
+mod rounds;
+
+ghost use Rattle.std.specs.Prelude.{ℕ, List};
+ghost use Rattle.scenario_data.specs.declared.scenario.Fault.{Fault};
+ghost use Rattle.scenario_data.specs.Content.{ScenarioContent, CabinetContent};
+ghost use Rattle.sig_types.specs.Replies.{Reply};
+ghost use Rattle.link_sim.specs.declared.Line.{Line};
+ghost use Rattle.master_rounds.specs.Bounds.{CarriesFew, RoundIsShort};
+
+pub use desk::{Begun, Desk};
+pub use rounds::rounds_close;
+
+/// A law: what a line carries in a round is bounded by what is sent in it and by the faults, however many rounds were before; so the
+/// streams of a round can be taken by a cabinet, whatever it has answered.
+pub fn rounds_are_short()
+    ensures carried { (faults : List Fault) (line : Line) (texts : List (List ℕ)) (before : List (List (List ℕ))) → CarriesFew faults line texts before }
+    ensures streams { (s : ScenarioContent) (cab : ℕ) (c : CabinetContent) (answered : List (List Reply)) → RoundIsShort s cab c answered }
+{}

@@ -1,0 +1,48 @@
+-- The pattern that binds a tick, and the phases that are held to their maximum.
+use Rattle.std.proofs.Common.{◌≡◌, ◌||◌, ℕ, Bool, true, false, Option, None, Some, refl, sym, ◌∙◌, ap, subst}
+use Rattle.sig_types.specs.declared.frame.Mode.{Mode}
+use Rattle.sig_types.specs.declared.frame.Mode.TheVariants.{Start, Free, Seek, Coord, Ending, Flash, Entry, Track, Dwell, Exit}
+use Rattle.sig_tables.specs.declared.tables.Tables.{Tables}
+use Rattle.sig_tables.specs.Tables.{has_maximum_recall}
+use Rattle.sig_tables.specs.Past.{Past}
+use Rattle.sig_tables.specs.Modes.{bound}
+use Rattle.sig_tables.specs.Splits.{keeps_maximum, split_maximum}
+use Rattle.sig_tables.specs.Seen.{mode_seen}
+use Rattle.tick_context.specs.declared.course.Course.{Course}
+use Rattle.tick_context.specs.Modes.{is_coord}
+use Rattle.tick_context.specs.Binds.{BindingIs, IsBound}
+use Rattle.observer.specs.declared.Observer.{Observer}
+use Rattle.observer.specs.Runs.{Runs}
+
+-- in step with pattern n, that is the pattern which is kept
+pub binding-in : (o : Observer) (k : Course) (past : Past) (n : ℕ) → Runs o k past → mode_seen past ≡ Coord n → BindingIs o.binding past.tables n
+binding-in o k past n r e = subst (λ (m : Mode). IsBound o.binding past.tables m) e r.bound
+
+-- whether the mode of a course is in step with a pattern
+pub coord-of : (o : Observer) (k : Course) (past : Past) (b x : Bool) → Runs o k past → b ≡ is_coord k.mode → b ≡ x → is_coord (mode_seen past) ≡ x
+coord-of o k past b x r e f = sym (ap is_coord r.course.mode) ∙ sym e ∙ f
+
+-- a phase is held to its maximum by its options or by the pattern that binds
+pub held-itself : (o : Option ℕ) (t : Tables) (p : ℕ) → has_maximum_recall t p ≡ true → true ≡ keeps_maximum o t p
+held-itself None t p e = sym e
+held-itself (Some n) t p e = sym (ap (λ (b : Bool). b || split_maximum t n p) e)
+
+pub held-bound : (o : Option ℕ) (t : Tables) (n p : ℕ) (x : Bool) → has_maximum_recall t p ≡ false → o ≡ Some n → x ≡ split_maximum t n p
+    → x ≡ keeps_maximum o t p
+held-bound o t n p x e is s = s ∙ sym (ap (λ (m : Option ℕ). keeps_maximum m t p) is ∙ ap (λ (b : Bool). b || split_maximum t n p) e)
+
+pub held-free : (o : Option ℕ) (t : Tables) (p : ℕ) → has_maximum_recall t p ≡ false → o ≡ None → false ≡ keeps_maximum o t p
+held-free o t p e is = sym (ap (λ (m : Option ℕ). keeps_maximum m t p) is ∙ e)
+
+-- what is in step with no pattern binds none
+pub unbound-but : (m : Mode) → ((n : ℕ) → m ≡ Coord n → ⊥) → bound m ≡ None
+unbound-but (Coord n) not = absurd (not n refl)
+unbound-but Start not = refl
+unbound-but Free not = refl
+unbound-but (Seek n) not = refl
+unbound-but Ending not = refl
+unbound-but Flash not = refl
+unbound-but (Entry i) not = refl
+unbound-but (Track i) not = refl
+unbound-but (Dwell i) not = refl
+unbound-but (Exit i) not = refl

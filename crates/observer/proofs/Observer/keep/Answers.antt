@@ -1,0 +1,57 @@
+use Rattle.std.proofs.Common.{◌&&◌, ℕ, List, Bool, refl, sym, ◌∙◌, ap, arith, subst}
+use Rattle.sig_types.specs.declared.frame.Frame.{Frame}
+use Rattle.sig_types.specs.Phases.{is_in}
+use Rattle.sig_tables.specs.Past.{Moment}
+use Rattle.sig_tables.specs.Calls.{is_green}
+use Rattle.sig_tables.specs.Command.{command_now}
+use Rattle.sig_tables.specs.Preempts.{preempts_on}
+use Rattle.sig_tables.specs.Decide.{next_moment, colours_of}
+use Rattle.sig_tables.specs.Seen.{frame_seen, moment_seen, moves_seen}
+use Rattle.sig_tables.specs.Layout.{Has}
+use Rattle.sig_tables.proofs.Below.{is-above, is-within}
+use Rattle.call_store.specs.Stands.{is_walking}
+use Rattle.preempt_run.proofs.Called.{seen-is}
+use Rattle.preempt_run.proofs.OnPhases.{names-phases}
+use Rattle.tick_context.proofs.Seen.{opposed-green}
+use Rattle.tick_context.proofs.Sought.{start-again}
+use Rattle.tick_context.proofs.Pickups.{few-next, one-more, same-most}
+use Rattle.observer.proofs.Inputs.{seen-on}
+use Rattle.observer.proofs.InStep.{next-within}
+use Rattle.observer.proofs.Observer.keep.Goals as goal
+
+pub returns-clause-keeps : goal.returns-clause-keeps
+returns-clause-keeps c = λ past r s f.
+    let m : Moment = next_moment past in
+    let k = r.keeps in
+    let green : Has c.showing.result (is_green m.frame) =
+    subst (λ (x : Frame). Has c.showing.result (is_green x)) f (λ p h. c.showing.ensures.shown p (is-above p h) (is-within p h)) in
+    let walking : Has c.signalling.result (is_walking m.frame) =
+    subst (λ (x : Frame). Has c.signalling.result (is_walking x)) f (λ p h. c.signalling.ensures.shown p (is-above p h) (is-within p h)) in
+    record {
+      tables = k.tables;
+      layout = k.layout;
+      ordered = k.ordered;
+      version = k.version;
+      frame = f;
+      calls = c.step.ensures.stands past m k.calls green walking refl refl refl;
+      inputs = seen-on c.args.self.now.inputs past m (sym (seen-is past)) k.inputs;
+      requests = c.step-2.ensures.stands past m k.requests (one-more (moment_seen past).number) r.course.active;
+      orders = c.step-3.ensures.stands past m k.orders (record { number = refl; command = refl; is_commanded = refl; clock = refl })
+          r.course.command r.course.clock;
+      commanded = refl;
+      binding = k.binding;
+      lookout = c.push.ensures past.moments m k.lookout
+          (record {
+            frame = sym f;
+            quiet = s.quiet;
+            opposed = λ p i. opposed-green past p i ∙ ap (λ (b : Bool). is_green (frame_seen past) p && b) (sym (s.opposed p i));
+          })
+          (sym k.tables) (λ i a b. k.inputs i a b ∙ ap (λ (xs : List ℕ). is_in xs i) (seen-is past)) k.commanded;
+      some = omega arith;
+      names = names-phases m.frame past.tables (colours_of past (moves_seen past)) refl;
+      within = λ n. next-within c.args.course.now past n r.course;
+      few_start = few-next m past.moments
+          (λ now last. start-again past.tables past.version (command_now past) (preempts_on past.heard (moment_seen past)) past.moments
+          (colours_of past (moves_seen past)) last now);
+      old_frame = same-most past.version;
+    }

@@ -1,0 +1,29 @@
+use Rattle.std.proofs.Common.{◌≡◌, ℕ, if◌then◌else◌, Bool, List, map, ◌∙◌, ap, sym}
+use Rattle.sig_types.specs.declared.frame.Colour.{Colour}
+use Rattle.sig_types.specs.declared.frame.Mode.{Mode}
+use Rattle.sig_types.specs.declared.frame.Ped.TheVariants.{Walk}
+use Rattle.sig_types.specs.Phases.{all_phases}
+use Rattle.sig_tables.specs.Choosing.{mode_reached}
+use Rattle.sig_tables.specs.Course.{course_of}
+use Rattle.sig_tables.specs.Ticking.{frame_of, frame_with}
+use Rattle.sig_tables.specs.Decide.{colours_of}
+use Rattle.sig_tables.specs.Seen.{sight_seen, mode_seen, moves_seen}
+use Rattle.tick_context.specs.Walks.{walk_after, signal_seen}
+use Rattle.observer.proofs.Observer.next_frame.Goals as goal
+
+pub returns : goal.returns
+returns c = record {
+  given = λ past r s.
+      let moves = c.moves-moves.ensures.moves past r s in
+      let veh : c.colours-veh.result ≡ colours_of past (moves_seen past) = c.colours-veh.ensures.colours past (moves_seen past) r.keeps moves in
+      let mode : c.mode_reached-mode.result ≡ mode_reached (mode_seen past) past.tables c.colours-veh.result = c.mode_reached-mode.ensures.reached past r in
+      let walks = c.walks-walks.ensures.walks past (moves_seen past) _ r s moves mode in
+      let begins : ℕ → Bool = walk_after past c.mode_reached-mode.result (colours_of past (moves_seen past)) in
+      let ped : c.signals-ped.result ≡ map (λ (p : ℕ). if begins p then Walk else signal_seen past p) all_phases =
+      c.signals-ped.ensures.signals past begins r walks in
+      c.frame_after.ensures.frame past r
+      (ped ∙ ap (λ (x : List Colour). map (λ (p : ℕ). if walk_after past c.mode_reached-mode.result x p then Walk else signal_seen past p) all_phases)
+      (sym veh))
+      ∙ ap (λ (m : Mode). frame_of (course_of past) past (sight_seen past) c.colours-veh.result m) mode
+      ∙ ap (λ (x : List Colour). frame_with (course_of past) past (sight_seen past) x) veh;
+}

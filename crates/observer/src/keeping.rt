@@ -1,0 +1,43 @@
+//! What is kept of a frame: it is seen, and what was told before it has been heard.
+
+ghost use Rattle.std.specs.Prelude.{◌≡◌, ◌<◌, ◌+◌};
+
+use crate::Observer;
+use call_store::signalling;
+use look_back::Seen;
+use sig_types::{Colour, Frame, Ped, showing};
+use tick_context::{Course, Sight};
+
+impl Observer {
+    ghost use Rattle.sig_tables.specs.Past.{Past};
+    ghost use Rattle.sig_tables.specs.Decide.{with_moment, next_moment};
+    ghost use Rattle.tick_context.specs.Sees.{Sees};
+    ghost use Rattle.observer.specs.Remembers.{Remembers, tick_count, install_count};
+    ghost use Rattle.observer.specs.Runs.{Runs};
+
+    /// Keeps the frame of this tick.
+    pub(crate) fn keep(&mut self, frame: &Frame, course: &Course, sight: &Sight)
+        requires few { tick_count self.old < 4294967295 }
+        requires of_day { course.now.clock < 864000 }
+        ensures keeps { (past : Past) → Runs self.old course.now past → Sees sight.now past → frame.now ≡ (next_moment past).frame
+            → Remembers self.new (with_moment past (next_moment past)) }
+        ensures ticks { tick_count self.new ≡ tick_count self.old + 1 }
+        ensures installs { install_count self.new ≡ install_count self.old }
+    {
+        let seen = Seen {
+            frame: *frame,
+            active: sight.active,
+            opposed: sight.opposed,
+        };
+        self.lookout
+            .push(&seen, &self.tables, self.inputs, self.commanded);
+        self.calls.step(
+            showing(&frame.veh, Colour::Green),
+            signalling(&frame.ped, Ped::Walk),
+        );
+        self.requests.step(course.active);
+        self.orders.step(course.command, course.clock);
+        self.commanded = false;
+        self.frame = *frame;
+    }
+}

@@ -1,0 +1,186 @@
+//! Why a green ends, by looking back over the window: gap, maximum, and with a pattern its release, a priority request or a
+//! filled split (FHWA Signal Timing Manual: gap-out, max-out, yield point, force-off).
+
+ghost use Rattle.std.specs.Prelude.{◌≡◌, ◌<◌, ◌≤◌, ◌==◌, ◌&&◌, ℕ, not, None, Some};
+ghost use Rattle.prio_queue.specs.Places.{some_number};
+
+use crate::Observer;
+use coord_gate::released;
+use sig_tables::time_of;
+use sig_types::{Colour, Mode, PhaseSet};
+use tick_context::{Course, Sight, is_asked, is_coord};
+
+impl Observer {
+    ghost use Rattle.sig_types.specs.declared.frame.Mode.TheVariants.{Coord};
+    ghost use Rattle.sig_types.specs.Phases.{is_in};
+    ghost use Rattle.sig_tables.specs.Tables.{is_enabled};
+    ghost use Rattle.sig_tables.specs.Past.{Past};
+    ghost use Rattle.sig_tables.specs.Calls.{is_green};
+    ghost use Rattle.sig_tables.specs.Modes.{bound};
+    ghost use Rattle.sig_tables.specs.Splits.{keeps_maximum};
+    ghost use Rattle.sig_tables.specs.Coordinating.{extension_of};
+    ghost use Rattle.sig_tables.specs.Layout.{Has};
+    ghost use Rattle.sig_tables.specs.View.{has_gap, has_maximum, has_filled_split, is_reasoned, is_done};
+    ghost use Rattle.sig_tables.specs.Seen.{frame_seen, mode_seen, quiet_seen, opposed_seen, view_seen};
+    ghost use Rattle.tick_context.specs.Sees.{Sees};
+    ghost use Rattle.observer.specs.Remembers.{Remembers};
+    ghost use Rattle.observer.specs.Runs.{Runs};
+
+    /// Whether a phase, 1 to 16, is held to its maximum, by its options or by the pattern that binds.
+    fn keeps_maximum(&self, course: &Course, phase: u8) -> bool
+        requires above { 0 < phase }
+        requires within { phase ≤ 16 }
+        ensures keeps { (past : Past) → Runs self.now course.now past → result ≡ keeps_maximum (bound (mode_seen past)) past.tables phase }
+    {
+        if self.layout.maximum_recall.has(phase) {
+            true
+        } else if is_coord(course.mode) {
+            self.binding.options.maximum.has(phase)
+        } else {
+            false
+        }
+    }
+
+    /// Whether a green phase, 1 to 16, which is active at this tick or is not, has a gap: it was not for its passage time.
+    fn has_gap(&self, course: &Course, phase: u8, active: bool) -> bool
+        requires above { 0 < phase }
+        requires within { phase ≤ 16 }
+        ensures gap { (past : Past) → Runs self.now course.now past → active ≡ not (is_in (quiet_seen past) phase)
+            → result ≡ has_gap (view_seen past) phase }
+    {
+        let held = self.keeps_maximum(course, phase);
+        self.lookout
+            .window()
+            .has_gap(&self.tables, phase, held, !active)
+    }
+
+    /// Whether a green phase, 1 to 16, which is opposed at this tick or is not, is at its maximum: it was so for that time.
+    fn has_maximum(&self, phase: u8, opposed: bool) -> bool
+        requires above { 0 < phase }
+        requires within { phase ≤ 16 }
+        ensures maximum { (past : Past) → Remembers self.now past → opposed ≡ is_in (opposed_seen past) phase
+            → result ≡ has_maximum (view_seen past) phase }
+    {
+        self.lookout
+            .window()
+            .has_maximum(&self.tables, phase, opposed)
+    }
+
+    /// Whether there is a reason to end a green phase, 1 to 16, where no pattern binds: gap or maximum.
+    fn free_reason(&self, course: &Course, phase: u8, active: bool, opposed: bool) -> bool
+        requires above { 0 < phase }
+        requires within { phase ≤ 16 }
+        ensures reason { (past : Past) → Runs self.now course.now past → active ≡ not (is_in (quiet_seen past) phase)
+            → opposed ≡ is_in (opposed_seen past) phase → result ≡ is_reasoned None (view_seen past) phase }
+    {
+        if self.has_gap(course, phase, active) {
+            true
+        } else {
+            self.has_maximum(phase, opposed)
+        }
+    }
+
+    /// By how many ticks an active priority request holds a coordinated phase.
+    fn extension(&self, active: Option<u8>) -> u32
+        ensures extension { (past : Past) (n : ℕ) → Remembers self.now past → active ≡ some_number n
+            → result ≡ extension_of past.tables n }
+    {
+        match active {
+            Some(_) => u32::from(self.tables.unit().extension),
+            None => 0,
+        }
+    }
+
+    /// Whether force-offs float, and a phase, 1 to 16, has been green so long that it fills its split of a pattern with its
+    /// clearance.
+    fn has_filled_split(&self, pattern: u8, phase: u8) -> bool
+        requires above { 0 < phase }
+        requires within { phase ≤ 16 }
+        ensures filled { (past : Past) → Remembers self.now past → result ≡ has_filled_split (view_seen past) pattern phase }
+    {
+        if self.tables.unit().force_mode != 2 {
+            return false;
+        }
+        let split = time_of(self.tables.entries(pattern), phase);
+        let least = split.saturating_sub(self.tables.clearance(phase));
+        self.lookout.window().run(phase, Colour::Green, least) >= least
+    }
+
+    /// Whether there is a reason to end a green phase, 1 to 16, where this pattern binds: its release, where the pattern holds
+    /// it, else an active priority request, a gap or a filled split.
+    fn bound_reason(&self, course: &Course, pattern: u8, phase: u8, active: bool) -> bool
+        requires above { 0 < phase }
+        requires within { phase ≤ 16 }
+        ensures reason { (past : Past) → Runs self.now course.now past → mode_seen past ≡ Coord pattern
+            → active ≡ not (is_in (quiet_seen past) phase) → result ≡ is_reasoned (Some pattern) (view_seen past) phase }
+    {
+        if self.binding.options.coordinated.has(phase) {
+            let held = self.extension(course.active);
+            released(&self.binding.plan, course.counter, held, phase)
+        } else if is_asked(course.active) {
+            true
+        } else if self.has_gap(course, phase, active) {
+            true
+        } else {
+            self.has_filled_split(pattern, phase)
+        }
+    }
+
+    /// Whether there is a reason to end a green phase, 1 to 16.
+    fn has_reason(&self, course: &Course, phase: u8, active: bool, opposed: bool) -> bool
+        requires above { 0 < phase }
+        requires within { phase ≤ 16 }
+        ensures reason { (past : Past) → Runs self.now course.now past → active ≡ not (is_in (quiet_seen past) phase)
+            → opposed ≡ is_in (opposed_seen past) phase → result ≡ is_reasoned (bound (mode_seen past)) (view_seen past) phase }
+    {
+        match course.mode {
+            Mode::Coord(pattern) => self.bound_reason(course, pattern, phase, active),
+            _ => self.free_reason(course, phase, active, opposed),
+        }
+    }
+
+    /// Whether a phase, 1 to 16, is enabled and green in the last frame.
+    fn is_in_service(&self, phase: u8) -> bool
+        requires above { 0 < phase }
+        requires within { phase ≤ 16 }
+        ensures service { (past : Past) → Remembers self.now past
+            → result ≡ (is_enabled past.tables phase && is_green (frame_seen past) phase) }
+    {
+        if self.layout.enabled.has(phase) {
+            self.frame.veh[phase as usize - 1] == Colour::Green
+        } else {
+            false
+        }
+    }
+
+    /// Whether a phase, 1 to 16, is done: it is enabled and green, there is a reason to end it, and it is served.
+    fn is_done(&self, course: &Course, sight: &Sight, phase: u8) -> bool
+        requires above { 0 < phase }
+        requires within { phase ≤ 16 }
+        ensures done { (past : Past) → Runs self.now course.now past → Sees sight.now past → result ≡ is_done (view_seen past) phase }
+    {
+        if !self.is_in_service(phase) {
+            return false;
+        }
+        let active = sight.active.has(phase);
+        let opposed = sight.opposed.has(phase);
+        if !self.has_reason(course, phase, active, opposed) {
+            return false;
+        }
+        let place = phase as usize - 1;
+        let signal = self.frame.ped[place];
+        self.lookout
+            .is_served(&self.tables, phase, self.frame.veh[place], signal)
+    }
+
+    /// The green phases that are done.
+    pub(crate) fn done(&self, course: &Course, sight: &Sight) -> PhaseSet
+        ensures done { (past : Past) → Runs self.now course.now past → Sees sight.now past → Has result (is_done (view_seen past)) }
+    {
+        let mut done = PhaseSet::empty();
+        for phase in 1..17u8 {
+            done = done.with_if(phase, self.is_done(course, sight, phase));
+        }
+        done
+    }
+}

@@ -1,0 +1,15 @@
+pub mod Steps
+pub mod Looks
+pub mod Errors
+pub mod Resting
+pub mod Cycle
+pub mod Needed
+pub mod Onto
+pub mod AnyTarget
+pub mod Sooner
+pub mod Jumps
+pub mod Going
+pub mod Ticks
+pub mod Cycles
+pub mod Reaching
+pub mod Near

@@ -1,0 +1,5 @@
+pub mod Correcting
+pub mod Stepping
+pub mod Known
+pub mod Drifting
+pub mod KnownDrift

@@ -1,9 +1,0 @@
-pub mod Steps
-pub mod Looks
-pub mod Errors
-pub mod Resting
-pub mod Cycle
-pub mod Needed
-pub mod Onto
-pub mod AnyTarget
-pub mod Sooner

@@ -1,3 +1,0 @@
-pub mod Correcting
-pub mod Stepping
-pub mod Known

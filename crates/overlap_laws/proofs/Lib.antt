@@ -1,5 +1,0 @@
-mod Clearing
-mod Overlapping
-mod Judged
-mod Texts
-mod Frames

@@ -1,2 +1,0 @@
-pub mod Street
-pub mod Trace

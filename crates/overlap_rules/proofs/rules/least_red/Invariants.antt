@@ -1,8 +1,0 @@
-use Rattle.std.proofs.Common.{◌≡◌, drop}
-use Rattle.sig_tables.specs.Tables.{red_clear_time}
-use Rattle.overlap_rules.specs.Rules.{least, least_from}
-use Rattle.overlap_rules.proofs.rules.least_red.Given as goal
-
--- the least of the tables before this place, with those from it on
-abbrev pub invariant-loop-k : goal.invariant-loop-k
-invariant-loop-k l = least_from (λ t. red_clear_time t l.phase) l.least (drop l.k l.tables) ≡ least (λ t. red_clear_time t l.phase) l.tables

@@ -1,0 +1,59 @@
+-- What is asked of an overlap at a cabinet of a trace, by the tables that were in force there: those that it opened with, and those of each
+-- accepted download. A rule names the row at which it is broken.
+use Rattle.std.specs.Prelude.{ℕ, ◌+◌, min, not, nat_lt, ◌||◌, Bool, if◌then◌else◌, List, [], ◌∷◌, Option, Some, None, Result, Ok, Err}
+use Rattle.sig_types.specs.Phases.{is_in}
+use Rattle.sig_tables.specs.declared.tables.Tables.{Tables}
+use Rattle.sig_tables.specs.Tables.{is_enabled, yellow_time, red_clear_time}
+use Rattle.overlap_run.specs.declared.faults.OverlapFault.{OverlapFault}
+
+-- the least of a number and of a time over these tables
+abbrev pub least_from : (Tables → ℕ) → ℕ → List Tables → ℕ
+least_from time n [] = n
+least_from time n (t ∷ later) = least_from time (min n (time t)) later
+
+-- the least of a time over tables, of which there are some
+abbrev pub least : (Tables → ℕ) → List Tables → ℕ
+least time [] = 0
+least time (t ∷ later) = least_from time (time t) later
+
+-- the least yellow change of a parent, and its least red clearance, each over all tables that were in force, together
+abbrev pub least_clearance : List Tables → ℕ → ℕ
+least_clearance tables p = least (λ t. yellow_time t p) tables + least (λ t. red_clear_time t p) tables
+
+-- an octet is no enabled phase of the opening tables, or it repeats an earlier one
+abbrev pub is_faulty : Tables → List ℕ → ℕ → Bool
+is_faulty opening earlier p = not (is_enabled opening p) || is_in earlier p
+
+-- the first such octet, behind these earlier ones
+abbrev pub first_faulty : Tables → List ℕ → List ℕ → Option ℕ
+first_faulty opening earlier [] = None
+first_faulty opening earlier (p ∷ parents) = if is_faulty opening earlier p then Some p else first_faulty opening (p ∷ earlier) parents
+
+-- the first parent that clears in less than this time
+abbrev pub first_short : List Tables → ℕ → List ℕ → Option ℕ
+first_short tables time [] = None
+first_short tables time (p ∷ parents) = if nat_lt (least_clearance tables p) time then Some p else first_short tables time parents
+
+-- a rule is broken at a row
+abbrev pub broken : ℕ → ℕ → Result (Unit {0}) OverlapFault
+broken rule row = Err (record { rule = rule; row = row })
+
+-- rule 4: an overlap takes no longer than any parent takes to clear
+abbrev pub fourth : Option ℕ → Result (Unit {0}) OverlapFault
+fourth None = Ok tt
+fourth (Some p) = broken 4 p
+
+-- rule 3: yellow change lasts three seconds at least
+abbrev pub third : ℕ → Option ℕ → Result (Unit {0}) OverlapFault
+third yellow short = if nat_lt yellow 30 then broken 3 0 else fourth short
+
+-- rule 2: each parent is an enabled phase, and none stands twice
+abbrev pub second : Option ℕ → ℕ → Option ℕ → Result (Unit {0}) OverlapFault
+second None yellow short = third yellow short
+second (Some p) yellow short = broken 2 p
+
+-- the first broken rule; rule 1: there is such a cabinet, so it has opening tables
+abbrev pub verdict : List Tables → List ℕ → ℕ → ℕ → ℕ → Result (Unit {0}) OverlapFault
+verdict [] parents trail yellow red = broken 1 0
+verdict (opening ∷ later) parents trail yellow red =
+    second (first_faulty opening [] parents) yellow (first_short (opening ∷ later) (trail + yellow + red) parents)

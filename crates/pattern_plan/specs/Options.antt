@@ -1,0 +1,24 @@
+-- What is kept of the split of a pattern is what the definitions say of the tables.
+use Rattle.std.specs.Prelude.{ℕ, Option, Some, None}
+use Rattle.std.specs.Borrow.{Bor}
+use Rattle.sig_tables.specs.declared.tables.Tables.{Tables}
+use Rattle.sig_tables.specs.Slots.{is_coordinated, is_omitted}
+use Rattle.sig_tables.specs.Splits.{split_minimum, split_maximum, split_pedestrian}
+use Rattle.sig_tables.specs.Layout.{Has}
+use Rattle.pattern_plan.specs.declared.split_options.SplitOptions.{SplitOptions}
+
+-- the sets are those of pattern n: the phases that it holds onto the offset, that it never serves, and that it calls for their
+-- minimum green, to their maximum, and for their walk
+pub record SplitSays (o : SplitOptions) (t : Tables) (n : ℕ) : Type 0 where
+  pub coordinated : Has o.coordinated (is_coordinated t n)
+  pub omitted : Has o.omitted (is_omitted t n)
+  pub minimum : Has o.minimum (split_minimum t n)
+  pub maximum : Has o.maximum (split_maximum t n)
+  pub pedestrian : Has o.pedestrian (split_pedestrian t n)
+
+-- the options that are handed in are those of the pattern that binds; there are none where none does
+abbrev pub AreBinding : Option (Bor SplitOptions) → Option ℕ → Tables → Type 0
+AreBinding None None t = Unit {0}
+AreBinding (Some o) (Some n) t = SplitSays o.now t n
+AreBinding None (Some n) t = ⊥
+AreBinding (Some o) None t = ⊥

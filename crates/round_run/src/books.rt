@@ -1,0 +1,117 @@
+//! The books of the cabinets of a scenario, to which nothing has come.
+
+ghost use Rattle.std.specs.Prelude.{◌≡◌, [], IfOk, map};
+ghost use Rattle.scenario_data.specs.Content.{ScenarioContent, cabinet_content};
+ghost use Rattle.runnable.specs.Runnable.{CanOpen, AllOpen};
+ghost use Rattle.runnable.specs.Cabinets.{opening_history};
+ghost use Rattle.cab_book.specs.Controls.{StandsFor};
+ghost use Rattle.cabinet_history.specs.Story.{opened};
+ghost use Rattle.cab_book.specs.Books.{BookStands, journal_of, ticks_by_end};
+ghost use Rattle.run_definition.specs.Standing.{opened_standings};
+ghost use Rattle.round_run.specs.Standings.{AreAt, TicksWithin};
+
+use crate::books_follow_runs;
+use arrayvec::ArrayVec;
+use cab_book::{Book, Cabinet, Control, Way};
+use scenario_data::{Cabinet as Setup, opening_tables, opening_tables_in_range};
+use sig_types::NoMemory;
+use std::alloc::Global;
+
+/// The community of those who may ask, once more.
+fn same_community(community: &ArrayVec<u8, 32>) -> ArrayVec<u8, 32>
+    ensures { result.items ≡ community.now.items }
+{
+    let mut same = ArrayVec::new();
+    // There is room for it, as there was for that one.
+    let _ = same.try_extend_from_slice(community.as_slice());
+    same
+}
+
+/// The control of a cabinet to which nothing has happened, but that its clock may drift.
+fn control_of(alloc: Global, way: Way, setup: &Setup) -> Result<Control, NoMemory>
+    requires { CanOpen (cabinet_content setup.now) }
+    ensures { IfOk result (λ control. StandsFor control (opening_history (cabinet_content setup.now))) }
+{
+    let opened = Control::open(
+        alloc,
+        way,
+        opening_tables(setup),
+        setup.pattern,
+        setup.clock,
+    );
+    match opened {
+        Ok(mut control) => {
+            control.drift(setup.gain, setup.lose);
+            Ok(control)
+        }
+        Err(NoMemory) => Err(NoMemory),
+    }
+}
+
+/// The book of this cabinet, to which nothing has come.
+fn book_by(
+    alloc: Global,
+    control: Control,
+    setup: &Setup,
+    community: &ArrayVec<u8, 32>,
+) -> Result<Book, NoMemory>
+    requires can { CanOpen (cabinet_content setup.now) }
+    requires control { StandsFor control (opening_history (cabinet_content setup.now)) }
+    ensures stands { IfOk result (λ book. BookStands book (opened community.now.items (opening_history (cabinet_content setup.now)))) }
+    ensures journal { IfOk result (λ book. journal_of book ≡ []) }
+    ensures ticks { IfOk result (λ book. ticks_by_end book ≡ 0) }
+{
+    opening_tables_in_range();
+    let cabinet = Cabinet::new(control, same_community(community));
+    match Book::new(alloc, cabinet) {
+        Ok(book) => Ok(book),
+        Err(NoMemory) => Err(NoMemory),
+    }
+}
+
+/// A cabinet to which nothing has come, in its book.
+fn book_of(
+    alloc: Global,
+    way: Way,
+    setup: &Setup,
+    community: &ArrayVec<u8, 32>,
+) -> Result<Book, NoMemory>
+    requires { CanOpen (cabinet_content setup.now) }
+    ensures stands { IfOk result (λ book. BookStands book (opened community.now.items (opening_history (cabinet_content setup.now)))) }
+    ensures journal { IfOk result (λ book. journal_of book ≡ []) }
+    ensures ticks { IfOk result (λ book. ticks_by_end book ≡ 0) }
+{
+    match control_of(alloc, way, setup) {
+        Ok(control) => match book_by(alloc, control, setup, community) {
+            Ok(book) => Ok(book),
+            Err(NoMemory) => Err(NoMemory),
+        },
+        Err(NoMemory) => Err(NoMemory),
+    }
+}
+
+/// The books of all cabinets, to which nothing has come, whose frames come about this way.
+pub fn open_books(
+    alloc: Global,
+    way: Way,
+    setups: &[Setup],
+    community: &ArrayVec<u8, 32>,
+) -> Result<Vec<Book>, NoMemory>
+    requires { AllOpen (map cabinet_content setups.now) }
+    ensures at { IfOk result (λ books. (s : ScenarioContent) → s.community ≡ community.now.items
+        → AreAt books.items (opened_standings s (map cabinet_content setups.now))) }
+    ensures ticks { IfOk result (λ books. TicksWithin 0 books.items) }
+{
+    books_follow_runs();
+    let mut books = Vec::new(alloc);
+    for setup in setups {
+        let book = match book_of(alloc, way, setup, community) {
+            Ok(book) => book,
+            Err(NoMemory) => return Err(NoMemory),
+        };
+        if books.push(book).is_err() {
+            return Err(NoMemory);
+        }
+    }
+    Ok(books)
+}

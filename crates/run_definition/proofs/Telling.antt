@@ -1,0 +1,115 @@
+-- What the lines of a cabinet's acts tell of it is what its story tells of them; the lines of others tell nothing of it.
+use Rattle.std.proofs.Common.{◌≡◌, ◌≢◌, ◌∙◌, ◌==◌, if◌then◌else◌, ℕ, Bool, true, false, List, [], ◌∷◌, ◌++◌, map, Option, Some, None, Result, Ok, Err, refl, ap, append-nil}
+use Rattle.std.proofs.lemmas.Bool.{ne_eqb, eq-eqb}
+use Rattle.sig_types.specs.declared.frame.Frame.{Frame}
+use Rattle.sig_types.specs.declared.notes.Broken.{Broken}
+use Rattle.sig_types.specs.declared.notes.MasterNote.{MasterNote}
+use Rattle.trace_text.specs.declared.lines.Line.{Line}
+use Rattle.trace_text.specs.declared.lines.Line.TheVariants.{S, F, R, M, J, L, A, Z}
+use Rattle.safety_laws.specs.Written.{shown_by}
+use Rattle.safety_laws.specs.Told.{Told, Shows, Loads, told_in}
+use Rattle.sig_types.specs.Items.{Item, Told as Input, Came, Ticked}
+use Rattle.cabinet_history.specs.declared.Load.{Load}
+use Rattle.cabinet_history.specs.Story.{Story, with_item}
+use Rattle.cabinet_history.specs.Journals.{Act}
+use Rattle.cabinet_history.specs.Told.{load_end, reply_to, in_frame, item_written}
+use Rattle.cabinet_laws.specs.Telling.{version_told, load_told, frames_told, item_told, acts_told}
+use Rattle.run_definition.specs.Lines.{frame_lines, load_lines, item_lines, acts_lines}
+
+pub told-append : (cab : ℕ) (lines more : List Line) → told_in cab (lines ++ more) ≡ told_in cab lines ++ told_in cab more
+told-append cab [] more = refl
+told-append cab (F c tick veh ped mode counter target version ∷ lines) more = split (c == cab) (told-append cab lines more)
+  where
+    said : Told
+    said = Shows tick (record { colours = veh; signals = ped; mode = mode; version = version })
+
+    split : (b : Bool) → told_in cab (lines ++ more) ≡ told_in cab lines ++ told_in cab more
+        → (if b then said ∷ told_in cab (lines ++ more) else told_in cab (lines ++ more))
+        ≡ (if b then said ∷ told_in cab lines else told_in cab lines) ++ told_in cab more
+    split true e = ap (λ (x : List Told). said ∷ x) e
+    split false e = e
+told-append cab (L c id (Ok version) ∷ lines) more = split (c == cab) (told-append cab lines more)
+  where
+    split : (b : Bool) → told_in cab (lines ++ more) ≡ told_in cab lines ++ told_in cab more
+        → (if b then Loads version ∷ told_in cab (lines ++ more) else told_in cab (lines ++ more))
+        ≡ (if b then Loads version ∷ told_in cab lines else told_in cab lines) ++ told_in cab more
+    split true e = ap (λ (x : List Told). Loads version ∷ x) e
+    split false e = e
+told-append cab (L c id (Err broken) ∷ lines) more = told-append cab lines more
+told-append cab (S json ∷ lines) more = told-append cab lines more
+told-append cab (R round ∷ lines) more = told-append cab lines more
+told-append cab (M note ∷ lines) more = told-append cab lines more
+told-append cab (J c runs ∷ lines) more = told-append cab lines more
+told-append cab (A c pass reply ∷ lines) more = told-append cab lines more
+told-append cab (Z rounds ∷ lines) more = told-append cab lines more
+
+-- lines that tell nothing of a cabinet, before others and behind them
+pub told-behind : (cab : ℕ) (lines more : List Line) → told_in cab lines ≡ [] → told_in cab (lines ++ more) ≡ told_in cab more
+told-behind cab lines more e = told-append cab lines more ∙ ap (λ (x : List Told). x ++ told_in cab more) e
+
+pub told-before : (cab : ℕ) (lines more : List Line) → told_in cab more ≡ [] → told_in cab (lines ++ more) ≡ told_in cab lines
+told-before cab lines more e =
+    told-append cab lines more ∙ ap (λ (x : List Told). told_in cab lines ++ x) e ∙ append-nil (told_in cab lines)
+
+-- ---- a cabinet's own lines
+
+frames-tell : (cab : ℕ) (frames : List (ℕ × Frame)) → told_in cab (frame_lines cab frames) ≡ frames_told frames
+frames-tell cab [] = refl
+frames-tell cab (f ∷ frames) =
+    let e : (cab == cab) ≡ true = eq-eqb cab cab refl in
+    rw e (ap (λ (x : List Told). Shows f.0 (shown_by f.1) ∷ x) (frames-tell cab frames))
+
+result-tells : (cab id : ℕ) (result : Result ℕ Broken) (more : List Line) → told_in cab (L cab id result ∷ more) ≡ version_told result ++ told_in cab more
+result-tells cab id (Ok version) more = let e : (cab == cab) ≡ true = eq-eqb cab cab refl in rw e refl
+result-tells cab id (Err broken) more = refl
+
+load-tells : (cab : ℕ) (load : Option Load) (more : List Line) → told_in cab (load_lines cab load ++ more) ≡ load_told load ++ told_in cab more
+load-tells cab None more = refl
+load-tells cab (Some load) more = result-tells cab load.id load.result more
+
+item-tells : (cab : ℕ) (story : Story) (pass : ℕ) (item : Item) → told_in cab (item_lines cab story pass item) ≡ item_told story item
+item-tells cab story pass (Input field) = refl
+item-tells cab story pass (Came octets) =
+    load-tells cab (load_end story octets) (A cab pass (in_frame (reply_to story octets)) ∷ []) ∙ append-nil (load_told (load_end story octets))
+item-tells cab story pass Ticked =
+    ap (told_in cab) (append-nil (frame_lines cab (item_written story Ticked))) ∙ frames-tell cab (item_written story Ticked)
+
+pub acts-lines-tell : (cab : ℕ) (story : Story) (acts : List Act) → told_in cab (acts_lines cab story acts) ≡ acts_told story acts
+acts-lines-tell cab story [] = refl
+acts-lines-tell cab story (act ∷ acts) =
+    let later : List Line = acts_lines cab (with_item story act.item) acts in
+    told-append cab (item_lines cab story act.pass act.item) later
+    ∙ ap (λ (x : List Told). x ++ told_in cab later) (item-tells cab story act.pass act.item)
+    ∙ ap (λ (x : List Told). item_told story act.item ++ x) (acts-lines-tell cab (with_item story act.item) acts)
+
+-- ---- the lines of another cabinet, and notes
+
+other-frames : (cab n : ℕ) (frames : List (ℕ × Frame)) → n ≢ cab → told_in cab (frame_lines n frames) ≡ []
+other-frames cab n [] other = refl
+other-frames cab n (f ∷ frames) other =
+    let e : (n == cab) ≡ false = ne_eqb n cab other in rw e (other-frames cab n frames other)
+
+other-result : (cab n id : ℕ) (result : Result ℕ Broken) (more : List Line) → n ≢ cab → told_in cab (L n id result ∷ more) ≡ told_in cab more
+other-result cab n id (Ok version) more other = let e : (n == cab) ≡ false = ne_eqb n cab other in rw e refl
+other-result cab n id (Err broken) more other = refl
+
+other-load : (cab n : ℕ) (load : Option Load) (more : List Line) → n ≢ cab → told_in cab (load_lines n load ++ more) ≡ told_in cab more
+other-load cab n None more other = refl
+other-load cab n (Some load) more other = other-result cab n load.id load.result more other
+
+other-item : (cab n : ℕ) (story : Story) (pass : ℕ) (item : Item) → n ≢ cab → told_in cab (item_lines n story pass item) ≡ []
+other-item cab n story pass (Input field) other = refl
+other-item cab n story pass (Came octets) other =
+    other-load cab n (load_end story octets) (A n pass (in_frame (reply_to story octets)) ∷ []) other
+other-item cab n story pass Ticked other =
+    ap (told_in cab) (append-nil (frame_lines n (item_written story Ticked))) ∙ other-frames cab n (item_written story Ticked) other
+
+pub other-acts : (cab n : ℕ) (story : Story) (acts : List Act) → n ≢ cab → told_in cab (acts_lines n story acts) ≡ []
+other-acts cab n story [] other = refl
+other-acts cab n story (act ∷ acts) other =
+    told-behind cab (item_lines n story act.pass act.item) (acts_lines n (with_item story act.item) acts) (other-item cab n story act.pass act.item other)
+    ∙ other-acts cab n (with_item story act.item) acts other
+
+pub notes-tell : (cab : ℕ) (notes : List MasterNote) (more : List Line) → told_in cab (map M notes ++ more) ≡ told_in cab more
+notes-tell cab [] more = refl
+notes-tell cab (note ∷ notes) more = notes-tell cab notes more

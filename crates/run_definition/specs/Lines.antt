@@ -1,0 +1,96 @@
+-- The lines of a run by its journals, and its text. Journals are by round and then by cabinet, as the text has them: the oldest round
+-- first.
+use Rattle.std.specs.Prelude.{ℕ, ◌+◌, List, [], ◌∷◌, ◌++◌, map, Option, Some, None}
+use Rattle.sig_types.specs.declared.frame.Frame.{Frame}
+use Rattle.sig_tables.specs.Decide.{last_frame_of}
+use Rattle.trace_text.specs.declared.lines.Line.{Line}
+use Rattle.trace_text.specs.declared.lines.Line.TheVariants.{S, F, R, M, J, L, A, Z}
+use Rattle.safety_laws.specs.TraceText.{lines_text}
+use Rattle.scenario_data.specs.Content.{ScenarioContent}
+use Rattle.sig_types.specs.Items.{Item}
+use Rattle.cabinet_history.specs.declared.Load.{Load}
+use Rattle.cabinet_history.specs.declared.Reply.{Reply}
+use Rattle.cabinet_history.specs.Story.{Story, with_item}
+use Rattle.cabinet_history.specs.Journals.{Act, runs_of}
+use Rattle.cabinet_history.specs.Coming.{history_of}
+use Rattle.cabinet_history.specs.Told.{item_replies, item_written}
+use Rattle.master_rounds.specs.Rounds.{noted}
+use Rattle.run_definition.specs.Standing.{Standing, opened_standings, round_acts, each_standing}
+
+-- the line of a frame that a cabinet shows after so many ticks
+abbrev pub shown_line : ℕ → ℕ → Frame → Line
+shown_line cab tick f = F cab tick f.veh f.ped f.mode f.counter f.target f.version
+
+-- the lines of frames with the numbers of their ticks
+abbrev pub frame_lines : ℕ → List (ℕ × Frame) → List Line
+frame_lines cab [] = []
+frame_lines cab (f ∷ frames) = shown_line cab f.0 f.1 ∷ frame_lines cab frames
+
+-- the line of the end of a download, where a frame brought one
+abbrev pub load_lines : ℕ → Option Load → List Line
+load_lines cab None = []
+load_lines cab (Some load) = L cab load.id load.result ∷ []
+
+-- the lines of replies: each the end of a download, where there is one, and then the answer or silence
+abbrev pub reply_lines : ℕ → List Reply → List Line
+reply_lines cab [] = []
+reply_lines cab (r ∷ replies) = load_lines cab r.load ++ A cab r.pass r.text ∷ reply_lines cab replies
+
+-- the lines of an item that a pass brings after a story: of a tick its frame's, where that has a line; of a frame of octets its reply's
+abbrev pub item_lines : ℕ → Story → ℕ → Item → List Line
+item_lines cab story pass item = frame_lines cab (item_written story item) ++ reply_lines cab (item_replies story pass item)
+
+-- the lines of these acts, in order
+abbrev pub acts_lines : ℕ → Story → List Act → List Line
+acts_lines cab story [] = []
+acts_lines cab story (act ∷ acts) = item_lines cab story act.pass act.item ++ acts_lines cab (with_item story act.item) acts
+
+-- the lines of a cabinet's round: its journal in longest runs, and those of its acts
+abbrev pub cabinet_lines : ScenarioContent → ℕ → Standing → List ℕ → List Line
+cabinet_lines s cab t journal = J cab (runs_of journal) ∷ acts_lines cab t.story (round_acts s cab t journal)
+
+-- the lines of each cabinet in turn, counted from a first number, by the journals of the round
+abbrev pub each_lines : ScenarioContent → ℕ → List Standing → List (List ℕ) → List Line
+each_lines s first (t ∷ ts) (journal ∷ journals) = cabinet_lines s first t journal ++ each_lines s (first + 1) ts journals
+each_lines s first _ _ = []
+
+-- the lines of what the master notes of each cabinet at the start of the round to come
+abbrev pub notes_lines : ScenarioContent → ℕ → List Standing → List Line
+notes_lines s first [] = []
+notes_lines s first (t ∷ ts) = map M (noted s first t.cabinet t.answered) ++ notes_lines s (first + 1) ts
+
+-- the head of a round: its number and the notes
+abbrev pub head_lines : ScenarioContent → ℕ → List Standing → List Line
+head_lines s round ts = R round ∷ notes_lines s 1 ts
+
+-- the lines of a round: its head, and those of each cabinet
+abbrev pub round_lines : ScenarioContent → ℕ → List Standing → List (List ℕ) → List Line
+round_lines s round ts journals = head_lines s round ts ++ each_lines s 1 ts journals
+
+-- the lines of the rounds from this number on, one list of journals for each
+abbrev pub rounds_lines : ScenarioContent → ℕ → List Standing → List (List (List ℕ)) → List Line
+rounds_lines s round ts [] = []
+rounds_lines s round ts (journals ∷ later) =
+    round_lines s round ts journals ++ rounds_lines s (round + 1) (each_standing s 1 ts journals) later
+
+-- the lines of what each cabinet shows before any tick
+abbrev pub opening_lines : ℕ → List Standing → List Line
+opening_lines first [] = []
+opening_lines first (t ∷ ts) = shown_line first 0 (last_frame_of (history_of t.story)) ∷ opening_lines (first + 1) ts
+
+-- the lines of the first rounds of a run, behind its scenario: what each cabinet shows before any tick, and these rounds
+abbrev pub front_lines : ScenarioContent → List (List (List ℕ)) → List Line
+front_lines s journals =
+    opening_lines 1 (opened_standings s s.cabinets) ++ rounds_lines s 1 (opened_standings s s.cabinets) journals
+
+-- the lines of a run behind its scenario
+abbrev pub rest_lines : ScenarioContent → List (List (List ℕ)) → List Line
+rest_lines s journals = front_lines s journals ++ Z s.rounds ∷ []
+
+-- the lines of a run: its scenario, what each cabinet shows before any tick, the rounds, and the end
+abbrev pub run_lines : ScenarioContent → List (List (List ℕ)) → List Line
+run_lines s journals = S s.compact ∷ rest_lines s journals
+
+-- the text of a run
+abbrev pub run_text : ScenarioContent → List (List (List ℕ)) → List ℕ
+run_text s journals = lines_text (run_lines s journals)

@@ -1,6 +1,0 @@
-mod Totals
-mod Acts
-mod Tallying
-mod Cabinets
-mod Constant
-mod Whole

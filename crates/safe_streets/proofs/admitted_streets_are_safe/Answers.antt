@@ -1,9 +1,0 @@
-use Rattle.safe_streets.proofs.Shown.{admitted-safe}
-use Rattle.safe_streets.proofs.Loaded.{history-whole}
-use Rattle.safe_streets.proofs.admitted_streets_are_safe.Goals as goal
-
-pub returns-clause-safe : goal.returns-clause-safe
-returns-clause-safe c = admitted-safe
-
-pub returns-clause-whole : goal.returns-clause-whole
-returns-clause-whole c = history-whole

@@ -1,5 +1,0 @@
-use Rattle.safe_trace.proofs.History.{history-whole}
-use Rattle.safe_trace.proofs.undisturbed_is_whole.Goals as goal
-
-pub returns : goal.returns
-returns c = λ h has_line cab lines none e loads. history-whole h has_line cab lines none e loads

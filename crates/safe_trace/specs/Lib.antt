@@ -1,5 +1,0 @@
-pub mod Safe
-pub mod Whole
-pub mod TraceText
-pub mod Written
-pub mod Rows

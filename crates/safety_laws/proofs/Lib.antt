@@ -1,0 +1,15 @@
+pub mod SoFar
+pub mod Told
+pub mod Intervals
+pub mod AfterDont
+pub mod Ways
+pub mod Street
+pub mod Lasting
+pub mod History
+pub mod Versions
+pub mod Lines
+pub mod NoDownloads
+pub mod Refused
+pub mod Allowed
+pub mod Shown
+pub mod Loaded

@@ -1,0 +1,22 @@
+-- Ticks at which the command and the clock go on evenly.
+use Rattle.std.specs.Prelude.{ℕ, ◌≡◌, ◌<◌, ◌≤◌, ◌+◌, ◌*◌, ◌⊎◌, min}
+use Rattle.sig_tables.specs.declared.tables.Tables.{Tables}
+use Rattle.tick_context.specs.declared.orders.Orders.{Orders}
+use Rattle.tick_context.specs.Orders.{most}
+
+-- at each of so many ticks that come the same pattern is in command, by these tables, and the clock rises by one within the day
+pub record IsEven (o : Orders) (t : Tables) (k : ℕ) : Type 0 where
+  pub clock : o.clock + k < 864000
+  pub gain : o.gain ≡ 0
+  pub lose : o.lose ≡ 0
+  pub few : t.unit.backup ≤ 65535
+  pub command : (o.command ≡ 0) ⊎ ((t.unit.backup ≡ 0) ⊎ (o.since + k < 10 * t.unit.backup))
+
+-- new is old after so many such ticks
+pub record OrdersPassed (k : ℕ) (old new : Orders) : Type 0 where
+  pub command : new.command ≡ old.command
+  pub since : new.since ≡ min (old.since + k) most
+  pub clock : new.clock ≡ old.clock + k
+  pub ticks : new.ticks ≡ old.ticks + k
+  pub gain : new.gain ≡ old.gain
+  pub lose : new.lose ≡ old.lose

@@ -1,0 +1,137 @@
+-- For how many ticks a cabinet goes on as it is: what would end lasts for so many ticks more.
+use Rattle.std.specs.Prelude.{ℕ, ◌≡◌, ◌≢◌, ◌<◌, ◌≤◌, ◌+◌, ◌*◌, ◌&&◌, ◌∷◌, ◌⊎◌, not, true, false, List, [], length, Option, None, Some}
+use Rattle.sig_types.specs.declared.frame.Colour.{Colour}
+use Rattle.sig_types.specs.declared.frame.Colour.TheVariants.{Green, Yellow, Clear, Red}
+use Rattle.sig_types.specs.declared.frame.Mode.{Mode}
+use Rattle.sig_types.specs.declared.frame.Mode.TheVariants.{Free, Coord}
+use Rattle.sig_types.specs.Phases.{is_phase, is_in}
+use Rattle.sig_types.specs.PhaseSet.{has, phases_of}
+use Rattle.sig_types.specs.Colour.{same_colour, colour_of, signal_of, on_in}
+use Rattle.sig_tables.specs.declared.tables.Tables.{Tables}
+use Rattle.sig_tables.specs.Tables.{is_enabled, least_green, yellow_time, red_clear_time, gap_time, maximum_time}
+use Rattle.sig_tables.specs.Slots.{is_defined, is_coordinated, force_point, window, cycle_time}
+use Rattle.sig_tables.specs.Coordinating.{is_floating}
+use Rattle.sig_tables.specs.Clock.{target_at}
+use Rattle.sig_tables.specs.Priority.{active_in}
+use Rattle.sig_tables.specs.Modes.{bound}
+use Rattle.sig_tables.specs.Past.{Past, Moment}
+use Rattle.sig_tables.specs.Looking.{in_a_row, run, latched}
+use Rattle.sig_tables.specs.Calls.{is_green, opposed_of}
+use Rattle.sig_tables.specs.Walking.{has_walk}
+use Rattle.sig_tables.specs.Ticking.{on_of}
+use Rattle.sig_tables.specs.Layout.{Has}
+use Rattle.sig_tables.specs.Seen.{frame_seen, moment_seen, pedestrian_seen, demand_with, quiet_with}
+use Rattle.ped_clock.specs.Passed.{SignalLasts}
+use Rattle.preempt_run.specs.Stands.{preempts_seen}
+use Rattle.tick_context.specs.declared.seeing.Sight.{Sight}
+use Rattle.tick_context.specs.Shows.{is_signalling}
+
+-- nothing has been told since the last frame
+pub record IsFresh (past : Past) : Type 0 where
+  pub heard : past.heard ≡ []
+  pub commanded : past.commanded ≡ None
+  pub clock_set : past.clock_set ≡ None
+
+-- the Green phases to which an incompatible phase has demand, where this pattern binds
+abbrev pub opposed_with : Option ℕ → Past → List ℕ
+opposed_with pattern past = opposed_of past.tables (frame_seen past) (demand_with pattern past)
+
+-- what is seen of the phases, where this pattern binds
+pub record Looks (pattern : Option ℕ) (s : Sight) (past : Past) : Type 0 where
+  pub demand : phases_of s.demand ≡ demand_with pattern past
+  pub quiet : (p : ℕ) → is_phase p ≡ true → is_in (quiet_with pattern past) p ≡ (is_green (frame_seen past) p && not (has s.active p))
+  pub opposed : Has s.opposed (is_in (opposed_with pattern past))
+
+-- the Yellow or the red clearance that phase p shows lasts so many ticks more
+abbrev pub ColourLasts : ℕ → ℕ → Tables → List Moment → Colour → Type 0
+ColourLasts k p now past Yellow = run p Yellow past + k ≤ yellow_time (latched p Yellow now past) p
+ColourLasts k p now past Clear = run p Clear past + k ≤ red_clear_time (latched p Clear now past) p
+ColourLasts k p now past Green = Unit {0}
+ColourLasts k p now past Red = Unit {0}
+
+-- phase p is not served for so many ticks more: its least green runs on, or it shows Walk or Flash
+abbrev pub StaysUnserved : ℕ → Past → ℕ → Type 0
+StaysUnserved k past p =
+    (run p Green past.moments + k ≤ least_green (latched p Green past.tables past.moments) p) ⊎ (is_signalling (frame_seen past) p ≡ true)
+
+-- phase p has no gap for so many ticks more: it is active, or not quiet for long enough
+abbrev pub HasNoGap : Option ℕ → ℕ → Past → ℕ → Type 0
+HasNoGap pattern k past p =
+    (is_in (quiet_with pattern past) p ≡ false) ⊎ (in_a_row (λ m. is_in m.quiet p) past.moments + k < gap_time past.tables p)
+
+-- phase p is not at its maximum for so many ticks more: it is not opposed, or not for long enough
+abbrev pub HasNoMaximum : Option ℕ → ℕ → Past → ℕ → Type 0
+HasNoMaximum pattern k past p =
+    (maximum_time past.tables p ≢ 0)
+    × ((is_in (opposed_with pattern past) p ≡ false) ⊎ (in_a_row (λ m. is_in m.opposed p) past.moments + k < maximum_time past.tables p))
+
+-- so many ticks more do not reach the force point of phase p in pattern n
+abbrev pub ComesBefore : ℕ → ℕ → Past → ℕ → Type 0
+ComesBefore n k past p = (frame_seen past).counter + k < force_point past.tables n p
+
+-- there is no reason to end phase p for so many ticks more
+abbrev pub HasNoReason : Option ℕ → ℕ → Past → ℕ → Type 0
+HasNoReason None k past p = HasNoGap None k past p × HasNoMaximum None k past p
+HasNoReason (Some n) k past p =
+    ((is_coordinated past.tables n p ≡ true) × ComesBefore n k past p)
+    ⊎ ((is_coordinated past.tables n p ≡ false) × ((is_floating past.tables ≡ false) × HasNoGap (Some n) k past p))
+
+-- the pattern that binds does not force phase p off for so many ticks more
+abbrev pub StaysUnforced : Option ℕ → ℕ → Past → ℕ → Type 0
+StaysUnforced None k past p = Unit {0}
+StaysUnforced (Some n) k past p = (is_coordinated past.tables n p ≡ true) ⊎ ComesBefore n k past p
+
+-- what phase p shows lasts so many ticks more, where this pattern binds: its clearance and its walk run on; and where it is Green it
+-- is not forced off, and nothing has demand, or it is not served, or there is no reason to end it
+pub record PhaseLasts (pattern : Option ℕ) (k : ℕ) (past : Past) (p : ℕ) : Type 0 where
+  pub colour : ColourLasts k p past.tables past.moments (colour_of (frame_seen past) p)
+  pub signal : SignalLasts k p past.tables past.moments (signal_of (frame_seen past) p)
+  pub unforced : (is_enabled past.tables p && is_green (frame_seen past) p) ≡ true → StaysUnforced pattern k past p
+  pub stays : (is_enabled past.tables p && is_green (frame_seen past) p) ≡ true
+      → (demand_with pattern past ≡ []) ⊎ (StaysUnserved k past p ⊎ HasNoReason pattern k past p)
+
+-- the cabinet goes on in free operation, whatever becomes of its command, and no walk begins
+pub record StaysFree (past : Past) : Type 0 where
+  pub other : (moment_seen past).command ≢ 255
+  pub undefined : is_defined past.tables (moment_seen past).command ≡ false
+  pub counter : (frame_seen past).counter ≡ 0
+  pub target : (frame_seen past).target ≡ 0
+  pub uncalled : (p : ℕ) → is_phase p ≡ true
+      → ((has_walk past.tables p && is_in (pedestrian_seen past) p)
+      && ((same_colour (colour_of (frame_seen past) p) Green && not (is_signalling (frame_seen past) p))
+      && not (is_in (opposed_with None past) p))) ≡ false
+
+-- the cabinet stays in step with pattern n for so many ticks more: the pattern stays in command, the day goes on, the counter goes
+-- on as time does within the cycle, and no priority request is active
+pub record StaysInStep (n k : ℕ) (past : Past) : Type 0 where
+  pub defined : is_defined past.tables n ≡ true
+  pub command : (moment_seen past).command ≡ n
+  pub backup : (past.tables.unit.backup ≡ 0)
+      ⊎ (in_a_row (λ m. not m.is_commanded) past.moments + 1 + k < 10 * past.tables.unit.backup)
+  pub day : (moment_seen past).clock + k < 864000
+  pub gain : past.gain ≡ 0
+  pub lose : past.lose ≡ 0
+  pub cycle : (frame_seen past).counter + k < cycle_time past.tables n
+  pub even : (window past.tables n ≤ (frame_seen past).counter)
+      ⊎ (target_at past.tables n (moment_seen past).clock ≡ (frame_seen past).counter)
+  pub unasked : (number : ℕ) → (moment_seen past).number < number → active_in past.tables (Coord n) number past.asked ≡ 0
+
+-- the mode lasts so many ticks more; of the others than these two nothing is said
+abbrev pub ModeLasts : Mode → ℕ → Past → Type 0
+ModeLasts Free k past = StaysFree past
+ModeLasts (Coord n) k past = StaysInStep n k past
+ModeLasts mode k past = ⊥
+
+-- nothing is told, and for so many ticks more the cabinet shows what it shows, in this mode: something is on in each ring
+pub record Lasts (mode : Mode) (k : ℕ) (past : Past) : Type 0 where
+  pub fresh : IsFresh past
+  pub was : (frame_seen past).mode ≡ mode
+  pub beside : preempts_seen past ≡ []
+  pub version : (frame_seen past).version ≡ past.version
+  pub on : (frame_seen past).on ≡ on_of past.tables (frame_seen past).veh 1 ∷ on_of past.tables (frame_seen past).veh 2 ∷ []
+  pub first : on_in (frame_seen past) 1 ≢ 0
+  pub second : on_in (frame_seen past) 2 ≢ 0
+  pub wide : length (frame_seen past).veh ≡ 16
+  pub long : length (frame_seen past).ped ≡ 16
+  pub goes : ModeLasts mode k past
+  pub phases : (p : ℕ) → is_phase p ≡ true → PhaseLasts (bound mode) k past p

@@ -1,0 +1,6 @@
+use Rattle.sig_tables.specs.Decide.{since_opening}
+use Rattle.tick_laws.proofs.Apart.{holds}
+use Rattle.tick_laws.proofs.incompatible_apart.Goals as goal
+
+pub returns : goal.returns
+returns c = λ h l. (holds h.tables (since_opening h) l).apart

@@ -1,0 +1,12 @@
+pub mod Steps
+pub mod Cycle
+pub mod Phases
+pub mod Zero
+pub mod Each
+pub mod Lawful
+pub mod Served
+pub mod Safe
+pub mod Walking
+pub mod InStep
+pub mod Search
+pub mod Clocks

@@ -1,0 +1,23 @@
+//! The lines of a run are lines that a trace may have, whatever its journals, so its text is that of no other lines. There is no code
+//! here: the functions stand for the laws of their contracts.
+ghost use Rattle.std.specs.Prelude.{ℕ, List};
+ghost use Rattle.scenario_data.specs.Content.{ScenarioContent};
+ghost use Rattle.safety_laws.specs.TraceText.{AreLines};
+ghost use Rattle.runnable.specs.Runnable.{Runnable};
+ghost use Rattle.run_definition.specs.Lines.{run_lines};
+ghost use Rattle.run_definition.specs.Orders.{AreJournals};
+
+use cabinet_laws::{downloads_end_as_judged, stories_are_admitted, tables_stay_in_range};
+use master_rounds::rounds_are_short;
+
+/// In whatever order the items of a run come to its cabinets, each of its lines is one that a trace may have: journals are in longest
+/// runs, replies are 1 to 1,472 octets, and every number is within its type.
+pub fn lines_are_proper()
+    ensures { (s : ScenarioContent) → Runnable s → (journals : List (List (List ℕ))) → AreJournals s journals
+        → AreLines (run_lines s journals) }
+{
+    stories_are_admitted();
+    tables_stay_in_range();
+    downloads_end_as_judged();
+    rounds_are_short();
+}

@@ -1,3 +1,0 @@
-pub mod Writing
-mod ScenarioLine
-pub mod Handed

@@ -1,0 +1,11 @@
+use Rattle.whole_run.proofs.ScenarioLine.{line-first, line-second, line-whole}
+use Rattle.whole_run.proofs.writer.Writer.put_scenario.Goals as goal
+
+pub returns-in-Err : goal.returns-in-Err
+returns-in-Err g c = line-first g.K.Sink.written g.K.Sink.faults _ _ _ _ c.args.compact.now c.in-Err.ensures
+
+pub returns-in-Err-put : goal.returns-in-Err-put
+returns-in-Err-put g c = line-second g.K.Sink.written g.K.Sink.faults _ _ _ _ _ _ c.args.compact.now c.in-Ok.ensures c.in-Err-put.ensures
+
+pub returns : goal.returns
+returns g c = line-whole g.K.Sink.written g.K.Sink.faults _ _ _ _ _ _ _ _ _ c.args.compact.now c.in-Ok.ensures c.in-Ok-put.ensures c.put-3.ensures
