@@ -4,7 +4,7 @@ use Rattle.sig_types.specs.declared.frame.Field.{Field}
 use Rattle.tick_context.specs.Told.{NamesPlace}
 use Rattle.sig_types.specs.declared.streams.Streams.{Streams}
 use Rattle.sig_types.specs.Items.{items_of}
-use Rattle.cabinet_history.specs.Story.{Story, after}
+use Rattle.cabinet_history.specs.CabinetHistory.{CabinetHistory, after}
 use Rattle.cabinet_history.specs.Journals.{Act, times, acts_of, items_in}
 use Rattle.cab_book.specs.declared.cabinet.Cabinet.{Cabinet}
 use Rattle.cab_book.specs.declared.happened.Happened.{Happened}
@@ -50,10 +50,10 @@ abbrev pub acts_so_far : Streams → Happened → List Act
 acts_so_far streams h = acts_of (items_of streams) (journal_in h)
 
 -- the story by now, where the round began at this one
-abbrev pub story_after : Streams → Happened → Story → Story
-story_after streams h story = after story (items_in (acts_so_far streams h))
+abbrev pub cabinet_history_after : Streams → Happened → CabinetHistory → CabinetHistory
+cabinet_history_after streams h cabinet_history = after cabinet_history (items_in (acts_so_far streams h))
 
 -- the round began at this story, and the cabinet and what it has written and replied since are what the journal has brought
-pub record RoundStands (c : Cabinet) (streams : Streams) (h : Happened) (story : Story) : Type 0 where
-  pub cabinet : CabinetStands c (story_after streams h story)
-  pub written : IsWritten h story (acts_so_far streams h)
+pub record RoundStands (c : Cabinet) (streams : Streams) (h : Happened) (cabinet_history : CabinetHistory) : Type 0 where
+  pub cabinet : CabinetStands c (cabinet_history_after streams h cabinet_history)
+  pub written : IsWritten h cabinet_history (acts_so_far streams h)

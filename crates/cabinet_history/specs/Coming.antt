@@ -19,7 +19,7 @@ use Rattle.agent.specs.declared.ask.Wish.TheVariants.{Direct, Begin, Part, Verif
 use Rattle.agent.specs.declared.ask.Ask.{Ask}
 use Rattle.agent.specs.Asks.{ask_of}
 use Rattle.sig_types.specs.Items.{Item, Told, Came, Ticked}
-use Rattle.cabinet_history.specs.Story.{Story}
+use Rattle.cabinet_history.specs.CabinetHistory.{CabinetHistory}
 
 pub record Coming : Type 0 where
   pub history : History
@@ -106,13 +106,13 @@ coming_from community opening [] = record { history = opening; calls = [] }
 coming_from community opening (item ∷ items) = with_item community item (coming_from community opening items)
 
 -- what a story comes to
-abbrev pub coming : Story → Coming
-coming story = coming_from story.community story.opening story.items
+abbrev pub coming : CabinetHistory → Coming
+coming cabinet_history = coming_from cabinet_history.community cabinet_history.opening cabinet_history.items
 
 -- the history of the controller
-abbrev pub history_of : Story → History
-history_of story = (coming story).history
+abbrev pub history_of : CabinetHistory → History
+history_of cabinet_history = (coming cabinet_history).history
 
 -- what a frame asks after a story
-abbrev pub ask_after : Story → List ℕ → Option Ask
-ask_after story octets = ask_of octets story.community (in_force (coming story))
+abbrev pub ask_after : CabinetHistory → List ℕ → Option Ask
+ask_after cabinet_history octets = ask_of octets cabinet_history.community (in_force (coming cabinet_history))

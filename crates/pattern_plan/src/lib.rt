@@ -6,14 +6,14 @@ mod forcing;
 mod holding;
 mod laying;
 mod planning;
+mod ring_layout;
 mod side;
 mod split_options;
 mod standard;
-mod street;
 
 pub use holding::coordinated;
 pub use laying::services;
 pub use planning::{plan, plan_on};
+pub use ring_layout::RingLayout;
 pub use split_options::SplitOptions;
 pub use standard::standard_plan;
-pub use street::Street;

@@ -16,7 +16,7 @@ mod starting;
 
 pub use joined::joined_round;
 pub use replying::answers;
-pub use rounds::Corridor;
+pub use rounds::ClosedLoop;
 pub use run_laws::books_follow_runs;
 pub use serial::serial_round;
 pub use starting::open_rounds;

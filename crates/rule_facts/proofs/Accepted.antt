@@ -7,16 +7,16 @@ use Rattle.sig_types.proofs.Lists.{eq-true}
 use Rattle.sig_tables.specs.declared.tables.Tables.{Tables}
 use Rattle.sig_tables.specs.Tables.{ring_of, is_enabled}
 use Rattle.sig_tables.specs.Sides.{names, are_concurrent}
-use Rattle.rule_book.specs.Street.{neighbours, same_phases, keeps_layout}
+use Rattle.rule_book.specs.RingLayout.{neighbours, same_phases, keeps_layout}
 use Rattle.sig_tables.specs.Sums.{every}
 use Rattle.rule_book.specs.Rules.{all_rules, rows_of, breaks, broken, Consistent}
 use Rattle.tick_laws.proofs.OneSide.{concurrent-enabled, concurrent-from}
 use Rattle.rule_facts.proofs.Kept.{kept, unbroken}
 use Rattle.tick_laws.specs.Lawful.{SameLayout}
-use Rattle.tick_laws.proofs.Standing.{enabled-phase}
+use Rattle.tick_laws.proofs.FrameStands.{enabled-phase}
 use Rattle.rule_facts.proofs.Numbered.{layout-kept}
 use Rattle.rule_facts.proofs.Members.{same-answer}
-use Rattle.rule_facts.proofs.Street.{neighbour-is, same-member}
+use Rattle.rule_facts.proofs.RingLayout.{neighbour-is, same-member}
 
 -- what rule 21 says of a phase
 record Kept (new old : Tables) (p : ℕ) : Type 0 where

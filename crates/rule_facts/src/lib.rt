@@ -12,7 +12,7 @@ ghost use Rattle.sig_tables.specs.Standard.{std8, max8};
 ghost use Rattle.sig_tables.specs.Sides.{are_concurrent, are_of_one_side};
 ghost use Rattle.sig_tables.specs.Slots.{is_defined, cycle_time, slot_end, least_service, zero_point, force_point, window, permissive_end};
 ghost use Rattle.sig_tables.specs.Splits.{coordinated_phases};
-ghost use Rattle.rule_book.specs.Street.{is_used, comes_after};
+ghost use Rattle.rule_book.specs.RingLayout.{is_used, comes_after};
 ghost use Rattle.rule_book.specs.Rules.{broken, Consistent};
 ghost use Rattle.sig_tables.specs.Past.{Event, History};
 ghost use Rattle.sig_tables.specs.Decide.{since_opening};
@@ -28,8 +28,8 @@ ghost use Rattle.rule_facts.specs.Forces.{AreEnough, force_with, first_turn_out}
 ghost use Rattle.rule_facts.specs.Needed.{BreaksOnly, slow_clearance, long_slots, slots_past, crossed_sides, half_named, both_streets};
 
 pub use broken_plans::{
-    keeps_the_standard_plan, needs_rule_11_on_the_street, needs_rule_18_on_the_street,
-    needs_rule_19_on_the_street,
+    keeps_the_standard_plan, needs_rule_11_on_the_ring_layout, needs_rule_18_on_the_ring_layout,
+    needs_rule_19_on_the_ring_layout,
 };
 use rule_book::standard_consistent;
 
@@ -121,7 +121,7 @@ pub fn standard_force_points()
     ensures coordinated { (force_point std8 1 2 ≡ 245) × (force_point std8 1 6 ≡ 245) }
     ensures window { window std8 1 ≡ 245 }
     ensures side_turns { (force_point std8 1 3 ≡ 405) × (force_point std8 1 7 ≡ 405) }
-    ensures side_street { (force_point std8 1 4 ≡ 695) × (force_point std8 1 8 ≡ 695) }
+    ensures side_ring_layout { (force_point std8 1 4 ≡ 695) × (force_point std8 1 8 ≡ 695) }
     ensures first_turns { (force_point std8 1 1 ≡ 855) × (force_point std8 1 5 ≡ 855) }
     ensures disabled { force_point std8 1 9 ≡ 0 }
     ensures permissive { (permissive_end std8 1 2 ≡ 0) × (permissive_end std8 1 3 ≡ 355) × (permissive_end std8 1 4 ≡ 505) }

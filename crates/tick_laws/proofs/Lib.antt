@@ -13,9 +13,9 @@ pub mod Seeing
 pub mod Each
 pub mod Choices
 pub mod Intervals
-pub mod Turns
+pub mod RingTurns
 pub mod Sought
-pub mod Standing
+pub mod FrameStands
 pub mod OneSide
 pub mod PatternFacts
 pub mod Modes
