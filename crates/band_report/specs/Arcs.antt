@@ -76,7 +76,7 @@ pub record FitCycle (cycle : ℕ) (arcs : List Arc) : Type 0 where
   pub leads : (j : ℕ) → j < length arcs → (get_or arcs j no_arc).lead < cycle
   pub greens : (j : ℕ) → j < length arcs → (get_or arcs j no_arc).green < cycle
 
--- the better of two stretches: the wider, and of two as wide the earlier
+-- the better of two spans: the wider, and of two as wide the earlier
 abbrev pub better : Span → Span → Span
 better best found =
     if nat_lt best.width found.width || (best.width == found.width && nat_lt found.start best.start) then found else best

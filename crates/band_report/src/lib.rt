@@ -1,4 +1,4 @@
-//! Through bands of a section: the widest stretch of the cycle in which a vehicle meets green at each cabinet, both ways
+//! Through bands of a section: the widest span of the cycle in which a vehicle meets green at each cabinet, both ways
 //! along the street (FHWA Signal Timing Manual: bandwidth). Bands are found from the windows of the cabinets, each an arc of
 //! the cycle; no time of the cycle is tried one by one.
 #![tactic(auto)]

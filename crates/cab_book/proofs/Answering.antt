@@ -1,4 +1,4 @@
--- What a cabinet shows is what its history gives, so its answer is the one that the story gives.
+-- What a cabinet shows is what its history gives, so its answer is the one that the cabinet history gives.
 use Rattle.std.proofs.Common.{◌≡◌, ◌≤◌, ◌<◌, ℕ, zero, suc, ◌+◌, ◌/◌, ◌%◌, ◌==◌, ◌∙◌, Bool, true, inl, inr, if◌then◌else◌, nat_le, List, sym, ap, subst, arith, Option, Some}
 use Rattle.std.specs.Int.{bit_at}
 use Rattle.std.proofs.lemmas.Bool.{and_from, le-leb}

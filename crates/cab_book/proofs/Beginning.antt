@@ -16,7 +16,7 @@ use Rattle.cab_book.proofs.Coming.{frames-many}
 use Rattle.cab_book.proofs.Parts.{past_end}
 use Rattle.cab_book.specs.Rounds.{CanBeTaken, ArePlaced, AreShort, AreTallied, acts_so_far, RoundStands}
 
--- the round begins at the story that the cabinet stands for
+-- the round begins at the cabinet history that the cabinet stands for
 pub round-begins : (c : Cabinet) (streams : Streams) (h : Happened) (cabinet_history : CabinetHistory) → journal_in h ≡ [] → written_of h ≡ [] → answered_of h ≡ []
     → CabinetStands c cabinet_history → RoundStands c streams h cabinet_history
 round-begins c streams h cabinet_history journal written answered is =

@@ -17,7 +17,7 @@ use Rattle.cab_book.specs.Stands.{CabinetKeeps, CabinetStands}
 use Rattle.cab_book.specs.Ticks.{ticks_on, ticks_written}
 use Rattle.cab_book.proofs.Showable.{ticked-shows}
 
--- what the story has come to by then
+-- what the cabinet history has come to by then
 pub coming-on : (k : ℕ) (cabinet_history : CabinetHistory)
     → coming (ticks_on k cabinet_history) ≡ record { history = ticks_more k (history_of cabinet_history); calls = (coming cabinet_history).calls }
 coming-on zero cabinet_history = refl

@@ -1,4 +1,4 @@
--- What a book stands for: the story at which its round began, the streams of the round, and the journal of what was taken from them.
+-- What a book stands for: the cabinet history at which its round began, the streams of the round, and the journal of what was taken from them.
 use Rattle.std.specs.Prelude.{ℕ, ◌+◌, ◌≡◌, ◌≢◌, ◌<◌, ◌≤◌, List, [], ◌∷◌, ◌++◌, length, get_or}
 use Rattle.sig_types.specs.declared.frame.Frame.{Frame}
 use Rattle.sig_types.specs.Items.{Item, items_of}
@@ -34,7 +34,7 @@ left_of b pass = get_or b.left pass 0
 abbrev pub acts_in : Book → List Act
 acts_in b = acts_so_far b.streams b.happened
 
--- the story by now, where the round began at this one
+-- the cabinet history by now, where the round began at this one
 abbrev pub cabinet_history_now : Book → CabinetHistory → CabinetHistory
 cabinet_history_now b cabinet_history = cabinet_history_after b.streams b.happened cabinet_history
 
@@ -42,7 +42,7 @@ cabinet_history_now b cabinet_history = cabinet_history_after b.streams b.happen
 abbrev pub ticks_by_end : Book → ℕ
 ticks_by_end b = b.cabinet.value.ticks + ticks_left b.left
 
--- the book's round began at this story, and what it has written and replied since is what the journal has brought
+-- the book's round began at this cabinet history, and what it has written and replied since is what the journal has brought
 abbrev pub BookStands : Book → CabinetHistory → Type 0
 BookStands b cabinet_history = RoundStands b.cabinet.value b.streams b.happened cabinet_history
 
@@ -69,7 +69,7 @@ pub record IsBrought (old new : Book) (pass : ℕ) : Type 0 where
   pub ticks : ticks_by_end new ≡ ticks_by_end old
 
 -- the book now is what the first has come to by passes that brought items of the same round: it has the same streams, the round of
--- each began at the same stories, and the cabinet will have had as many ticks by its end
+-- each began at the same cabinet histories, and the cabinet will have had as many ticks by its end
 pub record Replays (first now : Book) : Type 0 where
   pub streams : streams_in now ≡ streams_in first
   pub cabinet_histories : (cabinet_history : CabinetHistory) → BookStands first cabinet_history → BookStands now cabinet_history

@@ -27,7 +27,7 @@ pub record HasRoom (h : Happened) (ticks frames items : ℕ) : Type 0 where
   pub replies : vec_len h.replies + frames ≤ vec_capacity h.replies
   pub journal : vec_len h.journal.runs + items ≤ vec_capacity h.journal.runs
 
--- what is kept is what these acts give after a story: the frames, the replies, and their order
+-- what is kept is what these acts give after a cabinet history: the frames, the replies, and their order
 pub record IsWritten (h : Happened) (cabinet_history : CabinetHistory) (acts : List Act) : Type 0 where
   pub frames : written_of h ≡ acts_written cabinet_history acts
   pub replies : replies_in (answered_of h) ≡ acts_replies cabinet_history acts

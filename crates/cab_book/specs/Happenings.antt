@@ -13,7 +13,7 @@ pub data Happening : Type 0 where
   Wrote : (written : ℕ × Frame) → Happening
   Replied : (reply : Reply) → Happening
 
--- what an item that a pass brings after a story gives
+-- what an item that a pass brings after a cabinet history gives
 abbrev pub item_happenings : CabinetHistory → ℕ → Item → List Happening
 item_happenings cabinet_history pass item = map Wrote (item_written cabinet_history item) ++ map Replied (item_replies cabinet_history pass item)
 

@@ -1,4 +1,4 @@
--- What a cabinet of a book stands for: a story.
+-- What a cabinet of a book stands for: a cabinet history.
 use Rattle.std.specs.Prelude.{ℕ, ◌+◌, ◌≡◌, ◌≤◌, ◌<◌, List, [], ◌∷◌, length, Option}
 use Rattle.sig_tables.specs.Past.{Past, History, Event, SetDrift}
 use Rattle.sig_tables.specs.Seen.{frame_seen}
@@ -24,7 +24,7 @@ pub record IsShowable (past : Past) : Type 0 where
   pub counter : (frame_seen past).counter ≤ 2147483647
   pub target : (frame_seen past).target ≤ 2147483647
 
--- what a story has come to can be gone on with, after so many ticks
+-- what a cabinet history has come to can be gone on with, after so many ticks
 pub record IsSound (n : ℕ) (has : Coming) : Type 0 where
   pub ticks : n + 1 ≡ length (frames has.history)
   pub shows : IsShowable (past_of has)
@@ -33,14 +33,14 @@ pub record IsSound (n : ℕ) (has : Coming) : Type 0 where
   pub few : FewInstalls (past_of has).version (kept (answered has.calls)) (stage_state (answered has.calls))
   pub ids : kept (answered has.calls) ≤ 2147483647
 
--- a control and a stage stand for what a story has come to
+-- a control and a stage stand for what a cabinet history has come to
 pub record CabinetKeeps (c : Cabinet) (has : Coming) : Type 0 where
   pub control : ControlStands c.control has.history
   pub stage : StageStands c.stage has.calls
   pub counted : tick_count c.control ≡ c.ticks
   pub sound : IsSound c.ticks has
 
--- and the cabinet is that of the story
+-- and the cabinet is that of the cabinet history
 pub record CabinetStands (c : Cabinet) (cabinet_history : CabinetHistory) : Type 0 where
   pub community : c.community.items ≡ cabinet_history.community
   pub keeps : CabinetKeeps c (coming cabinet_history)

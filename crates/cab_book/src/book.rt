@@ -72,7 +72,7 @@ pub struct Book {
     // what is left and what was brought are all items, and the streams are short
     ghost tallied: { AreTallied streams left happened },
     ghost short: { AreShort streams },
-    // the round began at some story that the cabinet stood for
+    // the round began at some cabinet history that the cabinet stood for
     ghost some: { ∥ ((cabinet_history : CabinetHistory) × RoundStands cabinet.value streams happened cabinet_history) ∥₁ },
 }
 

@@ -9,7 +9,7 @@ pub record CabinetHistory : Type 0 where
   pub opening : History
   pub items : List Item
 
--- the story of a cabinet to which nothing has come
+-- the history of a cabinet to which nothing has come
 abbrev pub opened : List ℕ → History → CabinetHistory
 opened community opening = record { community = community; opening = opening; items = [] }
 
@@ -17,7 +17,7 @@ opened community opening = record { community = community; opening = opening; it
 abbrev pub with_item : CabinetHistory → Item → CabinetHistory
 with_item cabinet_history item = record { community = cabinet_history.community; opening = cabinet_history.opening; items = item ∷ cabinet_history.items }
 
--- the story after these items, which are in their order
+-- the cabinet history after these items, which are in their order
 abbrev pub after : CabinetHistory → List Item → CabinetHistory
 after cabinet_history [] = cabinet_history
 after cabinet_history (item ∷ items) = after (with_item cabinet_history item) items

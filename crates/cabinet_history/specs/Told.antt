@@ -56,7 +56,7 @@ abbrev pub replied : Coming → Option Ask → Option (List ℕ)
 replied c None = None
 replied c (Some ask) = Some (shortest (reply (seen_in c) ask.message ask.wish (outcome c ask.wish)))
 
--- the reply to a frame after a story
+-- the reply to a frame after a cabinet history
 abbrev pub reply_to : CabinetHistory → List ℕ → Option (List ℕ)
 reply_to cabinet_history octets = replied (coming cabinet_history) (ask_after cabinet_history octets)
 
@@ -81,7 +81,7 @@ abbrev pub ask_end : Coming → Option Ask → Option Load
 ask_end c None = None
 ask_end c (Some ask) = wish_end (past_of c).version ask.wish (outcome c ask.wish)
 
--- the end of a load that a frame brings after a story, if it brings one
+-- the end of a load that a frame brings after a cabinet history, if it brings one
 abbrev pub load_end : CabinetHistory → List ℕ → Option Load
 load_end cabinet_history octets = ask_end (coming cabinet_history) (ask_after cabinet_history octets)
 
@@ -90,7 +90,7 @@ abbrev pub in_frame : Option (List ℕ) → Option (ArrayVec ℕ)
 in_frame None = None
 in_frame (Some octets) = Some (record { items = octets })
 
--- what is told of an item that a pass brings after a story: of a frame the reply, which may be silence, and the end of a load
+-- what is told of an item that a pass brings after a cabinet history: of a frame the reply, which may be silence, and the end of a load
 abbrev pub item_replies : CabinetHistory → ℕ → Item → List Reply
 item_replies cabinet_history pass (Told field) = []
 item_replies cabinet_history pass (Came octets) = record { pass = pass; text = in_frame (reply_to cabinet_history octets); load = load_end cabinet_history octets } ∷ []

@@ -1,4 +1,4 @@
-//! What every story of a cabinet promises of the tables in force. The functions have nothing to do.
+//! What every history of a cabinet promises of the tables in force. The functions have nothing to do.
 
 ghost use Rattle.cabinet_history.specs.CabinetHistory.{CabinetHistory};
 ghost use Rattle.cabinet_history.specs.Downloads.{VersionCounts, NothingElseInstalled, TablesAreWhole};

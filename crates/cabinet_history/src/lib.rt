@@ -1,4 +1,4 @@
-//! What a cabinet is told and what it tells, as definitions: its story item by item, the journal of a round, what that comes to at
+//! What a cabinet is told and what it tells, as definitions: its cabinet history item by item, the journal of a round, what that comes to at
 //! its controller and its download stage, what is replied, and which frames have a line. The code that does it stands above.
 #![tactic(auto)]
 

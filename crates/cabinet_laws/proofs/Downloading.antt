@@ -1,4 +1,4 @@
--- The tables in force are whole downloads, since each call that a story brings has an id; and a download that is under way has them
+-- The tables in force are whole downloads, since each call that a cabinet history brings has an id; and a download that is under way has them
 -- with its own content.
 use Rattle.std.proofs.Common.{◌≡◌, ◌∙◌, ℕ, List, [], ◌∷◌, ◌++◌, true, refl, sym, ap}
 use Rattle.sig_tables.specs.declared.tables.Tables.{Tables}

@@ -1,4 +1,4 @@
--- What the items of a story tell is what is to be told of its history.
+-- What the items of a cabinet history tell is what is to be told of its history.
 use Rattle.std.proofs.Common.{◌≡◌, ℕ, ◌∙◌, List, [], ◌∷◌, ◌++◌, map, length, Option, Some, None, refl, sym, ap, inl, inr, Bool, true, false, append-nil, append_assoc}
 use Rattle.std.specs.Prelude.{if◌then◌else◌}
 use Rattle.sig_types.specs.declared.notes.StageAnswer.{StageAnswer}

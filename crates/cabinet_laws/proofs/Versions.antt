@@ -26,7 +26,7 @@ abbrev Versions : Tables → History → List (List (Cell × Content)) → Type 
 Versions t h accepted =
     (version later : ℕ) → version + later ≡ length accepted → tables_of h version ≡ with_downloads t (drop later accepted)
 
--- what is known of all that a story comes to
+-- what is known of all that a cabinet history comes to
 record Counted (t : Tables) (c : Coming) : Type 0 where
   tables : in_force c ≡ with_downloads t (accepted_by (deeds_of c))
   number : (past_of c).version ≡ length (accepted_by (deeds_of c))

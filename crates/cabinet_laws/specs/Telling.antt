@@ -27,7 +27,7 @@ abbrev pub frames_told : List (ℕ × Frame) → List Told
 frames_told [] = []
 frames_told (f ∷ frames) = Shows f.0 (shown_by f.1) ∷ frames_told frames
 
--- what an item tells after a story
+-- what an item tells after a cabinet history
 abbrev pub item_told : CabinetHistory → Item → List Told
 item_told cabinet_history (Input field) = []
 item_told cabinet_history (Came octets) = load_told (load_end cabinet_history octets)
@@ -39,11 +39,11 @@ items_told community opening [] = Shows 0 (shown_by first_frame) ∷ []
 items_told community opening (item ∷ items) =
     items_told community opening items ++ item_told (record { community = community; opening = opening; items = items }) item
 
--- what a story tells
+-- what a cabinet history tells
 abbrev pub cabinet_history_told : CabinetHistory → List Told
 cabinet_history_told cabinet_history = items_told cabinet_history.community cabinet_history.opening cabinet_history.items
 
--- what these acts tell after a story, in order
+-- what these acts tell after a cabinet history, in order
 abbrev pub acts_told : CabinetHistory → List Act → List Told
 acts_told cabinet_history [] = []
 acts_told cabinet_history (act ∷ acts) = item_told cabinet_history act.item ++ acts_told (with_item cabinet_history act.item) acts

@@ -1,4 +1,4 @@
-//! What every story of a cabinet is worth: whatever frames, inputs and ticks come to it, in any order, its history is one of which the
+//! What every history of a cabinet is worth: whatever frames, inputs and ticks come to it, in any order, its history is one of which the
 //! laws of the street and of coordination speak, its tables are those of whole downloads, and its lines tell what happened. The
 //! functions do nothing but cite: each stands for the laws of its contract.
 #![tactic(auto)]
@@ -51,7 +51,7 @@ pub fn cabinet_histories_are_admitted()
     installs_what_keeps_the_rules();
 }
 
-/// Where each cell of the opening tables holds what may stand in it, so does each cell of the tables in force after any story, and the
+/// Where each cell of the opening tables holds what may stand in it, so does each cell of the tables in force after any cabinet history, and the
 /// rows of all tables that were ever put in force are in range.
 pub fn tables_stay_in_range()
     ensures now { (cabinet_history : CabinetHistory) (t : Tables) (d : Drift) → IsOpening t d cabinet_history.opening → EachFits t → EachFits (in_force (coming cabinet_history)) }
@@ -59,7 +59,7 @@ pub fn tables_stay_in_range()
         → EachInRange (history_of cabinet_history).tables (since_opening (history_of cabinet_history)) }
 {}
 
-/// Coordination is met in every story: of a cabinet whose clock keeps time, and of one whose clock drifts as slowly as clocks may.
+/// Coordination is met in every cabinet history: of a cabinet whose clock keeps time, and of one whose clock drifts as slowly as clocks may.
 pub fn cabinet_histories_meet_coordination()
     ensures even { (cabinet_history : CabinetHistory) (t : Tables) → IsOpening t no_drift cabinet_history.opening → Consistent t → Meets (history_of cabinet_history) }
     ensures drifting { (cabinet_history : CabinetHistory) (t : Tables) (d : Drift) → IsOpening t d cabinet_history.opening → Consistent t → EachFits t → IsSlow d
@@ -69,7 +69,7 @@ pub fn cabinet_histories_meet_coordination()
     coordination_is_met();
 }
 
-/// In every story each frame of a pattern keeps to its plan, by the tables in force at its tick: before its force point a coordinated phase is
+/// In every cabinet history each frame of a pattern keeps to its plan, by the tables in force at its tick: before its force point a coordinated phase is
 /// green, so a vehicle that comes while the counter is there meets green; at each local zero both are.
 pub fn cabinet_histories_keep_to_plan()
     ensures { (cabinet_history : CabinetHistory) (t : Tables) (d : Drift) → IsOpening t d cabinet_history.opening → Consistent t → EachCoordinated (past_at (history_of cabinet_history)).moments }
@@ -78,7 +78,7 @@ pub fn cabinet_histories_keep_to_plan()
     keeps_to_plan();
 }
 
-/// The premises can be met: coordination is met in every story of a cabinet that opens with the standard tables, whose clock drifts slowly
+/// The premises can be met: coordination is met in every history of a cabinet that opens with the standard tables, whose clock drifts slowly
 /// or not at all.
 pub fn standard_cabinet_histories_meet_coordination()
     ensures { (cabinet_history : CabinetHistory) (d : Drift) → IsOpening std8 d cabinet_history.opening → IsSlow d → Meets (history_of cabinet_history) }
@@ -117,7 +117,7 @@ pub fn downloads_end_as_judged()
     installs_what_keeps_the_rules();
 }
 
-/// What the items of a story tell one after another is what is to be told of its history. So whoever writes the lines of each item as it
+/// What the items of a cabinet history tell one after another is what is to be told of its history. So whoever writes the lines of each item as it
 /// comes has a street that is safe at every tick, and versions that are whole.
 pub fn cabinet_histories_are_safe()
     ensures told { (cabinet_history : CabinetHistory) (t : Tables) (d : Drift) → IsOpening t d cabinet_history.opening

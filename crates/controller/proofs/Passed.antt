@@ -281,7 +281,7 @@ first-even j o t even = record {
   ];
 }
 
--- of an even stretch what comes after its first tick is even
+-- of an even run what comes after its first tick is even
 rest-even : (j : ℕ) (o : UnitCommands) (t : Tables) (h : o.clock + 1 < 864000) → IsEven o t (suc j) → IsEven (unit_commands-at 1 o h) t j
 rest-even j o t h even = record {
   clock = omega (arith, even.clock);

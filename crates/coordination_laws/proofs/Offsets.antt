@@ -67,7 +67,7 @@ held-on d bound m past zero near before =
 is-met : (m : Moment) → m.frame.counter ≡ m.frame.target → is_met m ≡ true
 is-met m e = ap (λ (x : ℕ). m.frame.counter == x) (sym e) ∙ same m.frame.counter
 
--- the first local zero begins the course
+-- the first local zero begins the path
 pub path-begins : (d : Drift) (t : Tables) (n most : ℕ) (m l : Moment) (past : List Moment) → m.frame.mode ≡ Coord n
     → is_disturbed d (m ∷ l ∷ past) ≡ false → has_zero d (l ∷ past) ≡ false → is_zero (m ∷ l ∷ past) ≡ true
     → quiet_for d (l ∷ past) < most → begins_cycle (counters n (m ∷ l ∷ past)) ≡ true → m.frame.target < cycle_time t n
@@ -201,7 +201,7 @@ path-step d t n most m l past quiet on next later cycle before = record {
         bound : (q r z j most i need : ℕ) → q ≡ r + 1 → r ≡ z + j → z ≤ most → i ≡ j + 1 → i ≤ need → q ≤ most + need
         bound q r z j most i need a b c e f = omega arith
 
--- so on course, where the correction can follow the clock, the offset is met within the needed cycles, and held
+-- so on that path, where the correction can follow the clock, the offset is met within the needed cycles, and held
 pub path-holds : (d : Drift) (t : Tables) (n most : ℕ) (past : List Moment) → OnPath d t n most past → can_follow d t ≡ true
     → offset_within d (most + cycles_needed d t n (zero_target d past)) past ≡ true
 path-holds d t n most past path follows =

@@ -84,7 +84,7 @@ walked-all old now ds round k past w ps j is h = record {
       (w.done ps j i p d is h (omega (arith, past, low)) low);
 }
 
--- what stands for a post past the end
+-- what stands for a detector past the end
 pub no-detector_state : DetectorState
 no-detector_state = record { watch = record { on = false; pulsed = 0; lit = 0; idle = 0; past = 0; most = 0; rounds = []; edges = [] }; next = 0; calls = false }
 

@@ -73,7 +73,7 @@ pub record Posted (p : DetectorState) (due : ℕ) (sorted : List Pulse) (d : Det
   pub told : p.calls ≡ calls d ps j
   pub still : (i : ℕ) → j ≤ i → i < due → Watches p.watch d ps i → calls d ps i ≡ calls d ps j
 
--- the walk has a post and a round that is due for each detector
+-- the walk has a state and a round that is due for each detector
 pub record WalkFits (w : Walk) (ds : List Detector) : Type 0 where
   pub few : length w.sorted.items ≤ 1000000
   pub detector_states : length w.detector_states.items ≡ length ds

@@ -1,4 +1,4 @@
--- Shelves, one by one.
+-- Lists of late copies, one by one.
 use Rattle.std.proofs.Common.{◌≡◌, ◌≢◌, ◌&&◌, ◌==◌, nat_lt, if◌then◌else◌, ℕ, zero, suc, ◌+◌, ◌%◌, ◌<◌, ◌≤◌, ◌⊎◌, inl, inr, All, Option, List, [], ◌∷◌, ◌++◌, length, slice_set, refl, sym, ap, subst, ◌∙◌, arith}
 use Rattle.std.specs.Prelude.{get_or}
 use Rattle.std.proofs.lemmas.Bool.{cases_lt}
@@ -33,7 +33,7 @@ on_late_list-none [] k above = refl
 on_late_list-none (s ∷ more) zero above = absurd (omega (arith, above))
 on_late_list-none (s ∷ more) (suc k) above = on_late_list-none more k (omega (arith, above))
 
--- where no shelf has a copy, there is none at any place
+-- where no list has a copy, there is none at any place
 pub on_late_list-empty : (late_lists : List LateList) → ((k : ℕ) (d : LateList) → k < length late_lists → (get_or late_lists k d).copies.items ≡ []) → (k : ℕ) → on_late_list late_lists k ≡ []
 on_late_list-empty [] empty k = refl
 on_late_list-empty (s ∷ more) empty zero = empty zero s (omega arith)
@@ -44,7 +44,7 @@ same_or_not : (i j : ℕ) → (i ≡ j) ⊎ (i ≢ j)
 same_or_not i j =
     elim (cases_lt i j) [ inl below ↦ (let ne : i ≢ j = omega arith in inr ne) | inr above ↦ elim (cases_lt j i) [ inl over ↦ (let ne : i ≢ j = omega arith in inr ne) | inr under ↦ (let e : i ≡ j = omega arith in inl e) ] ]
 
--- a shelf is changed as its copies are
+-- a list is changed as its copies are
 pub keeps-later : (late : List LateList) (i : ℕ) (s d : LateList) (round : ℕ) (fault : Option Fault) (text : List ℕ) → i < length late
     → ((rounds : ℕ) → 1 ≤ rounds → due_texts (round + 1) (round + rounds) s.copies.items ≡ due_texts (round + 1) (round + rounds) (get_or late i d).copies.items ++ copied fault rounds text)
     → ((rounds : ℕ) (text : List ℕ) → IsOwnLateList i round fault rounds text)
@@ -74,7 +74,7 @@ keeps-sent late i s d round below sent none k =
     AllSent : List Late → Type 0
     AllSent copies = All (λ copy. copy.sent ≤ round) copies
 
--- one shelf's past is dropped
+-- one list's past is dropped
 pub drops-own : (late : List LateList) (i : ℕ) (s d : LateList) (round : ℕ) → i < length late → DropsPast round (get_or late i d).copies.items s.copies.items
     → DropsPast round (on_late_list late i) (on_late_list (slice_set late i s) i)
 drops-own late i s d round below drops =
@@ -85,7 +85,7 @@ pub drops-none : (round : ℕ) (old new : List Late) → old ≡ [] → new ≡ 
 drops-none round old new a b =
     subst (λ (x : List Late). DropsPast round x new) (sym a) (subst (λ (x : List Late). DropsPast round [] x) (sym b) (record { now = λ due h. refl; next = λ due h. refl; sent = λ i d below. absurd (omega (arith, below)) }))
 
--- shelf after shelf
+-- list after list
 pub drops-more : (old late : List LateList) (k : ℕ) (s d : LateList) (round : ℕ) → k < length late → ((j : ℕ) → j < k → DropsPast round (on_late_list old j) (on_late_list late j))
     → ((j : ℕ) → k ≤ j → on_late_list late j ≡ on_late_list old j) → DropsPast round (get_or late k d).copies.items s.copies.items
     → (j : ℕ) → j < k + 1 → DropsPast round (on_late_list old j) (on_late_list (slice_set late k s) j)

@@ -1,4 +1,4 @@
--- The shelves of the copies that a line keeps: those that come in rounds of one rest by 32 stand together.
+-- The lists of the copies that a line keeps: those that come in rounds of one rest by 32 stand together.
 use Rattle.std.specs.Prelude.{ℕ, zero, suc, ◌≡◌, ◌≤◌, ◌+◌, ◌%◌, ◌⊎◌, All, List, [], ◌∷◌, Option}
 use Rattle.scenario_data.specs.declared.scenario.Fault.{Fault}
 use Rattle.link_sim.specs.declared.stream_line.Late.{Late}
@@ -6,7 +6,7 @@ use Rattle.link_sim.specs.declared.stream_line.LateList.{LateList}
 use Rattle.link_sim.specs.Faults.{copied}
 use Rattle.link_sim.specs.Due.{due_texts}
 
--- the copies on the shelf at this place
+-- the copies in the list at this place
 abbrev pub on_late_list : List LateList → ℕ → List Late
 on_late_list [] k = []
 on_late_list (late_list ∷ more) zero = late_list.copies.items
@@ -26,6 +26,6 @@ pub record DropsPast (round : ℕ) (old new : List Late) : Type 0 where
   pub next : (due : ℕ) → round ≤ due → due_texts (round + 1) due new ≡ due_texts round due old
   pub sent : All (λ copy. copy.sent ≤ round) new
 
--- the shelf is that of the round in which the frame's copy comes so many rounds later, if it has one then
+-- the list is that of the round in which the frame's copy comes so many rounds later, if it has one then
 abbrev pub IsOwnLateList : ℕ → ℕ → Option Fault → ℕ → List ℕ → Type 0
 IsOwnLateList late_list round fault rounds text = ((round + rounds) % 32 ≡ late_list) ⊎ (copied fault rounds text ≡ [])

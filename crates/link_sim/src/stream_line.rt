@@ -29,7 +29,7 @@ pub struct LateList {
     copies: Vec<Late>,
 }
 
-/// A line, with the copies that are still to come, and the last round that it carried. A copy stands on the shelf of its round's
+/// A line, with the copies that are still to come, and the last round that it carried. A copy stands in the list of its round's
 /// rest by 32, so that a round looks through few others than its own.
 #[derive(Debug, Drop)]
 pub struct StreamLine {
@@ -69,7 +69,7 @@ fn keep(
     Ok(())
 }
 
-/// The shelf of the copy of a frame that meets a late fault.
+/// The list of the copy of a frame that meets a late fault.
 fn late_list_of(round: u32, fault: Option<Fault>) -> usize
     ensures small { result < 32 }
     ensures own { (rounds : ℕ) (text : List ℕ) → IsOwnLateList result round fault rounds text }
@@ -86,7 +86,7 @@ fn late_list_of(round: u32, fault: Option<Fault>) -> usize
     }
 }
 
-/// Keeps the copy on a shelf.
+/// Keeps the copy in a list.
 fn keep_in(
     late_list: &mut LateList,
     round: u32,
@@ -100,7 +100,7 @@ fn keep_in(
     keep(&mut late_list.copies, round, fault, octets)
 }
 
-/// Keeps the copy of a frame that meets a late fault on its shelf.
+/// Keeps the copy of a frame that meets a late fault in its list.
 fn keep_on(
     late: &mut [LateList; 32],
     round: u32,
@@ -154,7 +154,7 @@ fn push_all_due(late: &Vec<Late>, round: u32, out: &mut Vec<Octets>) -> Result<(
     Ok(())
 }
 
-/// Appends the copies of what was sent before a round that are due in it, from its shelf.
+/// Appends the copies of what was sent before a round that are due in it, from its list.
 fn push_due(late: &[LateList; 32], round: u32, out: &mut Vec<Octets>) -> Result<(), AllocError>
     ensures { OnOk result (texts_of out.new.items ≡ texts_of out.old.items ++ listed_late round round late.now) }
 {
@@ -168,14 +168,14 @@ fn drop_past(late: &mut Vec<Late>, round: u32)
     late.retain(|copy| copy.sent < round && u64::from(round) <= copy.due);
 }
 
-/// The same on a shelf.
+/// The same in a list.
 fn drop_in(late_list: &mut LateList, round: u32)
     ensures drops { DropsPast round late_list.old.copies.items late_list.new.copies.items }
 {
     drop_past(&mut late_list.copies, round);
 }
 
-/// The same on the shelf of the round: those on it were due 32 rounds ago.
+/// The same in the list of the round: those in it were due 32 rounds ago.
 fn drop_one(late: &mut [LateList; 32], round: u32)
     ensures own { DropsPast round (on_late_list late.old (round % 32)) (on_late_list late.new (round % 32)) }
     ensures others { (k : ℕ) → k ≢ round % 32 → on_late_list late.new k ≡ on_late_list late.old k }
@@ -183,7 +183,7 @@ fn drop_one(late: &mut [LateList; 32], round: u32)
     drop_in(&mut late[(round % 32) as usize], round);
 }
 
-/// The same on all shelves.
+/// The same in all lists.
 fn drop_all(late: &mut [LateList; 32], round: u32)
     ensures drops { (k : ℕ) → DropsPast round (on_late_list late.old k) (on_late_list late.new k) }
 {

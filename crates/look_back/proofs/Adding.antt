@@ -1,4 +1,4 @@
--- The stretches with one moment more.
+-- The runs with one moment more.
 use Rattle.std.proofs.Common.{◌≡◌, ◌≢◌, ◌≤◌, ◌+◌, ◌⊎◌, inl, inr, ℕ, nat_lt, List, [], ◌∷◌, ◌++◌, take, replicate, ap, arith, add-one}
 use Rattle.std.proofs.lemmas.Bool.{cases_Bool, ltb-false}
 use Rattle.sig_tables.specs.Past.{Moment}
@@ -11,7 +11,7 @@ use Rattle.look_back.specs.Keeps.{FrameRunsKeep}
 use Rattle.look_back.specs.Spread.{frame_run, spread, EachLasts, more_of, TellLast}
 use Rattle.look_back.proofs.Spreads.{cut, cut-lasts, add-other, add-full}
 
--- one moment more of the newest stretch, of which the same is kept
+-- one moment more of the newest run, of which the same is kept
 pub adds-like : (t : ℕ) (g : Sample) (older : List FrameRun) (m : Moment) (past : List Moment) → Tells g m
     → TellLast 4096 (spread (frame_run g t ∷ older)) past → TellLast 4096 (spread (frame_run g (more_of t) ∷ older)) (m ∷ past)
 adds-like t g older m past tells h = elim (cases_Bool (nat_lt t 4096)) [
@@ -19,26 +19,26 @@ adds-like t g older m past tells h = elim (cases_Bool (nat_lt t 4096)) [
   | inr e ↦ rw e (add-full 4096 t g (spread older) m past (ltb-false t 4096 e) tells h)
 ]
 
--- a new stretch in front of these
+-- a new run in front of these
 pub adds-new : (g : Sample) (ss : List FrameRun) (m : Moment) (past : List Moment) → Tells g m → EachLasts ss
     → TellLast 4096 (spread ss) past → TellLast 4096 (spread (frame_run g 1 ∷ take 4096 ss)) (m ∷ past)
 adds-new g ss m past tells lasts h =
     add-other 4096 g (spread (take 4096 ss)) m past tells (cut 4096 4096 ss past (omega arith) lasts h)
 
--- the first stretch of all
+-- the first run of all
 pub adds-first : (g : Sample) (s : FrameRun) (older : List FrameRun) (m : Moment) (past : List Moment) → Tells g m → s.ticks ≡ 0 → older ≡ []
     → TellLast 4096 (spread (s ∷ older)) past → TellLast 4096 (spread (frame_run g 1 ∷ older)) (m ∷ past)
 adds-first g s older m past tells none empty h =
     let nothing : TellLast 4096 [] past = rw (empty, none) at h in rw empty (add-other 4096 g [] m past tells nothing)
 
--- a stretch with one moment more has one
+-- a run with one moment more has one
 pub more-lasts : (t : ℕ) → 1 ≤ more_of t
 more-lasts t = elim (cases_Bool (nat_lt t 4096)) [
   | inl e ↦ let k : 1 ≤ t + 1 = omega arith in rw e k
   | inr e ↦ let le : 4096 ≤ t = ltb-false t 4096 e in let k : 1 ≤ t = omega arith in rw e k
 ]
 
--- where no frame stands in the newest stretch there is no older one
+-- where no frame stands in the newest run there is no older one
 pub none-older : (t : ℕ) (older : List FrameRun) → (1 ≤ t) ⊎ (older ≡ []) → t ≡ 0 → older ≡ []
 none-older t older (inl some) none = absurd (omega arith)
 none-older t older (inr empty) none = empty
@@ -54,7 +54,7 @@ none-kept s none empty =
       room = ap (λ (b : Buffer FrameRun). b.capacity) empty;
     }
 
--- a new stretch, where the newest one goes to the older ones
+-- a new run, where the newest one goes to the older ones
 pub keeps-new : (g : Sample) (s : FrameRuns) (older : Buffer FrameRun) (m : Moment) (past : List Moment) → FrameRunsKeep s past → s.newest.ticks ≢ 0
     → older ≡ buffer (take s.older.capacity (s.newest ∷ s.older.items)) s.older.capacity → Tells g m
     → FrameRunsKeep (record { newest = frame_run g 1; older = older }) (m ∷ past)

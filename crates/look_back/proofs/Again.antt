@@ -89,7 +89,7 @@ all-tell g last before q o active pressed tells quiet opposed (m ∷ ms) all =
       all-tell g last before q o active pressed tells quiet opposed ms all.1,
     )
 
--- one more of the newest stretch
+-- one more of the newest run
 pub more-one : (t n : ℕ) → more_of (more_by t n) ≡ more_by t (suc n)
 more-one t n = elim (cases_Bool (nat_lt t 4096)) [
   | inl e ↦ elim (cases_Bool (nat_lt (min (t + n) 4096) 4096)) [
@@ -111,7 +111,7 @@ more-none t = elim (cases_Bool (nat_lt t 4096)) [
   | inr e ↦ rw e refl
 ]
 
--- the stretches keep one moment more of the newest
+-- the runs keep one moment more of the newest
 keeps-like : (n : ℕ) (s : FrameRuns) (m : Moment) (past : List Moment) → FrameRunsKeep (lengthened n s) past → Tells (newest_of s) m
     → FrameRunsKeep (lengthened (suc n) s) (m ∷ past)
 keeps-like n s m past keeps tells =

@@ -34,7 +34,7 @@ same-run (suc most) (suc n) (g ∷ kept) (m ∷ past) told so e le h =
     more true ih = min-more _ _ most ih
     more false ih = refl
 
--- a stretch that passes counts whole, and one that does not ends the count
+-- a run that passes counts whole, and one that does not ends the count
 passes-all : (t : ℕ) (test : Sample → Bool) (g : Sample) (kept : List Sample) → test g ≡ true
     → kept_run test (replicate t g ++ kept) ≡ t + kept_run test kept
 passes-all zero test g kept e = omega arith
@@ -56,7 +56,7 @@ told-run test (s ∷ ss) lasts = elim (cases_Bool (test s.sample)) [
   | inr e ↦ rw (e, passes-none s.ticks test s.sample (spread ss) e lasts.0) refl
 ]
 
--- the same where the newest stretch may have no frame yet
+-- the same where the newest run may have no frame yet
 pub told-newest : (test : Sample → Bool) (s : FrameRun) (ss : List FrameRun) → (1 ≤ s.ticks) ⊎ (ss ≡ []) → EachLasts ss
     → told_run test (s ∷ ss) ≡ kept_run test (spread (s ∷ ss))
 told-newest test s ss (inl some) lasts = told-run test (s ∷ ss) (some, lasts)

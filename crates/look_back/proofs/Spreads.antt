@@ -15,7 +15,7 @@ fewer (suc k) (suc n) [] (m ∷ past) le h = h
 fewer (suc k) (suc n) (g ∷ kept) [] le h = h
 fewer (suc k) (suc n) (g ∷ kept) (m ∷ past) le h = (h.0, fewer k n kept past (omega arith) h.1)
 
--- of a long stretch neither its length nor what comes after it counts
+-- of a long run neither its length nor what comes after it counts
 alike : (k a b : ℕ) (g : Sample) (xs ys : List Sample) (past : List Moment) → k ≤ a → k ≤ b
     → TellLast k (replicate a g ++ xs) past → TellLast k (replicate b g ++ ys) past
 alike zero a b g xs ys past la lb h = tt
@@ -24,7 +24,7 @@ alike (suc k) (suc a) zero g xs ys past la lb h = absurd (omega arith)
 alike (suc k) (suc a) (suc b) g xs ys [] la lb h = h
 alike (suc k) (suc a) (suc b) g xs ys (m ∷ past) la lb h = (h.0, alike k a b g xs ys past (omega arith) (omega arith) h.1)
 
--- behind a stretch, what tells as much may stand for what was there
+-- behind a run, what tells as much may stand for what was there
 behind : (t k n : ℕ) (g : Sample) (xs ys : List Sample) (past : List Moment) → k ≤ t + n
     → ((j : ℕ) (before : List Moment) → j ≤ n → TellLast j xs before → TellLast j ys before)
     → TellLast k (replicate t g ++ xs) past → TellLast k (replicate t g ++ ys) past
@@ -33,7 +33,7 @@ behind (suc t) zero n g xs ys past le f h = tt
 behind (suc t) (suc k) n g xs ys [] le f h = h
 behind (suc t) (suc k) n g xs ys (m ∷ past) le f h = (h.0, behind t k n g xs ys past (omega arith) f h.1)
 
--- so many stretches tell as many moments
+-- so many runs tell as many moments
 pub cut : (n k : ℕ) (ss : List FrameRun) (past : List Moment) → k ≤ n → EachLasts ss
     → TellLast k (spread ss) past → TellLast k (spread (take n ss)) past
 cut zero zero ss past le lasts h = tt
@@ -55,7 +55,7 @@ pub add-other : (n : ℕ) (g : Sample) (kept : List Sample) (m : Moment) (past :
 add-other zero g kept m past tells h = tt
 add-other (suc n) g kept m past tells h = (tells, fewer n (suc n) kept past (omega arith) h)
 
--- one moment more of a stretch that is as long as can be told
+-- one moment more of a run that is as long as can be told
 pub add-full : (n t : ℕ) (g : Sample) (kept : List Sample) (m : Moment) (past : List Moment) → n ≤ t → Tells g m
     → TellLast n (replicate t g ++ kept) past → TellLast n (replicate t g ++ kept) (m ∷ past)
 add-full zero t g kept m past le tells h = tt

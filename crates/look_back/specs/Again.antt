@@ -51,6 +51,6 @@ AllPass test (m ∷ ms) = (test m ≡ true) × AllPass test ms
 abbrev pub more_by : ℕ → ℕ → ℕ
 more_by ticks more = if nat_lt ticks 4096 then min (ticks + more) 4096 else ticks
 
--- the stretches with so many frames more in the newest one
+-- the runs with so many frames more in the newest one
 abbrev pub lengthened : ℕ → FrameRuns → FrameRuns
 lengthened n s = record s { newest = frame_run s.newest.sample (more_by s.newest.ticks n) }

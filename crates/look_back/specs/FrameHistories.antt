@@ -1,4 +1,4 @@
--- The lookout looks over all that was seen of a cabinet.
+-- The frame history holds all that was seen of a cabinet.
 use Rattle.std.specs.Prelude.{List}
 use Rattle.sig_tables.specs.Past.{Moment}
 use Rattle.look_back.specs.declared.frame_history.FrameHistory.{FrameHistory}

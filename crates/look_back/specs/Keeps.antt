@@ -1,4 +1,4 @@
--- What the stretches keep of all moments that were added.
+-- What the runs keep of all moments that were added.
 use Rattle.std.specs.Prelude.{◌≡◌, ◌≤◌, ◌⊎◌, List, [], ◌∷◌}
 use Rattle.sig_tables.specs.Past.{Moment}
 use Rattle.look_back.specs.declared.sample.Sample.{Sample}
@@ -9,7 +9,7 @@ use Rattle.look_back.specs.Spread.{spread, EachLasts, TellLast}
 abbrev pub newest_of : FrameRuns → Sample
 newest_of s = s.newest.sample
 
--- what is kept tells the last 4,096 of the moments; there is room for as many stretches, each with a frame but where none was
+-- what is kept tells the last 4,096 of the moments; there is room for as many runs, each with a frame but where none was
 -- added
 pub record FrameRunsKeep (s : FrameRuns) (past : List Moment) : Type 0 where
   pub tells : TellLast 4096 (spread (s.newest ∷ s.older.items)) past

@@ -1,11 +1,11 @@
--- Stretches of frames, the newest first: what is kept of each frame, and for how many last ones in a row something was so.
+-- Runs of frames, the newest first: what is kept of each frame, and for how many last ones in a row something was so.
 use Rattle.std.specs.Prelude.{ℕ, zero, suc, ◌+◌, ◌≤◌, nat_lt, Bool, if◌then◌else◌, List, [], ◌∷◌, ◌++◌, replicate}
 use Rattle.sig_tables.specs.Past.{Moment}
 use Rattle.look_back.specs.declared.sample.Sample.{Sample}
 use Rattle.look_back.specs.declared.frame_runs.FrameRun.{FrameRun}
 use Rattle.look_back.specs.Look.{Tells}
 
--- the stretch of one frame of which this is kept, and that of so many
+-- the run of one frame of which this is kept, and that of so many
 abbrev pub frame_run : Sample → ℕ → FrameRun
 frame_run g ticks = record { sample = g; ticks = ticks }
 
@@ -14,7 +14,7 @@ abbrev pub spread : List FrameRun → List Sample
 spread [] = []
 spread (s ∷ older) = replicate s.ticks s.sample ++ spread older
 
--- each stretch has a frame
+-- each run has a frame
 abbrev pub EachLasts : List FrameRun → Type 0
 EachLasts [] = Unit {0}
 EachLasts (s ∷ older) = (1 ≤ s.ticks) × EachLasts older

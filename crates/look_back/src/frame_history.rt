@@ -1,4 +1,4 @@
-//! The lookout over a cabinet: the window, the times that were latched, and what reaches further
+//! The frame history of a cabinet: the window, the times that were latched, and what reaches further
 //! than the window. What colours and signals follow by themselves, and whether a green has had
 //! its least, are read off it.
 

@@ -1,4 +1,4 @@
-//! Stretches of frames of which the same is kept. The newest stands apart from the older ones, so
+//! Runs of frames of which the same is kept. The newest stands apart from the older ones, so
 //! that a frame like the last one is one more of it and nothing else. Of the older ones the last
 //! 4,096 are kept: they reach over 4,096 frames or more.
 
@@ -52,7 +52,7 @@ impl FrameRuns {
     ghost use Rattle.look_back.specs.Keeps.{FrameRunsKeep, newest_of};
     ghost use Rattle.look_back.specs.Again.{AllTell, lengthened};
 
-    /// Room for the stretches of frames, of which none has come; before them this is shown.
+    /// Room for the runs of frames, of which none has come; before them this is shown.
     pub fn open(alloc: Global, before: Sample) -> Result<FrameRuns, NoMemory>
         ensures keeps { IfOk result (λ kept. FrameRunsKeep kept []) }
         ensures newest { IfOk result (λ kept. newest_of kept ≡ before) }
@@ -63,7 +63,7 @@ impl FrameRuns {
         }
     }
 
-    /// No stretch in this room; before any frame this is shown.
+    /// No run in this room; before any frame this is shown.
     fn of(older: HeapCircularBuffer<FrameRun>, before: Sample) -> FrameRuns
         requires { older ≡ buffer [] 4096 }
         ensures keeps { FrameRunsKeep result [] }
@@ -109,7 +109,7 @@ impl FrameRuns {
         self.lengthen(ticks - 1);
     }
 
-    /// So many more frames of the newest stretch.
+    /// So many more frames of the newest run.
     fn lengthen(&mut self, ticks: u32)
         ensures { self.new ≡ lengthened ticks self.old }
     {
@@ -129,7 +129,7 @@ impl FrameRuns {
         }
     }
 
-    /// So many frames, and those of the older stretches in a row in which it was so, at most `most`.
+    /// So many frames, and those of the older runs in a row in which it was so, at most `most`.
     fn continued(&self, look: Look, start: u32, most: u32) -> u32
         requires phase { LooksAtPhase look }
         requires within { most ≤ 4096 }

@@ -21,7 +21,7 @@ pub struct Seen {
     pub opposed: PhaseSet,
 }
 
-/// What was seen of a cabinet since the window was opened: the stretches of the last frames, and what the last one shows.
+/// What was seen of a cabinet since the window was opened: the runs of the last frames, and what the last one shows.
 #[derive(Drop)]
 pub struct Window {
     kept: FrameRuns,
@@ -53,7 +53,7 @@ impl Window {
         }
     }
 
-    /// The window over no frame, with these stretches, of which there is none; before any frame all is red.
+    /// The window over no frame, with these runs, of which there is none; before any frame all is red.
     fn of(kept: FrameRuns) -> Window
         requires kept { FrameRunsKeep kept [] }
         requires red { IsShown (newest_of kept).shown first_frame.veh first_frame.ped }

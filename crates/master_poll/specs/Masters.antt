@@ -44,12 +44,12 @@ notes_from s arrived cab (c ∷ cabinets) = notes_of s cab c (arrived cab) ++ no
 abbrev pub all_notes_of : ScenarioContent → (ℕ → List Arrived) → List MasterNote
 all_notes_of s arrived = notes_from s arrived 1 s.cabinets
 
--- the post of the cabinet at a place stands for its turns, and so many rounds have been
+-- the channel of the cabinet at a place stands for its turns, and so many rounds have been
 pub record ChannelIsAt (p : Channel) (s : ScenarioContent) (place rounds : ℕ) (c : CabinetContent) (arrived : List Arrived) : Type 0 where
   pub stands : ChannelStands p s.master.retries (place + 1) s.loads (turns s (place + 1) c arrived)
   pub count : length arrived ≡ rounds
 
--- each post stands for what has arrived from its cabinet
+-- each channel stands for what has arrived from its cabinet
 abbrev pub EachStands : List Channel → ScenarioContent → ℕ → (ℕ → List Arrived) → Type 0
 EachStands channels s rounds arrived =
     (place : ℕ) (p : Channel) (c : CabinetContent) → slice_get channels place ≡ Some p → slice_get s.cabinets place ≡ Some c
@@ -66,7 +66,7 @@ round_count m = m.rounds
 abbrev pub MasterStands : Master → ScenarioContent → (ℕ → List Arrived) → Type 0
 MasterStands m s arrived = EachStands m.channels.items s m.rounds arrived
 
--- the posts stand for these rounds, of which the last sends and notes what the definitions say
+-- the channels stand for these rounds, of which the last sends and notes what the definitions say
 pub record IsMade (channels : List Channel) (r : Round) (s : ScenarioContent) (rounds : ℕ) (arrived : ℕ → List Arrived) : Type 0 where
   pub stands : EachStands channels s rounds arrived
   pub sendings : map frames_of r.sendings.items ≡ sendings_of s arrived

@@ -1,4 +1,4 @@
-//! The master's desk for one cabinet: which command is open, which are to be sent, what was acknowledged and refused.
+//! The master's commands to one cabinet: which command is open, which are to be sent, what was acknowledged and refused.
 
 ghost use Rattle.std.specs.Prelude.{ℕ, ◌≡◌, ◌<◌, ◌≤◌, ◌+◌, ◌++◌, ◌∷◌, ◌&&◌, ◌||◌, not, if◌then◌else◌, List, [], Option, Some, pos};
 ghost use Rattle.snmp_msg.specs.declared.message.Message.{Message};

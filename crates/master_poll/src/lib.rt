@@ -1,4 +1,4 @@
-//! The master's desk: what it sends to each cabinet in a round, and what it notes, as the replies come in. Polls, patterns and
+//! The master at each cabinet: what it sends to each cabinet in a round, and what it notes, as the replies come in. Polls, patterns and
 //! clocks go out again until they are answered or given up; downloads beside them (requests of RFC 1157).
 #![tactic(auto)]
 

@@ -1,4 +1,4 @@
-//! The master of all cabinets: a post for each. A round is taken whole or not at all.
+//! The master of all cabinets: a channel for each. A round is taken whole or not at all.
 
 ghost use Rattle.std.specs.Prelude.{◌≡◌, ◌≤◌, ◌<◌, ◌+◌, ◌*◌, ℕ, List, [], map, length, All, IfOk, OnErr, OnOk};
 ghost use Rattle.std.specs.Prelude.{Some};
@@ -28,14 +28,14 @@ pub struct Next {
     pub round: Round,
 }
 
-/// The posts after a round, and what it sends and notes.
+/// The channels after a round, and what it sends and notes.
 #[derive(Debug, Drop)]
 struct Made {
     channels: Vec<Channel>,
     round: Round,
 }
 
-/// The master: its posts in the cabinets' order, and the number of rounds so far.
+/// The master: its channels in the cabinets' order, and the number of rounds so far.
 #[derive(Debug, Drop)]
 pub struct Master {
     channels: Vec<Channel>,
@@ -54,7 +54,7 @@ fn now_at(s: &Scenario, cabinet: &Cabinet, round: u32, clock: u32) -> Now
     }
 }
 
-/// So many posts to which nothing was sent yet.
+/// So many channels to which nothing was sent yet.
 fn new_channels(alloc: Global, count: usize) -> Result<Vec<Channel>, AllocError>
     ensures count { IfOk result (λ channels. length channels.items ≡ count) }
     ensures new { IfOk result (λ channels. All IsNew channels.items) }

@@ -1,4 +1,4 @@
--- That the desk stands for what the cabinets have answered so far, by their numbers, which are counted from 1. Lists of rounds have the
+-- That master and line stand for what the cabinets have answered so far, by their numbers, which are counted from 1. Lists of rounds have the
 -- newest first.
 use Rattle.std.specs.Prelude.{ℕ, ◌+◌, ◌≡◌, ◌<◌, List, length, Some}
 use Rattle.std.specs.List.{slice_get}

@@ -1,4 +1,4 @@
-//! The master's desk as a whole: the master, and the link with its faults. A round begins with what the master notes and with the
+//! Master and line as one: the master, and the link with its faults. A round begins with what the master notes and with the
 //! streams that reach each cabinet, and ends with what the cabinets have answered.
 #![tactic(auto)]
 

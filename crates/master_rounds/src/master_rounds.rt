@@ -1,4 +1,4 @@
-//! The desk between the rounds and in them.
+//! Master and line between the rounds and in them.
 
 ghost use Rattle.std.specs.Prelude.{ℕ, ◌≡◌, ◌≤◌, ◌<◌, ◌+◌, List, [], length, All, IfOk, OnOk, OnErr};
 ghost use Rattle.scenario_data.specs.Content.{scenario_content};
@@ -52,7 +52,7 @@ impl MasterRounds {
     ghost use Rattle.master_rounds.specs.Stands.{MasterRoundsStands, HasBegun, cabinet_count, rounds_begun};
     ghost use Rattle.master_rounds.specs.Begun.{IsBegun};
 
-    /// The desk of a scenario before its first round.
+    /// Master and line of a scenario before its first round.
     pub fn open(alloc: Global, s: &Scenario) -> Result<MasterRounds, NoMemory>
         requires served { CanBeServed (scenario_content s.now) }
         ensures stands { IfOk result (λ master_rounds. MasterRoundsStands master_rounds (scenario_content s.now) 0 (λ cab. [])) }
@@ -78,7 +78,7 @@ impl MasterRounds {
     }
 
     /// Begins the next round: the master has its turn at each cabinet, and what it sends goes over the link. Rounds come one after
-    /// another from 1, at most 86,400. Where memory is wanting the desk stands for the same rounds as before, and the round may
+    /// another from 1, at most 86,400. Where memory is wanting master and line stand for the same rounds as before, and the round may
     /// begin again.
     pub fn begin(&mut self, alloc: Global, round: u32, s: &Scenario) -> Result<Begun, NoMemory>
         requires order { round ≡ rounds_begun self.old + 1 }
@@ -109,7 +109,7 @@ impl MasterRounds {
     }
 
     /// Ends the round that has begun, in which the cabinets have answered this, in their order: what of it goes over the link arrives
-    /// for the master's turn in the next round. Where memory is wanting the desk stays in the middle of the round, and it may end
+    /// for the master's turn in the next round. Where memory is wanting master and line stay in the middle of the round, and it may end
     /// again.
     pub fn end(
         &mut self,

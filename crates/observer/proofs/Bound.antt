@@ -18,7 +18,7 @@ use Rattle.observer.specs.Runs.{Runs}
 pub active_pattern-in : (o : Observer) (k : TickState) (past : Past) (n : ℕ) → Runs o k past → mode_seen past ≡ Coord n → ActivePatternIs o.active_pattern past.tables n
 active_pattern-in o k past n r e = subst (λ (m : Mode). IsBound o.active_pattern past.tables m) e r.bound
 
--- whether the mode of a course is in step with a pattern
+-- whether the mode of a tick state is in step with a pattern
 pub coord-of : (o : Observer) (k : TickState) (past : Past) (b x : Bool) → Runs o k past → b ≡ is_coord k.mode → b ≡ x → is_coord (mode_seen past) ≡ x
 coord-of o k past b x r e f = sym (ap is_coord r.tick_state.mode) ∙ sym e ∙ f
 

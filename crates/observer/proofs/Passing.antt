@@ -173,7 +173,7 @@ unit_commands-next o h = record {
 next-passed : (o : UnitCommands) (h : o.clock + 1 < 864000) → UnitCommandsPassed 1 o (unit_commands-next o h)
 next-passed o h = record { command = refl; since = refl; clock = refl; ticks = refl; gain = refl; lose = refl }
 
--- of an even stretch the first tick is even, and what comes after it
+-- of an even run the first tick is even, and what comes after it
 first-even : (j : ℕ) (o : UnitCommands) (t : Tables) → IsEven o t (suc j) → IsEven o t 1
 first-even j o t even = record {
   clock = omega (arith, even.clock);

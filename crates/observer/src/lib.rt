@@ -49,7 +49,7 @@ pub struct Observer {
     ghost subtracts: { 0 < tables.unit.subtract },
 }
 
-/// The lookout over the moment before any tick.
+/// The frame history of the moment before any tick.
 fn first_frame_history(alloc: Global, tables: &Tables) -> Result<FrameHistory, NoMemory>
     ensures { IfOk result (λ frame_history. LooksOver frame_history (first_moment tables.now ∷ [])) }
 {
@@ -59,7 +59,7 @@ fn first_frame_history(alloc: Global, tables: &Tables) -> Result<FrameHistory, N
     }
 }
 
-/// The lookout over no frame, with that before any tick.
+/// The frame history of no frame, with that before any tick.
 fn with_first(frame_history: FrameHistory, tables: &Tables) -> FrameHistory
     requires { LooksOver frame_history [] }
     ensures { LooksOver result (first_moment tables.now ∷ []) }
@@ -113,7 +113,7 @@ impl Observer {
         }
     }
 
-    /// The same with a lookout over the moment before any tick.
+    /// The same with a frame history of the moment before any tick.
     fn over(frame_history: FrameHistory, tables: Tables, command: u8, clock: u32) -> Observer
         requires tables { CanRun tables }
         requires of_day { clock < 864000 }

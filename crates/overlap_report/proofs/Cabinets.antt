@@ -1,4 +1,4 @@
--- A scenario has a cabinet with a number or it has none; a cabinet comes to one standing; and the tables of its versions are one list.
+-- A scenario has a cabinet with a number or it has none; a cabinet comes to one state; and the tables of its versions are one list.
 use Rattle.std.proofs.Common.{◌≡◌, ◌⊎◌, inl, inr, ℕ, suc, ◌+◌, ◌<◌, ◌≤◌, ◌==◌, false, List, [], ◌∷◌, length, get_or, refl, sym, ◌∙◌, ap, arith}
 use Rattle.std.proofs.lemmas.Bool.{cases_Bool, false≢true, eq-eqb}
 use Rattle.sig_types.proofs.Lists.{eq-true}

@@ -1,4 +1,4 @@
--- What a street says of its tables, and how a side is measured.
+-- What a ring layout says of its tables, and how a side is measured.
 use Rattle.std.specs.Prelude.{ℕ, ◌≡◌, ◌-◌, List, get_or, if◌then◌else◌}
 use Rattle.sig_types.specs.PhaseSet.{phases_of}
 use Rattle.sig_tables.specs.declared.tables.Tables.{Tables}

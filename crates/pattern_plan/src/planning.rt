@@ -97,7 +97,7 @@ pub fn plan(t: &Tables, pattern: u8) -> Plan
     plan_on(&ring_layout, pattern)
 }
 
-/// The same, where the street of the tables is known already.
+/// The same, where the ring layout of the tables is known already.
 pub fn plan_on(ring_layout: &RingLayout, pattern: u8) -> Plan
     requires stands { RingLayoutStands ring_layout.now }
     ensures { result ≡ plan_of ring_layout.now.tables.now pattern }

@@ -1,4 +1,4 @@
--- A round of the corridor ends: what the cabinets have replied goes back to the desk.
+-- A round of the closed loop ends: what the cabinets have replied goes back to the master.
 use Rattle.std.proofs.Common.{◌≡◌, ◌<◌, ◌≤◌, ◌+◌, ◌-◌, ◌*◌, ◌∙◌, ℕ, zero, suc, List, [], ◌∷◌, length, get_or, Option, Some, None, refl, sym, ap, subst, arith}
 use Rattle.std.specs.List.{slice_get}
 use Rattle.scenario_data.specs.Content.{CabinetContent, ScenarioContent}
@@ -35,7 +35,7 @@ replied-here books k b below =
     let place : k + 1 - 1 ≡ k = omega arith in
     ap (λ (n : ℕ). replies_of (slice_get books n)) place ∙ ap replies_of (slice-here books k b below)
 
--- they go back to the desk
+-- they go back to the master
 pub all-replied : (all : List Answers) (books : List Book) → EachAnswers all books → AreAllReplies all (replied books)
 all-replied all books each = λ k a below.
     let place : k < length books = omega (arith, below, each.many) in
@@ -78,7 +78,7 @@ module _ (s : ScenarioContent) (ts : List CabinetState) (journals : List (List �
       → AreAnswered (with_replies (replied books) answered) (each_cabinet_state s 1 ts journals)
   answered-next answered told = λ k t below. answered-here answered told k t (omega (arith, below, each-length s 1 ts journals run.as_many))
 
-  -- the corridor after one round more
+  -- the closed loop after one round more
   pub between-next : (done : ℕ) (c : ClosedLoop) (answered : ℕ → List (List Reply)) → c.books.items ≡ books → cabinets_of ts ≡ s.cabinets
       → AreAt books (each_cabinet_state s 1 ts journals) → TicksWithin (done * 600 + 600) books → AreAnswered answered ts
       → MasterRoundsStands c.master_rounds s (done + 1) (with_replies (replied books) answered) → Between s (done + 1) (each_cabinet_state s 1 ts journals) c

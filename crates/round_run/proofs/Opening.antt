@@ -1,4 +1,4 @@
--- A corridor before its first round.
+-- A closed loop before its first round.
 use Rattle.std.proofs.Common.{◌≡◌, ◌<◌, ◌≤◌, ◌+◌, ◌⊎◌, inl, inr, ◌∙◌, ℕ, zero, suc, List, [], ◌∷◌, ◌++◌, length, map, drop, get_or, refl, sym, ap, subst, arith}
 use Rattle.std.proofs.lemmas.List.{get_or_push, length_push, get_or_default, get_or_append_left, length-map, get_or-map}
 use Rattle.std.proofs.lemmas.Bool.{cases_lt}

@@ -1,4 +1,4 @@
--- The corridor of a run between two rounds, and in the middle of one.
+-- The closed loop of a run between two rounds, and in the middle of one.
 use Rattle.std.specs.Prelude.{ℕ, ◌+◌, ◌*◌, ◌≡◌, ◌<◌, List, length, map, get_or}
 use Rattle.scenario_data.specs.Content.{CabinetContent, ScenarioContent}
 use Rattle.sig_types.specs.Replies.{Reply}
@@ -16,7 +16,7 @@ cabinets_of ts = map (λ (t : CabinetState). t.cabinet) ts
 abbrev pub AreAnswered : (ℕ → List (List Reply)) → List CabinetState → Type 0
 AreAnswered answered ts = (k : ℕ) (t : CabinetState) → k < length ts → answered (k + 1) ≡ (get_or ts k t).answered
 
--- so many rounds were run, and the cabinets have come to this: so have their books, and the desk stands for what the cabinets have
+-- so many rounds were run, and the cabinets have come to this: so have their books, and master and line stand for what the cabinets have
 -- answered
 pub record Between (s : ScenarioContent) (done : ℕ) (ts : List CabinetState) (c : ClosedLoop) : Type 0 where
   pub cabinets : cabinets_of ts ≡ s.cabinets
@@ -26,7 +26,7 @@ pub record Between (s : ScenarioContent) (done : ℕ) (ts : List CabinetState) (
   pub told : AreAnswered answered ts
   pub master_rounds : MasterRoundsStands c.master_rounds s done answered
 
--- the desk has begun the next round
+-- master and line have begun the next round
 pub record MasterRoundsHasBegun (s : ScenarioContent) (done : ℕ) (ts : List CabinetState) (d : MasterRounds) : Type 0 where
   pub cabinets : cabinets_of ts ≡ s.cabinets
   pub answered : ℕ → List (List Reply)

@@ -1,4 +1,4 @@
-//! What the cabinets have replied in a round, on its way to the master's desk.
+//! What the cabinets have replied in a round, on its way to the master.
 
 ghost use Rattle.std.specs.Prelude.{ℕ, ◌≡◌, ◌++◌, IfOk, OnOk};
 ghost use Rattle.sig_types.specs.Items.{texts_of};

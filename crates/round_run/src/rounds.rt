@@ -1,4 +1,4 @@
-//! The corridor between the rounds and in them.
+//! The closed loop between the rounds and in them.
 
 ghost use Rattle.std.specs.Prelude.{◌≡◌, ◌<◌, ◌+◌, ◌*◌, ℕ, List, length, IfOk, OnOk, map};
 ghost use Rattle.trace_text.specs.declared.lines.Line.{Line as LineRow};
@@ -17,7 +17,7 @@ use scenario_data::Scenario;
 use sig_types::{MasterNote, NoMemory};
 use std::alloc::Global;
 
-/// The master's desk, and the book of each cabinet.
+/// Master and line, and the book of each cabinet.
 #[derive(Drop)]
 pub struct ClosedLoop {
     master_rounds: MasterRounds,
@@ -27,7 +27,7 @@ pub struct ClosedLoop {
 impl ClosedLoop {
     ghost use Rattle.round_run.specs.ClosedLoop.{Between, InRound};
 
-    /// The corridor of a scenario before its first round, in which the frames of the cabinets come about this way.
+    /// The closed loop of a scenario before its first round, in which the frames of the cabinets come about this way.
     pub fn open(alloc: Global, way: Way, s: &Scenario) -> Result<ClosedLoop, NoMemory>
         requires { Runnable (scenario_content s.now) }
         ensures { IfOk result (Between (scenario_content s.now) 0 (opened_cabinet_states (scenario_content s.now) (scenario_content s.now).cabinets)) }
@@ -46,7 +46,7 @@ impl ClosedLoop {
     }
 
     /// Begins the round after so many, and gives what the master notes at its start: each book has the streams that come to its cabinet,
-    /// of which nothing was brought yet. Where memory is wanting the corridor is of no more use.
+    /// of which nothing was brought yet. Where memory is wanting the closed loop is of no more use.
     pub fn begin_round(
         &mut self,
         alloc: Global,
@@ -76,8 +76,8 @@ impl ClosedLoop {
         }
     }
 
-    /// Ends the round after so many, of which all was brought, by some journals: what the cabinets replied goes back to the desk. Where
-    /// memory is wanting the corridor is of no more use.
+    /// Ends the round after so many, of which all was brought, by some journals: what the cabinets replied goes back to the master. Where
+    /// memory is wanting the closed loop is of no more use.
     pub fn end_round(&mut self, alloc: Global, done: u32, s: &Scenario) -> Result<(), NoMemory>
         requires few { done < 4294967295 }
         requires begun { (ts : List CabinetState) × InRound (scenario_content s.now) done ts self.old × (length self.old.books.items ≡ length ts) }

@@ -12,7 +12,7 @@ ghost use Rattle.round_run.specs.CabinetStates.{IsAt, AreAt, HasRun, HaveRun};
 ghost use Rattle.round_run.specs.Replied.{replied_in};
 ghost use Rattle.round_run.specs.Lines.{book_lines};
 
-/// A book to which nothing was brought is at what its story says. After a round a book is at what the cabinet has come to by the
+/// A book to which nothing was brought is at what its cabinet history says. After a round a book is at what the cabinet has come to by the
 /// round's journal, and what it replied is what the round adds to the answers. The lines of the cabinet's round are those that are
 /// written of its book, in whose replies no two are out of order.
 pub fn books_follow_runs()

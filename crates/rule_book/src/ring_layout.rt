@@ -1,4 +1,4 @@
-//! A street: which phases are enabled, in which ring, beside which others and of which side (NTCIP 1202, NEMA TS 2), read
+//! The ring layout: which phases are enabled, in which ring, beside which others and of which side (NTCIP 1202, NEMA TS 2), read
 //! once into sets; and the rules that these sets answer. A rule of one phase is asked of 1 to 16.
 
 ghost use Rattle.std.specs.Prelude.{◌≡◌, ◌≤◌, ◌<◌, ◌&&◌, not, ℕ, Bool, if◌then◌else◌};
@@ -60,7 +60,7 @@ pub struct RingLayout {
 }
 
 impl RingLayout {
-    /// The street of any tables.
+    /// The ring layout of any tables.
     pub fn of(tables: &Tables) -> RingLayout
         ensures { Reads result tables.now }
     {

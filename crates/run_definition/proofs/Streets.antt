@@ -1,4 +1,4 @@
--- The lines of a run tell the story of each cabinet.
+-- The lines of a run tell the history of each cabinet.
 use Rattle.std.proofs.Common.{◌≡◌, ◌+◌, ◌<◌, ◌≤◌, ◌∙◌, ◌==◌, inl, inr, ℕ, true, false, List, [], ◌∷◌, ◌++◌, refl, sym, ap, subst, arith, append_assoc, append-nil}
 use Rattle.std.proofs.lemmas.Bool.{ne_eqb, eq-eqb}
 use Rattle.sig_tables.specs.Past.{History, first_frame}
@@ -31,7 +31,7 @@ pub after-opening : (cabinet_history : CabinetHistory) (items : List Item) → (
 after-opening cabinet_history [] = refl
 after-opening cabinet_history (item ∷ items) = after-opening (with_item cabinet_history item) items
 
--- from one standing of a cabinet to another, while these lines are written
+-- from one state of a cabinet to another, while these lines are written
 record Tells (cab : ℕ) (lines : List Line) (t u : CabinetState) : Type 0 where
   own : u.cabinet ≡ t.cabinet
   opening : u.cabinet_history.opening ≡ t.cabinet_history.opening

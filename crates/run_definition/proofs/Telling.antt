@@ -1,4 +1,4 @@
--- What the lines of a cabinet's acts tell of it is what its story tells of them; the lines of others tell nothing of it.
+-- What the lines of a cabinet's acts tell of it is what its cabinet history tells of them; the lines of others tell nothing of it.
 use Rattle.std.proofs.Common.{◌≡◌, ◌≢◌, ◌∙◌, ◌==◌, if◌then◌else◌, ℕ, Bool, true, false, List, [], ◌∷◌, ◌++◌, map, Option, Some, None, Result, Ok, Err, refl, ap, append-nil}
 use Rattle.std.proofs.lemmas.Bool.{ne_eqb, eq-eqb}
 use Rattle.sig_types.specs.declared.frame.Frame.{Frame}

@@ -12,7 +12,7 @@ use Rattle.cabinet_history.specs.Told.{acts_replies}
 use Rattle.master_rounds.specs.Rounds.{streams_of}
 use Rattle.runnable.specs.Cabinets.{opening_history}
 
--- what a cabinet has come to: its story, and its answers round by round; those of a round are in order
+-- what a cabinet has come to: its cabinet history, and its answers round by round; those of a round are in order
 pub record CabinetState : Type 0 where
   pub cabinet : CabinetContent
   pub cabinet_history : CabinetHistory

@@ -36,7 +36,7 @@ abbrev pub reply_lines : ℕ → List Reply → List Line
 reply_lines cab [] = []
 reply_lines cab (r ∷ replies) = load_lines cab r.load ++ A cab r.pass r.text ∷ reply_lines cab replies
 
--- the lines of an item that a pass brings after a story: of a tick its frame's, where that has a line; of a frame of octets its reply's
+-- the lines of an item that a pass brings after a cabinet history: of a tick its frame's, where that has a line; of a frame of octets its reply's
 abbrev pub item_lines : ℕ → CabinetHistory → ℕ → Item → List Line
 item_lines cab cabinet_history pass item = frame_lines cab (item_written cabinet_history item) ++ reply_lines cab (item_replies cabinet_history pass item)
 

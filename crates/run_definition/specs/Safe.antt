@@ -25,7 +25,7 @@ abbrev pub AreMadeOfDownloads : CabinetContent → CabinetHistory → Type 0
 AreMadeOfDownloads c cabinet_history = (version later : ℕ) → version + later ≡ length (accepted_by (deeds_of (coming cabinet_history)))
     → tables_of (history_of cabinet_history) version ≡ with_downloads (opening_tables c) (drop later (accepted_by (deeds_of (coming cabinet_history))))
 
--- the story as far as these of its items, of which the newest stands first
+-- the cabinet history as far as these of its items, of which the newest stands first
 abbrev pub as_far_as : CabinetHistory → List Item → CabinetHistory
 as_far_as cabinet_history items = record { community = cabinet_history.community; opening = cabinet_history.opening; items = items }
 

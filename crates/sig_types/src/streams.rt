@@ -1,4 +1,4 @@
-//! What passes between the master's desk, the link and a cabinet in a round, as plain data: the frames that are sent, the
+//! What passes between the master, the link and a cabinet in a round, as plain data: the frames that are sent, the
 //! streams that reach the cabinet, and what it answers. It stands below the link, the master and the cabinet, so that none of
 //! these stands on another.
 ghost use Rattle.std.specs.Prelude.{◌≡◌};

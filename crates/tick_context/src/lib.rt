@@ -1,4 +1,4 @@
-//! What a tick goes by beside what is kept of the frames: what was told, the pattern laid out, the course of the modes, and what
+//! What a tick goes by beside what is kept of the frames: what was told, the pattern laid out, the state of a tick, and what
 //! is seen of the last frame. A controller, which keeps registers, and an observer, who looks back, both stand on it.
 #![tactic(auto)]
 

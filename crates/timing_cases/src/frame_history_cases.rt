@@ -1,4 +1,4 @@
-//! A lookout that is pushed the frames of a cabinet, one by one and many at once; what is due was worked by hand.
+//! A frame history that is pushed the frames of a cabinet, one by one and many at once; what is due was worked by hand.
 
 ghost use Rattle.std.specs.Prelude.{◌<◌, ◌≤◌};
 

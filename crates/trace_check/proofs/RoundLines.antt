@@ -23,7 +23,7 @@ use Rattle.trace_check.specs.Rounds.{CabinetsRead}
 use Rattle.trace_check.proofs.Walking.{leads-here, leads-on, fails-on}
 use Rattle.trace_check.proofs.Taking.{said-text, texts-on, each-lines-append}
 
--- a standing of a list that has one at this place
+-- a state in a list that has one at this place
 pub cabinet_state-at : (ts : List CabinetState) (k : ℕ) → k < length ts → CabinetState
 cabinet_state-at [] k below = absurd (omega (arith, below))
 cabinet_state-at (t ∷ ts) k below = t

@@ -1,4 +1,4 @@
--- The watched cabinet's round: what was kept of it is what its story has come to.
+-- The watched cabinet's round: what was kept of it is what its cabinet history has come to.
 use Rattle.std.proofs.Common.{◌≡◌, ◌≢◌, ◌⊎◌, ◌<◌, ◌≤◌, ◌+◌, ◌∙◌, ℕ, zero, suc, Bool, true, false, List, [], ◌∷◌, ◌++◌, length, drop, get_or, slice_set, inl, inr, refl, sym, ap, subst, arith}
 use Rattle.std.proofs.Math.Seq.{drop-append_seam}
 use Rattle.std.proofs.lemmas.Bool.{cases_lt}
@@ -104,7 +104,7 @@ told-behind old new before now b was is told =
 
 -- ---- a round
 
--- before anything was brought a book is at the story at which its round began
+-- before anything was brought a book is at the cabinet history at which its round began
 begun-now : (b : Book) (cabinet_history : CabinetHistory) → journal_of b ≡ [] → cabinet_history_now b cabinet_history ≡ cabinet_history
 begun-now b cabinet_history none = ap (λ (passes : List ℕ). after cabinet_history (items_in (acts_of (streams_in b) passes))) none
 

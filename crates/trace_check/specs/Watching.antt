@@ -34,7 +34,7 @@ tells_put (a ∷ answered) = is_put a.reply.load
 abbrev pub AreTablesOf : List Tables → History → Type 0
 AreTablesOf tables h = AreByVersion tables (tables_of h) (past_at h).version
 
--- of one cabinet's round: where it is the watched one, what was seen is that of the story by now if it was that of the story before; else
+-- of one cabinet's round: where it is the watched one, what was seen is that of the cabinet history by now if it was that of the cabinet history before; else
 -- nothing changes
 pub record SeesOn (watched cab : ℕ) (old new : Seen) (before now : CabinetHistory) : Type 0 where
   pub own : watched ≡ cab → IsSeenOf old (history_of before) → IsSeenOf new (history_of now)

@@ -130,7 +130,7 @@ event-few c e is f = record {
   ids = f.ids;
 }
 
--- the version after any story of a cabinet that opens with version 0
+-- the version after any history of a cabinet that opens with version 0
 pub version-few : (cabinet_history : CabinetHistory) → (past_at cabinet_history.opening).version ≡ 0 → (past_of (coming cabinet_history)).version ≤ 2147483647
 version-few cabinet_history none =
     let f = cabinet_history-keeps Any IsFew

@@ -40,7 +40,7 @@ use Rattle.trace_laws.proofs.FrameFits.{FrameFits, next-fits}
 use Rattle.trace_laws.proofs.Few.{LoadFits, load-fits, version-few}
 use Rattle.trace_laws.proofs.Ticks.{tick_of, ticks_in, frames-counted}
 
--- the laws of stories on which the lines rest
+-- the laws of cabinet histories on which the lines rest
 pub record CabinetHistoryLaws : Type 0 where
   pub admitted : (cabinet_history : CabinetHistory) (t : Tables) (d : Drift) → IsOpening t d cabinet_history.opening → Consistent t
       → Admitted (history_of cabinet_history).tables (since_opening (history_of cabinet_history))
@@ -48,7 +48,7 @@ pub record CabinetHistoryLaws : Type 0 where
   pub judged : (cabinet_history : CabinetHistory) (octets : List ℕ)
       → IfSome (load_end cabinet_history octets) (λ load. IsVerdict (coming cabinet_history) (coming (with_item cabinet_history (Came octets))) load.result)
 
--- a story of octets, of a cabinet that opened with tables that pass the rules
+-- a cabinet history of octets, of a cabinet that opened with tables that pass the rules
 pub record IsTold (t : Tables) (d : Drift) (cabinet_history : CabinetHistory) : Type 0 where
   pub opens : IsOpening t d cabinet_history.opening
   pub consistent : Consistent t

@@ -1,4 +1,4 @@
--- In a story of octets all that is put into cells is octets, and so is what stands in the tables in force.
+-- In a cabinet history of octets all that is put into cells is octets, and so is what stands in the tables in force.
 use Rattle.std.proofs.Common.{◌≡◌, ℕ, ◌+◌, ◌==◌, ◌++◌, ◌∷◌, [], Bool, true, false, List, length, map, Option, Some, None, Result, Ok, Err, sym, subst}
 use Rattle.std.specs.Prelude.{pos, negsuc, nat_le, IfOk, IfSome, is_ok, if◌then◌else◌}
 use Rattle.std.specs.List.{AllByRecursion}
@@ -274,7 +274,7 @@ downloads-hold : (t : Tables) (contents : List (List (Cell × Content))) → Eac
 downloads-hold t [] own all = own
 downloads-hold t (content ∷ earlier) own all = cells-hold (with_downloads t earlier) content all.0 (downloads-hold t earlier own all.1)
 
--- the tables in force after a story of octets hold octets
+-- the tables in force after a cabinet history of octets hold octets
 pub cabinet_history-holds : (cabinet_history : CabinetHistory) (t : Tables) (d : Drift) → IsOpening t d cabinet_history.opening → EachHolds t → AreOctetItems cabinet_history.items
     → EachHolds (in_force (coming cabinet_history))
 cabinet_history-holds cabinet_history t d opens own all =

@@ -1,4 +1,4 @@
--- A story has as many frames as ticks, and one before any; and a round brings as many ticks as the scenario's rounds have.
+-- A cabinet history has as many frames as ticks, and one before any; and a round brings as many ticks as the scenario's rounds have.
 use Rattle.std.proofs.Common.{◌≡◌, ◌<◌, ◌≤◌, ◌+◌, ◌∙◌, ◌==◌, ◌∷◌, [], inl, inr, ℕ, zero, suc, Bool, true, false, if◌then◌else◌, List, length, map, replicate, get_or, Option, Some, None, refl, ap, arith}
 use Rattle.std.proofs.lemmas.Bool.{cases_lt, eqb-false, eq-eqb}
 use Rattle.sig_types.specs.declared.frame.Field.{Field}

@@ -49,7 +49,7 @@ fn bring_round<R: Threads + Sync, G: Gate + Sync>(
 }
 
 /// Runs the round after so many, and gives what the master notes at its start. Where memory is wanting the round is not run to its end,
-/// and the corridor is of no more use.
+/// and the closed loop is of no more use.
 pub fn run_round<R: Threads + Sync, G: Gate + Sync>(
     crew: &Crew<R, G>,
     alloc: Global,

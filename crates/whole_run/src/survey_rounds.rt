@@ -16,7 +16,7 @@ use scenario_data::Scenario;
 use sig_types::NoMemory;
 use std::alloc::Global;
 
-/// Runs the round after so many in the serial order. Where memory is wanting the corridor is of no more use.
+/// Runs the round after so many in the serial order. Where memory is wanting the closed loop is of no more use.
 fn run_round(
     alloc: Global,
     closed_loop: &mut ClosedLoop,
@@ -40,7 +40,7 @@ fn run_round(
     }
 }
 
-/// Runs all rounds of a corridor that was just opened, and counts what they tell beside what was counted before.
+/// Runs all rounds of a closed loop that was just opened, and counts what they tell beside what was counted before.
 pub fn run_rounds(
     alloc: Global,
     closed_loop: &mut ClosedLoop,

@@ -9,7 +9,7 @@ use Rattle.cabinet_history.specs.Told.{replied, ask_end, in_frame}
 use Rattle.cab_book.specs.Stands.{CabinetKeeps}
 use Rattle.cab_book.proofs.cabinet.Cabinet.receive.Goals as goal
 
--- what was read is what the story says that the frame asks
+-- what was read is what the cabinet history says that the frame asks
 asked : (found : Option Ask) (octets community items : List ℕ) (t : Tables) (cabinet_history : CabinetHistory) → found ≡ ask_of octets community t → community ≡ items
     → items ≡ cabinet_history.community → t ≡ in_force (coming cabinet_history) → found ≡ ask_after cabinet_history octets
 asked found octets community items t cabinet_history e a b f =

@@ -6,7 +6,7 @@ use Rattle.link_sim.proofs.LateLists.{on_late_list-empty}
 use Rattle.link_sim.proofs.stream_line.StreamLine.new.Goals as goal
 use Rattle.link_sim.proofs.stream_line.StreamLine.new.Goals.{After-from_fn}
 
--- no shelf has a copy
+-- no list has a copy
 none : (c : After-from_fn) → (k : ℕ) → on_late_list c.from_fn.result k ≡ []
 none c = on_late_list-empty c.from_fn.result (λ k d below. let called = c.from_fn.ensures.items.at k d (omega arith) in search (of_calls, called) parts 8)
 
