@@ -12,7 +12,7 @@ pub use memory::{MemSink, MemSource, OpenGate};
 pub use standard::{StdSink, StdSource, SteadyRead, SteadyWrite};
 
 /// A read or a write failed.
-#[derive(Clone, Copy, Debug, PartialEq, Eq)]
+#[derive(Clone, Copy, PartialEq, Eq)]
 pub struct Failed;
 
 /// Where bytes come from.

@@ -7,7 +7,7 @@ ghost use Rattle.sig_types.specs.Passes.{Brings, number_of, pass_of};
 use crate::{Field, Octets, Way};
 
 /// What the master sends to a cabinet in a round: at most one frame on each of its two streams.
-#[derive(Debug, PartialEq, Drop)]
+#[derive(PartialEq, Drop)]
 pub struct Sending {
     pub poll: Option<Octets>,
     pub load: Option<Octets>,
@@ -15,7 +15,7 @@ pub struct Sending {
 
 /// What reaches a cabinet in a round, each stream in order: inputs from the street, the frames of the three streams of messages,
 /// and a number of ticks of 0.1 s.
-#[derive(Debug, PartialEq, Drop)]
+#[derive(PartialEq, Drop)]
 pub struct Streams {
     pub fields: Vec<Field>,
     pub polls: Vec<Octets>,
@@ -26,7 +26,7 @@ pub struct Streams {
 
 /// What a cabinet answers in a round, or what of that arrives at the master: the replies on each stream, in order. A frame that
 /// is met with silence has none.
-#[derive(Debug, PartialEq, Drop)]
+#[derive(PartialEq, Drop)]
 pub struct Answers {
     pub polls: Vec<Octets>,
     pub loads: Vec<Octets>,
