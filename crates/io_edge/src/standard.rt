@@ -2,9 +2,9 @@
 //! what was written, the sink does. Standard input and output tell nothing: what stands outside the program is trusted.
 
 ghost use Rattle.std.specs.Prelude.{◌≡◌, ◌<◌, ◌≤◌, None, take, length, IfOk, OnOk, OnErr, true};
-ghost use Rattle.std.proofs.Common.{rules};
+ghost use Rattle.std.proofs.Common.{ap};
 ghost use Rattle.io_edge.specs.Calls.{one_more};
-ghost use Rattle.io_edge.specs.Edge.{Rises, Stays, Reads, Appends};
+ghost use Rattle.io_edge.specs.Edge.{Rises, Stays, Reads, Appends, told_as};
 ghost use Rattle.io_edge.specs.Standard.{reader_of, reader_faults, writer_of, writer_faults};
 
 use crate::{Failed, Sink, Source};
@@ -27,7 +27,7 @@ impl SteadyRead for Stdin {
 }
 
 impl SteadyRead for &[u8] {
-    ghost steady = { Prim.search rules };
+    ghost steady = { λ r q none. ap (told_as q.now) none };
 }
 
 impl SteadyWrite for Stdout {
@@ -39,7 +39,7 @@ impl SteadyWrite for Stderr {
 }
 
 impl SteadyWrite for Vec<u8> {
-    ghost steady = { Prim.search rules };
+    ghost steady = { λ w v none. ap (told_as v.items) none };
 }
 
 /// A source over a reader, which counts the reads that fail.
