@@ -33,7 +33,7 @@ OWN = re.compile(rb"^(?:interpreter|checked|races|run=)", re.M)
 WAY = "./arterial prove (or ./test) proves the program here, which has no such limit"
 LIMITS = (
     (rb"wrote more than \d+ bytes", f"the answer is longer than 1 MiB, which a run without proofs can't give. {WAY}"),
-    (rb"(?:no-answer|stopped).*seconds|after \d+ seconds", f"the answer takes longer than {SECONDS} seconds without proofs. {WAY}"),
+    (rb"did not end within the time limit", f"the answer takes longer than {SECONDS} seconds without proofs. {WAY}"),
 )
 """What the kit says where a limit ended the run, and what is said of it here."""
 
