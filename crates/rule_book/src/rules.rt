@@ -10,7 +10,7 @@ ghost use Rattle.rule_book.specs.Named.{
 };
 
 /// A rule on each enabled phase (NTCIP 1202 section 2.2.2, the phase table).
-#[derive(Clone, Copy, Debug, PartialEq, Eq)]
+#[derive(Clone, Copy, PartialEq, Eq)]
 pub enum PhaseRule {
     /// Rule 1: the phase is in ring 1 or 2 (NTCIP 1202 section 2.2.2.22).
     Ring,
@@ -35,7 +35,7 @@ pub enum PhaseRule {
 }
 
 /// A rule on each sequence in use (NTCIP 1202 section 2.8.3, the sequence table).
-#[derive(Clone, Copy, Debug, PartialEq, Eq)]
+#[derive(Clone, Copy, PartialEq, Eq)]
 pub enum SequenceRule {
     /// Rule 8: each ring's order has each enabled phase of the ring once, and nothing else (NTCIP 1202 section 2.8.3.3).
     EachPhaseOnce,
@@ -45,7 +45,7 @@ pub enum SequenceRule {
 }
 
 /// A rule on each defined pattern (NTCIP 1202 sections 2.5.7 and 2.5.9, the pattern and split tables).
-#[derive(Clone, Copy, Debug, PartialEq, Eq)]
+#[derive(Clone, Copy, PartialEq, Eq)]
 pub enum PatternRule {
     /// Rule 14: it has a split, and a sequence with phases (NTCIP 1202 sections 2.5.7.4 and 2.5.7.5).
     SplitAndSequence,
@@ -66,7 +66,7 @@ pub enum PatternRule {
 }
 
 /// A consistency rule. Its number is what the program prints, and what its answers hold.
-#[derive(Clone, Copy, Debug, PartialEq, Eq)]
+#[derive(Clone, Copy, PartialEq, Eq)]
 pub enum Rule {
     /// A rule on each enabled phase: the row is the phase.
     OnPhase(PhaseRule),
