@@ -7,6 +7,9 @@ ghost use Rattle.sig_types.specs.declared.frame.Mode.TheVariants.{Coord};
 ghost use Rattle.sig_tables.specs.Standard.{std8};
 ghost use Rattle.sig_tables.specs.Seen.{moment_seen};
 ghost use Rattle.sig_tables.specs.Decide.{past_at};
+ghost use Rattle.rule_book.specs.declared.rules.Rule.TheVariants.{OnPhase, OnPattern};
+ghost use Rattle.rule_book.specs.declared.rules.PhaseRule.TheVariants.{RedRevert};
+ghost use Rattle.rule_book.specs.declared.rules.PatternRule.TheVariants.{CorrectionWindow};
 ghost use Rattle.rule_facts.specs.Needed.{BreaksOnly, slow_clearance};
 ghost use Rattle.tick_laws.specs.InStep.{Coordinated};
 ghost use Rattle.plan_facts.specs.Meets.{Meets};
@@ -21,7 +24,7 @@ pub fn keeps_the_standard_plan()
 
 /// Without rule 11 a coordinated phase may still be held in red by its red revert at local zero, after it gave way to a left turn.
 pub fn needs_rule_11_on_the_ring_layout()
-    ensures broken { BreaksOnly long_revert 11 (2 ∷ []) }
+    ensures broken { BreaksOnly long_revert (OnPhase RedRevert) (2 ∷ []) }
     ensures late { at_last (late_turn long_revert) ≡ record { tick = 960; mode = Coord 1; counter = 0; two = Red; six = Green } }
     ensures fails { ¬ Coordinated long_revert 1 (moment_seen (past_at (late_turn long_revert))) }
 {}
@@ -35,7 +38,7 @@ pub fn needs_rule_18_on_the_ring_layout()
 /// Without rule 19 the offset may not be met in time. The counter is 50 ticks ahead of its target, and one cycle may stand for as many; but
 /// it may stand only within the window, which is 5 ticks. At the end of the time in which that one cycle is promised it is 35 ahead.
 pub fn needs_rule_19_on_the_ring_layout()
-    ensures broken { BreaksOnly short_window 19 (1 ∷ []) }
+    ensures broken { BreaksOnly short_window (OnPattern CorrectionWindow) (1 ∷ []) }
     ensures late { at_end (five_ahead short_window 1179)
         ≡ record { quiet = 1120; mode = Coord 1; cycles = 1; bound = 1120; counter = 84; target = 49; in_time = false } }
     ensures misses { ¬ Meets (five_ahead short_window 1179) }

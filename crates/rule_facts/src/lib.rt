@@ -14,6 +14,10 @@ ghost use Rattle.sig_tables.specs.Sides.{are_concurrent, are_of_one_side};
 ghost use Rattle.sig_tables.specs.Slots.{is_defined, cycle_time, slot_end, least_service, zero_point, force_point, window, permissive_end};
 ghost use Rattle.sig_tables.specs.Splits.{coordinated_phases};
 ghost use Rattle.rule_book.specs.RingLayout.{is_used, comes_after};
+ghost use Rattle.rule_book.specs.declared.rules.Rule.TheVariants.{OnPhase, OnSequence, OnPattern};
+ghost use Rattle.rule_book.specs.declared.rules.PhaseRule.TheVariants.{SharedList, StartUp};
+ghost use Rattle.rule_book.specs.declared.rules.SequenceRule.TheVariants.{SideOrder};
+ghost use Rattle.rule_book.specs.declared.rules.PatternRule.TheVariants.{SplitSum, LeastService, CorrectionWindow};
 ghost use Rattle.rule_book.specs.Rules.{broken, Consistent};
 ghost use Rattle.sig_tables.specs.Past.{Event, History};
 ghost use Rattle.sig_tables.specs.Decide.{past_at, since_opening};
@@ -139,7 +143,7 @@ pub fn omitted_force_point()
 
 /// Without rule 18 a phase may be forced off too late to clear within the cycle.
 pub fn needs_rule_18()
-    ensures broken { BreaksOnly slow_clearance 18 (1 ∷ []) }
+    ensures broken { BreaksOnly slow_clearance (OnPattern LeastService) (1 ∷ []) }
     ensures cycle { cycle_time slow_clearance 1 ≡ 900 }
     ensures forced { force_point slow_clearance 1 3 ≡ 840 }
     ensures clears { force_point slow_clearance 1 3 + clearance slow_clearance 3 ≡ 1350 }
@@ -147,7 +151,7 @@ pub fn needs_rule_18()
 
 /// Without rule 17 a slot may end past the cycle, and its phase be forced off before it is served.
 pub fn needs_rule_17()
-    ensures broken { BreaksOnly long_slots 17 (1 ∷ []) }
+    ensures broken { BreaksOnly long_slots (OnPattern SplitSum) (1 ∷ []) }
     ensures cycle { cycle_time long_slots 1 ≡ 900 }
     ensures past { slot_end long_slots 1 4 ≡ 1200 }
     ensures forced { force_point long_slots 1 4 ≡ 95 }
@@ -156,14 +160,14 @@ pub fn needs_rule_17()
 
 /// Without rule 19 local zero may come after the end of a coordinated slot.
 pub fn needs_rule_19()
-    ensures broken { BreaksOnly slots_past 19 (1 ∷ []) }
+    ensures broken { BreaksOnly slots_past (OnPattern CorrectionWindow) (1 ∷ []) }
     ensures zero { zero_point slots_past 1 ≡ 200 }
     ensures end { slot_end slots_past 1 6 ≡ 150 }
 {}
 
 /// Without rule 9 a side that comes before another in one ring may come after it in the other.
 pub fn needs_rule_9()
-    ensures broken { BreaksOnly crossed_sides 9 (1 ∷ []) }
+    ensures broken { BreaksOnly crossed_sides (OnSequence SideOrder) (1 ∷ []) }
     ensures first { comes_after crossed_sides 1 1 3 ≡ true }
     ensures second { comes_after crossed_sides 1 7 5 ≡ true }
     ensures sides { (are_of_one_side crossed_sides 1 5 ≡ true) × (are_of_one_side crossed_sides 3 7 ≡ true) }
@@ -171,7 +175,7 @@ pub fn needs_rule_9()
 
 /// Without rule 6 two phases of the side of a third, in different rings, may not be concurrent.
 pub fn needs_rule_6()
-    ensures broken { BreaksOnly half_named 6 (1 ∷ 2 ∷ 5 ∷ 6 ∷ []) }
+    ensures broken { BreaksOnly half_named (OnPhase SharedList) (1 ∷ 2 ∷ 5 ∷ 6 ∷ []) }
     ensures sides { (are_of_one_side half_named 1 2 ≡ true) × (are_of_one_side half_named 1 5 ≡ true) }
     ensures rings { (ring_of half_named 2 ≡ 1) × (ring_of half_named 5 ≡ 2) }
     ensures apart { are_concurrent half_named 2 5 ≡ false }
@@ -179,7 +183,7 @@ pub fn needs_rule_6()
 
 /// Without rule 12 start-up phases may be incompatible.
 pub fn needs_rule_12()
-    ensures broken { BreaksOnly both_streets 12 (2 ∷ 4 ∷ 6 ∷ []) }
+    ensures broken { BreaksOnly both_streets (OnPhase StartUp) (2 ∷ 4 ∷ 6 ∷ []) }
     ensures up { (starts_up both_streets 4 ≡ true) × (starts_up both_streets 6 ≡ true) }
     ensures apart { are_concurrent both_streets 4 6 ≡ false }
 {}
