@@ -14,7 +14,7 @@ use std::alloc::Global;
 
 /// A band: when it starts, in ticks of the cycle as the first cabinet passed counts them, and how many ticks wide it is; and
 /// the numbers of the first cabinets of the scenario that stand in its way before its start and behind its end.
-#[derive(Clone, Copy, Debug, PartialEq, Eq)]
+#[derive(Clone, Copy, PartialEq, Eq)]
 pub struct Band {
     pub start: u32,
     pub width: u32,

@@ -10,7 +10,7 @@ use std::alloc::Global;
 
 /// How the frames of a cabinet come about: by what a controller keeps from tick to tick, or by looking back over all that was
 /// seen.
-#[derive(Clone, Copy, Debug, PartialEq, Eq)]
+#[derive(Clone, Copy, PartialEq, Eq)]
 pub enum Way {
     Registers,
     LookingBack,

@@ -11,7 +11,7 @@ use sig_types::{Frame, NoMemory};
 use std::alloc::{AllocError, Global};
 
 /// A reply, and behind how many of the frames of its round that have a line it came.
-#[derive(Debug, Drop)]
+#[derive(Drop)]
 pub struct Answered {
     pub reply: Reply,
     pub behind: u32,

@@ -23,7 +23,7 @@ use sig_tables::Layout;
 use sig_types::{Mode, PhaseSet};
 
 /// Whose greens begin at a tick.
-#[derive(Clone, Copy, Debug, PartialEq, Eq)]
+#[derive(Clone, Copy, PartialEq, Eq)]
 pub enum Greens {
     /// None: the rings rest.
     Rest,
@@ -34,7 +34,7 @@ pub enum Greens {
 }
 
 /// What a tick sees of the phases on which walk may begin.
-#[derive(Clone, Copy, Debug, PartialEq, Eq)]
+#[derive(Clone, Copy, PartialEq, Eq)]
 pub struct Crosswalks {
     /// The mode of the frame; where it picks up a pattern, that of coordination.
     pub mode: Mode,

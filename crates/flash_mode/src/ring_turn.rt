@@ -15,7 +15,7 @@ use sig_types::{Frame, Mode, PhaseSet};
 
 /// Nothing, as in Start and Flash; the start-up phases begin; both rings follow the rules of actuated control; or they
 /// bring these phases to Green.
-#[derive(Clone, Copy, Debug, PartialEq, Eq)]
+#[derive(Clone, Copy, PartialEq, Eq)]
 pub enum RingTurn {
     Rest,
     StartUp,

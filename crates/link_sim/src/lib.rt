@@ -23,7 +23,7 @@ use sig_types::Way;
 pub use stream_line::{Late, LateList, StreamLine};
 
 /// One stream of a cabinet, towards it or from it.
-#[derive(Clone, Copy, Debug, PartialEq, Eq)]
+#[derive(Clone, Copy, PartialEq, Eq)]
 pub struct Line {
     pub cab: u32,
     pub way: Way,

@@ -16,7 +16,7 @@ use std::alloc::{AllocError, Global};
 use std::array;
 
 /// A copy of what was sent in a round that comes in a later one.
-#[derive(Debug, PartialEq, Drop)]
+#[derive(PartialEq, Drop)]
 pub struct Late {
     sent: u32,
     due: u64,
@@ -24,14 +24,14 @@ pub struct Late {
 }
 
 /// The copies that come in rounds of one rest by 32, in the order of their sending.
-#[derive(Debug, Drop)]
+#[derive(Drop)]
 pub struct LateList {
     copies: Vec<Late>,
 }
 
 /// A line, with the copies that are still to come, and the last round that it carried. A copy stands in the list of its round's
 /// rest by 32, so that a round looks through few others than its own.
-#[derive(Debug, Drop)]
+#[derive(Drop)]
 pub struct StreamLine {
     line: Line,
     late: [LateList; 32],

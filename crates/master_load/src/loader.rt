@@ -17,7 +17,7 @@ use sig_types::{MasterNote, Octets};
 use snmp_msg::Message;
 
 /// What became of a frame: no answer yet, a good one, or any other.
-#[derive(Clone, Copy, Debug, PartialEq, Eq)]
+#[derive(Clone, Copy, PartialEq, Eq)]
 pub enum Outcome {
     Open,
     Good,
@@ -26,7 +26,7 @@ pub enum Outcome {
 
 /// The downloads of one cabinet: the last frame and what became of it, the place of its load among all loads of the scenario, and
 /// the place from which the next load of the cabinet is looked for.
-#[derive(Clone, Copy, Debug)]
+#[derive(Clone, Copy)]
 pub struct Loader {
     sent: Option<LoadFrame>,
     outcome: Outcome,

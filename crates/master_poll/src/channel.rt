@@ -92,7 +92,7 @@ fn command_octets(community: &ArrayVec<u8, 32>, command: Option<Command>) -> Opt
 }
 
 /// What the master keeps of a cabinet.
-#[derive(Clone, Copy, Debug)]
+#[derive(Clone, Copy)]
 pub struct Channel {
     command_state: CommandState,
     loader: Loader,

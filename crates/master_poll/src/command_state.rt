@@ -17,7 +17,7 @@ use scenario_data::MasterSetup;
 use sig_types::Octets;
 
 /// What the master keeps of one cabinet.
-#[derive(Clone, Copy, Debug)]
+#[derive(Clone, Copy)]
 pub struct CommandState {
     sent: u32,
     command: Option<Command>,

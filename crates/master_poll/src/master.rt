@@ -15,28 +15,28 @@ use sig_types::{Answers, MasterNote, NoMemory, Sending};
 use std::alloc::{AllocError, Global};
 
 /// What the master sends and notes in a round, in the cabinets' order: one sending a cabinet.
-#[derive(Debug, PartialEq, Drop)]
+#[derive(PartialEq, Drop)]
 pub struct Round {
     pub sendings: Vec<Sending>,
     pub notes: Vec<MasterNote>,
 }
 
 /// The master after a round that is not yet taken, and what the round sends and notes.
-#[derive(Debug, Drop)]
+#[derive(Drop)]
 pub struct Next {
     pub master: Master,
     pub round: Round,
 }
 
 /// The channels after a round, and what it sends and notes.
-#[derive(Debug, Drop)]
+#[derive(Drop)]
 struct Made {
     channels: Vec<Channel>,
     round: Round,
 }
 
 /// The master: its channels in the cabinets' order, and the number of rounds so far.
-#[derive(Debug, Drop)]
+#[derive(Drop)]
 pub struct Master {
     channels: Vec<Channel>,
     rounds: u32,

@@ -14,7 +14,7 @@ use sig_types::{Answers, MasterNote, NoMemory, Streams};
 use std::alloc::{AllocError, Global};
 
 /// What a round begins with: what the master notes, cabinet by cabinet, and what reaches each cabinet, in the cabinets' order.
-#[derive(Debug, PartialEq, Drop)]
+#[derive(PartialEq, Drop)]
 pub struct Begun {
     pub notes: Vec<MasterNote>,
     pub streams: Vec<Streams>,

@@ -7,7 +7,7 @@ use sig_types::Colour;
 
 /// How long an overlap holds green behind the last green of its parents, how long yellow change lasts, and how long red clearance
 /// lasts; in ticks of 0.1 s.
-#[derive(Clone, Copy, Debug, PartialEq, Eq)]
+#[derive(Clone, Copy, PartialEq, Eq)]
 pub struct Timing {
     pub trail: u32,
     pub yellow: u32,
@@ -16,7 +16,7 @@ pub struct Timing {
 
 /// An overlap at a tick: its times, what it shows, and how many ticks are left of that. Trail and red clearance last 0 to 255 ticks,
 /// yellow change 1 to 255.
-#[derive(Clone, Copy, Debug, PartialEq, Eq)]
+#[derive(Clone, Copy, PartialEq, Eq)]
 pub struct Overlap {
     times: Timing,
     shown: Colour,

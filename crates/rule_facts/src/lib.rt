@@ -1,5 +1,6 @@
-//! What consistent tables give the layers above: laws of sides, sequences, goals and patterns that follow from the
-//! consistency rules. The functions do nothing: each stands for the law of its contract, which callers cite.
+//! What consistent tables give the layers above: laws of sides, sequences, goals and patterns that follow from the consistency
+//! rules; and what each rule of a plan is for, by a plan that breaks it alone. The functions do nothing: each stands for the law
+//! of its contract, which callers cite.
 #![tactic(auto)]
 
 mod broken_plans;

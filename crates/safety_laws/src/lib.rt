@@ -1,5 +1,5 @@
-//! A trace is safe: what its frame lines alone show of a cabinet's street, at every tick of 0.1 s.
-//! The definitions know nothing of histories or of the rules of a tick; the laws tie them to every history.
+//! A trace is safe: what its frame lines alone show of a cabinet's street, at every tick of 0.1 s. The definitions know nothing of
+//! histories or of the rules of a tick; the laws tie them to every history, and to every history whose tables keep the rules.
 //! What may be shown together, in which order and how long follows NEMA TS 2 and the FHWA Signal Timing Manual.
 #![tactic(auto)]
 

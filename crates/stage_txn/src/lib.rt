@@ -16,7 +16,7 @@ pub use laws::{
 };
 
 /// Where a stage stands: nothing was begun; parts are taken; all is verified; the tables were put in force.
-#[derive(Clone, Copy, Debug, PartialEq, Eq)]
+#[derive(Clone, Copy, PartialEq, Eq)]
 pub enum StageState {
     Rest,
     Open,

@@ -1,5 +1,5 @@
-//! What the definitions of a tick give: laws of safety, of calls and of the clock that hold for every history. The functions have
-//! no bodies: each stands for the law of its contract.
+//! What the definition of a tick gives: laws of safety, of calls, of the clock, of force-offs and of ticks in step with a pattern,
+//! for every history. The functions have no bodies: each stands for the law of its contract.
 //! What is shown, by whom and how long, follows NEMA TS 2 and the FHWA Signal Timing Manual.
 #![tactic(auto)]
 

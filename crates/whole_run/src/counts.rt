@@ -18,7 +18,7 @@ use std::alloc::Global;
 /// What a run comes to. Each number is one of lines, but for the ticks, of which a cabinet has as many in each round as the scenario says. A
 /// run has at most 64 cabinets, 86,400 rounds and 600 ticks in a round, so 3,317,760,000 ticks; a cabinet shows at most a frame for each tick
 /// and gives at most a reply for each frame that comes to it, of which a round has fewer than 2^34: so 64 bits are enough.
-#[derive(Clone, Copy, Debug, PartialEq, Eq)]
+#[derive(Clone, Copy, PartialEq, Eq)]
 pub struct Counts {
     /// The cabinets.
     pub cabinets: u32,
