@@ -32,9 +32,9 @@ use Rattle.coord_count.specs.Stands.{CountStands}
 use Rattle.coord_count.proofs.Passed.{count-on}
 use Rattle.phase_clock.proofs.Passed.{clocks-on}
 use Rattle.ped_clock.proofs.Passed.{signals-on}
-use Rattle.preempt_run.specs.Dwelling.{is_dwell, NamesPhases}
-use Rattle.preempt_run.proofs.Called.{seen-is}
-use Rattle.preempt_run.proofs.OnPhases.{names-phases}
+use Rattle.preempt_stages.specs.Dwelling.{is_dwell, NamesPhases}
+use Rattle.preempt_stages.proofs.Inputs.{seen-is}
+use Rattle.preempt_stages.proofs.OnPhases.{names-phases}
 use Rattle.preempt_run.proofs.Passed.{preempts-on}
 use Rattle.prio_queue.proofs.Idle.{queue-on}
 use Rattle.tick_context.specs.declared.unit_commands.UnitCommands.{UnitCommands}

@@ -13,7 +13,7 @@ use Rattle.ped_clock.specs.Stands.{SignalsStand, step_count as signal_steps}
 use Rattle.phase_clock.specs.Stands.{ClocksStand, step_count}
 use Rattle.coord_count.specs.declared.Count.{Count}
 use Rattle.coord_count.specs.Stands.{CountStands, counter_of}
-use Rattle.preempt_run.specs.Dwelling.{NamesPhases}
+use Rattle.preempt_stages.specs.Dwelling.{NamesPhases}
 use Rattle.preempt_run.specs.Stands.{PreemptsStand, step_count as preempt_steps}
 use Rattle.prio_queue.specs.Stands.{QueueStands}
 use Rattle.controller.specs.Shows.{ShowsColours}

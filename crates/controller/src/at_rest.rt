@@ -33,7 +33,7 @@ impl Controller {
     ghost use Rattle.sig_tables.specs.Ticking.{on_of};
     ghost use Rattle.sig_tables.specs.Decide.{with_moment, next_moment};
     ghost use Rattle.sig_tables.specs.Seen.{frame_seen, mode_seen, pedestrian_seen, demand_with, quiet_seen, opposed_seen};
-    ghost use Rattle.preempt_run.specs.Stands.{preempts_seen};
+    ghost use Rattle.preempt_stages.specs.Inputs.{preempts_seen};
     ghost use Rattle.tick_context.specs.Shows.{is_clearing, is_signalling};
     ghost use Rattle.tick_context.specs.Rests.{IsCurrent, Repeats};
     ghost use Rattle.controller.specs.Runs.{Runs};

@@ -15,7 +15,7 @@ impl Controller {
     ghost use Rattle.sig_tables.specs.Calls.{is_green};
     ghost use Rattle.sig_tables.specs.Modes.{bound};
     ghost use Rattle.sig_tables.specs.Seen.{frame_seen, demand_with, quiet_with};
-    ghost use Rattle.ped_clock.specs.Passed.{SignalLasts};
+    ghost use Rattle.call_store.specs.Signals.{SignalLasts};
     ghost use Rattle.tick_context.specs.Binds.{ActivePatternIs, IsBound};
     ghost use Rattle.tick_context.specs.Lasting.{Looks, ColourLasts, StaysUnserved, HasNoGap, HasNoMaximum, ComesBefore, HasNoReason, StaysUnforced, PhaseLasts, opposed_with};
     ghost use Rattle.controller.specs.StandsFor.{ControllerKeeps, tick_count};

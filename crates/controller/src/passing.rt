@@ -22,7 +22,7 @@ impl Controller {
     ghost use Rattle.tick_context.specs.Modes.{is_coord};
     ghost use Rattle.sig_tables.specs.Past.{Past};
     ghost use Rattle.sig_tables.specs.Layout.{Has};
-    ghost use Rattle.preempt_run.specs.Stands.{preempts_seen};
+    ghost use Rattle.preempt_stages.specs.Inputs.{preempts_seen};
     ghost use Rattle.pattern_plan.specs.Options.{AreActivePattern};
     ghost use Rattle.tick_context.specs.Binds.{ActivePatternIs, IsBound};
     ghost use Rattle.tick_context.specs.Lasting.{IsFresh, Looks, StaysFree, StaysInStep, ModeLasts, Lasts, opposed_with};

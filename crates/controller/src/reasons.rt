@@ -5,7 +5,7 @@ ghost use Rattle.std.specs.Prelude.{◌≡◌, ◌<◌, ◌≤◌, ◌==◌, ℕ
 
 use crate::Controller;
 use coord_gate::{filled, released};
-use preempt_run::lesser_green;
+use preempt_stages::lesser_green;
 use sig_types::{Ped, PhaseSet};
 use tick_context::{TickInputs, TickState, is_asked, is_coord};
 

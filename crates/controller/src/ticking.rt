@@ -40,7 +40,7 @@ impl Controller {
     ghost use Rattle.sig_tables.specs.Command.{command_now};
     ghost use Rattle.sig_tables.specs.Decide.{with_moment, next_moment};
     ghost use Rattle.sig_tables.specs.Seen.{frame_seen, mode_seen};
-    ghost use Rattle.preempt_run.specs.Stands.{preempts_seen};
+    ghost use Rattle.preempt_stages.specs.Inputs.{preempts_seen};
     ghost use Rattle.controller.specs.Runs.{Runs};
     ghost use Rattle.tick_context.specs.Sees.{Sees};
     ghost use Rattle.controller.specs.StandsFor.{ControllerKeeps, tick_count, install_count};

@@ -4,8 +4,8 @@
 ghost use Rattle.std.specs.Prelude.{◌≡◌, ◌<◌, ◌≤◌, ℕ, Bool, if◌then◌else◌, List, map, IsTrue, true};
 
 use crate::Controller;
+use call_store::{Crosswalks, walks};
 use pattern_plan::SplitOptions;
-use ped_clock::{Crosswalks, walks};
 use ring_barrier::Changes;
 use sig_types::{Mode, Ped, PhaseSet};
 use tick_context::{TickInputs, TickState, greens, is_coord, is_coord_of, lone};
@@ -15,7 +15,7 @@ impl Controller {
     ghost use Rattle.sig_tables.specs.Choosing.{mode_reached};
     ghost use Rattle.sig_tables.specs.TickState.{tick_state_of};
     ghost use Rattle.sig_tables.specs.Walking.{is_local_zero};
-    ghost use Rattle.ped_clock.specs.Walks.{SaysInCoord};
+    ghost use Rattle.call_store.specs.Walks.{SaysInCoord};
     ghost use Rattle.tick_context.specs.Binds.{IsBound};
     ghost use Rattle.sig_types.specs.declared.frame.Ped.TheVariants.{Walk};
     ghost use Rattle.sig_types.specs.Phases.{all_phases, is_phase};
@@ -28,7 +28,7 @@ impl Controller {
     ghost use Rattle.sig_tables.specs.Decide.{colours_of};
     ghost use Rattle.sig_tables.specs.Layout.{Has};
     ghost use Rattle.sig_tables.specs.Seen.{frame_seen, mode_seen};
-    ghost use Rattle.ped_clock.specs.Signals.{lesser_of};
+    ghost use Rattle.call_store.specs.Signals.{lesser_of};
     ghost use Rattle.tick_context.specs.Walks.{walk_after, signal_seen};
     ghost use Rattle.controller.specs.Runs.{Runs};
     ghost use Rattle.tick_context.specs.Sees.{Sees};

@@ -15,7 +15,7 @@ use Rattle.sig_tables.specs.Counters.{counters_since, counter_in}
 use Rattle.sig_tables.specs.TickState.{tick_state_of}
 use Rattle.sig_tables.specs.Decide.{next_moment, colours_of}
 use Rattle.sig_tables.specs.Seen.{frame_seen, mode_seen, moves_seen}
-use Rattle.preempt_run.proofs.Goes.{one-mode}
+use Rattle.preempt_stages.proofs.Goes.{one-mode}
 use Rattle.tick_context.specs.declared.tick_state.TickState.{TickState}
 use Rattle.tick_context.specs.TickState.{TickStateIs}
 use Rattle.tick_context.proofs.Counted.{counters-head, step-version, some-cycle}

@@ -27,9 +27,9 @@ use Rattle.sig_tables.specs.Modes.{bound}
 use Rattle.sig_tables.specs.Seen.{frame_seen, moment_seen, moves_seen, demand_with, quiet_with}
 use Rattle.call_store.specs.Stands.{CallsStand}
 use Rattle.call_store.proofs.Again.{calls-on}
-use Rattle.preempt_run.specs.Dwelling.{NamesPhases}
-use Rattle.preempt_run.proofs.Called.{seen-is}
-use Rattle.preempt_run.proofs.OnPhases.{names-phases}
+use Rattle.preempt_stages.specs.Dwelling.{NamesPhases}
+use Rattle.preempt_stages.proofs.Inputs.{seen-is}
+use Rattle.preempt_stages.proofs.OnPhases.{names-phases}
 use Rattle.prio_queue.specs.Idle.{IsIdle}
 use Rattle.prio_queue.specs.Stands.{QueueStands}
 use Rattle.prio_queue.proofs.Idle.{queue-on}

@@ -12,8 +12,8 @@ use Rattle.sig_tables.specs.Layout.{LaidOut, Ordered}
 use Rattle.sig_tables.specs.Seen.{frame_seen}
 use Rattle.call_store.specs.Stands.{CallsStand}
 use Rattle.prio_queue.specs.Stands.{QueueStands}
-use Rattle.preempt_run.specs.Dwelling.{NamesPhases}
-use Rattle.preempt_run.specs.Stands.{preempts_seen}
+use Rattle.preempt_stages.specs.Dwelling.{NamesPhases}
+use Rattle.preempt_stages.specs.Inputs.{preempts_seen}
 use Rattle.tick_context.specs.UnitCommands.{UnitCommandsStand, order_ticks}
 use Rattle.tick_context.specs.Binds.{ActivePatternStands}
 use Rattle.look_back.specs.FrameHistories.{LooksOver}

@@ -6,7 +6,7 @@ ghost use Rattle.std.specs.Prelude.{◌≡◌, ◌<◌, ◌≤◌, ◌+◌, ℕ}
 use crate::Observer;
 use coord_count::Limits;
 use flash_mode::{Choice, ring_turn_of, sought};
-use preempt_run::{goal, lesser};
+use preempt_stages::{goal, lesser};
 use sig_types::{Mode, PhaseSet};
 use tick_context::{TickState, has_pattern, is_coord};
 

@@ -5,10 +5,9 @@ ghost use Rattle.std.specs.Prelude.{◌≡◌, ℕ, Bool, if◌then◌else◌, L
 ghost use Rattle.sig_types.specs.declared.frame.Mode.TheVariants.{Coord};
 
 use crate::Observer;
-use call_store::signalling;
+use call_store::{Crosswalks, signalling, walks};
 use look_back::cut_in;
 use pattern_plan::SplitOptions;
-use ped_clock::{Crosswalks, walks};
 use ring_barrier::Changes;
 use sig_types::{Mode, Ped, PhaseSet};
 use tick_context::{TickInputs, TickState, greens, is_coord, is_coord_of};
@@ -25,7 +24,7 @@ impl Observer {
     ghost use Rattle.sig_tables.specs.Decide.{colours_of};
     ghost use Rattle.sig_tables.specs.Layout.{Has};
     ghost use Rattle.sig_tables.specs.Seen.{frame_seen, mode_seen};
-    ghost use Rattle.ped_clock.specs.Walks.{SaysInCoord};
+    ghost use Rattle.call_store.specs.Walks.{SaysInCoord};
     ghost use Rattle.tick_context.specs.Binds.{IsBound};
     ghost use Rattle.tick_context.specs.Walks.{walk_after, signal_seen};
     ghost use Rattle.tick_context.specs.Moves.{AreMoves};

@@ -9,8 +9,8 @@ use Rattle.sig_tables.specs.Command.{command_now}
 use Rattle.sig_tables.specs.Preempts.{preempts_on}
 use Rattle.sig_tables.specs.Decide.{next_moment, colours_of}
 use Rattle.sig_tables.specs.Seen.{frame_seen, moment_seen, moves_seen}
-use Rattle.preempt_run.proofs.Called.{seen-is}
-use Rattle.preempt_run.proofs.OnPhases.{names-phases}
+use Rattle.preempt_stages.proofs.Inputs.{seen-is}
+use Rattle.preempt_stages.proofs.OnPhases.{names-phases}
 use Rattle.sig_tables.specs.Layout.{Has}
 use Rattle.call_store.specs.Stands.{is_walking}
 use Rattle.controller.specs.Shows.{ShowsColours}

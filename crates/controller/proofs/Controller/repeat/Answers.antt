@@ -15,9 +15,9 @@ use Rattle.sig_tables.specs.Decide.{next_moment, colours_of}
 use Rattle.sig_tables.specs.Priority.{active_in}
 use Rattle.sig_tables.specs.Seen.{frame_seen, moment_seen, moves_seen}
 use Rattle.call_store.specs.Stands.{is_walking}
-use Rattle.preempt_run.specs.Dwelling.{NamesPhases, is_dwell}
-use Rattle.preempt_run.proofs.Called.{seen-is}
-use Rattle.preempt_run.proofs.OnPhases.{last-wide}
+use Rattle.preempt_stages.specs.Dwelling.{NamesPhases, is_dwell}
+use Rattle.preempt_stages.proofs.Inputs.{seen-is}
+use Rattle.preempt_stages.proofs.OnPhases.{last-wide}
 use Rattle.prio_queue.specs.Places.{some_number}
 use Rattle.controller.specs.Shows.{ShowsColours}
 use Rattle.tick_context.specs.Shows.{is_signalling}

@@ -5,7 +5,7 @@ use Rattle.sig_types.specs.PhaseSet.{has}
 use Rattle.sig_tables.proofs.Below.{is-within}
 use Rattle.sig_tables.specs.Decide.{colour_after, colours_of}
 use Rattle.sig_tables.specs.Seen.{frame_seen}
-use Rattle.ped_clock.specs.Walks.{greens_of}
+use Rattle.call_store.specs.Walks.{greens_of}
 use Rattle.tick_context.specs.Walks.{crossing_seen}
 use Rattle.tick_context.proofs.Filling.{made-at}
 use Rattle.tick_context.proofs.Signals.{begins-is, rests-is}

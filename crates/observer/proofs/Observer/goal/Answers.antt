@@ -3,7 +3,7 @@ use Rattle.sig_types.specs.Phases.{is_in}
 use Rattle.sig_tables.specs.declared.tables.Tables.{Tables}
 use Rattle.sig_tables.specs.Goals.{goal_in}
 use Rattle.sig_tables.specs.Layout.{Has}
-use Rattle.preempt_run.specs.Goals.{AreSought}
+use Rattle.preempt_stages.specs.Goals.{AreSought}
 use Rattle.tick_context.proofs.Binds.{sought-set}
 use Rattle.observer.proofs.Observer.goal.Goals as goal
 

@@ -10,8 +10,8 @@ use Rattle.sig_tables.specs.Seen.{frame_seen, moment_seen, moves_seen}
 use Rattle.sig_tables.specs.Layout.{Has}
 use Rattle.sig_tables.proofs.Below.{is-above, is-within}
 use Rattle.call_store.specs.Stands.{is_walking}
-use Rattle.preempt_run.proofs.Called.{seen-is}
-use Rattle.preempt_run.proofs.OnPhases.{names-phases}
+use Rattle.preempt_stages.proofs.Inputs.{seen-is}
+use Rattle.preempt_stages.proofs.OnPhases.{names-phases}
 use Rattle.tick_context.proofs.Seen.{opposed-green}
 use Rattle.tick_context.proofs.Sought.{start-again}
 use Rattle.tick_context.proofs.Pickups.{few-next, one-more, same-most}

@@ -4,8 +4,8 @@ use Rattle.sig_tables.specs.Past.{Past}
 use Rattle.sig_tables.specs.Command.{command_now}
 use Rattle.sig_tables.specs.Choosing.{mode_sought}
 use Rattle.sig_tables.specs.Seen.{mode_seen}
-use Rattle.preempt_run.specs.Stands.{preempts_seen}
-use Rattle.preempt_run.proofs.Called.{none-beyond}
+use Rattle.preempt_stages.specs.Inputs.{preempts_seen}
+use Rattle.preempt_stages.proofs.Inputs.{none-beyond}
 use Rattle.observer.proofs.Observer.mode.Goals as goal
 
 mode-is : (past : Past) → mode_sought past.tables past.version (command_now past) (preempts_seen past) past.moments ≡ mode_seen past
