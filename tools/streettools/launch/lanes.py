@@ -6,6 +6,7 @@ below it linked into it, and with the processors that no other crate needs. What
 """
 
 import contextlib
+import hashlib
 import os
 import pathlib
 import re
@@ -21,6 +22,9 @@ from . import crates, kit, shares
 
 RLIB, KEPT = pathlib.Path("out/rlib"), pathlib.Path("out/incremental")
 """What the check of a library leaves: what others stand on, and what speeds the next check."""
+
+KEY = pathlib.Path("out/proved-of")
+"""A sum of all that the library was made of."""
 
 MOST_JOBS = 4
 """More jobs in one check gain nothing."""
@@ -69,6 +73,16 @@ def chains(above: dict[str, list[str]], seconds: dict[str, float]) -> dict[str, 
     return found
 
 
+def keys(top: pathlib.Path, known: dict[str, list[str]], names: list[str]) -> dict[str, str]:
+    """Returns for each crate, those below it before it, a sum of its sources, of what it stands on, and of the kit."""
+    folder, found = kit.folder(), {}
+    for name in names:
+        sums = sorted((file, crates.sum_of(top / file)) for file in crates.files_of(top, name))
+        text = repr((sums, crates.listed(top, [name]), [found[it] for it in known[name]], folder and kit.identity(folder)))
+        found[name] = hashlib.sha256(text.encode()).hexdigest()
+    return found
+
+
 def need(top: pathlib.Path, name: str, below: list[str]) -> float:
     """Returns the bytes of memory that a check of a crate may take, by the lines of the crate and of those below it."""
     rust, proofs = shares.lines(top / "crates" / name)
@@ -111,6 +125,7 @@ class Lanes:
         known = crates.uses(top)
         self.below = {name: crates.parts_of(name, known)[:-1] for name in crates.parts(top)[:-1]}
         above = {name: [it for it, below in self.below.items() if name in below] for name in self.below}
+        self.keys = keys(top, known, list(self.below))
         order = chains(above, shares.of(list(self.below), top))
         self.waiting = sorted(self.below, key=lambda name: -order[name])
         self.ended: set[str] = set()
@@ -120,6 +135,7 @@ class Lanes:
     def run(self) -> None:
         """Proves all; NotProved where one fails, once those beside it have ended. However it ends, what was kept stands in the checkout."""
         shutil.rmtree(self.lanes, ignore_errors=True)
+        self.take_proved()
         failed = None
         try:
             while (self.waiting and not failed) or self.running:
@@ -139,6 +155,18 @@ class Lanes:
         if failed:
             raise NotProved(failed)
 
+    def take_proved(self) -> None:
+        """Takes the crates as done that an earlier call has proved from the same sources."""
+        for name in [it for it in self.waiting if self.is_proved(it)]:
+            self.waiting.remove(name)
+            self.ended.add(name)
+            self.done(name)
+
+    def is_proved(self, name: str) -> bool:
+        """Tells whether the library is there that a call has left for the same sources. The kit tests this again as it builds the program."""
+        key = self.top / "crates" / name / KEY
+        return key.is_file() and key.read_text() == self.keys[name] and (self.top / "crates" / name / RLIB).is_dir()
+
     def start_more(self) -> None:
         """Starts the crates that can run now."""
         ready = [name for name in self.waiting if self.ended.issuperset(self.below[name])]
@@ -154,8 +182,8 @@ class Lanes:
         """Starts the check of a crate in a copy of what it needs."""
         lane = self.lanes / name
         lane.mkdir(parents=True)
-        for it in crates.LISTS:
-            shutil.copy2(self.top / it, lane / it)
+        (lane / crates.LISTS[0]).write_text(crates.listed(self.top, [*self.below[name], name]))
+        shutil.copy2(self.top / crates.LISTS[1], lane)
         for crate in (*self.below[name], name):
             for part in crates.PARTS:
                 source = self.top / "crates" / crate / part
@@ -183,6 +211,7 @@ class Lanes:
                 self.bring_back(it, KEPT)
             else:
                 self.bring_back(it, RLIB)
+                (self.top / "crates" / it.crate / KEY).write_text(self.keys[it.crate])
                 if self.keep:
                     self.bring_back(it, KEPT)
                 self.ended.add(it.crate)

@@ -71,3 +71,7 @@ def test_the_files_that_a_proof_reads_are_those_of_the_crates_below_and_the_list
     assert "crates/io_edge/proofs/F/Answers.antt" in listed and "crates/sig_types/src/lib.rt" in listed
     assert not [it for it in listed if "laws" in it or "must-fail" in it or "stdin" in it]
     assert "crates/io_edge/proofs" in crates.folders(listed) and "crates" in crates.folders(listed)
+
+
+def test_a_part_of_the_list_has_the_lines_of_some_crates(tried):
+    assert crates.listed(tried.top, ["io_edge", "sig_types"]) == "sig_types: arrayvec\nio_edge: sig_types\n"
