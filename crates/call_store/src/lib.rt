@@ -34,7 +34,7 @@ impl Calls {
     ghost use Rattle.sig_tables.specs.Decide.{opened, with_event, with_moment};
     ghost use Rattle.sig_tables.specs.Layout.{LaidOut, Has};
     ghost use Rattle.sig_tables.specs.Seen.{frame_seen, vehicle_seen, pedestrian_seen, detectors_seen, demand_with, quiet_with};
-    ghost use Rattle.pattern_plan.specs.Options.{AreBinding};
+    ghost use Rattle.pattern_plan.specs.Options.{AreActivePattern};
     ghost use Rattle.call_store.specs.Stands.{CallsStand, NamesPhase, is_active_with, is_walking};
 
     /// No call, and no detector on.
@@ -86,9 +86,9 @@ impl Calls {
     /// maximum.
     pub fn active(&self, layout: &Layout, options: Option<&SplitOptions>) -> PhaseSet
         ensures active { (pattern : Option ℕ) (past : Past) → CallsStand self.now past → LaidOut layout.now past.tables
-            → AreBinding options.entry pattern past.tables → Has result (is_active_with pattern past) }
+            → AreActivePattern options.entry pattern past.tables → Has result (is_active_with pattern past) }
         ensures quiet { (pattern : Option ℕ) (past : Past) → CallsStand self.now past → LaidOut layout.now past.tables
-            → AreBinding options.entry pattern past.tables → (p : ℕ) → is_phase p ≡ true
+            → AreActivePattern options.entry pattern past.tables → (p : ℕ) → is_phase p ≡ true
             → is_in (quiet_with pattern past) p ≡ (is_green (frame_seen past) p && not (has result p)) }
     {
         let active = self.active_alone(layout);
@@ -115,7 +115,7 @@ impl Calls {
     /// that it calls, and none that it omits.
     pub fn demand(&self, layout: &Layout, red: PhaseSet, options: Option<&SplitOptions>) -> PhaseSet
         ensures demand { (pattern : Option ℕ) (past : Past) → CallsStand self.now past → LaidOut layout.now past.tables
-            → AreBinding options.entry pattern past.tables
+            → AreActivePattern options.entry pattern past.tables
             → Has red (λ p. same_colour (colour_of (frame_seen past) p) Red) → phases_of result ≡ demand_with pattern past }
     {
         let waiting = layout.enabled.meet(red);

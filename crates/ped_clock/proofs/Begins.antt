@@ -12,29 +12,29 @@ use Rattle.sig_types.specs.Phases.{is_in}
 use Rattle.sig_types.specs.Colour.{same_colour, same_signal}
 use Rattle.sig_tables.specs.declared.tables.Tables.{Tables}
 use Rattle.sig_tables.specs.Tables.{has_pedestrian_recall, starts_with_walk}
-use Rattle.sig_tables.specs.Course.{Turn, Rest, StartUp, Rings, Goal}
+use Rattle.sig_tables.specs.TickState.{RingTurn, Rest, StartUp, Rings, Goal}
 use Rattle.sig_tables.specs.Walking.{Crossing, has_walk, walks_at_green, walk_begins}
 use Rattle.pattern_plan.specs.declared.split_options.SplitOptions.{SplitOptions}
-use Rattle.pattern_plan.specs.Options.{SplitSays, AreBinding}
+use Rattle.pattern_plan.specs.Options.{SplitSays, AreActivePattern}
 use Rattle.ped_clock.specs.declared.beginning.Greens.TheVariants.{Rest as NoGreens, StartUp as StartUpGreens, Rings as RingGreens}
 use Rattle.ped_clock.specs.Walks.{greens_of, is_walking, SaysInCoord}
 
 -- what asks for Walk with the Green of p: nothing where the rings rest, and more at start-up than at another tick
-pub at-rest : (turn : Turn) (t : Tables) (pedestrian : List ℕ) (p : ℕ) → greens_of turn ≡ NoGreens → false ≡ walks_at_green turn t pedestrian p
+pub at-rest : (ring_turn : RingTurn) (t : Tables) (pedestrian : List ℕ) (p : ℕ) → greens_of ring_turn ≡ NoGreens → false ≡ walks_at_green ring_turn t pedestrian p
 at-rest Rest t pedestrian p e = refl
 at-rest StartUp t pedestrian p e = absurd (cc e)
 at-rest Rings t pedestrian p e = absurd (cc e)
 at-rest (Goal goal) t pedestrian p e = absurd (cc e)
 
-pub at-startup : (turn : Turn) (t : Tables) (pedestrian : List ℕ) (p : ℕ) → greens_of turn ≡ StartUpGreens
-    → (is_in pedestrian p || has_pedestrian_recall t p || starts_with_walk t p) ≡ walks_at_green turn t pedestrian p
+pub at-startup : (ring_turn : RingTurn) (t : Tables) (pedestrian : List ℕ) (p : ℕ) → greens_of ring_turn ≡ StartUpGreens
+    → (is_in pedestrian p || has_pedestrian_recall t p || starts_with_walk t p) ≡ walks_at_green ring_turn t pedestrian p
 at-startup Rest t pedestrian p e = absurd (cc e)
 at-startup StartUp t pedestrian p e = refl
 at-startup Rings t pedestrian p e = absurd (cc e)
 at-startup (Goal goal) t pedestrian p e = absurd (cc e)
 
-pub after-startup : (turn : Turn) (t : Tables) (pedestrian : List ℕ) (p : ℕ) → greens_of turn ≡ RingGreens
-    → (is_in pedestrian p || has_pedestrian_recall t p) ≡ walks_at_green turn t pedestrian p
+pub after-startup : (ring_turn : RingTurn) (t : Tables) (pedestrian : List ℕ) (p : ℕ) → greens_of ring_turn ≡ RingGreens
+    → (is_in pedestrian p || has_pedestrian_recall t p) ≡ walks_at_green ring_turn t pedestrian p
 after-startup Rest t pedestrian p e = absurd (cc e)
 after-startup StartUp t pedestrian p e = absurd (cc e)
 after-startup Rings t pedestrian p e = refl
@@ -45,11 +45,11 @@ pub in-coord : (options : Option (Bor SplitOptions)) (mode : Mode) (t : Tables) 
     → options ≡ Some o → SaysInCoord options mode t → SplitSays o.now t n
 in-coord options mode t n o m e says =
     let coord : SaysInCoord options (Coord n) t = subst (λ (x : Mode). SaysInCoord options x t) m says in
-    subst (λ (q : Option (Bor SplitOptions)). AreBinding q (Some n) t) e coord
+    subst (λ (q : Option (Bor SplitOptions)). AreActivePattern q (Some n) t) e coord
 
-pub in-turn : (z w h a : Bool) → (z && (w && h && a)) ≡ (z && w && h && a)
-in-turn true w h a = refl
-in-turn false w h a = refl
+pub in-ring_turn : (z w h a : Bool) → (z && (w && h && a)) ≡ (z && w && h && a)
+in-ring_turn true w h a = refl
+in-ring_turn false w h a = refl
 
 -- Walk begins, from the colours and the signal as tests: with the Green, or in it, of which x says so
 pub walk-is : (c : Crossing) (mode : Mode) (p : ℕ) (before after : Colour) (signal : Ped) (x : Bool)
@@ -72,7 +72,7 @@ no-green c (Coord n) p e = absurd (cc e)
 no-green c mode p e = refl
 
 pub with-green : (c : Crossing) (mode : Mode) (p : ℕ) → is_walking mode ≡ true → ((n : ℕ) → mode ≡ Coord n → ⊥)
-    → (has_walk c.tables p && walks_at_green c.turn c.tables c.pedestrian p) ≡ walk_begins c mode p Red Green Dont
+    → (has_walk c.tables p && walks_at_green c.ring_turn c.tables c.pedestrian p) ≡ walk_begins c mode p Red Green Dont
 with-green c Free p e not = refl
 with-green c (Seek n) p e not = refl
 with-green c (Coord n) p e not = absurd (not n refl)

@@ -23,7 +23,7 @@ use sig_tables::Layout;
 use sig_types::{Mode, PhaseSet};
 
 /// Whose greens begin at a tick.
-#[derive(Clone, Copy, Debug, PartialEq, Eq)]
+#[derive(Clone, Copy, PartialEq, Eq)]
 pub enum Greens {
     /// None: the rings rest.
     Rest,
@@ -34,7 +34,7 @@ pub enum Greens {
 }
 
 /// What a tick sees of the phases on which walk may begin.
-#[derive(Clone, Copy, Debug, PartialEq, Eq)]
+#[derive(Clone, Copy, PartialEq, Eq)]
 pub struct Crosswalks {
     /// The mode of the frame; where it picks up a pattern, that of coordination.
     pub mode: Mode,
@@ -54,8 +54,8 @@ pub struct Crosswalks {
 /// The phases on which walk is to begin with their green by their own options, those without a walk among them.
 fn asked_at_green(layout: &Layout, crosswalks: &Crosswalks) -> PhaseSet
     ensures { (crossing : Crossing) → LaidOut layout.now crossing.tables → Has crosswalks.now.called (is_in crossing.pedestrian)
-        → crosswalks.now.greens ≡ greens_of crossing.turn
-        → Has result (walks_at_green crossing.turn crossing.tables crossing.pedestrian) }
+        → crosswalks.now.greens ≡ greens_of crossing.ring_turn
+        → Has result (walks_at_green crossing.ring_turn crossing.tables crossing.pedestrian) }
 {
     let asked = crosswalks.called.union(layout.pedestrian_recall);
     match crosswalks.greens {
@@ -84,7 +84,7 @@ fn walks_with_green(
     crosswalks: &Crosswalks,
 ) -> PhaseSet
     ensures { (crossing : Crossing) → LaidOut layout.now crossing.tables → Has crosswalks.now.called (is_in crossing.pedestrian)
-        → crosswalks.now.greens ≡ greens_of crossing.turn → SaysInCoord options.entry crosswalks.now.mode crossing.tables
+        → crosswalks.now.greens ≡ greens_of crossing.ring_turn → SaysInCoord options.entry crosswalks.now.mode crossing.tables
         → Has result (λ p. walk_begins crossing crosswalks.now.mode p Red Green Dont) }
 {
     if !is_walking(crosswalks.mode) {

@@ -16,7 +16,7 @@ use Rattle.sig_tables.specs.Decide.{past_at, with_one}
 use Rattle.trace_text.specs.IsLine.{FitsLoad}
 use Rattle.rule_book.specs.Rules.{all_rules, all_patterns, all_preempts, rows_of, breaks, at_rows, broken_of, broken, first_of}
 use Rattle.stage_txn.specs.Calls.{Call, Begin as BeginCall, Part as PartCall, Verify as VerifyCall, Finish as FinishCall, Deed, begin_deed, part_deed, verify_deed, finish_deed, deeds, kept_by}
-use Rattle.stage_txn.specs.Answers.{answer_to, answered, kept, staged, standing, first_broken}
+use Rattle.stage_txn.specs.Answers.{answer_to, answered, kept, staged, stage_state, first_broken}
 use Rattle.agent.specs.declared.ask.Wish.{Wish}
 use Rattle.agent.specs.declared.ask.Wish.TheVariants.{Get, Next, Direct, Begin, Part, Verify, Finish, Bad}
 use Rattle.agent.specs.declared.ask.Ask.{Ask}
@@ -24,12 +24,12 @@ use Rattle.agent.specs.Asks.{ask_of}
 use Rattle.agent.specs.Downloads.{IsId}
 use Rattle.sig_types.specs.Items.{Came}
 use Rattle.cabinet_history.specs.declared.Load.{Load}
-use Rattle.cabinet_history.specs.Story.{Story, with_item}
+use Rattle.cabinet_history.specs.CabinetHistory.{CabinetHistory, with_item}
 use Rattle.cabinet_history.specs.Coming.{Coming, past_of, in_force, is_flashing, with_events, installs, coming, coming_from, outcome}
 use Rattle.cabinet_history.specs.Told.{verify_end, finish_end, wish_end, ask_end, load_end}
 use Rattle.cabinet_laws.specs.Judging.{verdict, IsVerdict}
 use Rattle.cabinet_laws.proofs.Ids.{HasId, ask-id}
-use Rattle.cabinet_laws.proofs.Steps.{IsPlain, IsMadeAt, called, happened, Any, any, story-keeps}
+use Rattle.cabinet_laws.proofs.Steps.{IsPlain, IsMadeAt, called, happened, Any, any, cabinet_history-keeps}
 use Rattle.cabinet_history.proofs.Installing.{Few, few-within, few-begin, few-part, few-verify, few-finish, version_after}
 
 -- ---- versions
@@ -130,15 +130,15 @@ event-few c e is f = record {
   ids = f.ids;
 }
 
--- the version after any story of a cabinet that opens with version 0
-pub version-few : (story : Story) → (past_at story.opening).version ≡ 0 → (past_of (coming story)).version ≤ 2147483647
-version-few story none =
-    let f = story-keeps Any IsFew
+-- the version after any history of a cabinet that opens with version 0
+pub version-few : (cabinet_history : CabinetHistory) → (past_at cabinet_history.opening).version ≡ 0 → (past_of (coming cabinet_history)).version ≤ 2147483647
+version-few cabinet_history none =
+    let f = cabinet_history-keeps Any IsFew
     (record { event = event-few; call = λ c call is before after f. call-few c call is f })
-    story.community story.opening (λ items. any (coming_from story.community story.opening items))
-    (record { few = (none, refl); ids = omega arith }) story.items in
-    let less : (past_of (coming story)).version ≤ kept (answered (coming story).calls) =
-    few-within (past_of (coming story)).version (kept (answered (coming story).calls)) (standing (answered (coming story).calls)) f.few in
+    cabinet_history.community cabinet_history.opening (λ items. any (coming_from cabinet_history.community cabinet_history.opening items))
+    (record { few = (none, refl); ids = omega arith }) cabinet_history.items in
+    let less : (past_of (coming cabinet_history)).version ≤ kept (answered (coming cabinet_history).calls) =
+    few-within (past_of (coming cabinet_history)).version (kept (answered (coming cabinet_history).calls)) (stage_state (answered (coming cabinet_history).calls)) f.few in
     omega (arith, less, f.ids)
 
 -- ---- what a rule that is broken says
@@ -240,13 +240,13 @@ wish-id v (Begin id) o is = tt
 wish-id v (Part id number puts) o is = tt
 wish-id v (Bad status index) o is = tt
 
-load-id : (story : Story) (octets : List ℕ) → IfSome (load_end story octets) (λ load. IsId load.id)
-load-id story octets =
-    among (ask_of octets story.community (in_force (coming story))) (ask-id octets story.community (in_force (coming story)))
+load-id : (cabinet_history : CabinetHistory) (octets : List ℕ) → IfSome (load_end cabinet_history octets) (λ load. IsId load.id)
+load-id cabinet_history octets =
+    among (ask_of octets cabinet_history.community (in_force (coming cabinet_history))) (ask-id octets cabinet_history.community (in_force (coming cabinet_history)))
   where
-    among : (o : Option Ask) → IfSome o (λ ask. HasId ask.wish) → IfSome (ask_end (coming story) o) (λ load. IsId load.id)
+    among : (o : Option Ask) → IfSome o (λ ask. HasId ask.wish) → IfSome (ask_end (coming cabinet_history) o) (λ load. IsId load.id)
     among None is = tt
-    among (Some ask) is = wish-id (past_of (coming story)).version ask.wish (outcome (coming story) ask.wish) is
+    among (Some ask) is = wish-id (past_of (coming cabinet_history)).version ask.wish (outcome (coming cabinet_history) ask.wish) is
 
 result-fits : (before after : Coming) (r : Result ℕ Broken) → IsVerdict before after r → (past_of after).version ≤ 2147483647 → FitsLoad r
 result-fits before after (Ok version) is few = omega (arith, is.1, few)
@@ -259,15 +259,15 @@ pub record LoadFits (load : Load) : Type 0 where
   pub id : load.id < 2 ^ 32
   pub result : FitsLoad load.result
 
-pub load-fits : (story : Story) (octets : List ℕ) → (past_at story.opening).version ≡ 0
-    → IfSome (load_end story octets) (λ load. IsVerdict (coming story) (coming (with_item story (Came octets))) load.result)
-    → IfSome (load_end story octets) LoadFits
-load-fits story octets none says = joined (load_end story octets) (load-id story octets) says
+pub load-fits : (cabinet_history : CabinetHistory) (octets : List ℕ) → (past_at cabinet_history.opening).version ≡ 0
+    → IfSome (load_end cabinet_history octets) (λ load. IsVerdict (coming cabinet_history) (coming (with_item cabinet_history (Came octets))) load.result)
+    → IfSome (load_end cabinet_history octets) LoadFits
+load-fits cabinet_history octets none says = joined (load_end cabinet_history octets) (load-id cabinet_history octets) says
   where
     joined : (o : Option Load) → IfSome o (λ load. IsId load.id)
-        → IfSome o (λ load. IsVerdict (coming story) (coming (with_item story (Came octets))) load.result) → IfSome o LoadFits
+        → IfSome o (λ load. IsVerdict (coming cabinet_history) (coming (with_item cabinet_history (Came octets))) load.result) → IfSome o LoadFits
     joined None own says = tt
     joined (Some load) own says = record {
       id = omega (arith, own.1);
-      result = result-fits (coming story) (coming (with_item story (Came octets))) load.result says (version-few (with_item story (Came octets)) none);
+      result = result-fits (coming cabinet_history) (coming (with_item cabinet_history (Came octets))) load.result says (version-few (with_item cabinet_history (Came octets)) none);
     }

@@ -10,7 +10,7 @@ use std::alloc::Global;
 use trace_text::{Line, Runs, write_line};
 
 /// Why a trace was not written whole.
-#[derive(Clone, Copy, Debug, PartialEq, Eq)]
+#[derive(Clone, Copy, PartialEq, Eq)]
 pub enum Stop {
     /// A write failed.
     WriteFault,

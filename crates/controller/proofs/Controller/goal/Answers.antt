@@ -12,5 +12,5 @@ returns c = record {
   goal = λ past k b.
       subst (λ (t : Tables). Has c.goal.result (is_in (goal_in t c.args.mode))) k.tables
       (c.goal.ensures.has (subst (λ (t : Tables). AreSought c.coordinated_pair.result t c.args.mode) (sym k.tables)
-      (sought-set c.args.self.now.binding past.tables c.args.mode c.coordinated_pair.result b c.coordinated_pair.ensures.pair)));
+      (sought-set c.args.self.now.active_pattern past.tables c.args.mode c.coordinated_pair.result b c.coordinated_pair.ensures.pair)));
 }

@@ -26,7 +26,7 @@ returns c = record {
             (made-at Green (λ q. colour_after w q past.tables past.moments (colour_of (frame_seen past) q)) p h);
         called = c.pedestrian.ensures.has past r.keeps.calls;
         opposed = λ p h green. s.opposed p h;
-        greens = c.greens.ensures ∙ ap greens_of r.course.turn;
+        greens = c.greens.ensures ∙ ap greens_of r.tick_state.ring_turn;
         is_zero = c.is_zero.ensures.zero past r;
       });
 }

@@ -3,7 +3,7 @@ use Rattle.sig_types.specs.Phases.{is_in}
 use Rattle.sig_tables.specs.Slots.{is_coordinated}
 use Rattle.sig_tables.specs.Splits.{keeps_walk}
 use Rattle.sig_tables.specs.Walking.{has_walk}
-use Rattle.ped_clock.proofs.Begins.{in-coord, in-turn, no-rest}
+use Rattle.ped_clock.proofs.Begins.{in-coord, in-ring_turn, no-rest}
 use Rattle.ped_clock.proofs.beginning.walks_at_rest.Goals as goal
 
 pub returns-in-Some : goal.returns-in-Some
@@ -17,7 +17,7 @@ returns-in-Some c = λ crossing l k z says p is o.
       z,
       c.in-Coord.is,
     )
-    (in-turn crossing.is_zero (has_walk crossing.tables p) (is_coordinated crossing.tables c.in-Coord.field-0 p)
+    (in-ring_turn crossing.is_zero (has_walk crossing.tables p) (is_coordinated crossing.tables c.in-Coord.field-0 p)
     (is_in crossing.pedestrian p || keeps_walk (Some c.in-Coord.field-0) crossing.tables p))
 
 pub returns-in_default : goal.returns-in_default
