@@ -63,7 +63,7 @@ def look_around(top: pathlib.Path) -> str:
     rt = kit.command()
     if not rt:
         path = os.environ.get("PATH", "")
-        raise Failed(f"the Rattle kit's command rt is not on the path ({path}): README.md says under Quick start what is needed")
+        raise Failed(f"the Rattle kit's command rt is not on the path ({path}): README.md says under Start what is needed")
     out = top / "crates" / crates.PROGRAM / "out"
     try:
         out.mkdir(exist_ok=True)
