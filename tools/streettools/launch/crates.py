@@ -21,6 +21,12 @@ def uses(top: pathlib.Path) -> dict[str, list[str]]:
     return {name: [it for it in below.split() if it in found] for name, below in found.items()}
 
 
+def listed(top: pathlib.Path, names: list[str]) -> str:
+    """Returns the lines of the list that are those of these crates."""
+    lines = (top / LISTS[0]).read_text().splitlines(keepends=True)
+    return "".join(line for line in lines if re.match(r"\w*", line)[0] in names)
+
+
 def parts_of(name: str, known: dict[str, list[str]]) -> list[str]:
     """Returns a crate and all that it stands on, each behind those that it stands on itself."""
     order: dict[str, None] = {}
@@ -40,14 +46,19 @@ def parts(top: pathlib.Path) -> list[str]:
     return parts_of(PROGRAM, uses(top))
 
 
+def files_of(top: pathlib.Path, crate: str) -> Iterator[str]:
+    """Yields each file of a crate that its proof reads, by its name below the top, in order."""
+    for part in PARTS:
+        for folder, folders, names in os.walk(top / "crates" / crate / part):
+            folders.sort()
+            yield from (os.path.relpath(os.path.join(folder, name), top) for name in sorted(names))
+
+
 def files(top: pathlib.Path) -> Iterator[str]:
     """Yields each file that the proof of the program reads, by its name below the top, in order."""
     yield from LISTS
     for crate in sorted(parts(top)):
-        for part in PARTS:
-            for folder, folders, names in os.walk(top / "crates" / crate / part):
-                folders.sort()
-                yield from (os.path.relpath(os.path.join(folder, name), top) for name in sorted(names))
+        yield from files_of(top, crate)
 
 
 def folders(names: list[str]) -> list[str]:

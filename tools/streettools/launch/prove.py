@@ -12,13 +12,13 @@ import subprocess
 import sys
 import time
 from collections.abc import Iterator
+from typing import BinaryIO
 
 from streettools.shared.commandline import say
 from streettools.shared.status import Status
 
-from . import crates, kit, record
+from . import crates, kit, lanes, record
 from .course import Course
-from .plan import Step, steps
 
 LEAST = 15 * 10**9
 """Bytes of the disk that the proofs of all crates take while they run, and some to spare."""
@@ -63,7 +63,7 @@ def look_around(top: pathlib.Path) -> str:
     rt = kit.command()
     if not rt:
         path = os.environ.get("PATH", "")
-        raise Failed(f"the Rattle kit's command rt is not on the path ({path}): README.md says under Quick start what is needed")
+        raise Failed(f"the Rattle kit's command rt is not on the path ({path}): README.md says under Start what is needed")
     out = top / "crates" / crates.PROGRAM / "out"
     try:
         out.mkdir(exist_ok=True)
@@ -90,25 +90,16 @@ def alone(top: pathlib.Path) -> Iterator[None]:
         yield
 
 
-def carry_out(step: Step, rt: str, top: pathlib.Path, log, course: Course) -> bool:
-    """Carries a step out and tells whether it went well."""
-    folder = top / "crates" / step.crate
-    given = open(folder / "stdin", "rb") if step.reads else subprocess.DEVNULL
-    how = {"cwd": folder, "stdin": given, "stdout": subprocess.PIPE, "stderr": subprocess.STDOUT}
-    with subprocess.Popen([rt, *step.words], **how) as tool:
+def build(rt: str, top: pathlib.Path, log: BinaryIO) -> bool:
+    """Proves and builds the program's own crate over the libraries, and tells whether that went well."""
+    folder, jobs = top / "crates" / crates.PROGRAM, len(os.sched_getaffinity(0))
+    words = [rt, "run", "--jobs", str(min(jobs, lanes.MOST_JOBS)), "--", "run"]
+    with open(folder / "stdin", "rb") as given, subprocess.Popen(words, cwd=folder, stdin=given, stdout=log, stderr=log) as tool:
         try:
-            for line in tool.stdout:
-                log.write(line)
-                found = re.fullmatch(rb"== (\w+)\n", line)
-                if found and found[1] != b"summary":
-                    course.done(found[1].decode())
+            return tool.wait() == 0
         except BaseException:
             tool.send_signal(signal.SIGTERM)
             raise
-    if tool.returncode == 0:
-        for name in step.brings:
-            course.done(name)
-    return tool.returncode == 0
 
 
 def why_of(log: pathlib.Path) -> str:
@@ -118,14 +109,19 @@ def why_of(log: pathlib.Path) -> str:
     return "\n".join(errors[:20] or lines[-20:])
 
 
-def prove(rt: str, top: pathlib.Path) -> None:
+def prove(rt: str, top: pathlib.Path, keep: bool) -> None:
     """Proves and builds the program, and records it."""
     log = record.program_of(top).parent / "build.log"
     before = crates.sums(top)
     with open(log, "wb", buffering=0) as out, Course(crates.parts(top), top) as course:
-        for step in steps(top):
-            if not carry_out(step, rt, top, out, course):
-                raise Failed(f"the program could not be built:\n{why_of(log)}\narterial: all that was said is in {log}")
+        try:
+            lanes.prove_all(top, out, course.done, keep)
+            well = build(rt, top, out)
+        except lanes.NotProved:
+            well = False
+        if not well:
+            raise Failed(f"the program could not be built:\n{why_of(log)}\narterial: all that was said is in {log}")
+        course.done(crates.PROGRAM)
     try:
         record.write(top, before)
     except record.Changed as name:
@@ -161,7 +157,7 @@ def main(given: list[str]) -> int:
         rt = look_around(top)
         with alone(top):
             if not is_proved(top):
-                prove(rt, top)
+                prove(rt, top, words.keep)
                 if not words.keep:
                     tidy(top)
     except Failed as fault:

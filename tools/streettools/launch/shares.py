@@ -1,12 +1,15 @@
 """The known shares of the crates in the time of all proofs."""
 
+import functools
 import pathlib
 
-SECONDS: dict[str, int] = {}
+from . import crates
+
+SECONDS = {"station": 220, "arterial": 130}
 """Processor seconds of a crate's first check with one job, as measured."""
 
-EACH_LINE = 0.02
-"""Seconds for a line of source where nothing was measured."""
+START, EACH_RUST, EACH_PROOF = 10, 0.055, 0.018
+"""Where nothing was measured: seconds of a check before its first function, and for a line of a program and one of specifications or proofs."""
 
 
 def of(names: list[str], top: pathlib.Path) -> dict[str, float]:
@@ -16,5 +19,13 @@ def of(names: list[str], top: pathlib.Path) -> dict[str, float]:
 
 def guessed(folder: pathlib.Path) -> float:
     """Returns a guess by the number of lines."""
-    files = [it for it in folder.rglob("*") if it.suffix in (".rt", ".antt") and "must-fail" not in it.parts and "out" not in it.parts]
-    return 12 + EACH_LINE * sum(it.read_bytes().count(b"\n") for it in files)
+    rust, proofs = lines(folder)
+    return START + EACH_RUST * rust + EACH_PROOF * proofs
+
+
+@functools.cache
+def lines(folder: pathlib.Path) -> tuple[int, int]:
+    """Returns how many lines of programs a crate has, and of specifications and proofs."""
+    files = [it for part in crates.PARTS for it in (folder / part).rglob("*") if it.is_file()]
+    counts = {suffix: sum(it.read_bytes().count(b"\n") for it in files if it.suffix == suffix) for suffix in (".rt", ".antt")}
+    return counts[".rt"], counts[".antt"]

@@ -135,7 +135,7 @@ def main(given: list[str]) -> int:
     rt = kit.command()
     if not rt:
         path = os.environ.get("PATH", "")
-        say("arterial", f"{why}, and the Rattle kit's command rt is not on the path ({path}): README.md says under Quick start what is needed")
+        say("arterial", f"{why}, and the Rattle kit's command rt is not on the path ({path}): README.md says under Start what is needed")
         return Status.NO_PROGRAM
     say("arterial", f"{why}: the program without its proofs answers, in about a minute (./arterial prove or ./test proves it here)")
     try:

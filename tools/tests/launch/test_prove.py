@@ -43,7 +43,8 @@ def test_it_removes_what_the_proofs_left(proved):
 
 def test_it_leaves_what_the_proofs_left_if_asked_to(tried):
     assert tried.ran("prove", "--keep")[0] == 0
-    assert (tried.top / "crates/io_edge/out/rlib").is_dir()
+    assert (tried.top / "crates/io_edge/out/rlib").is_dir() and (tried.top / "crates/io_edge/out/incremental").is_dir()
+    assert not (tried.top / "crates/arterial/out/lanes").exists()
 
 
 def test_where_a_proof_fails_nothing_is_recorded(tried):
