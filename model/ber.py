@@ -4,6 +4,8 @@ ITU-T X.690 as RFC 1157 takes it; docs/DEFINITIONS.md, "Messages". A reader take
 begins, and returns the field and the place behind it; octets that aren't the field's are told by `Unreadable`.
 """
 
+import functools
+
 from model.names import Oid
 
 INTEGER, OCTET_STRING, NULL, OBJECT_IDENTIFIER, SEQUENCE = 0x02, 0x04, 0x05, 0x06, 0x30
@@ -47,6 +49,7 @@ def number_of(content: bytes) -> int:
     return int.from_bytes(content, "big", signed=True)
 
 
+@functools.lru_cache(maxsize=8192)
 def name_of(content: bytes) -> Oid:
     """Returns the name of an OBJECT IDENTIFIER's content: 2 to 32 arcs below 2^32, the first two in one octet below 128."""
     demand(len(content) >= 1 and content[0] < 0x80)
@@ -86,6 +89,7 @@ def arc_octets(arc: int) -> bytes:
     return bytes(reversed(octets))
 
 
+@functools.lru_cache(maxsize=8192)
 def name_field(oid: Oid) -> bytes:
     """Returns the octets of an OBJECT IDENTIFIER."""
     return field(OBJECT_IDENTIFIER, bytes((40 * oid[0] + oid[1],)) + b"".join(map(arc_octets, oid[2:])))

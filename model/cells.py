@@ -22,6 +22,8 @@ class Table(Enum):
     SPLIT = "split"
     PREEMPT = "preempt"
 
+    __hash__ = object.__hash__
+
 
 @dataclass(frozen=True)
 class Cell:

@@ -7,7 +7,7 @@ from collections.abc import Callable
 from typing import Any
 
 from model.scenario import Scenario, content
-from model.words_given import Generate
+from model.words_given import Seed
 
 Draw = Callable[[int], int]
 
@@ -38,7 +38,7 @@ def round_drawn(draw: Draw, number: int, cabinets: int) -> tuple[list[Any], list
     return inputs, [fault]
 
 
-def generated(words: Generate) -> Scenario:
+def generated(words: Seed) -> Scenario:
     """Returns the scenario that the words name."""
     draw = draws(words.seed)
     cabinets, loads, inputs, faults = [], [], [], []

@@ -173,12 +173,14 @@ def alternatives(value: Any, path: str, common: list[Named], choices: dict[str, 
     return says | {it.name: told(known, path, it) for it in one}
 
 
+TABLES = {table.value: table for table in Table}
+
+
 def cell_named(value: Any) -> Cell | None:
     """Returns the cell that a list names, None where it names none."""
-    tables = {table.value: table for table in Table}
-    if not isinstance(value, list) or not value or not isinstance(value[0], str) or value[0] not in tables:
+    if not isinstance(value, list) or not value or not isinstance(value[0], str) or value[0] not in TABLES:
         return None
-    table, places = tables[value[0]], value[1:-1]
+    table, places = TABLES[value[0]], value[1:-1]
     has_row, has_sub, has_column = ROWS[table] > 0, table in SUBS, len(COLUMNS[table]) > 1
     if len(value) < 2 or len(places) != has_row + has_sub + has_column or not all(map(is_whole, places)):
         return None

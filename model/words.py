@@ -43,6 +43,8 @@ class Kind(Enum):
     DWELL = "d"
     EXIT = "x"
 
+    __hash__ = object.__hash__
+
 
 CODES = {kind: code for code, kind in enumerate(Kind, 1)}
 STAGES = frozenset((Kind.ENTRY, Kind.TRACK, Kind.DWELL))

@@ -30,16 +30,19 @@ class Band:
 
 
 @dataclass(frozen=True)
-class Generate:
-    """Generate a scenario."""
+class Seed:
+    """What a generated scenario is drawn from."""
 
     seed: int
     cabinets: int
     rounds: int
 
 
-@dataclass(frozen=True)
-class Survey(Generate):
+class Generate(Seed):
+    """Generate a scenario."""
+
+
+class Survey(Seed):
     """Say what a run of a generated scenario comes to."""
 
 
@@ -54,7 +57,7 @@ class Overlaps:
     red: int
 
 
-Command = Run | Check | Respond | Band | Generate | Overlaps
+Command = Run | Check | Respond | Band | Generate | Survey | Overlaps
 ALONE: dict[str, Command] = {"run": Run(), "check": Check(), "respond": Respond(), "band": Band()}
 
 
@@ -70,7 +73,7 @@ def pairs(words: list[str], names: list[str]) -> list[str] | None:
     return words[1::2] if len(words) == 2 * len(names) and words[::2] == names else None
 
 
-def generate(words: list[str], kind: type[Generate]) -> Command | None:
+def generate(words: list[str], kind: type[Generate] | type[Survey]) -> Command | None:
     """Returns what is to be generated."""
     told = pairs(words, ["--seed", "--cabinets", "--rounds"])
     if told is None:
