@@ -1,7 +1,8 @@
 """What a cabinet's agent reads in a frame, and what it answers.
 
-RFC 1157; docs/CLIENTS.md, "What the agent does"; docs/SCENARIO.md, "What is sent in a round". The bindings of a Set are tested in order,
-each first by its name (status 2), then by its value (status 3); the first fault is answered and nothing is changed.
+RFC 1157; docs/CLIENTS.md, "What the agent does"; docs/SCENARIO.md, "What is sent in a round". The bindings of a Set
+are tested in order, each first by its name (status 2), then by its value (status 3); the first fault is answered and
+nothing is changed.
 """
 
 from dataclasses import dataclass, replace
@@ -114,7 +115,8 @@ def whole(binds: list[Bind], place: int, low: int, high: int) -> int:
 
 
 def request_of(value: Value) -> Request | None:
-    """Returns the priority request of eight octets: number, class, level, phase, arrival and departure of two octets each."""
+    """Returns the priority request of eight octets: number, class, level, phase, arrival and departure of two octets
+    each."""
     if not isinstance(value, bytes) or len(value) != 8:
         return None
     number, klass, level, phase = value[:4]

@@ -8,12 +8,15 @@ from dataclasses import dataclass
 from typing import Any
 
 from model.plan import is_defined, pattern, plan
-from model.scenario import MOST_BYTES, Scenario, content, read_value
+from model.scenario import Scenario
+from model.scenario_read import MOST_BYTES, content, read_value
 from model.shapes import Named, field_fault, fields, limit_fault, list_of, whole
 from model.tables import Tables, rows
 
 ASKED = [
-    Named("scenario", content), Named("section", whole(1, 8)), Named("pattern", whole(1, 48)),
+    Named("scenario", content),
+    Named("section", whole(1, 8)),
+    Named("pattern", whole(1, 48)),
     Named("travel", list_of(whole(0, 864_000), 0, 1 << 24)),
 ]
 
@@ -42,7 +45,9 @@ class Street:
 
     def passages(self, is_inbound: bool) -> list[Passage]:
         """Returns the passages one way: outbound the first cabinet comes first, inbound the last."""
-        legs = [sum(self.travel[place:]) if is_inbound else sum(self.travel[:place]) for place in range(len(self.members))]
+        legs = [
+            sum(self.travel[place:]) if is_inbound else sum(self.travel[:place]) for place in range(len(self.members))
+        ]
         return [Passage(number, after, tables) for (number, tables), after in zip(self.members, legs)]
 
 
@@ -63,8 +68,8 @@ def street_of(says: dict[str, Any]) -> Street:
 
 
 def window(street: Street, tables: Tables, ring: int) -> set[int]:
-    """Returns the times of the cycle within a cabinet's window: from its offset, less the shift, up to the force point of the coordinated
-    phase of a ring."""
+    """Returns the times of the cycle within a cabinet's window: from its offset, less the shift, up to the force
+    point of the coordinated phase of a ring."""
     laid = plan(tables, street.pattern)
     held = next(p for p in laid.coordinated if rows(tables)[p].ring == ring)
     return {(laid.offset - laid.shift + c) % laid.cycle for c in range(laid.force[held])}

@@ -1,7 +1,7 @@
 """Lengths, numbers, texts and names as octets, both ways.
 
-ITU-T X.690 as RFC 1157 takes it; docs/DEFINITIONS.md, "Messages". A reader takes the octets and the place at which a field
-begins, and returns the field and the place behind it; octets that aren't the field's are told by `Unreadable`.
+ITU-T X.690 as RFC 1157 takes it; docs/DEFINITIONS.md, "Messages". A reader takes the octets and the place at which a
+field begins, and returns the field and the place behind it; octets that aren't the field's are told by `Unreadable`.
 """
 
 import functools
@@ -51,7 +51,8 @@ def number_of(content: bytes) -> int:
 
 @functools.lru_cache(maxsize=8192)
 def name_of(content: bytes) -> Oid:
-    """Returns the name of an OBJECT IDENTIFIER's content: 2 to 32 arcs below 2^32, the first two in one octet below 128."""
+    """Returns the name of an OBJECT IDENTIFIER's content: 2 to 32 arcs below 2^32, the first two in one octet below
+    128."""
     demand(len(content) >= 1 and content[0] < 0x80)
     first = min(content[0] // 40, 2)
     arcs, arc, is_open = [first, content[0] - 40 * first], 0, False

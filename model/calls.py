@@ -1,14 +1,22 @@
 """The calls of vehicles and pedestrians, and which phases have demand or are active at a tick.
 
-docs/SCENARIO.md, "What an input does"; docs/DEFINITIONS.md, "A tick: calls". What is said of the split holds while a pattern
-binds: `bound` is its number, None where none does.
+docs/SCENARIO.md, "What an input does"; docs/DEFINITIONS.md, "A tick: calls". What is said of the split holds while a
+pattern binds: `bound` is its number, None where none does.
 """
 
 from dataclasses import dataclass, replace
 
 from model import plan
 from model.tables import (
-    MAXIMUM_RECALL, MINIMUM_RECALL, NON_LOCK, PEDESTRIAN_RECALL, Tables, enabled, of_tables, rows, with_option,
+    MAXIMUM_RECALL,
+    MINIMUM_RECALL,
+    NON_LOCK,
+    PEDESTRIAN_RECALL,
+    Tables,
+    enabled,
+    of_tables,
+    rows,
+    with_option,
 )
 from model.words import Frame, Signal
 
@@ -18,7 +26,8 @@ NONE: Phases = frozenset()
 
 @dataclass(frozen=True)
 class Calls:
-    """The calls that stand and the detectors that are on, for all 16 phases; `turned` are those turned on since the last frame."""
+    """The calls that stand and the detectors that are on, for all 16 phases; `turned` are those turned on since the
+    last frame."""
 
     locked: Phases = NONE
     pressed: Phases = NONE
@@ -27,7 +36,8 @@ class Calls:
 
 
 def with_detector(calls: Calls, p: int, on: bool, tables: Tables, shown: Frame) -> Calls:
-    """Returns the calls after a detector went on or off: on it locks a call where the phase isn't Green and its memory locks."""
+    """Returns the calls after a detector went on or off: on it locks a call where the phase isn't Green and its
+    memory locks."""
     if not on:
         return replace(calls, detectors=calls.detectors - {p})
     locks = p not in shown.lights.green and not rows(tables)[p].options & NON_LOCK
@@ -47,7 +57,8 @@ def with_button(calls: Calls, p: int, tables: Tables, shown: Frame) -> Calls:
 
 
 def after_frame(calls: Calls, shown: Frame) -> Calls:
-    """Returns the calls that a frame leaves: a call of vehicles ends as its phase shows Green, one of pedestrians as it shows Walk."""
+    """Returns the calls that a frame leaves: a call of vehicles ends as its phase shows Green, one of pedestrians as
+    it shows Walk."""
     walking = frozenset(p for p in shown.signals.running if shown.signals.of[p] is Signal.WALK)
     return Calls(calls.locked - shown.lights.green, calls.pressed - walking, calls.detectors)
 
@@ -74,7 +85,8 @@ def walk_recall(tables: Tables, bound: int | None) -> Phases:
 
 @of_tables
 def standing_demand(tables: Tables, bound: int | None) -> Phases:
-    """Returns the phases that have demand whenever they are Red: recalled in any way, or coordinated by the pattern that binds."""
+    """Returns the phases that have demand whenever they are Red: recalled in any way, or coordinated by the pattern
+    that binds."""
     held = NONE if bound is None else plan.coordinated(tables, bound)
     recalled = with_option(tables, MINIMUM_RECALL) | split_recall(tables, bound, (3,))
     return recalled | maximum_recall(tables, bound) | walk_recall(tables, bound) | held
@@ -93,11 +105,13 @@ def walkers(tables: Tables) -> Phases:
 
 
 def demand(calls: Calls, tables: Tables, shown: Frame, bound: int | None) -> Phases:
-    """Returns the phases with demand: Red, not left out, and called, with a vehicle on the detector, recalled or coordinated."""
+    """Returns the phases with demand: Red, not left out, and called, with a vehicle on the detector, recalled or
+    coordinated."""
     called = calls.locked | calls.detectors | (calls.pressed & walkers(tables)) | standing_demand(tables, bound)
     return called & shown.lights.red & servable(tables, bound)
 
 
 def active(calls: Calls, tables: Tables, bound: int | None) -> Phases:
-    """Returns the phases whose detector is on or was turned on since the last frame, or that are held to their maximum."""
+    """Returns the phases whose detector is on or was turned on since the last frame, or that are held to their
+    maximum."""
     return calls.detectors | calls.turned | maximum_recall(tables, bound)

@@ -1,11 +1,12 @@
 """Whether a text is a trace; else its first fault.
 
-docs/TRACE.md, "Checking a trace". Each line is compared with the one that is due behind the lines before it, whose journals are taken.
+docs/TRACE.md, "Checking a trace". Each line is compared with the one that is due behind the lines before it, whose
+journals are taken.
 """
 
 from model.lines import head, is_line, runs_of
 from model.run import JournalDue, Run, Runs
-from model.scenario import content, read_value
+from model.scenario_read import content, read_value
 from model.shapes import Refused
 
 MOST_TEXT = 67_108_864

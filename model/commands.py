@@ -15,7 +15,7 @@ from model.field_file import respond
 from model.generator import generated
 from model.overlaps import OverlapFault, overlap_lines
 from model.run import trace_lines
-from model.scenario import read_scenario
+from model.scenario_read import read_scenario
 from model.shapes import Refused
 from model.survey import survey_lines
 

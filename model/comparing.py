@@ -35,16 +35,20 @@ def first_other_line(one: bytes, two: bytes) -> str:
     lines = zip(one.split(b"\n") + [b"(end)"], two.split(b"\n") + [b"(end)"])
     for number, (a, b) in enumerate(lines, 1):
         if a != b:
-            return f"line {number}: the program writes {a[:160].decode('latin-1')!r}, the model {b[:160].decode('latin-1')!r}"
+            shown, due = (line[:160].decode("latin-1") for line in (a, b))
+            return f"line {number}: the program writes {shown!r}, the model {due!r}"
     return "the lines are the same"
 
 
 def compared(program: Path, case: Case) -> Difference | None:
-    """Returns how program and model differ on a case; None where they agree, and the trace of a run keeps all promises."""
+    """Returns how program and model differ on a case; None where they agree, and the trace of a run keeps all
+    promises."""
     due: Answer = answer(case.words, case.data)
     status, output, said = program_answer(program, case)
     if (status, said) != (due.status, due.said):
-        return Difference(f"the program ends with {status} {said[:120]!r}, the model with {int(due.status)} {due.said[:120]!r}")
+        return Difference(
+            f"the program ends with {status} {said[:120]!r}, the model with {int(due.status)} {due.said[:120]!r}"
+        )
     if output != due.output:
         return Difference(first_other_line(output, due.output))
     if case.words[:1] == ["run"] and due.status == 0:

@@ -1,4 +1,5 @@
-"""A field file: detectors and their pulses, and how the patterns of sections follow the traffic; the scenario that comes of it.
+"""A field file: detectors and their pulses, and how the patterns of sections follow the traffic; the scenario that
+comes of it.
 
 docs/SCENARIO.md, "A field file".
 """
@@ -10,7 +11,8 @@ from typing import Any
 from model.bank import BankItem, Detected, detected
 from model.json_text import compact
 from model.levels import Rule, Step, entries
-from model.scenario import MOST_BYTES, Scenario, content, read_value
+from model.scenario import Scenario
+from model.scenario_read import MOST_BYTES, content, read_value
 from model.shapes import Named, Shape, field_fault, fields, flag, limit_fault, list_of, names_known, told, whole
 from model.words import DAY
 
@@ -61,9 +63,14 @@ RESPOND = [Named("period", whole(1, 3600)), Named("sections", list_of(made(Rule,
 def bank_item(cabinets: int) -> list[Named]:
     """Returns the names of a detector of the bank."""
     return [
-        Named("cabinet", whole(1, cabinets)), Named("detector", whole(1, 64)), Named("phase", whole(1, 16)),
-        Named("delay", whole(0, 255)), Named("extend", whole(0, 255)), Named("no_activity", whole(0, 65_535)),
-        Named("max_presence", whole(0, 65_535)), Named("erratic", whole(0, 255)),
+        Named("cabinet", whole(1, cabinets)),
+        Named("detector", whole(1, 64)),
+        Named("phase", whole(1, 16)),
+        Named("delay", whole(0, 255)),
+        Named("extend", whole(0, 255)),
+        Named("no_activity", whole(0, 65_535)),
+        Named("max_presence", whole(0, 65_535)),
+        Named("erratic", whole(0, 255)),
     ]
 
 
@@ -71,7 +78,9 @@ def pulse(scenario: Scenario) -> list[Named]:
     """Returns the names of a pulse."""
     cabinets = len(scenario.cabinets)
     return [
-        Named("round", whole(1, scenario.rounds)), Named("cabinet", whole(1, cabinets)), Named("detector", whole(1, 64)),
+        Named("round", whole(1, scenario.rounds)),
+        Named("cabinet", whole(1, cabinets)),
+        Named("detector", whole(1, 64)),
         Named("on", flag),
     ]
 
@@ -86,7 +95,10 @@ def read_field(value: Any) -> FieldFile:
     bank = list_of(made(BankItem, bank_item(len(scenario.cabinets))), 0, 512)
     pulses = list_of(made(Pulse, pulse(scenario)), 0, 1_000_000)
     file = FieldFile(
-        scenario, known["scenario"], told(known, ".", Named("bank", bank, [])), told(known, ".", Named("pulses", pulses, [])),
+        scenario,
+        known["scenario"],
+        told(known, ".", Named("bank", bank, [])),
+        told(known, ".", Named("pulses", pulses, [])),
         told(known, ".", Named("respond", made(Respond, RESPOND), None)),
     )
     check_bank(file)

@@ -6,7 +6,8 @@ docs/SCENARIO.md, "A scenario that is generated".
 from collections.abc import Callable
 from typing import Any
 
-from model.scenario import Scenario, content
+from model.scenario import Scenario
+from model.scenario_read import content
 from model.words_given import Seed
 
 Draw = Callable[[int], int]
@@ -53,7 +54,15 @@ def generated(words: Seed) -> Scenario:
         faults += lost
     schedule = [{"pattern": 1, "second": 0, "section": 1}]
     master = {"pattern_every": 60, "poll_every": 1, "retries": 3, "schedule": schedule}
-    return content({
-        "cabinets": cabinets, "faults": faults, "inputs": inputs, "loads": loads, "master": master, "rounds": words.rounds,
-        "ticks": 100, "version": 1,
-    })
+    return content(
+        {
+            "cabinets": cabinets,
+            "faults": faults,
+            "inputs": inputs,
+            "loads": loads,
+            "master": master,
+            "rounds": words.rounds,
+            "ticks": 100,
+            "version": 1,
+        }
+    )

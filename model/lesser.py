@@ -1,6 +1,7 @@
 """What the stage of a preempt leaves of the times of a phase outside its goal, and when a phase has been served.
 
-docs/DEFINITIONS.md: `Lesser`, `lesser_in`, `is_cleared`, `is_served`, `signal_runs_within`. Yellow and red clearance are never cut.
+docs/DEFINITIONS.md: `Lesser`, `lesser_in`, `is_cleared`, `is_served`, `signal_runs_within`. Yellow and red clearance
+are never cut.
 """
 
 from model.past import Past, stage_of
@@ -16,8 +17,8 @@ def hurry(past: Past, mode: Mode, goal: frozenset[int] | None, p: int) -> Preemp
 
 
 def signal_next(past: Past, p: int, row: Preempt | None) -> Signal:
-    """Returns the signal that follows where none begins: Walk, then flashing for the clearance, then none; the last two don't show where
-    they have no time."""
+    """Returns the signal that follows where none begins: Walk, then flashing for the clearance, then none; the last
+    two don't show where they have no time."""
     shown = past.last.frame.signals.of[p]
     if shown is Signal.DONT:
         return shown

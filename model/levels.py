@@ -13,7 +13,8 @@ from model.schedule import master_clock
 
 @dataclass(frozen=True)
 class Step:
-    """A step to a level: the volume from which it is reached, that below which it is left, and the pattern of the level."""
+    """A step to a level: the volume from which it is reached, that below which it is left, and the pattern of the
+    level."""
 
     up: int
     down: int
@@ -22,7 +23,8 @@ class Step:
 
 @dataclass(frozen=True)
 class Rule:
-    """How the pattern of a section follows the traffic: level 0 has the pattern `base`, each step leads to the next level."""
+    """How the pattern of a section follows the traffic: level 0 has the pattern `base`, each step leads to the next
+    level."""
 
     section: int
     base: int
@@ -49,9 +51,11 @@ def volume(scenario: Scenario, section: int, edges: dict[BankItem, list[int]], r
     return sum(sum(told[rounds.start : rounds.stop]) for told in own)
 
 
-def entries(scenario: Scenario, period: int, rules: list[Rule], edges: dict[BankItem, list[int]]) -> list[dict[str, Any]]:
-    """Returns the entries of the schedule: the pattern of each section in round 1, and in the first round behind each full period where
-    it is another than before."""
+def entries(
+    scenario: Scenario, period: int, rules: list[Rule], edges: dict[BankItem, list[int]]
+) -> list[dict[str, Any]]:
+    """Returns the entries of the schedule: the pattern of each section in round 1, and in the first round behind
+    each full period where it is another than before."""
 
     def entry(number: int, rule: Rule, level: int) -> dict[str, Any]:
         return {"second": master_clock(scenario, number) // 10, "section": rule.section, "pattern": rule.pattern(level)}

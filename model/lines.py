@@ -1,7 +1,8 @@
 """The lines of a trace, written; and which bytes are a line.
 
-docs/TRACE.md. Numbers are decimal without leading zeros. A rule, a pattern and the number of a mode are below 2^8, rows below 2^16, the
-other numbers below 2^32; the status and index of a refused download are numbers of 32 bits with a sign.
+docs/TRACE.md. Numbers are decimal without leading zeros. A rule, a pattern and the number of a mode are below 2^8,
+rows below 2^16, the other numbers below 2^32; the status and index of a refused download are numbers of 32 bits with
+a sign.
 """
 
 import re
@@ -40,18 +41,40 @@ NUMBER = rb"(?:0|[1-9][0-9]{0,9})"
 COUNT = rb"(?P<%b>" + NUMBER + rb")"
 MODE = rb"(?:[SFEX]|[KC]" + COUNT % b"b0" + rb"|P" + COUNT % b"b1" + rb"[etdx])"
 NOTE = (
-    rb"(?:fail|good|pattern " + COUNT % b"b0" + rb"|load " + COUNT % b"n1" + rb" (?:done|refused "
-    + rb"(?P<s0>-?" + NUMBER + rb") (?P<s1>-?" + NUMBER + rb")))"
+    rb"(?:fail|good|pattern "
+    + COUNT % b"b0"
+    + rb"|load "
+    + COUNT % b"n1"
+    + rb" (?:done|refused "
+    + rb"(?P<s0>-?"
+    + NUMBER
+    + rb") (?P<s1>-?"
+    + NUMBER
+    + rb")))"
 )
 GRAMMARS = {
     ord("S"): rb"S [^\n]*",
-    ord("F"): rb"F " + COUNT % b"n0" + rb" " + COUNT % b"n1" + rb" [GYCR]{16} [WFD]{16} " + MODE
+    ord("F"): rb"F "
+    + COUNT % b"n0"
+    + rb" "
+    + COUNT % b"n1"
+    + rb" [GYCR]{16} [WFD]{16} "
+    + MODE
     + b"".join(b" " + COUNT % it for it in (b"n2", b"n3", b"n4")),
     ord("R"): rb"R " + COUNT % b"n0",
     ord("M"): rb"M " + COUNT % b"n0" + rb" " + NOTE,
     ord("J"): rb"J " + COUNT % b"n0" + rb"(?P<runs>(?: " + NUMBER + rb"\*" + NUMBER + rb")+)",
-    ord("L"): rb"L " + COUNT % b"n0" + rb" " + COUNT % b"n1" + rb" (?:accepted " + COUNT % b"n2" + rb"|refused "
-    + COUNT % b"b0" + rb" " + COUNT % b"w0" + rb")",
+    ord("L"): rb"L "
+    + COUNT % b"n0"
+    + rb" "
+    + COUNT % b"n1"
+    + rb" (?:accepted "
+    + COUNT % b"n2"
+    + rb"|refused "
+    + COUNT % b"b0"
+    + rb" "
+    + COUNT % b"w0"
+    + rb")",
     ord("A"): rb"A " + COUNT % b"n0" + rb" " + COUNT % b"n1" + rb" (?:-|(?P<hex>(?:[0-9a-f]{2}){1,1472}))",
     ord("Z"): rb"Z " + COUNT % b"n0",
 }
@@ -88,5 +111,6 @@ def is_line(line: bytes) -> bool:
 
 
 def head(line: bytes) -> list[bytes]:
-    """Returns what must agree for two lines to differ in their fields alone: the kind, and the cabinet or the number of a round."""
+    """Returns what must agree for two lines to differ in their fields alone: the kind, and the cabinet or the number
+    of a round."""
     return line.split(b" ", 2)[:2]

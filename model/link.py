@@ -1,4 +1,5 @@
-"""The line between the master and the cabinets: which frames reach a cabinet in a round, and which replies reach the master.
+"""The line between the master and the cabinets: which frames reach a cabinet in a round, and which replies reach the
+master.
 
 docs/SCENARIO.md, "Downloads, priority, frames, faults" and "What is sent in a round".
 """
@@ -52,7 +53,9 @@ class Link:
             self.own[Line(item.cabinet, item.what.stream, Way.DOWN), item.round].append(item.what.octets)
         self.requests: dict[tuple[int, int], list[bytes]] = defaultdict(list)
         for item in scenario.priority:
-            message = Message(scenario.community, Pdu.SET, FIRST_PRIORITY_ID + item.place, binds=request_binds(item.what))
+            message = Message(
+                scenario.community, Pdu.SET, FIRST_PRIORITY_ID + item.place, binds=request_binds(item.what)
+            )
             self.requests[item.cabinet, item.round].append(write(message))
 
     def carry(self, line: Line, number: int, frames: list[bytes]) -> list[bytes]:
@@ -66,13 +69,17 @@ class Link:
         return arrived + self.late.pop((line, number), [])
 
     def down(self, number: int, cabinet: int, sent: Sent) -> dict[Stream, list[bytes]]:
-        """Returns the frames that reach a cabinet in a round, by stream; those of the scenario come last and meet no fault."""
+        """Returns the frames that reach a cabinet in a round, by stream; those of the scenario come last and meet no
+        fault."""
         frames = {
-            Stream.POLL: sent.poll, Stream.LOAD: sent.load, Stream.PRIORITY: self.requests.get((cabinet, number), []),
+            Stream.POLL: sent.poll,
+            Stream.LOAD: sent.load,
+            Stream.PRIORITY: self.requests.get((cabinet, number), []),
         }
         lines = {stream: Line(cabinet, stream, Way.DOWN) for stream in Stream}
         return {
-            stream: self.carry(line, number, frames[stream]) + self.own.get((line, number), []) for stream, line in lines.items()
+            stream: self.carry(line, number, frames[stream]) + self.own.get((line, number), [])
+            for stream, line in lines.items()
         }
 
     def up(self, number: int, cabinet: int, replies: dict[Stream, list[bytes]]) -> dict[Stream, list[bytes]]:

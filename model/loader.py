@@ -48,7 +48,8 @@ class Loader:
         self.latest: int | None = None
 
     def hear(self, message: Message) -> list[bytes]:
-        """Takes a Response, and returns the note of a download that ends with it. One that doesn't answer the latest frame is dropped."""
+        """Takes a Response, and returns the note of a download that ends with it. One that doesn't answer the latest
+        frame is dropped."""
         if self.load is None or self.latest is None or message.id != self.latest:
             return []
         load, self.latest = self.load, None

@@ -14,8 +14,14 @@ from model.scenario import CabinetSetup, Scenario
 from model.schedule import master_clock, scheduled
 
 POLLED: list[Oid] = [
-    Scalar.PATTERN_STATUS.value, Scalar.COUNTER.value, Scalar.TARGET.value, Scalar.MODE_CODE.value, Scalar.VERSION.value,
-    ASC + (1, 4, 1, 4, 1), ASC + (1, 4, 1, 4, 2), Scalar.PATTERN_CONTROL.value,
+    Scalar.PATTERN_STATUS.value,
+    Scalar.COUNTER.value,
+    Scalar.TARGET.value,
+    Scalar.MODE_CODE.value,
+    Scalar.VERSION.value,
+    ASC + (1, 4, 1, 4, 1),
+    ASC + (1, 4, 1, 4, 2),
+    Scalar.PATTERN_CONTROL.value,
 ]
 
 
@@ -29,7 +35,8 @@ class Due(Enum):
 
 @dataclass
 class Command:
-    """A command that is under way: its kind, the id of the last frame of it, how often it was sent, and the pattern that it names."""
+    """A command that is under way: its kind, the id of the last frame of it, how often it was sent, and the pattern
+    that it names."""
 
     kind: Due
     id: int
@@ -66,7 +73,8 @@ class Desk:
         return self.next_id - 1
 
     def hear_poll(self, message: Message) -> list[bytes]:
-        """Takes a Response on the stream of polls; returns the notes of it. One that doesn't answer the command is dropped."""
+        """Takes a Response on the stream of polls; returns the notes of it. One that doesn't answer the command is
+        dropped."""
         if self.open is None or message.id != self.open.id:
             return []
         command, self.open = self.open, None
@@ -104,7 +112,8 @@ class Desk:
             self.flags.add(Due.POLL)
 
     def command_frame(self, clock: int, pattern: int | None) -> list[bytes]:
-        """Returns the frame of the command that is under way, sent again under a new id, else of the first that is due."""
+        """Returns the frame of the command that is under way, sent again under a new id, else of the first that is
+        due."""
         if self.open is not None:
             kind, tries = self.open.kind, self.open.tries + 1
         elif self.flags:

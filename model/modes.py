@@ -40,8 +40,8 @@ def sought(past: Past, command: int, preempts: dict[int, int]) -> Mode:
 
 
 def reached(tables: Tables, mode: Mode, lights: Lights) -> Mode:
-    """Returns the mode once the colours are known: a pattern is picked up where both of its coordinated phases are Green, flash begins
-    where nothing is on."""
+    """Returns the mode once the colours are known: a pattern is picked up where both of its coordinated phases are
+    Green, flash begins where nothing is on."""
     if mode.kind is Kind.SEEK and plan.coordinated(tables, mode.number) <= lights.green:
         return Mode(Kind.COORD, mode.number)
     return FLASH if mode == ENDING and not lights.on else mode

@@ -1,7 +1,7 @@
 """The objects of a cabinet's agent: their names, and the order in which GetNext goes through them.
 
-mibs/ARTERIAL-PROFILE-MIB names each; docs/CLIENTS.md, "What the agent does". A name is a tuple of arcs; the readable ones stand in one
-list in lexicographic order.
+mibs/ARTERIAL-PROFILE-MIB names each; docs/CLIENTS.md, "What the agent does". A name is a tuple of arcs; the readable
+ones stand in one list in lexicographic order.
 """
 
 import bisect
@@ -38,9 +38,9 @@ class Scalar(Enum):
     CANCEL = OWN + (4, 2, 0)
 
 
-WRITE_ONLY = frozenset((
-    Scalar.BEGIN, Scalar.ID, Scalar.PART, Scalar.TOTAL, Scalar.FINISH, Scalar.REQUEST, Scalar.CANCEL,
-))
+WRITE_ONLY = frozenset(
+    (Scalar.BEGIN, Scalar.ID, Scalar.PART, Scalar.TOTAL, Scalar.FINISH, Scalar.REQUEST, Scalar.CANCEL)
+)
 
 
 class Group(Enum):
@@ -55,8 +55,6 @@ class Group(Enum):
     VEH_CALLS = 8
     PED_CALLS = 9
     PHASE_ONS = 10
-
-
 
 
 @dataclass(frozen=True)
@@ -84,8 +82,11 @@ class RequestState:
 Name = Scalar | Cell | Index | GroupName | RequestState
 
 ENTRIES: dict[Table, Oid] = {
-    Table.PHASE: ASC + (1, 2, 1), Table.PATTERN: ASC + (4, 7, 1), Table.SPLIT: ASC + (4, 9, 1),
-    Table.PREEMPT: ASC + (6, 2, 1), Table.SEQUENCE: ASC + (7, 3, 1),
+    Table.PHASE: ASC + (1, 2, 1),
+    Table.PATTERN: ASC + (4, 7, 1),
+    Table.SPLIT: ASC + (4, 9, 1),
+    Table.PREEMPT: ASC + (6, 2, 1),
+    Table.SEQUENCE: ASC + (7, 3, 1),
 }
 UNITS: dict[int, Oid] = {1: ASC + (4, 2, 0), **{n: OWN + (3, n - 1, 0) for n in range(2, 9)}}
 

@@ -1,7 +1,7 @@
 """The pattern in command, the clock, and where a pattern's counter is to stand by it.
 
-docs/DEFINITIONS.md, "A tick: command, clock and mode": `command_now`, `is_backed_up`, `clock_now`, `rise_at`, `target_at`;
-docs/SCENARIO.md, `gain` and `lose`.
+docs/DEFINITIONS.md, "A tick: command, clock and mode": `command_now`, `is_backed_up`, `clock_now`, `rise_at`,
+`target_at`; docs/SCENARIO.md, `gain` and `lose`.
 """
 
 from dataclasses import dataclass
@@ -23,10 +23,12 @@ class Drift:
 
 
 def command_now(past: Past) -> tuple[int, int]:
-    """Returns the pattern in command at the tick that comes, and the number of ticks before it was told. It is 0 once the backup time in
-    force has passed since then, and stays so until another is told."""
+    """Returns the pattern in command at the tick that comes, and the number of ticks before it was told. It is 0
+    once the backup time in force has passed since then, and stays so until another is told."""
     last, number = past.last, past.last.number + 1
-    command, commanded = (last.command, last.commanded) if past.told.command is None else (past.told.command, last.number)
+    command, commanded = (
+        (last.command, last.commanded) if past.told.command is None else (past.told.command, last.number)
+    )
     backup = 10 * past.tables.unit(BACKUP_TIME)
     return (0 if backup and number - commanded >= backup else command), commanded
 

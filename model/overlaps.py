@@ -1,7 +1,7 @@
 """An overlap over a trace: an arrow that is green with any of several phases.
 
-docs/TRACE.md, "An overlap over a trace". What it shows at a tick is told by looking back over the ticks at which a parent was Green, and
-over what it showed.
+docs/TRACE.md, "An overlap over a trace". What it shows at a tick is told by looking back over the ticks at which a
+parent was Green, and over what it showed.
 """
 
 from collections.abc import Iterator
@@ -37,7 +37,8 @@ def has_time(told: Overlaps, p: int, tables: list[Tables]) -> bool:
 
 
 def shown_after(shown: list[Colour], green: list[bool], told: Overlaps) -> Colour:
-    """Returns what the overlap shows at the tick behind those that are shown; `green` are the ticks at which a parent was Green."""
+    """Returns what the overlap shows at the tick behind those that are shown; `green` are the ticks at which a
+    parent was Green."""
     before = shown[-1]
     lasted = next((n for n, colour in enumerate(reversed(shown)) if colour is not before), len(shown))
     if before is Colour.RED:

@@ -1,9 +1,9 @@
 """A cabinet's past: each frame with what its tick saw, and what has been told since the last one.
 
-docs/DEFINITIONS.md, "A history, and looking back over it". A tick looks back over the list of moments. So that a long green
-doesn't cost its length again at every tick, a moment also keeps when the last run of a thing began, or how long it is: it is one
-more than in the moment before where the thing still holds, and starts anew where it doesn't. That is what a walk back over the
-list counts; model/tests/test_past.py walks back and compares.
+docs/DEFINITIONS.md, "A history, and looking back over it". A tick looks back over the list of moments. So that a
+long green doesn't cost its length again at every tick, a moment also keeps when the last run of a thing began, or
+how long it is: it is one more than in the moment before where the thing still holds, and starts anew where it
+doesn't. That is what a walk back over the list counts; model/tests/test_past.py walks back and compares.
 """
 
 from dataclasses import dataclass, field
@@ -47,7 +47,7 @@ class Moment:
     """For how many last frames in a row the mode is this one."""
     stage_run: int = 0
     """For how many last frames in a row the preempt of this mode is served."""
-    held_run: int = 0
+    held_run: int = 1
     """For how many last frames in a row of this mode the same phases are on, all of them Green."""
 
 
@@ -65,7 +65,8 @@ class Told:
 
 
 class Past:
-    """All moments of a cabinet, the oldest first, and what has been told since the last one; the tables of its versions."""
+    """All moments of a cabinet, the oldest first, and what has been told since the last one; the tables of its
+    versions."""
 
     def __init__(self, tables: Tables, command: int, clock: int) -> None:
         self.versions = [tables]
@@ -104,7 +105,9 @@ class Past:
         return self.moments[self.last.signal_began[p]].tables
 
 
-def began(before: dict[int, int], was: dict[int, Colour | Signal], shows: dict[int, Colour | Signal], number: int) -> dict[int, int]:
+def began(
+    before: dict[int, int], was: dict[int, Colour | Signal], shows: dict[int, Colour | Signal], number: int
+) -> dict[int, int]:
     """Returns when phases began to show what they show: at this number where it is another thing than before."""
     if was is shows:
         return before

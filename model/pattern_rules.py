@@ -19,7 +19,9 @@ def can_correct(tables: Tables, _row: int) -> bool:
 def has_split(tables: Tables, number: int) -> bool:
     """Rule 14: the split is 1 to 32, and the sequence 1 to 16 and not empty in both rings."""
     row = plan.pattern(tables, number)
-    return 1 <= row.split <= 32 and 1 <= row.sequence <= 16 and any(sequence(tables, row.sequence, ring) for ring in RINGS)
+    return (
+        1 <= row.split <= 32 and 1 <= row.sequence <= 16 and any(sequence(tables, row.sequence, ring) for ring in RINGS)
+    )
 
 
 def offset_fits(tables: Tables, number: int) -> bool:
@@ -49,14 +51,16 @@ def sums_agree(tables: Tables, number: int) -> bool:
 
 
 def services_fit(tables: Tables, number: int) -> bool:
-    """Rule 18: a phase that isn't coordinated or omitted has time in its slot for its least service, with room for the clearances."""
+    """Rule 18: a phase that isn't coordinated or omitted has time in its slot for its least service, with room for
+    the clearances."""
     free = enabled(tables) - plan.coordinated(tables, number) - plan.omitted(tables, number)
     starts = plan.slot_starts(tables, number)
     return all(starts[p] + rows(tables)[p].least_service <= plan.layout_force_point(tables, number, p) for p in free)
 
 
 def window_fits(tables: Tables, number: int) -> bool:
-    """Rule 19: the window of the coordinated phases holds an add, twice a skip, and their least service after a skip."""
+    """Rule 19: the window of the coordinated phases holds an add, twice a skip, and their least service after a
+    skip."""
     held, may = plan.coordinated(tables, number), correction(tables)
     window = min(plan.layout_force_point(tables, number, p) for p in held) - plan.zero_point(tables, number)
     least = max(rows(tables)[p].least_service for p in held)

@@ -1,7 +1,7 @@
 """A pattern laid out over its cycle: slots, force points, window.
 
-docs/DEFINITIONS.md, "Slots and rules". Times are ticks; force points and the window count from local zero, the start of the
-later of the two coordinated slots.
+docs/DEFINITIONS.md, "Slots and rules". Times are ticks; force points and the window count from local zero, the start
+of the later of the two coordinated slots.
 """
 
 from dataclasses import dataclass
@@ -79,8 +79,8 @@ def slot_starts(tables: Tables, number: int) -> dict[int, int]:
 
 @of_tables
 def layout_force_point(tables: Tables, number: int, p: int) -> int:
-    """Returns the last moment of a slot, from the start of the sequence, that leaves room for the clearance of the phase in its slot
-    and for the greatest clearance of its side before that ends."""
+    """Returns the last moment of a slot, from the start of the sequence, that leaves room for the clearance of the
+    phase in its slot and for the greatest clearance of its side before that ends."""
 
     def slot_end(q: int) -> int:
         return slot_starts(tables, number)[q] + split_time(tables, number, q)
@@ -98,7 +98,8 @@ def zero_point(tables: Tables, number: int) -> int:
 
 @dataclass(frozen=True)
 class Plan:
-    """A pattern as a tick reads it. `shift` is how far from local zero the moment stands that the offset sets in time."""
+    """A pattern as a tick reads it. `shift` is how far from local zero the moment stands that the offset sets in
+    time."""
 
     cycle: int
     offset: int
@@ -118,6 +119,12 @@ def plan(tables: Tables, number: int) -> Plan:
     force = {p: (layout_force_point(tables, number, p) - zero) % row.cycle for p in PHASES if p in enabled(tables)}
     window = min(force[p] for p in held)
     return Plan(
-        cycle=row.cycle, offset=row.offset, force=force, window=window, coordinated=held, omitted=omitted(tables, number),
-        is_floating=tables.unit(7) == 2, shift=window if tables.unit(8) == 2 else 0,
+        cycle=row.cycle,
+        offset=row.offset,
+        force=force,
+        window=window,
+        coordinated=held,
+        omitted=omitted(tables, number),
+        is_floating=tables.unit(7) == 2,
+        shift=window if tables.unit(8) == 2 else 0,
     )

@@ -1,7 +1,7 @@
 """Preemption: when a preempt is called, and through which stages it is served.
 
-docs/DEFINITIONS.md, "A tick: preemption and priority"; docs/SCENARIO.md, the columns of `preempt`. The sets of phases are always
-those in force now.
+docs/DEFINITIONS.md, "A tick: preemption and priority"; docs/SCENARIO.md, the columns of `preempt`. The sets of
+phases are always those in force now.
 """
 
 from dataclasses import dataclass
@@ -47,15 +47,23 @@ def preempt(tables: Tables, number: int) -> Preempt:
         return frozenset(tables.octets(Table.PREEMPT, number, column))
 
     return Preempt(
-        delay=ticks(4), least_duration=ticks(5), least_green=ticks(6), least_walk=ticks(7), enter_clear=ticks(8),
-        track_green=max(1, ticks(9)), dwell_green=max(1, ticks(10)), most_presence=ticks(11),
-        track=phases(12), dwell=phases(13), exit=phases(15),
+        delay=ticks(4),
+        least_duration=ticks(5),
+        least_green=ticks(6),
+        least_walk=ticks(7),
+        enter_clear=ticks(8),
+        track_green=max(1, ticks(9)),
+        dwell_green=max(1, ticks(10)),
+        most_presence=ticks(11),
+        track=phases(12),
+        dwell=phases(13),
+        exit=phases(15),
     )
 
 
 def is_called(tables: Tables, number: int, lasted: int) -> bool:
-    """Tells whether a preempt is called whose input has been on for so many ticks in a row: longer than its delay, and not beyond its
-    greatest presence after that."""
+    """Tells whether a preempt is called whose input has been on for so many ticks in a row: longer than its delay,
+    and not beyond its greatest presence after that."""
     row = preempt(tables, number)
     if not row.dwell or lasted < row.delay + 1:
         return False
@@ -73,8 +81,8 @@ def has_reached(frame: Frame, goal: frozenset[int]) -> bool:
 
 
 def dwell_ends(row: Preempt, last: Moment, is_still_called: bool) -> bool:
-    """Tells whether a dwell is over: its goal was reached in each of so many last frames of it, the preempt isn't called, and it has
-    been served for its least duration."""
+    """Tells whether a dwell is over: its goal was reached in each of so many last frames of it, the preempt isn't
+    called, and it has been served for its least duration."""
     held = last.held_run if has_reached(last.frame, row.dwell) else 0
     return held >= row.dwell_green and not is_still_called and last.stage_run >= row.least_duration
 
@@ -97,8 +105,8 @@ def stage_after(tables: Tables, last: Moment, called: list[int]) -> Mode | None:
 
 
 def stage_now(past: Past, lasted: dict[int, int]) -> Mode | None:
-    """Returns the stage of the tick that comes, None where no preempt is served: a lesser number breaks into the stage of another, any
-    number into what is no stage."""
+    """Returns the stage of the tick that comes, None where no preempt is served: a lesser number breaks into the
+    stage of another, any number into what is no stage."""
     called = called_now(past.tables, lasted)
     mode = past.last.frame.mode
     served = stage_of(mode)

@@ -22,7 +22,8 @@ LIVE = (State.QUEUED, State.ACTIVE)
 
 @dataclass(frozen=True)
 class Request:
-    """A priority request: its number, class and level, the phase that serves it, and in how many ticks it comes and is gone."""
+    """A priority request: its number, class and level, the phase that serves it, and in how many ticks it comes and
+    is gone."""
 
     number: int
     klass: int
@@ -60,7 +61,8 @@ def with_cancel(places: Places, number: int) -> Places:
 
 
 def leader(places: Places, phases: frozenset[int]) -> int:
-    """Returns the number of the live request that comes first, by class, level, arrival and number, of those for some phases; or 0."""
+    """Returns the number of the live request that comes first, by class, level, arrival and number, of those for
+    some phases; or 0."""
     live = [it for it in places.values() if it.state in LIVE and it.request.phase in phases]
     if not live:
         return 0
@@ -68,8 +70,8 @@ def leader(places: Places, phases: frozenset[int]) -> int:
 
 
 def after_tick(places: Places, number: int, phases: frozenset[int]) -> tuple[Places, int]:
-    """Returns the requests at a tick of this number, and the active one or 0: those that are gone depart, then one of the live ones
-    for these phases (none where no pattern binds) is active."""
+    """Returns the requests at a tick of this number, and the active one or 0: those that are gone depart, then one
+    of the live ones for these phases (none where no pattern binds) is active."""
     if not places:
         return places, 0
 

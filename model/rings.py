@@ -1,7 +1,7 @@
 """What the two rings end and begin in free operation and in step with a pattern.
 
-docs/DEFINITIONS.md, "A tick: rings" and "A tick: coordination"; docs/DEFINITIONS.md has the plan of the standard pattern.
-A phase is wanted with k where it has demand and, with a pattern, room for its service after k ticks more.
+docs/DEFINITIONS.md, "A tick: rings" and "A tick: coordination"; docs/DEFINITIONS.md has the plan of the standard
+pattern. A phase is wanted with k where it has demand and, with a pattern, room for its service after k ticks more.
 """
 
 import functools
@@ -62,12 +62,14 @@ class Rings:
 
     @functools.cached_property
     def side(self) -> frozenset[int]:
-        """Returns the side of a phase that stays on, else that of the latest frame with one on, else the last of the sequence."""
+        """Returns the side of a phase that stays on, else that of the latest frame with one on, else the last of the
+        sequence."""
         p = next(iter(self.on.values()), self.past.last.latest_on)
         return sides.side(self.tables, p) if p else sides.sides_in_order(self.tables, self.sequence)[-1]
 
     def later(self, ring: int) -> list[int]:
-        """Returns the phases of a ring in the present side that come after the one last on in it; all where that was of another side."""
+        """Returns the phases of a ring in the present side that come after the one last on in it; all where that was
+        of another side."""
         own = sides.ring_phases(self.tables, self.sequence, ring, self.side)
         last = self.past.last.last_on.get(ring)
         return own[own.index(last) + 1 :] if last in own else own
@@ -106,8 +108,8 @@ class Rings:
         return p not in maximum_recall(self.tables, self.bound) and self.quiet.get(p, 0) >= self.row[p].passage
 
     def has_reason(self, p: int) -> bool:
-        """Tells whether a served Green has a reason to end: in free operation gap or maximum; with a pattern gap, an active priority
-        request or its split filled, and for a coordinated phase its force point alone."""
+        """Tells whether a served Green has a reason to end: in free operation gap or maximum; with a pattern gap, an
+        active priority request or its split filled, and for a coordinated phase its force point alone."""
         if self.plan is None:
             return self.has_gap(p) or self.opposed.get(p, 0) >= self.row[p].maximum
         if p in self.plan.coordinated:
@@ -145,8 +147,8 @@ class Rings:
         return any(self.is_wanted(q, self.row[p].clearance) for q in self.earlier(ring) if q != p)
 
     def begins(self, ring: int, k: int) -> int | None:
-        """Returns the phase that an open ring begins on the present side: the first later one, else, while no other side is wanted, the
-        first earlier one."""
+        """Returns the phase that an open ring begins on the present side: the first later one, else, while no other
+        side is wanted, the first earlier one."""
         later = next(filter(self.can_begin, self.later(ring)), None)
         if later is not None or self.elsewhere(k):
             return later
@@ -158,13 +160,16 @@ class Rings:
         return may and is_startable(self.past, p) and self.fits(p, 0)
 
     def enters(self) -> set[int]:
-        """Returns the phases with which a side is entered: the next one round the sequence that has a phase that can begin."""
+        """Returns the phases with which a side is entered: the next one round the sequence that has a phase that can
+        begin."""
         order = sides.sides_in_order(self.tables, self.sequence)
         place = order.index(self.side) + 1
         for side in order[place:] + order[:place]:
             by_ring = [sides.ring_phases(self.tables, self.sequence, ring, side) for ring in RINGS]
             if any(self.can_begin(p) for own in by_ring for p in own):
-                chosen = (next(filter(self.can_begin, own), None) or next(filter(self.joins, own), None) for own in by_ring)
+                chosen = (
+                    next(filter(self.can_begin, own), None) or next(filter(self.joins, own), None) for own in by_ring
+                )
                 return {p for p in chosen if p is not None}
         return set()
 

@@ -1,7 +1,8 @@
 """The rules that a cabinet's tables must keep: the first that they break, and its least row.
 
-docs/SCENARIO.md, "The rules of tables". The rules 1 to 12 and 20 to 22 speak of phases, sides, sequences and preempts, the rules 13 to 19
-(pattern_rules.py) of coordination. A rule is looked at only where all rules before it hold in all rows.
+docs/SCENARIO.md, "The rules of tables". The rules 1 to 12 and 20 to 22 speak of phases, sides, sequences and
+preempts, the rules 13 to 19 (pattern_rules.py) of coordination. A rule is looked at only where all rules before it
+hold in all rows.
 """
 
 from collections.abc import Callable, Iterable
@@ -77,7 +78,8 @@ def orders_each(tables: Tables, number: int) -> bool:
     """Rule 8: each ring has each of its enabled phases once, and nothing else."""
     row = rows(tables)
     return all(
-        sorted(sequence(tables, number, ring)) == sorted(p for p in enabled(tables) if row[p].ring == ring) for ring in RINGS
+        sorted(sequence(tables, number, ring)) == sorted(p for p in enabled(tables) if row[p].ring == ring)
+        for ring in RINGS
     )
 
 
@@ -141,8 +143,18 @@ def has_structure_of(tables: Tables, in_force: Tables, p: int) -> bool:
 
 Rule = Callable[[Tables, int], bool]
 BEFORE_PATTERNS: list[Rule] = [
-    has_ring, lists_phases, is_listed_back, lists_other_ring, lists_some, shares_alike, has_sides, orders_each, keeps_sides,
-    has_yellow, reverts_in_time, starts_together,
+    has_ring,
+    lists_phases,
+    is_listed_back,
+    lists_other_ring,
+    lists_some,
+    shares_alike,
+    has_sides,
+    orders_each,
+    keeps_sides,
+    has_yellow,
+    reverts_in_time,
+    starts_together,
 ]
 
 

@@ -1,7 +1,7 @@
 """A run of a scenario: the lines of its trace, for any order in which the items of a round come to a cabinet.
 
-docs/TRACE.md, "How a trace is read". Each line that is due is given in turn; where a J line is due, whoever goes through the lines answers
-with the journal: `run` with the serial one, `check` with that of the text.
+docs/TRACE.md, "How a trace is read". Each line that is due is given in turn; where a J line is due, whoever goes
+through the lines answers with the journal: `run` with the serial one, `check` with that of the text.
 """
 
 from collections import defaultdict
@@ -95,7 +95,8 @@ class Run:
         """Gives the lines of a round: the master's notes, then cabinet by cabinet what comes to it."""
         yield b"R %d" % number
         turns = [
-            desk.turn(number, arrived[Stream.POLL], arrived[Stream.LOAD]) for desk, arrived in zip(self.desks, self.arrived)
+            desk.turn(number, arrived[Stream.POLL], arrived[Stream.LOAD])
+            for desk, arrived in zip(self.desks, self.arrived)
         ]
         for notes, _ in turns:
             yield from notes

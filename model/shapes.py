@@ -1,7 +1,8 @@
 """What may stand at a place of a JSON value, and the first fault of what does.
 
-docs/SCENARIO.md, "What is refused, and how". A shape takes a value and its path, and returns what the value says; a fault is raised. Of one
-value the kind comes before the range; of a list its length before its items; of an object unknown names before the names in their order.
+docs/SCENARIO.md, "What is refused, and how". A shape takes a value and its path, and returns what the value says; a
+fault is raised. Of one value the kind comes before the range; of a list its length before its items; of an object
+unknown names before the names in their order.
 """
 
 import re
@@ -162,8 +163,9 @@ def fields(value: Any, path: str, names: list[Named]) -> dict[str, Any]:
 
 
 def alternatives(value: Any, path: str, common: list[Named], choices: dict[str, list[Named]]) -> dict[str, Any]:
-    """Returns what the names of an object say that has some names and those of one alternative. An alternative stands where its first
-    name does; where two or none stand, the fault is the object's, behind those of the common names."""
+    """Returns what the names of an object say that has some names and those of one alternative. An alternative
+    stands where its first name does; where two or none stand, the fault is the object's, behind those of the common
+    names."""
     standing = [first for first in choices if isinstance(value, dict) and first in value]
     one = choices[standing[0]] if len(standing) == 1 else [it for choice in choices.values() for it in choice]
     known = names_known(value, path, [it.name for it in common + one])

@@ -29,10 +29,15 @@ def is_in_group(shown: Shown, column: Group, p: int) -> bool:
     frame, calls = shown.controller.past.last.frame, shown.controller.past.told.calls
     colour, signal = frame.lights.of[p], frame.signals.of[p]
     return {
-        Group.REDS: colour in (Colour.RED, Colour.CLEAR), Group.YELLOWS: colour is Colour.YELLOW,
-        Group.GREENS: colour is Colour.GREEN, Group.DONT_WALKS: signal is Signal.DONT,
-        Group.PED_CLEARS: signal is Signal.FLASH, Group.WALKS: signal is Signal.WALK,
-        Group.VEH_CALLS: p in calls.locked, Group.PED_CALLS: p in calls.pressed, Group.PHASE_ONS: p in frame.lights.on,
+        Group.REDS: colour in (Colour.RED, Colour.CLEAR),
+        Group.YELLOWS: colour is Colour.YELLOW,
+        Group.GREENS: colour is Colour.GREEN,
+        Group.DONT_WALKS: signal is Signal.DONT,
+        Group.PED_CLEARS: signal is Signal.FLASH,
+        Group.WALKS: signal is Signal.WALK,
+        Group.VEH_CALLS: p in calls.locked,
+        Group.PED_CALLS: p in calls.pressed,
+        Group.PHASE_ONS: p in frame.lights.on,
     }[column]
 
 

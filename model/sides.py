@@ -1,7 +1,7 @@
 """Which phases may be on together, and what sequences order.
 
-docs/DEFINITIONS.md, "Tables": `are_concurrent`, `are_incompatible`, `are_of_one_side`, `ring_phases`, `sides`. Only enabled
-phases count.
+docs/DEFINITIONS.md, "Tables": `are_concurrent`, `are_incompatible`, `are_of_one_side`, `ring_phases`, `sides`. Only
+enabled phases count.
 """
 
 from model.cells import Table
@@ -14,7 +14,9 @@ def concurrent(tables: Tables) -> dict[int, frozenset[int]]:
     """Returns for each phase those that may be on beside it: the list of one names the other."""
     used, row = enabled(tables), rows(tables)
     return {
-        p: frozenset(q for q in used if q != p and (q in row[p].listed or p in row[q].listed)) if p in used else frozenset()
+        p: frozenset(q for q in used if q != p and (q in row[p].listed or p in row[q].listed))
+        if p in used
+        else frozenset()
         for p in PHASES
     }
 
@@ -28,7 +30,8 @@ def incompatible(tables: Tables) -> dict[int, frozenset[int]]:
 
 @of_tables
 def side(tables: Tables, p: int) -> frozenset[int]:
-    """Returns the side of the barrier of a phase: itself, those concurrent with it, those that share one of these with it."""
+    """Returns the side of the barrier of a phase: itself, those concurrent with it, those that share one of these
+    with it."""
     beside = concurrent(tables)
     return frozenset(q for q in enabled(tables) if q == p or q in beside[p] or beside[q] & beside[p])
 

@@ -1,7 +1,7 @@
 """A cabinet's tables, by cells and by the rows that a tick reads; the standard tables.
 
-docs/SCENARIO.md, "Cells" and "The standard tables". Times of rows are in ticks. Tables never change: a download makes new
-ones. What follows from tables alone (rows, sides, plans) is worked out once for each and kept in `memo`.
+docs/SCENARIO.md, "Cells" and "The standard tables". Times of rows are in ticks. Tables never change: a download
+makes new ones. What follows from tables alone (rows, sides, plans) is worked out once for each and kept in `memo`.
 """
 
 import functools
@@ -106,9 +106,18 @@ def rows(tables: Tables) -> dict[int, Row]:
             return tables.number(Table.PHASE, p, column)
 
         return Row(
-            walk=10 * tell(2), ped_clear=10 * tell(3), least_green=max(1, 10 * tell(4)), passage=max(1, tell(5)),
-            maximum=10 * tell(6), yellow=tell(8), red_clear=tell(9), red_revert=tell(10), startup=tell(20),
-            options=tell(21), ring=tell(22), listed=tables.octets(Table.PHASE, p, 23),
+            walk=10 * tell(2),
+            ped_clear=10 * tell(3),
+            least_green=max(1, 10 * tell(4)),
+            passage=max(1, tell(5)),
+            maximum=10 * tell(6),
+            yellow=tell(8),
+            red_clear=tell(9),
+            red_revert=tell(10),
+            startup=tell(20),
+            options=tell(21),
+            ring=tell(22),
+            listed=tables.octets(Table.PHASE, p, 23),
         )
 
     return {p: row(p) for p in PHASES}

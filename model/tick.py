@@ -1,7 +1,7 @@
 """One tick: from a cabinet's past to its next moment.
 
-docs/DEFINITIONS.md, "A tick: the frame". In this order: the clock, the command and the requests, the mode, the counter, the colours,
-whether the pattern is picked up, the signals.
+docs/DEFINITIONS.md, "A tick: the frame". In this order: the clock, the command and the requests, the mode, the
+counter, the colours, whether the pattern is picked up, the signals.
 """
 
 from dataclasses import dataclass
@@ -100,7 +100,9 @@ def next_moment(past: Past, drift: Drift) -> Moment:
     started = start_up_phases(past, now.mode)
     ended, begun = moves(past, now, rings, started)
     over = {p: colour for p in last.frame.lights.clearing if (colour := runs_out(past, p)) is not None}
-    lights = last.frame.lights.changed({**over, **dict.fromkeys(ended, Colour.YELLOW), **dict.fromkeys(begun, Colour.GREEN)})
+    lights = last.frame.lights.changed(
+        {**over, **dict.fromkeys(ended, Colour.YELLOW), **dict.fromkeys(begun, Colour.GREEN)}
+    )
     mode = modes.reached(past.tables, now.mode, lights)
     bare = Frame(lights, last.frame.signals, mode, now.counter, now.target, past.version)
     crossing = Crossing(past, lights, mode, bare.is_local_zero(last.frame), bool(started), rings)
@@ -116,11 +118,22 @@ def moment(past: Past, now: Course, rings: Rings, frame: Frame) -> Moment:
     last_on, latest_on = on_last(last, frame, ring_of)
     stage = stage_of(frame.mode)
     return Moment(
-        number=now.number, frame=frame, tables=past.tables, clock=now.clock, command=now.command, commanded=now.commanded,
-        calls=calls.after_frame(past.told.calls, frame), places=now.places,
+        number=now.number,
+        frame=frame,
+        tables=past.tables,
+        clock=now.clock,
+        command=now.command,
+        commanded=now.commanded,
+        calls=calls.after_frame(past.told.calls, frame),
+        places=now.places,
         colour_began=began(last.colour_began, lights.of, frame.lights.of, now.number),
         signal_began=began(last.signal_began, signals.of, frame.signals.of, now.number),
-        quiet=rings.quiet, opposed=rings.opposed, preempts=now.preempts, last_on=last_on, latest_on=latest_on, cycle=now.cycle,
+        quiet=rings.quiet,
+        opposed=rings.opposed,
+        preempts=now.preempts,
+        last_on=last_on,
+        latest_on=latest_on,
+        cycle=now.cycle,
         mode_run=last.mode_run + 1 if frame.mode == last.frame.mode else 1,
         stage_run=last.stage_run + 1 if stage and stage == stage_of(last.frame.mode) else int(stage > 0),
         held_run=held_for(last, frame),

@@ -20,7 +20,8 @@ STARTS_WITH_WALK = 3
 
 @dataclass
 class Crossing:
-    """What a tick knows as it comes to the pedestrians: the lights and the mode that it gives, and whether it is a local zero."""
+    """What a tick knows as it comes to the pedestrians: the lights and the mode that it gives, and whether it is a
+    local zero."""
 
     past: Past
     lights: Lights
@@ -46,8 +47,8 @@ def begins_with_green(at: Crossing, p: int) -> bool:
 
 
 def begins_on_green(at: Crossing, p: int) -> bool:
-    """Tells whether Walk comes on a phase that was Green before, stays so, and showed no signal: in free operation at a call while no
-    incompatible phase has demand, with a pattern on a coordinated phase at a local zero."""
+    """Tells whether Walk comes on a phase that was Green before, stays so, and showed no signal: in free operation
+    at a call while no incompatible phase has demand, with a pattern on a coordinated phase at a local zero."""
     tables, called = at.past.tables, p in at.past.told.calls.pressed
     if at.past.last.frame.signals.of[p] is not Signal.DONT or rows(tables)[p].walk < 1:
         return False

@@ -30,7 +30,8 @@ def tables_of(base: str, cells: list[CellList]) -> Tables:
 
 
 def needs_of(tables: Tables, made: Structure) -> dict[int, int]:
-    """Returns the seconds that each phase needs of a split: its least service and the greatest clearance of its side."""
+    """Returns the seconds that each phase needs of a split: its least service and the greatest clearance of its
+    side."""
     row = rows(tables)
     needs = {}
     for side in made.sides:
@@ -78,7 +79,9 @@ def cabinet(draw: Random, version: int) -> Drawn:
         made = structure(draw)
         patterns = sorted(draw.sample([1, 2, 3, 48], draw.choice([0, 1, 1, 2, 3])))
         preempts = sorted(draw.sample(range(1, 9), draw.choice([0, 0, 1, 2, 3])))
-        drawn = Drawn({"base": base, "cells": kept_cells(draw, base, made, patterns, preempts)}, made, patterns, preempts)
+        drawn = Drawn(
+            {"base": base, "cells": kept_cells(draw, base, made, patterns, preempts)}, made, patterns, preempts
+        )
     drawn.value["pattern"] = draw.choice([0, 254, 255, 7, *3 * (drawn.patterns or [1])])
     drawn.value["clock"] = draw.choice([0, 1, 863_999, 863_900, 863_000, draw.randrange(864_000), draw.randrange(2000)])
     drawn.value["section"] = draw.choice([1, 1, 2, 8])

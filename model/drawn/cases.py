@@ -16,7 +16,7 @@ from model.drawn import reports  # noqa: E402
 from model.drawn.hostile import hostile, text_of  # noqa: E402
 from model.drawn.orders import trace_in_order, with_damage  # noqa: E402
 from model.drawn.scenarios import scenario  # noqa: E402
-from model.scenario import read_scenario  # noqa: E402
+from model.scenario_read import read_scenario  # noqa: E402
 from model.shapes import Refused  # noqa: E402
 
 
@@ -104,12 +104,24 @@ def word_case(draw: Random) -> Case:
 
 
 DRAWS: dict[CaseKind, Callable[[Random], Case]] = {
-    CaseKind.RUN: run_case, CaseKind.HOSTILE: hostile_case, CaseKind.DAMAGED: damaged_case, CaseKind.CHECK: check_case,
-    CaseKind.OVERLAPS: overlap_case, CaseKind.RESPOND: respond_case, CaseKind.BAND: band_case, CaseKind.WORDS: word_case,
+    CaseKind.RUN: run_case,
+    CaseKind.HOSTILE: hostile_case,
+    CaseKind.DAMAGED: damaged_case,
+    CaseKind.CHECK: check_case,
+    CaseKind.OVERLAPS: overlap_case,
+    CaseKind.RESPOND: respond_case,
+    CaseKind.BAND: band_case,
+    CaseKind.WORDS: word_case,
 }
 OFTEN = {
-    CaseKind.RUN: 46, CaseKind.HOSTILE: 16, CaseKind.DAMAGED: 6, CaseKind.CHECK: 14, CaseKind.OVERLAPS: 4, CaseKind.RESPOND: 5,
-    CaseKind.BAND: 5, CaseKind.WORDS: 4,
+    CaseKind.RUN: 46,
+    CaseKind.HOSTILE: 16,
+    CaseKind.DAMAGED: 6,
+    CaseKind.CHECK: 14,
+    CaseKind.OVERLAPS: 4,
+    CaseKind.RESPOND: 5,
+    CaseKind.BAND: 5,
+    CaseKind.WORDS: 4,
 }
 
 

@@ -10,7 +10,16 @@ from model.priority import Request
 from model.master import request_binds
 from model.shapes import cell
 
-ODD_NAMES: list[Oid] = [OWN, OWN + (1, 2, 0), (1, 3), (2, 39), (0, 0), OWN + (4, 3, 1, 10), OWN + (9,) * 20, (1, 3, 6, 1, 4, 1, 1206, 4, 2, 1)]
+ODD_NAMES: list[Oid] = [
+    OWN,
+    OWN + (1, 2, 0),
+    (1, 3),
+    (2, 39),
+    (0, 0),
+    OWN + (4, 3, 1, 10),
+    OWN + (9,) * 20,
+    (1, 3, 6, 1, 4, 1, 1206, 4, 2, 1),
+]
 
 
 def octets_of(draw: Random, pdu: Pdu, binds: list[Bind], community: bytes) -> bytes:
@@ -26,7 +35,12 @@ def command_binds(draw: Random, drawn: Drawn) -> list[Bind]:
     def one() -> list[Bind]:
         kind = draw.randrange(10)
         if kind < 4:
-            return [Bind(Scalar.PATTERN_CONTROL.value, draw.choice([0, 254, 255, 256, -1, 5, *drawn.patterns, *drawn.patterns]))]
+            return [
+                Bind(
+                    Scalar.PATTERN_CONTROL.value,
+                    draw.choice([0, 254, 255, 256, -1, 5, *drawn.patterns, *drawn.patterns]),
+                )
+            ]
         if kind < 6:
             return [Bind(Scalar.CLOCK.value, draw.choice([0, 863_999, 864_000, 863_800, draw.randrange(3000)]))]
         if kind < 9:
@@ -41,18 +55,31 @@ def request(draw: Random, drawn: Drawn) -> Request:
     arrival = draw.choice([0, 5, 60])
     numbers = (draw.choice([1, 1, 2, 3, 10]) for _ in range(3))
     phases = drawn.made.phases
-    return Request(*numbers, draw.choice([*phases, *phases, 16]), arrival, arrival + draw.choice([0, 10, 100, 600, 60_000]))
+    return Request(
+        *numbers, draw.choice([*phases, *phases, 16]), arrival, arrival + draw.choice([0, 10, 100, 600, 60_000])
+    )
 
 
 def any_value(draw: Random) -> Value:
     """Draws a value of any kind."""
-    return draw.choice([0, 1, -1, 255, 2**31 - 1, -(2**31), b"", b"\x02\x06", b"\x01" * 8, b"x" * 64, None, (1, 3, 6)])
+    return draw.choice(
+        [0, 1, -1, 255, 2**31 - 1, -(2**31), b"", b"\x02\x06", b"\x01" * 8, b"x" * 64, None, (1, 3, 6)]
+    )
 
 
 def name_near(draw: Random) -> Oid:
     """Draws a name that can be read, one beside it, or an odd one."""
     oid = draw.choice(READABLE)
-    changes = [oid, oid, oid, oid[:-1], (*oid, 0), (*oid[:-1], oid[-1] + 1), draw.choice(ODD_NAMES), draw.choice(list(NAMES))]
+    changes = [
+        oid,
+        oid,
+        oid,
+        oid[:-1],
+        (*oid, 0),
+        (*oid[:-1], oid[-1] + 1),
+        draw.choice(ODD_NAMES),
+        draw.choice(list(NAMES)),
+    ]
     return draw.choice(changes)
 
 
@@ -79,7 +106,8 @@ def load_binds(draw: Random, drawn: Drawn, load: int) -> list[Bind]:
 
 
 def load_cells(draw: Random, drawn: Drawn) -> list[CellList]:
-    """Draws the cells of a download: mostly all cells of a cabinet of this structure drawn anew, at times of another."""
+    """Draws the cells of a download: mostly all cells of a cabinet of this structure drawn anew, at times of
+    another."""
     made = drawn.made if draw.random() < 0.85 else STANDARD
     return draw_cells(draw, "std8", made, drawn.patterns, drawn.preempts)
 
@@ -102,6 +130,12 @@ def frame(draw: Random, drawn: Drawn, community: bytes, load: int) -> bytes:
 def damaged(draw: Random, octets: bytes) -> bytes:
     """Returns octets with one changed, cut, or with some behind them."""
     at = draw.randrange(len(octets))
-    return draw.choice([
-        octets[:at], octets[:at] + bytes((draw.randrange(256),)) + octets[at + 1 :], octets + b"\0", octets[at:], draw.randbytes(at),
-    ])
+    return draw.choice(
+        [
+            octets[:at],
+            octets[:at] + bytes((draw.randrange(256),)) + octets[at + 1 :],
+            octets + b"\0",
+            octets[at:],
+            draw.randbytes(at),
+        ]
+    )

@@ -1,13 +1,91 @@
-"""What makes a value hostile: numbers at the edges of ranges, values of other kinds, names that are missing, unknown or double."""
+"""What makes a value hostile: numbers at the edges of ranges, values of other kinds, names that are missing, unknown
+or double."""
 
 import json
 from random import Random
 from typing import Any
 
-EDGES = [-1, 0, 1, 2, 3, 8, 9, 10, 11, 16, 17, 29, 30, 48, 49, 64, 65, 100, 255, 256, 600, 601, 2550, 2551, 11_999, 12_000, 65_535,
-         65_536, 86_400, 86_401, 863_999, 864_000, 864_001, 2**31, 2**32, 2**63, 2**64 - 1, 2**64, -(2**63)]
-OTHERS = [None, True, False, "", "1", "x", "public", 1.0, 1.5, [], {}, [1], "0", "00", "zz", "0g", "FF", "ff" * 17, "\u00e9", "\n"]
-NAMES = ["version", "rounds", "gain", "lose", "on", "ped", "veh", "preempt", "cancel", "number", "", "a", "z", "\u00e9", "by", "cells"]
+EDGES = [
+    -1,
+    0,
+    1,
+    2,
+    3,
+    8,
+    9,
+    10,
+    11,
+    16,
+    17,
+    29,
+    30,
+    48,
+    49,
+    64,
+    65,
+    100,
+    255,
+    256,
+    600,
+    601,
+    2550,
+    2551,
+    11_999,
+    12_000,
+    65_535,
+    65_536,
+    86_400,
+    86_401,
+    863_999,
+    864_000,
+    864_001,
+    2**31,
+    2**32,
+    2**63,
+    2**64 - 1,
+    2**64,
+    -(2**63),
+]
+OTHERS = [
+    None,
+    True,
+    False,
+    "",
+    "1",
+    "x",
+    "public",
+    1.0,
+    1.5,
+    [],
+    {},
+    [1],
+    "0",
+    "00",
+    "zz",
+    "0g",
+    "FF",
+    "ff" * 17,
+    "\u00e9",
+    "\n",
+]
+NAMES = [
+    "version",
+    "rounds",
+    "gain",
+    "lose",
+    "on",
+    "ped",
+    "veh",
+    "preempt",
+    "cancel",
+    "number",
+    "",
+    "a",
+    "z",
+    "\u00e9",
+    "by",
+    "cells",
+]
 
 
 def places(value: Any, path: tuple = ()) -> list[tuple]:
@@ -54,4 +132,6 @@ def text_of(draw: Random, value: Any) -> bytes:
     """Returns a JSON text of a value, in one of several ways to write it."""
     if draw.random() < 0.5:
         return json.dumps(value, separators=(",", ":"), ensure_ascii=False).encode("utf-8", "surrogatepass")
-    return json.dumps(value, indent=draw.choice([None, 1]), ensure_ascii=draw.random() < 0.5).encode("utf-8", "surrogatepass")
+    return json.dumps(value, indent=draw.choice([None, 1]), ensure_ascii=draw.random() < 0.5).encode(
+        "utf-8", "surrogatepass"
+    )

@@ -56,7 +56,9 @@ def other_letter(draw: Random, line: bytes) -> bytes:
     if not line:
         return b" "
     at = draw.randrange(len(line))
-    return line[:at] + draw.choice([b"G", b"R", b"Y", b"C", b"D", b"W", b" ", b"0", b"\xff", b"-", b"a"]) + line[at + 1 :]
+    return (
+        line[:at] + draw.choice([b"G", b"R", b"Y", b"C", b"D", b"W", b" ", b"0", b"\xff", b"-", b"a"]) + line[at + 1 :]
+    )
 
 
 def other_runs(draw: Random, line: bytes) -> bytes:

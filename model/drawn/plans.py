@@ -12,7 +12,8 @@ def pair(draw: Random, made: Structure) -> tuple[int, ...]:
 
 
 def times_of(draw: Random, made: Structure, needs: dict[int, int]) -> dict[int, int]:
-    """Draws split times in seconds that hold what each phase needs, and that come to the same in both rings of each side."""
+    """Draws split times in seconds that hold what each phase needs, and that come to the same in both rings of each
+    side."""
     times: dict[int, int] = {}
     for side in made.sides:
         for ring in side:
@@ -23,7 +24,9 @@ def times_of(draw: Random, made: Structure, needs: dict[int, int]) -> dict[int, 
     return times
 
 
-def split_cells(draw: Random, made: Structure, number: int, times: dict[int, int], held: tuple[int, ...]) -> list[CellList]:
+def split_cells(
+    draw: Random, made: Structure, number: int, times: dict[int, int], held: tuple[int, ...]
+) -> list[CellList]:
     """Returns the cells of a split."""
     cells: list[CellList] = [["split", number, p, 5, int(p in held)] for p in {*made.phases, 2, 6}]
     for p in made.phases:
@@ -48,9 +51,14 @@ def pattern_cells(draw: Random, made: Structure, number: int, needs: dict[int, i
 def unit_cells(draw: Random) -> list[CellList]:
     """Draws correction, backup time, extension, force mode and offset reference."""
     columns = {
-        1: draw.choice([2, 3, 4]), 2: draw.choice([1, 3, 20, 100, 2550]), 3: draw.choice([1, 2, 10, 30, 50]),
-        4: draw.choice([1, 2, 10, 20]), 5: draw.choice([0, 0, 0, 3, 9, 40, 65535]), 6: draw.choice([0, 10, 60, 2550]),
-        7: draw.choice([1, 2]), 8: draw.choice([1, 2]),
+        1: draw.choice([2, 3, 4]),
+        2: draw.choice([1, 3, 20, 100, 2550]),
+        3: draw.choice([1, 2, 10, 30, 50]),
+        4: draw.choice([1, 2, 10, 20]),
+        5: draw.choice([0, 0, 0, 3, 9, 40, 65535]),
+        6: draw.choice([0, 10, 60, 2550]),
+        7: draw.choice([1, 2]),
+        8: draw.choice([1, 2]),
     }
     return [["unit", column, value] for column, value in columns.items()]
 
@@ -66,7 +74,14 @@ def preempt_cells(draw: Random, made: Structure, number: int) -> list[CellList]:
     """Draws a preempt."""
     cells: list[CellList] = [["preempt", number, column, set_of(draw, made)] for column in (12, 13, 14, 15)]
     for column, values in {
-        4: [0, 0, 1, 2], 5: [0, 1, 5], 6: [0, 1, 2], 7: [0, 1, 2], 8: [0, 1, 3], 9: [0, 1, 4], 10: [0, 1, 4], 11: [0, 0, 3, 8],
+        4: [0, 0, 1, 2],
+        5: [0, 1, 5],
+        6: [0, 1, 2],
+        7: [0, 1, 2],
+        8: [0, 1, 3],
+        9: [0, 1, 4],
+        10: [0, 1, 4],
+        11: [0, 0, 3, 8],
     }.items():
         cells.append(["preempt", number, column, draw.choice(values)])
     return cells

@@ -11,9 +11,14 @@ def bank(draw: Random, cabinets: int) -> list[dict[str, Any]]:
     places = [(cabinet, number) for cabinet in range(1, cabinets + 1) for number in range(1, 5)]
     return [
         {
-            "cabinet": cabinet, "detector": number, "phase": draw.choice([1, 2, 3, 4, 16]), "delay": draw.choice([0, 0, 1, 3]),
-            "extend": draw.choice([0, 0, 1, 4]), "no_activity": draw.choice([0, 0, 3, 20]),
-            "max_presence": draw.choice([0, 0, 4, 15]), "erratic": draw.choice([0, 0, 1, 3]),
+            "cabinet": cabinet,
+            "detector": number,
+            "phase": draw.choice([1, 2, 3, 4, 16]),
+            "delay": draw.choice([0, 0, 1, 3]),
+            "extend": draw.choice([0, 0, 1, 4]),
+            "no_activity": draw.choice([0, 0, 3, 20]),
+            "max_presence": draw.choice([0, 0, 4, 15]),
+            "erratic": draw.choice([0, 0, 1, 3]),
         }
         for cabinet, number in draw.sample(places, draw.randint(0, len(places)))
     ]
@@ -38,7 +43,12 @@ def field_file(draw: Random) -> dict[str, Any]:
     if detectors:
         chosen = (draw.choice(detectors) for _ in range(draw.choice([0, 5, 40, 120])))
         told["pulses"] = [
-            {"round": draw.randint(1, inner["rounds"]), "cabinet": it["cabinet"], "detector": it["detector"], "on": draw.random() < 0.55}
+            {
+                "round": draw.randint(1, inner["rounds"]),
+                "cabinet": it["cabinet"],
+                "detector": it["detector"],
+                "on": draw.random() < 0.55,
+            }
             for it in chosen
         ]
     if draw.random() < 0.7:
@@ -60,7 +70,10 @@ def street(draw: Random) -> dict[str, Any]:
         inner = {name: inner[name] for name in ("version", "rounds", "ticks", "cabinets")}
         number = 1
     own = sum(it.get("section", 1) == 1 for it in inner["cabinets"])
-    travel = [draw.choice([0, 100, 200, 864_000, draw.randrange(900)]) for _ in range(max(0, own - 1 + draw.choice([0, 0, 0, 0, 1])))]
+    travel = [
+        draw.choice([0, 100, 200, 864_000, draw.randrange(900)])
+        for _ in range(max(0, own - 1 + draw.choice([0, 0, 0, 0, 1])))
+    ]
     return {"scenario": inner, "section": draw.choice([1, 1, 1, 1, 2]), "pattern": number, "travel": travel}
 
 
@@ -73,7 +86,17 @@ def overlap_words(draw: Random) -> list[str]:
     yellow = draw.choice([29, 30, 30, 30, 31, 35])
     cabinet = draw.choice([1, 1, 1, 1, 2, 64])
     return [
-        "overlaps", "--cabinet", str(cabinet), "--parents", parents.hex(), "--trail", str(trail), "--yellow", str(yellow), "--red", str(red),
+        "overlaps",
+        "--cabinet",
+        str(cabinet),
+        "--parents",
+        parents.hex(),
+        "--trail",
+        str(trail),
+        "--yellow",
+        str(yellow),
+        "--red",
+        str(red),
     ]
 
 
@@ -87,7 +110,11 @@ def made_words(draw: Random) -> list[str]:
 
 def odd_words(draw: Random) -> list[str]:
     """Draws words that are mostly no command."""
-    words = draw.choice([["run"], ["check"], ["run", "--workers", "0"], made_words(draw), overlap_words(draw), ["band"], []])
+    words = draw.choice(
+        [["run"], ["check"], ["run", "--workers", "0"], made_words(draw), overlap_words(draw), ["band"], []]
+    )
     at = draw.randrange(len(words) + 1)
     put = draw.choice(["", "run", "check", "--seed", "01", "+1", "9", "65", "-1", "--workers", "0x1", "1 "])
-    return draw.choice([words[:at] + words[at + 1 :], words[:at] + [put] + words[at + 1 :], words[:at] + [put] + words[at:]])
+    return draw.choice(
+        [words[:at] + words[at + 1 :], words[:at] + [put] + words[at + 1 :], words[:at] + [put] + words[at:]]
+    )

@@ -51,7 +51,11 @@ class Street:
             return place | {"cancel": self.draw.choice([1, 2, 3, 10])}
         it = request(self.draw, self.at(place))
         return place | {
-            "number": it.number, "class": it.klass, "level": it.level, "phase": it.phase, "arrival": it.arrival,
+            "number": it.number,
+            "class": it.klass,
+            "level": it.level,
+            "phase": it.phase,
+            "arrival": it.arrival,
             "departure": min(it.departure, 65_535),
         }
 
@@ -59,14 +63,21 @@ class Street:
         """Draws a frame."""
         place, draw = self.place(), self.draw
         octets = frame(draw, self.at(place), self.community, draw.choice([1, 2, 3, 9]))
-        return place | {"stream": draw.choice(STREAMS), "hex": octets.hex() if draw.random() < 0.9 else octets.hex().upper()}
+        return place | {
+            "stream": draw.choice(STREAMS),
+            "hex": octets.hex() if draw.random() < 0.9 else octets.hex().upper(),
+        }
 
     def fault(self) -> dict[str, Any]:
         """Draws a fault of the line."""
         draw = self.draw
         told = {"stream": draw.choice(STREAMS), "way": draw.choice(["down", "up"])}
         told["kind"] = draw.choice(["lose", "lose", "repeat", "late", "flip", "cut"])
-        more = {"index": draw.choice([0, 0, 1, 2]), "by": draw.choice([0, 1, 2, 5, 20, 40, 60]), "octet": draw.choice([1, 2, 64, 255])}
+        more = {
+            "index": draw.choice([0, 0, 1, 2]),
+            "by": draw.choice([0, 1, 2, 5, 20, 40, 60]),
+            "octet": draw.choice([1, 2, 64, 255]),
+        }
         return self.place() | told | {name: value for name, value in more.items() if draw.random() < 0.6}
 
     def some(self, one: Any, most: int) -> list[Any]:
@@ -79,12 +90,20 @@ def master(draw: Random, street: Street, clock: int) -> dict[str, Any]:
     patterns = [n for it in street.cabinets for n in it.patterns] or [1]
     seconds = [0, 86_399, *(max(0, min(86_399, clock // 10 + n)) for n in (0, 1, 5, 20, -3))]
     schedule = [
-        {"second": draw.choice(seconds), "section": draw.choice([1, 1, 2, 8]), "pattern": draw.choice([0, 254, 255, 9, *2 * patterns])}
+        {
+            "second": draw.choice(seconds),
+            "section": draw.choice([1, 1, 2, 8]),
+            "pattern": draw.choice([0, 254, 255, 9, *2 * patterns]),
+        }
         for _ in range(draw.choice([0, 1, 2, 4]))
     ]
     told = {
-        "clock": clock, "poll_every": draw.choice([0, 1, 3]), "clock_every": draw.choice([0, 0, 2, 9]),
-        "pattern_every": draw.choice([0, 0, 1, 7]), "retries": draw.choice([1, 2, 3, 10]), "schedule": schedule,
+        "clock": clock,
+        "poll_every": draw.choice([0, 1, 3]),
+        "clock_every": draw.choice([0, 0, 2, 9]),
+        "pattern_every": draw.choice([0, 0, 1, 7]),
+        "retries": draw.choice([1, 2, 3, 10]),
+        "schedule": schedule,
     }
     return {name: value for name, value in told.items() if draw.random() < 0.85}
 
@@ -104,14 +123,22 @@ def scenario(draw: Random, most_ticks: int = 1 << 20) -> dict[str, Any]:
     cabinets = [cabinet(draw, version) for _ in range(draw.choice([1, 1, 1, 1, 2, 3]))]
     community = draw.choice(["public", "public", 'q" \\ ~'])
     street = Street(draw, rounds, cabinets, community.encode())
-    told: dict[str, Any] = {"version": version, "rounds": rounds, "ticks": ticks, "cabinets": [it.value for it in cabinets]}
+    told: dict[str, Any] = {
+        "version": version,
+        "rounds": rounds,
+        "ticks": ticks,
+        "cabinets": [it.value for it in cabinets],
+    }
     if community != "public":
         told["community"] = community
     if draw.random() < 0.7:
         told["master"] = master(draw, street, draw.choice([0, 863_950, cabinets[0].value["clock"]]))
     many = max(2, min(60, rounds * ticks // 8))
     lists = {
-        "inputs": street.some(street.input, many), "loads": street.some(street.load, 3), "priority": street.some(street.priority, 8),
-        "frames": street.some(street.frame, 10), "faults": street.some(street.fault, 12),
+        "inputs": street.some(street.input, many),
+        "loads": street.some(street.load, 3),
+        "priority": street.some(street.priority, 8),
+        "frames": street.some(street.frame, 10),
+        "faults": street.some(street.fault, 12),
     }
     return told | {name: items for name, items in lists.items() if items}

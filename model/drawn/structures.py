@@ -59,14 +59,21 @@ def sequence_cells(draw: Random, made: Structure, number: int) -> list[CellList]
     """Returns the cells of a sequence: the sides in one order in both rings, the phases of each in any."""
     order = draw.sample(made.sides, len(made.sides))
     return [
-        ["sequence", number, ring, octets(p for side in order for p in draw.sample(side[ring - 1], len(side[ring - 1])))]
+        [
+            "sequence",
+            number,
+            ring,
+            octets(p for side in order for p in draw.sample(side[ring - 1], len(side[ring - 1]))),
+        ]
         for ring in (1, 2)
     ]
 
 
 def options(draw: Random) -> int:
     """Draws the options of a phase in use."""
-    return 1 + sum(bit for bit, often in ((32, 0.3), (64, 0.25), (128, 0.12), (256, 0.15), (1024, 0.5)) if draw.random() < often)
+    return 1 + sum(
+        bit for bit, often in ((32, 0.3), (64, 0.25), (128, 0.12), (256, 0.15), (1024, 0.5)) if draw.random() < often
+    )
 
 
 def start_ups(draw: Random, made: Structure) -> dict[int, int]:
@@ -92,9 +99,15 @@ def time_cells(draw: Random, made: Structure) -> list[CellList]:
         walk = near([0, 0, 1, 2, 3, 4, 6], [20, 255])
         clear = near([0, 1, 2, 5], [20, 255]) if walk else 0
         columns = {
-            2: walk, 3: clear, 4: near([0, 1, 2, 3, 5], [255]), 5: near([0, 1, 7, 15, 30], [255]),
-            6: near([0, 2, 4, 8, 12], [255]), 8: near([30, 30, 31, 35, 42], [29, 255]),
-            9: near([0, 0, 1, 5, 12], [255]), 10: near([0, 1, 10, 20, 30], [60, 255]), 20: starts[p],
+            2: walk,
+            3: clear,
+            4: near([0, 1, 2, 3, 5], [255]),
+            5: near([0, 1, 7, 15, 30], [255]),
+            6: near([0, 2, 4, 8, 12], [255]),
+            8: near([30, 30, 31, 35, 42], [29, 255]),
+            9: near([0, 0, 1, 5, 12], [255]),
+            10: near([0, 1, 10, 20, 30], [60, 255]),
+            20: starts[p],
             21: options(draw),
         }
         cells += [["phase", p, column, value] for column, value in columns.items()]

@@ -1,4 +1,5 @@
-"""No street ever shows two conflicting phases, and a phase that isn't in use stays dark. Colours and signals follow in order."""
+"""No street ever shows two conflicting phases, and a phase that isn't in use stays dark. Colours and signals follow
+in order."""
 
 from collections.abc import Iterator
 
@@ -11,7 +12,8 @@ FOLLOWS = {"R": "G", "G": "Y", "Y": "CR", "C": "R"}
 
 
 def conflicts(street: Street) -> Iterator[str]:
-    """Tells of frames in which two incompatible phases are on, or walk, together, and of phases that aren't in use and aren't dark."""
+    """Tells of frames in which two incompatible phases are on, or walk, together, and of phases that aren't in use
+    and aren't dark."""
     for seen in street.seen:
         tables = street.tables(seen)
         used, beside = enabled(tables), concurrent(tables)
@@ -26,7 +28,8 @@ def conflicts(street: Street) -> Iterator[str]:
 
 
 def wrong_colours(street: Street) -> Iterator[str]:
-    """Tells of colours that follow in another order; red clearance is left out exactly where it has no time as yellow ends."""
+    """Tells of colours that follow in another order; red clearance is left out exactly where it has no time as
+    yellow ends."""
     for it in intervals(street, of_signals=False):
         if it.end is None:
             continue

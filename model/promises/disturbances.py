@@ -1,5 +1,6 @@
-"""When a cabinet is disturbed: the ticks at which another pattern comes into command, tables come, the clock is set to another time or
-passes midnight where the cycle doesn't divide the day, or the mode is start-up, flash, the way to it, or a preempt's.
+"""When a cabinet is disturbed: the ticks at which another pattern comes into command, tables come, the clock is set to
+another time or passes midnight where the cycle doesn't divide the day, or the mode is start-up, flash, the way to it,
+or a preempt's.
 
 docs/DEFINITIONS.md, "What coordination promises, left undisturbed".
 """
@@ -60,7 +61,10 @@ def go_on(street: Street, watch: Watch, number: int, told: list, shown: Seen, be
     watch.clock = (watch.clock + rise(street, number)) % DAY
     cycle = pattern(tables, watch.command).cycle if is_defined(tables, watch.command) else 1
     is_disturbed = (
-        watch.command != command or shown.version != before.version or is_other_time or (passed and DAY % cycle != 0)
+        watch.command != command
+        or shown.version != before.version
+        or is_other_time
+        or (passed and DAY % cycle != 0)
         or shown.mode.kind in DISTURBING
     )
     return Tick(number, is_disturbed, watch.command, shown)

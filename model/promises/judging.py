@@ -11,7 +11,11 @@ from model.promises.zeros import zeros
 from model.shapes import Refused
 
 PROMISES: dict[str, Callable[[Street], Iterator[str]]] = {
-    "apart": apart, "times": times, "whole": whole, "zeros": zeros, "offset": offset,
+    "apart": apart,
+    "times": times,
+    "whole": whole,
+    "zeros": zeros,
+    "offset": offset,
 }
 
 
@@ -19,7 +23,12 @@ def broken_promises(text: bytes) -> list[str]:
     """Returns a line for each place at which a trace breaks a promise."""
     try:
         _, streets = streets_of(text)
-        told = [(name, street.number, it) for street in streets for name, promise in PROMISES.items() for it in promise(street)]
+        told = [
+            (name, street.number, it)
+            for street in streets
+            for name, promise in PROMISES.items()
+            for it in promise(street)
+        ]
     except (Untold, Refused) as fault:
         return [f"no trace: {fault}"]
     return [f"{name}: cabinet {number}, {it}" for name, number, it in told]

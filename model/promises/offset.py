@@ -1,5 +1,6 @@
-"""Left undisturbed, a cabinet comes to a local zero within a bound, and onto its offset within the computed number of cycles more, and
-stays there; with a clock that drifts within twice as many and to within one tick (a clock that gains by the shortway correction alone).
+"""Left undisturbed, a cabinet comes to a local zero within a bound, and onto its offset within the computed number of
+cycles more, and stays there; with a clock that drifts within twice as many and to within one tick (a clock that gains
+by the shortway correction alone).
 
 docs/DEFINITIONS.md, "What coordination promises, left undisturbed".
 """
@@ -15,7 +16,8 @@ from model.words import Kind
 
 
 def pickup_bound(versions: list[Tables]) -> int:
-    """Returns within how many ticks a pattern that is sought is picked up: each time is the greatest over some versions, column by column."""
+    """Returns within how many ticks a pattern that is sought is picked up: each time is the greatest over some
+    versions, column by column."""
     used = {p for tables in versions for p in enabled(tables)}
 
     def greatest(p: int, column: str) -> int:
@@ -43,7 +45,8 @@ def needed(may: Correction, cycle: int, target: int) -> int:
 def zeros_in(street: Street, number: int, first: int, last: int) -> list[Seen]:
     """Returns the frames of a pattern at counter 0 within some ticks: local zeros, and what changes at one."""
     return [
-        it for it in street.seen
+        it
+        for it in street.seen
         if first <= it.tick <= last and it.mode.kind is Kind.COORD and it.mode.number == number and it.counter == 0
     ]
 

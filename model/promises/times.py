@@ -1,5 +1,6 @@
-"""Each clearance lasts exactly its time, by the tables that were in force as it began; a green lasts its least, and a walk with its
-clearance exactly, or no less than what the stage of a preempt leaves of them where it makes way for that."""
+"""Each clearance lasts exactly its time, by the tables that were in force as it began; a green lasts its least, and
+a walk with its clearance exactly, or no less than what the stage of a preempt leaves of them where it makes way for
+that."""
 
 from collections.abc import Iterator
 from dataclasses import dataclass
@@ -18,7 +19,8 @@ class Span:
 
 
 def span(shows: str, row: Row, lesser: Preempt | None) -> Span | None:
-    """Returns how long a colour or a signal may last, by the row of the phase at its first tick; None of red and of no signal."""
+    """Returns how long a colour or a signal may last, by the row of the phase at its first tick; None of red and of
+    no signal."""
     if shows in "YC":
         time = row.yellow if shows == "Y" else row.red_clear
         return Span(time, time)
@@ -39,7 +41,8 @@ def due(street: Street, it: Interval) -> Span | None:
 
 
 def times(street: Street) -> Iterator[str]:
-    """Tells what a street shows against this promise. What still runs as the trace ends must not have outlasted its time."""
+    """Tells what a street shows against this promise. What still runs as the trace ends must not have outlasted its
+    time."""
     for of_signals in (False, True):
         for it in intervals(street, of_signals):
             may = due(street, it)
@@ -48,4 +51,5 @@ def times(street: Street) -> Iterator[str]:
             is_short = it.end is not None and it.lasted < may.least
             if is_short or (may.most is not None and it.lasted > may.most):
                 most = "" if may.most is None else f" to {may.most}"
-                yield f"tick {it.first.tick}: phase {it.phase} shows {it.shows} for {it.lasted} ticks, {may.least}{most} are due"
+                told = f"phase {it.phase} shows {it.shows} for {it.lasted} ticks"
+                yield f"tick {it.first.tick}: {told}, {may.least}{most} are due"

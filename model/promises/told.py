@@ -1,7 +1,7 @@
 """What a trace tells of each cabinet: its frames, the tables of its versions, and what was told to it.
 
-docs/TRACE.md. The tables of a version are the opening ones with the cells of the downloads that the L lines accept; these cells stand in the
-A lines, since an answer without a fault repeats what it answers.
+docs/TRACE.md. The tables of a version are the opening ones with the cells of the downloads that the L lines accept;
+these cells stand in the A lines, since an answer without a fault repeats what it answers.
 """
 
 from collections.abc import Iterator
@@ -13,7 +13,8 @@ from model.messages import Message, Pdu, read
 from model.names import NAMES, Scalar
 from model.preempts import preempt
 from model.rules import Broken
-from model.scenario import CabinetSetup, Scenario, content, read_value
+from model.scenario import CabinetSetup, Scenario
+from model.scenario_read import content, read_value
 from model.tables import Tables
 from model.words import STAGES, Kind, Mode
 
@@ -49,8 +50,8 @@ class Order:
 
 @dataclass(frozen=True)
 class LoadEnd:
-    """An L line behind a tick: the tables in force before it, those of the download, whether the cabinet was in flash; the version that it
-    names, or the rule that it tells."""
+    """An L line behind a tick: the tables in force before it, those of the download, whether the cabinet was in
+    flash; the version that it names, or the rule that it tells."""
 
     tick: int
     in_force: Tables
@@ -75,10 +76,9 @@ class Street:
     parts: list[list[tuple[Cell, Value]]] = field(default_factory=list)
 
     def tables(self, seen: Seen) -> Tables:
-        """Returns the tables of the version that a frame names."""
-        if seen.version >= len(self.versions):
-            raise Untold(f"cabinet {self.number}, tick {seen.tick}: there is no version {seen.version}")
-        return self.versions[seen.version]
+        """Returns the tables of the version that a frame names; those of the last where there is no such version
+        (whole.py tells of it)."""
+        return self.versions[min(seen.version, len(self.versions) - 1)]
 
     def staged(self) -> Tables:
         """Returns the tables as the download under way would make them."""
@@ -108,7 +108,9 @@ def hear(street: Street, message: Message) -> None:
             street.parts.append([(name, bind.value) for name, bind in zip(names[2:], message.binds[2:])])
     else:
         told = ((name, bind.value) for name, bind in zip(names, message.binds))
-        street.orders += [Order(street.ticks, it, value) for it, value in told if it in (Scalar.PATTERN_CONTROL, Scalar.CLOCK)]
+        street.orders += [
+            Order(street.ticks, it, value) for it, value in told if it in (Scalar.PATTERN_CONTROL, Scalar.CLOCK)
+        ]
 
 
 def hear_line(street: Street, words: list[str]) -> None:
@@ -116,7 +118,12 @@ def hear_line(street: Street, words: list[str]) -> None:
     message = None if words[3] == "-" else read(bytes.fromhex(words[3]))
     binds = message.binds if message is not None and message.status == 0 and message.pdu is Pdu.RESPONSE else []
     is_set = bool(binds) and NAMES.get(binds[0].oid) in (
-        Scalar.BEGIN, Scalar.ID, Scalar.PATTERN_CONTROL, Scalar.CLOCK, Scalar.REQUEST, Scalar.CANCEL,
+        Scalar.BEGIN,
+        Scalar.ID,
+        Scalar.PATTERN_CONTROL,
+        Scalar.CLOCK,
+        Scalar.REQUEST,
+        Scalar.CANCEL,
     )
     if is_set:
         hear(street, message)
@@ -191,8 +198,8 @@ def streets_of(text: bytes) -> tuple[Scenario, list[Street]]:
 
 @dataclass(frozen=True)
 class Interval:
-    """A longest stretch of ticks with one colour or signal of a phase; `end` is the frame at which another is shown, None where it still runs
-    as the trace ends, and `after` what is shown then."""
+    """A longest stretch of ticks with one colour or signal of a phase; `end` is the frame at which another is shown,
+    None where it still runs as the trace ends, and `after` what is shown then."""
 
     phase: int
     shows: str

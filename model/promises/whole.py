@@ -1,5 +1,6 @@
-"""All of a download comes into force between two ticks, or nothing of it: the version on each frame is the number of downloads accepted before
-it, and a download is accepted exactly where its tables keep all rules beside those in force."""
+"""All of a download comes into force between two ticks, or nothing of it: the version on each frame is the number of
+downloads accepted before it, and a download is accepted exactly where its tables keep all rules beside those in
+force."""
 
 from collections.abc import Iterator
 

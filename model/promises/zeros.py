@@ -1,4 +1,5 @@
-"""At each local zero both coordinated phases are green; so is each of them wherever the counter is below its force point."""
+"""At each local zero both coordinated phases are green; so is each of them wherever the counter is below its force
+point."""
 
 from collections.abc import Iterator
 
@@ -19,4 +20,5 @@ def zeros(street: Street) -> Iterator[str]:
         laid = plan(tables, number)
         for p in sorted(laid.coordinated):
             if seen.counter < laid.force[p] and seen.colours[p - 1] != "G":
-                yield f"tick {seen.tick}: phase {p} shows {seen.colours[p - 1]} at counter {seen.counter} of pattern {number}"
+                told = f"phase {p} shows {seen.colours[p - 1]}"
+                yield f"tick {seen.tick}: {told} at counter {seen.counter} of pattern {number}"
