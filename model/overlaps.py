@@ -36,20 +36,22 @@ def has_time(told: Overlaps, p: int, tables: list[Tables]) -> bool:
     return told.trail + told.yellow + told.red <= least
 
 
+def has_lasted(shown: list[Colour], ticks: int) -> bool:
+    """Tells whether the last colour has been shown for so many ticks in a row."""
+    return len(shown) >= ticks and all(colour is shown[-1] for colour in shown[len(shown) - ticks :])
+
+
 def shown_after(shown: list[Colour], green: list[bool], told: Overlaps) -> Colour:
-    """Returns what the overlap shows at the tick behind those that are shown; `green` are the ticks at which a
-    parent was Green."""
+    """Returns what the overlap shows at the tick behind those that are shown; `green` tells of each tick, this one
+    included, whether a parent was Green."""
     before = shown[-1]
-    lasted = next((n for n, colour in enumerate(reversed(shown)) if colour is not before), len(shown))
     if before is Colour.RED:
         return Colour.GREEN if green[-1] else Colour.RED
     if before is Colour.GREEN:
         return Colour.GREEN if any(green[-1 - told.trail :]) else Colour.YELLOW
-    if before is Colour.YELLOW:
-        if lasted < told.yellow:
-            return Colour.YELLOW
+    if before is Colour.YELLOW and has_lasted(shown, told.yellow):
         return Colour.CLEAR if told.red else Colour.RED
-    return Colour.CLEAR if lasted < told.red else Colour.RED
+    return Colour.RED if before is Colour.CLEAR and has_lasted(shown, told.red) else before
 
 
 def checked(data: bytes, told: Overlaps) -> list[Moment]:
