@@ -8,6 +8,7 @@ from dataclasses import dataclass
 from ..shared.tables import ALL, LISTS, Tables, standard
 from .cells import put, unset, value
 from .fields import ENABLED, Wrong, with_bits
+from .layout import sides_by_phase
 
 TIMES = (2, 3, 4, 5, 6, 8, 9, 10, 20, 21)
 Side = tuple[tuple[int, ...], tuple[int, ...]]
@@ -127,9 +128,9 @@ def of_tables(tables: Tables) -> Drawing | None:
     rings = [value(tables, ("sequence", 1, ring)) for ring in (1, 2)]
     if not enabled or sorted((*rings[0], *rings[1])) != sorted(enabled):
         return None
-    sides, seen = [], []
+    sides, seen, side_of = [], [], sides_by_phase(tables)
     for phase in (*rings[0], *rings[1]):
-        side = frozenset(tables.side(phase))
+        side = side_of[phase]
         if side not in seen:
             if any(side & other for other in seen):
                 return None
