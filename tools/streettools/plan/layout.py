@@ -18,8 +18,9 @@ def least_green(tables: Tables, phase: int) -> int:
 
 
 def crossing_time(tables: Tables, phase: int) -> int:
-    """Returns walk and pedestrian clearance together, in ticks."""
-    return 10 * (value(tables, ("phase", phase, 2)) + value(tables, ("phase", phase, 3)))
+    """Returns walk and pedestrian clearance together, in ticks; 0 where there is no walk."""
+    walk, clear = (value(tables, ("phase", phase, column)) for column in (2, 3))
+    return 10 * (walk + clear) if walk else 0
 
 
 def least_service(tables: Tables, phase: int) -> int:

@@ -1,8 +1,10 @@
 """The sentences of rules 14 to 19, which ask of patterns: splits and offsets, with what each phase needs and which has time to spare."""
 
-from . import rules
+from ..shared.tables import Tables
+from . import pattern_rules, rules
 from .cells import value
 from .layout import Layout, least_service
+from .names import Intersection
 from .sentences import Sentences, clearance_words, many, seconds, service_words
 
 
@@ -34,7 +36,7 @@ class PatternSentences(Sentences):
             wrong.append(f"it runs split {split}, and splits are 1 to 32")
         if not 1 <= sequence <= 16:
             wrong.append(f"it runs sequence {sequence}, and sequences are 1 to 16")
-        elif not rules.has_sequence(self.tables, row):
+        elif not pattern_rules.has_sequence(self.tables, row):
             wrong.append(f"it runs sequence {sequence}, which is empty in both rings")
         return f"pattern {row} has a cycle of {value(self.tables, ('pattern', row, 2))} s, but " + "; ".join(wrong)
 
@@ -83,7 +85,7 @@ class PatternSentences(Sentences):
     def rule_18(self, row: int) -> str:
         """A phase that isn't coordinated or omitted has time for its least service, with room for the clearances."""
         laid = self.laid(row)
-        return "; ".join(self.short(laid, phase) for phase in laid.waited() if laid.room(phase) < 0)
+        return "\n".join(self.short(laid, phase) for phase in laid.waited() if laid.room(phase) < 0)
 
     def short(self, laid: Layout, phase: int) -> str:
         """Returns what a phase with too short a split needs, and where it may come from."""
@@ -136,6 +138,6 @@ class PatternSentences(Sentences):
         return f"pattern {row} coordinates {self.phase(one)} and {self.phase(other)}: from local zero on {green}, but {why}; {mend}"
 
 
-def sentence(tables, known, broken: rules.Broken, before=None) -> str:
-    """Returns the sentence of a broken rule."""
-    return PatternSentences(tables, known, before).of(broken)
+def sentences(tables: Tables, known: Intersection, broken: rules.Broken, before: Tables | None = None) -> list[str]:
+    """Returns the sentences of a broken rule: of rule 18 one for each phase, of any other one."""
+    return PatternSentences(tables, known, before).of(broken).split("\n")

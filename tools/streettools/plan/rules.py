@@ -1,15 +1,11 @@
 """The 22 rules of tables (docs/SCENARIO.md): all that are broken, by rule and row. The first of them is the one that the program tells."""
 
-from collections.abc import Callable, Iterator
+from collections.abc import Callable
 from dataclasses import dataclass
 
-from ..shared.tables import ALL, Tables
-from .cells import PREEMPTS, RINGS, SEQUENCES, value
-from .layout import Layout, concurrent, least_service, sides, sides_by_phase
-
-LEAST_YELLOW = 30
-STARTS = (3, 4)
-SETS = {12: "track", 13: "dwell", 15: "exit"}
+from ..shared.tables import Tables
+from . import pattern_rules as pattern
+from . import street_rules as street
 
 
 @dataclass(frozen=True, order=True)
@@ -20,222 +16,9 @@ class Broken:
     row: int
 
 
-def start_up(tables: Tables) -> list[int]:
-    """Returns the phases that turn green as start-up ends."""
-    return [phase for phase in tables.enabled() if value(tables, ("phase", phase, 20)) in STARTS]
-
-
-def of_ring(tables: Tables, ring: int) -> list[int]:
-    """Returns the enabled phases of a ring."""
-    return [phase for phase in tables.enabled() if value(tables, ("phase", phase, 22)) == ring]
-
-
-def used_sequences(tables: Tables) -> list[int]:
-    """Returns sequence 1 and each other that isn't empty in both rings."""
-    return [it for it in SEQUENCES if it == 1 or any(value(tables, ("sequence", it, ring)) for ring in RINGS)]
-
-
-def phase_rule(tables: Tables, keeps: Callable[[int], bool]) -> Iterator[int]:
-    """Yields the enabled phases that don't keep a rule."""
-    return (phase for phase in tables.enabled() if not keeps(phase))
-
-
-def rule_1(tables: Tables) -> Iterator[int]:
-    """The ring is 1 or 2."""
-    return phase_rule(tables, lambda it: value(tables, ("phase", it, 22)) in RINGS)
-
-
-def rule_2(tables: Tables) -> Iterator[int]:
-    """The list holds phases, and not its own."""
-    return phase_rule(tables, lambda it: all(other in ALL and other != it for other in value(tables, ("phase", it, 23))))
-
-
-def rule_3(tables: Tables) -> Iterator[int]:
-    """Each phase of the list has this one in turn."""
-    return phase_rule(tables, lambda it: all(it in value(tables, ("phase", other, 23)) for other in concurrent(tables, it)))
-
-
-def rule_4(tables: Tables) -> Iterator[int]:
-    """The list names phases of the other ring alone."""
-    ring = {it: value(tables, ("phase", it, 22)) for it in ALL}
-    return phase_rule(tables, lambda it: all(ring[other] != ring[it] for other in concurrent(tables, it)))
-
-
-def rule_5(tables: Tables) -> Iterator[int]:
-    """Some phase of the list is enabled."""
-    return phase_rule(tables, lambda it: bool(concurrent(tables, it)))
-
-
-def partner_in_ring(tables: Tables, phase: int) -> int | None:
-    """Returns a phase of the same ring that shares a concurrent phase with this one, but has others besides."""
-    mine = concurrent(tables, phase)
-    for other in of_ring(tables, value(tables, ("phase", phase, 22))):
-        theirs = concurrent(tables, other)
-        if other != phase and mine & theirs and mine != theirs:
-            return other
-    return None
-
-
-def rule_6(tables: Tables) -> Iterator[int]:
-    """Phases of a ring with a concurrent phase in common have the same ones."""
-    return phase_rule(tables, lambda it: partner_in_ring(tables, it) is None)
-
-
-def rule_7(tables: Tables) -> Iterator[int]:
-    """There are two sides or more."""
-    if len(sides(tables)) < 2:
-        yield 0
-
-
-def rule_8(tables: Tables) -> Iterator[int]:
-    """Each ring of a sequence has each of its enabled phases once, and nothing else."""
-    for number in used_sequences(tables):
-        if any(sorted(value(tables, ("sequence", number, ring))) != of_ring(tables, ring) for ring in RINGS):
-            yield number
-
-
-def side_turns(tables: Tables, number: int, ring: int) -> list[frozenset[int]]:
-    """Returns the sides in the order in which a ring of a sequence comes to them, each as often as it does."""
-    side, turns = sides_by_phase(tables), []
-    for phase in value(tables, ("sequence", number, ring)):
-        if not turns or turns[-1] != side[phase]:
-            turns.append(side[phase])
-    return turns
-
-
-def rule_9(tables: Tables) -> Iterator[int]:
-    """The phases of a side stand together, and the sides in one order in both rings."""
-    for number in used_sequences(tables):
-        turns = [side_turns(tables, number, ring) for ring in RINGS]
-        if turns[0] != turns[1] or len(set(turns[0])) < len(turns[0]):
-            yield number
-
-
-def rule_10(tables: Tables) -> Iterator[int]:
-    """The yellow change is 3.0 s or more."""
-    return phase_rule(tables, lambda it: value(tables, ("phase", it, 8)) >= LEAST_YELLOW)
-
-
-def sooner(tables: Tables, phase: int) -> int | None:
-    """Returns another phase that may be over sooner than the red revert of this one."""
-    revert = value(tables, ("phase", phase, 10))
-    for other in tables.enabled():
-        if other != phase and revert > least_service(tables, other) + tables.clearance(other):
-            return other
-    return None
-
-
-def rule_11(tables: Tables) -> Iterator[int]:
-    """The red revert is no longer than the least service and clearance of any other phase together."""
-    return phase_rule(tables, lambda it: sooner(tables, it) is None)
-
-
-def rule_12(tables: Tables) -> Iterator[int]:
-    """Phases that turn green as start-up ends are concurrent."""
-    starting = start_up(tables)
-    for phase in starting:
-        if any(other != phase and other not in value(tables, ("phase", phase, 23)) for other in starting):
-            yield phase
-
-
-def rule_13(tables: Tables) -> Iterator[int]:
-    """The correction mode is 2, 3 or 4, and its limits are 1 or more."""
-    if value(tables, ("unit", 1)) not in (2, 3, 4) or any(value(tables, ("unit", it)) < 1 for it in (2, 3, 4)):
-        yield 0
-
-
-def has_sequence(tables: Tables, pattern: int) -> bool:
-    """Tells whether the sequence of a pattern isn't empty in both rings."""
-    number = value(tables, ("pattern", pattern, 5))
-    return number in SEQUENCES and any(value(tables, ("sequence", number, ring)) for ring in RINGS)
-
-
-def rule_14(tables: Tables) -> Iterator[int]:
-    """The split of a pattern is 1 to 32, and its sequence has phases."""
-    return (it for it in tables.patterns() if not 1 <= value(tables, ("pattern", it, 4)) <= 32 or not has_sequence(tables, it))
-
-
-def rule_15(tables: Tables) -> Iterator[int]:
-    """The offset is less than the cycle."""
-    return (it for it in tables.patterns() if value(tables, ("pattern", it, 3)) >= value(tables, ("pattern", it, 2)))
-
-
-def has_pair(tables: Tables, pattern: int) -> bool:
-    """Tells whether a split coordinates one phase of each ring, both concurrent and not omitted."""
-    laid = Layout(tables, pattern)
-    rings = [value(tables, ("phase", it, 22)) for it in laid.coordinated]
-    if sorted(rings) != [1, 2] or any(laid.is_omitted(it) for it in laid.coordinated):
-        return False
-    one, other = laid.coordinated
-    return other in value(tables, ("phase", one, 23))
-
-
-def rule_16(tables: Tables) -> Iterator[int]:
-    """The split has one coordinated phase in each ring, concurrent, neither of them omitted."""
-    return (it for it in split_patterns(tables) if not has_pair(tables, it))
-
-
-def split_patterns(tables: Tables) -> list[int]:
-    """Returns the defined patterns that keep rule 14."""
-    wrong = set(rule_14(tables))
-    return [it for it in tables.patterns() if it not in wrong]
-
-
-def rule_17(tables: Tables) -> Iterator[int]:
-    """The times of each ring come to the cycle, and on each side those of both rings to the same."""
-    for number in split_patterns(tables):
-        laid = Layout(tables, number)
-        rings = [sum(map(laid.time, order)) for order in laid.orders]
-        equal = all(sum(map(laid.time, laid.of_side(it, 1))) == sum(map(laid.time, laid.of_side(it, 2))) for it in laid.sides)
-        if rings != [laid.cycle, laid.cycle] or not equal:
-            yield number
-
-
-def rule_18(tables: Tables) -> Iterator[int]:
-    """A phase that isn't coordinated or omitted has time for its least service, with room for the clearances."""
-    for number in split_patterns(tables):
-        laid = Layout(tables, number)
-        if any(laid.room(phase) < 0 for phase in laid.waited()):
-            yield number
-
-
-def rule_19(tables: Tables) -> Iterator[int]:
-    """The coordinated phases stay green long enough together."""
-    for number in split_patterns(tables):
-        if has_pair(tables, number) and Layout(tables, number).window_room() < 0:
-            yield number
-
-
-def goes_together(tables: Tables, phases: tuple) -> bool:
-    """Tells whether phases are enabled, none twice, all concurrent."""
-    if any(it not in tables.enabled() for it in phases) or len(set(phases)) < len(phases):
-        return False
-    return all(one == other or other in value(tables, ("phase", one, 23)) for one in phases for other in phases)
-
-
-def rule_20(tables: Tables) -> Iterator[int]:
-    """Track, dwell and exit of a preempt hold enabled phases, none twice, all concurrent."""
-    for number in PREEMPTS:
-        if not all(goes_together(tables, value(tables, ("preempt", number, column))) for column in SETS):
-            yield number
-
-
-def rule_22(tables: Tables) -> Iterator[int]:
-    """Where walk is 0, so is the pedestrian clearance."""
-    return phase_rule(tables, lambda it: value(tables, ("phase", it, 2)) > 0 or value(tables, ("phase", it, 3)) == 0)
-
-
-def rule_21(new: Tables, old: Tables) -> Iterator[int]:
-    """A download leaves the enabled phases, their rings and their lists as they are."""
-    for phase in ALL:
-        on = [phase in tables.enabled() for tables in (new, old)]
-        ring = [value(tables, ("phase", phase, 22)) for tables in (new, old)]
-        if on[0] != on[1] or (on[0] and (ring[0] != ring[1] or concurrent(new, phase) != concurrent(old, phase))):
-            yield phase
-
-
-LISTS = (rule_1, rule_2, rule_3, rule_4, rule_5, rule_6)
-STREET = (rule_10, rule_11, rule_12, rule_13, rule_20, rule_22)
+LISTS = (street.rule_1, street.rule_2, street.rule_3, street.rule_4, street.rule_5, street.rule_6)
+OTHERS = (street.rule_10, street.rule_11, street.rule_12, street.rule_13, street.rule_20, street.rule_22, pattern.rule_14, pattern.rule_15)
+LAID = (pattern.rule_16, pattern.rule_17, pattern.rule_18, pattern.rule_19)
 
 
 def number_of(rule: Callable) -> int:
@@ -250,16 +33,10 @@ def broken(tables: Tables, before: Tables | None = None) -> list[Broken]:
     def rows(*rules: Callable) -> list[Broken]:
         return [Broken(number_of(rule), row) for rule in rules for row in rule(tables)]
 
-    found = rows(*STREET)
-    lists = rows(*LISTS)
-    found += lists
-    orders = rows(rule_8) + (rows(rule_7) if not lists else [])
-    if not lists and not orders:
-        orders = rows(rule_9)
-    found += orders
-    found += rows(rule_14, rule_15)
-    if not lists and not orders:
-        found += rows(rule_16, rule_17, rule_18, rule_19)
+    found, rings = rows(*OTHERS), rows(*LISTS)
+    rings += rows(street.rule_8) + ([] if rings else rows(street.rule_7))
+    rings += [] if rings else rows(street.rule_9)
+    found += rings or rows(*LAID)
     if before is not None:
-        found += [Broken(21, row) for row in rule_21(tables, before)]
+        found += [Broken(21, row) for row in street.rule_21(tables, before)]
     return sorted(found)

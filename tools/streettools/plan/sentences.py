@@ -1,7 +1,7 @@
 """A broken rule as a sentence with its numbers, and what would mend it: rings, lists, sequences, times, preempts, downloads."""
 
 from ..shared.tables import ALL, Tables
-from . import rules
+from . import rules, street_rules
 from .cells import RINGS, value
 from .fields import STARTUPS, UNIT_FIELDS, Unit
 from .layout import concurrent, least_green, least_service, sides_by_phase
@@ -94,7 +94,7 @@ class Sentences:
 
     def rule_6(self, row: int) -> str:
         """Phases of a ring with a concurrent phase in common have the same ones."""
-        other = rules.partner_in_ring(self.tables, row)
+        other = street_rules.partner_in_ring(self.tables, row)
         mine, theirs = (sorted(concurrent(self.tables, it)) for it in (row, other))
         return (
             f"{self.phase(row)} may be on beside {many(mine)}, and {self.phase(other)} of the same ring beside {many(theirs)}; they share a phase, "
@@ -110,7 +110,7 @@ class Sentences:
     def rule_8(self, row: int) -> str:
         """Each ring of a sequence has each of its enabled phases once, and nothing else."""
         for ring in RINGS:
-            order, due = value(self.tables, ("sequence", row, ring)), rules.of_ring(self.tables, ring)
+            order, due = value(self.tables, ("sequence", row, ring)), street_rules.of_ring(self.tables, ring)
             if sorted(order) == due:
                 continue
             missing = [it for it in due if it not in order]
@@ -140,7 +140,7 @@ class Sentences:
                         f"sequence {row} parts phases {phase} and {behind[0]} of ring {ring} by {many(between)}, which is on another side of the "
                         "barrier; the phases of a side come one after another"
                     )
-        turns = [[many(sorted(it)) for it in rules.side_turns(self.tables, row, ring)] for ring in RINGS]
+        turns = [[many(sorted(it)) for it in street_rules.side_turns(self.tables, row, ring)] for ring in RINGS]
         return (
             f"sequence {row} takes the sides of the barrier as {' | '.join(turns[0])} in ring 1, and as {' | '.join(turns[1])} in ring 2; both "
             "rings cross each barrier together, so the order is the same in both"
@@ -154,7 +154,7 @@ class Sentences:
 
     def rule_11(self, row: int) -> str:
         """The red revert is no longer than any other phase takes at least."""
-        other = rules.sooner(self.tables, row)
+        other = street_rules.sooner(self.tables, row)
         least = least_service(self.tables, other) + self.tables.clearance(other)
         return (
             f"{self.phase(row)} has a red revert of {seconds(value(self.tables, ('phase', row, 10)))}, but {self.phase(other)} may be over after "
@@ -163,7 +163,7 @@ class Sentences:
 
     def rule_12(self, row: int) -> str:
         """Phases that turn green as start-up ends are concurrent."""
-        others = [it for it in rules.start_up(self.tables) if it != row and it not in self.listed(row)]
+        others = [it for it in street_rules.start_up(self.tables) if it != row and it not in self.listed(row)]
         word = STARTUPS[value(self.tables, ("phase", row, 20))]
         return (
             f"{self.phase(row)} starts up {word}, and so {'does' if len(others) == 1 else 'do'} {' and '.join(map(self.phase, others))}, which may "
@@ -184,9 +184,9 @@ class Sentences:
         """Track, dwell and exit of a preempt hold enabled phases, none twice, all concurrent."""
         name = self.known.preempts.get(row, "")
         preempt = f"preempt {row}" + (f" ({name})" if name else "")
-        for column, word in rules.SETS.items():
+        for column, word in street_rules.SETS.items():
             phases = value(self.tables, ("preempt", row, column))
-            if rules.goes_together(self.tables, phases):
+            if street_rules.goes_together(self.tables, phases):
                 continue
             off = [it for it in phases if it not in self.tables.enabled()]
             if off:
