@@ -40,9 +40,9 @@ def load(path: str, named: str | None = None) -> Source:
     source = Source(path)
     content = content_of(path)
     if path.endswith(".xlsx") or content[:4] == b"PK\x03\x04":
-        from . import book  # here, since openpyxl takes a while
+        from . import book_reading  # here, since openpyxl takes a while
 
-        read_sheet(source, lambda: book.read(content))
+        read_sheet(source, lambda: book_reading.read(content))
     elif path.endswith(".json") or (not path.endswith(".toml") and content.lstrip()[:1] == b"{"):
         read_json(source, content, names_of(path, named))
     else:

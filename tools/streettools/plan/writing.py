@@ -1,6 +1,6 @@
 """A scenario, or a field file, as a sheet: what differs from the standard table, by its names, and nothing else."""
 
-from collections.abc import Iterator
+from collections.abc import Collection, Iterator
 
 from ..shared.tables import ALL, Tables
 from . import drawing, fields, given, intersection, names
@@ -76,15 +76,15 @@ def say_options(row: dict, options: int, usual: int) -> None:
             row[name] = now
 
 
-def say_split(row: dict, usual: Tables, tables: Tables, number: int) -> None:
-    """Says a split: the times of all enabled phases where one differs, the coordinated phases, modes that differ."""
+def say_split(row: dict, usual: Tables, tables: Tables, number: int, partners: Collection[int]) -> None:
+    """Says a split: the times of all enabled phases where one differs, the coordinated phases, modes that differ; nothing of partners."""
     enabled = set(tables.enabled())
     times = {phase: value(tables, ("split", number, phase, 3)) for phase in ALL}
     before = {phase: value(usual, ("split", number, phase, 3)) for phase in ALL}
-    said = {str(phase): time for phase, time in times.items() if time != before[phase] or phase in enabled}
+    said = {str(phase): time for phase, time in times.items() if (time != before[phase] or phase in enabled) and phase not in partners}
     if said:
         row["splits"] = said
-    row["coordinated"] = [phase for phase in ALL if value(tables, ("split", number, phase, 5))]
+    row["coordinated"] = [phase for phase in ALL if value(tables, ("split", number, phase, 5)) and phase not in partners]
     modes = {
         str(phase): fields.SPLIT_MODES.show(value(tables, ("split", number, phase, 4)))
         for phase in ALL
@@ -94,7 +94,7 @@ def say_split(row: dict, usual: Tables, tables: Tables, number: int) -> None:
         row["modes"] = modes
 
 
-def say_patterns(sheet: dict, usual: Tables, tables: Tables) -> None:
+def say_patterns(sheet: dict, usual: Tables, tables: Tables, partners: Collection[int]) -> None:
     """Says the patterns and splits that differ. A split of one defined pattern alone stands with it."""
     cells = differing(usual, tables)
     changed = {cell[1] for cell in cells if cell[0] == "split"}
@@ -107,10 +107,10 @@ def say_patterns(sheet: dict, usual: Tables, tables: Tables) -> None:
             row = say(sheet, "pattern", str(number))
             say_pattern(row, usual, tables, number)
             if own:
-                say_split(row, usual, tables, split)
+                say_split(row, usual, tables, split, partners)
                 changed.discard(split)
     for number in sorted(changed):
-        say_split(say(sheet, "split", str(number)), usual, tables, number)
+        say_split(say(sheet, "split", str(number)), usual, tables, number, partners)
 
 
 def say_pattern(row: dict, usual: Tables, tables: Tables, number: int) -> None:
@@ -143,12 +143,14 @@ def said(base: str, tables: Tables, known: names.Intersection, drawn: drawing.Dr
     if usual is None:
         return None
     for cell in differing(usual.tables, tables):
+        if cell[0] == "phase" and cell[1] in usual.partners:
+            continue
         if cell[0] == "phase" and cell[2] == 21:
             say_options(say(sheet, "phase", str(cell[1])), value(tables, cell), value(usual.tables, cell))
         else:
             say_cell(sheet, tables, cell)
     say_sequences(sheet, usual.tables, tables)
-    say_patterns(sheet, usual.tables, tables)
+    say_patterns(sheet, usual.tables, tables, usual.partners)
     found = read_back(sheet)
     return sheet if found is not None and not differing(found.tables, tables) else None
 
