@@ -37,6 +37,14 @@ def read(content: bytes) -> dict:
     return sheet
 
 
+def from_json(value: object, name: str) -> object:
+    """Returns what a page's cell has as JSON."""
+    try:
+        return json.loads(str(value))
+    except ValueError:
+        raise Unreadable([Fault(name, f"{str(value)[:40]!r} is no JSON")]) from None
+
+
 def read_value(name: str, value: object) -> object:
     """Returns what a page's cell says."""
     last = name.split()[0]
@@ -119,7 +127,7 @@ def read_street(rows: list[list], sheet: dict) -> None:
         elif name == "schedule" and not values:
             block, header = sheet.setdefault("schedule", []), True
         elif name == "respond" and values:
-            sheet["respond"] = json.loads(str(values[0]))
+            sheet["respond"] = from_json(values[0], "respond")
         elif header:
             header = False
         elif isinstance(block, list):
@@ -136,6 +144,6 @@ def read_list(rows: list[list]) -> Iterator[dict]:
     for row in rows[1:]:
         item = {name: it for name, it in zip(names, row) if it is not None}
         if "cells" in item:
-            item["cells"] = json.loads(str(item["cells"]))
+            item["cells"] = from_json(item["cells"], "cells")
         if item:
             yield item

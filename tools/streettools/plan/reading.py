@@ -1,5 +1,6 @@
 """A sheet, as the tables of TOML or of a workbook, as a scenario with its names; or as a field file, where it has detectors."""
 
+import json
 from collections.abc import Callable
 from dataclasses import dataclass, field
 
@@ -119,18 +120,26 @@ def read_names(top: Given) -> names.Names:
     )  # fmt: skip
 
 
+def plain(said: object) -> object:
+    """Returns a value that JSON can have."""
+    try:
+        json.dumps(said, allow_nan=False)
+    except (TypeError, ValueError):
+        raise Wrong("numbers, texts, true and false, lists and tables alone may stand here") from None
+    return said
+
+
 def listed(said: object) -> list:
-    """Returns a list."""
+    """Returns a list that JSON can have."""
     if not isinstance(said, list):
         raise Wrong("a list is wanted here")
-    return said
+    return plain(said)
 
 
 def respond_of(top: Given) -> dict | None:
     """Returns by what rule patterns follow the traffic, as a field file has it."""
-    it = top.below("respond")
-    it.allow(("period", "sections"))
-    return dict(it.table) if "respond" in top.table else None
+    top.below("respond").allow(("period", "sections"))
+    return top.take("respond", plain)
 
 
 def read_events(top: Given, scenario: dict) -> list | None:

@@ -1,12 +1,12 @@
 """The text of `snmpwalk -On` of a controller after NTCIP 1202: its objects, and the cabinet that they are."""
 
 import re
-from collections.abc import Iterator
+from collections.abc import Iterable, Iterator
 from dataclasses import dataclass, field
 
 from ..shared.tables import Tables
 from . import names
-from .cells import Lists, cells_between, kinds, put
+from .cells import Lists, cells_between, kinds, put, unset
 from .given import DAY_TICKS, Fault, Unreadable
 from .reading import USUAL_RUN, Street
 
@@ -122,6 +122,13 @@ class Walked:
     placed: int = 0
     without: dict[str, list[str]] = field(default_factory=dict)
 
+    def clear(self, names: Iterable[Name]) -> None:
+        """Empties the tables of which a controller has anything, and the patterns: what it doesn't tell isn't that of the standard table."""
+        told = {cell[0] for cell in map(cell_of, names) if cell is not None} | {"pattern"}
+        for cell in kinds():
+            if cell[0] in told and cell[0] != "unit":
+                put(self.tables, cell, unset(cell))
+
     def leave(self, name: Name, why: str = "") -> None:
         """Keeps an object that has no place."""
         rest = name[len(ASC) :] if name[: len(ASC)] == ASC else None
@@ -190,6 +197,7 @@ def street_of(walks: list[dict[Name, int | bytes]], called: list[str]) -> Street
     street = Street({**USUAL_RUN, "cabinets": []}, names.Names())
     for number, objects in enumerate(walks, 1):
         walked = Walked()
+        walked.clear(objects)
         for name, value in objects.items():
             walked.take(name, value)
         if not walked.placed:
