@@ -19,7 +19,7 @@ from .given import Unreadable
 from .reading import Street, street_of
 from .sources import Source
 
-BOOK = ".xlsx"
+BOOK, PICTURES = ".xlsx", (".svg", ".png", ".pdf")
 PATTERN_RULES = (17, 18, 19)
 
 
@@ -125,6 +125,23 @@ def put_fixed(path: str, street: Street) -> None:
         write_scenario(path, street.field_file() if street.is_field() else street.scenario)
     else:
         write_sheet(path, writing.sheet_of(street))
+
+
+def draw(words: argparse.Namespace) -> int:
+    """Draws a pattern of an intersection."""
+    from . import picture  # here, since matplotlib takes a while
+
+    source = sources.load(words.file, words.names)
+    if source.errors or source.street is None:
+        raise Refused("\n".join(f"{words.file}: {it}" for it in source.errors))
+    cabinets = source.street.scenario["cabinets"]
+    if words.intersection > len(cabinets):
+        raise Refused(f"{words.file}: there is no intersection {words.intersection}")
+    if pathlib.Path(words.output).suffix not in PICTURES:
+        raise Refused(f"{words.output}: a picture's name ends in " + ", ".join(PICTURES))
+    known, called = source.street.names.intersection(words.intersection), source.street.names.called(words.intersection)
+    picture.write(tables_of(cabinets[words.intersection - 1]), known, called, words.pattern, words.output)
+    return Status.DONE
 
 
 def do_explain(words: argparse.Namespace) -> int:

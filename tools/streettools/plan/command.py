@@ -16,6 +16,7 @@ EPILOG = """examples:
   ./arterial plan check street.toml                        what is wrong with it, in words
   ./arterial plan check --fix street.toml                  and the least change of splits that mends it
   ./arterial run < street.json 2>&1 > trace | ./arterial plan explain - street.json
+  ./arterial plan picture --pattern 2 -o main.svg street.toml    rings, barriers and splits, and what is wrong with them
   ./arterial plan from utdf street.csv > street.toml       from Synchro
   ./arterial plan from walk main-3rd.walk > main-3rd.toml  from the text of snmpwalk -On
   ./arterial plan from live 127.0.0.1:10161                from a controller that answers, as ./cabinet
@@ -57,6 +58,11 @@ def add_conversions(parts) -> None:
     part = add(parts, "sheet", actions.to_sheet, "writes the sheet of a scenario; a workbook where OUTPUT ends in .xlsx")
     add_file(part)
     add_output(part)
+    part = add(parts, "picture", actions.draw, "draws a pattern of an intersection: rings, barriers, splits, what each phase needs, what is wrong")
+    add_file(part)
+    part.add_argument("-o", "--output", metavar="OUTPUT", required=True, help="the picture: .svg, .png or .pdf")
+    part.add_argument("--intersection", type=number(1, 64), default=1, metavar="N", help="which intersection of the file (1)")
+    part.add_argument("--pattern", type=number(0, 48), default=1, metavar="N", help="which pattern (1); 0 is free operation")
     part = add(parts, "loads", actions.do_loads, "writes the downloads that bring cabinets from one plan to another")
     part.add_argument("old", metavar="OLD", help=FILE)
     part.add_argument("new", metavar="NEW", help="the same")

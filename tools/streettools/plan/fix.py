@@ -16,10 +16,9 @@ from .names import Intersection
 from .pattern_rules import has_pair
 from .pattern_sentences import ceiling
 
-MOST = 256
+LONGEST = 255
 """A split, and a cycle, is 0 to 255 s."""
 
-SECONDS = np.arange(MOST)
 NEVER = np.int64(10**6)
 
 
@@ -45,7 +44,7 @@ class NoChange(Exception):
 
 def added(costs: np.ndarray, of_time: np.ndarray) -> np.ndarray:
     """Returns the least cost for each sum of a length and a time, by the costs of both."""
-    return np.array([np.min(costs[: total + 1] + of_time[total::-1]) for total in range(MOST)])
+    return np.array([(costs[: total + 1] + of_time[total::-1]).min() for total in range(len(costs))])
 
 
 def chosen(costs: np.ndarray, of_time: np.ndarray, total: int) -> int:
@@ -54,18 +53,19 @@ def chosen(costs: np.ndarray, of_time: np.ndarray, total: int) -> int:
 
 
 class Ring:
-    """The phases of a ring on a side, in order: what each time of each costs."""
+    """The phases of a ring on a side, in order: what each time of each costs. No time up to `most` is left out."""
 
-    def __init__(self, laid: Layout, phases: list[int], partners: list[int]):
+    def __init__(self, laid: Layout, phases: list[int], partners: list[int], most: int):
         self.laid, self.phases, self.partners = laid, phases, partners
+        self.seconds = np.arange(most + 1)
         self.clearance = laid.side_clearance(phases[0])
         self.at = next((at for at, it in enumerate(phases) if it in laid.coordinated), None)
 
     def cost(self, phase: int, least: int) -> np.ndarray:
         """Returns what each time of a phase costs."""
         weight = 0 if phase in self.partners else 1
-        costs = weight * np.abs(SECONDS - self.laid.time(phase) // 10).astype(np.int64)
-        costs[: min(least, MOST)] = NEVER
+        costs = weight * np.abs(self.seconds - self.laid.time(phase) // 10).astype(np.int64)
+        costs[:least] = NEVER
         return costs
 
     def waited(self, phase: int) -> np.ndarray:
@@ -76,7 +76,7 @@ class Ring:
 
     def behind(self, phases: list[int]) -> list[np.ndarray]:
         """Returns, for each of some last phases of the side and for none, the least cost of it and those behind it by their length."""
-        found = [np.where(SECONDS == 0, 0, NEVER)]
+        found = [np.where(self.seconds == 0, 0, NEVER)]
         for phase in reversed(phases):
             costs = added(found[0], self.waited(phase))
             if not self.laid.is_omitted(phase):
@@ -92,7 +92,7 @@ class Ring:
     @cached_property
     def front(self) -> list[np.ndarray]:
         """The costs of the phases before the coordinated one by their length: of none, of the first, and so on."""
-        found = [np.where(SECONDS == 0, 0, NEVER)]
+        found = [np.where(self.seconds == 0, 0, NEVER)]
         for phase in self.phases[: self.at]:
             found.append(added(found[-1], self.waited(phase)))
         return found
@@ -108,10 +108,9 @@ class Ring:
 
     def by_end(self, zero: int, hold: int) -> np.ndarray:
         """Returns the least cost of all up to the coordinated phase by where it ends, with its start at local zero or before."""
-        costs = np.full(MOST, NEVER)
-        for end in range(min(MOST, zero + self.need(hold)), MOST):
-            start = np.arange(min(zero, end) + 1)
-            costs[end] = np.min(self.front[-1][start] + self.pair_cost[end - start])
+        costs = np.full(len(self.seconds), NEVER)
+        for end in range(zero + self.need(hold), len(costs)):
+            costs[end] = (self.front[-1][: zero + 1] + self.pair_cost[end - zero : end + 1][::-1]).min()
         return costs
 
     def times_behind(self, phases: list[int], tail: list[np.ndarray], total: int) -> dict[int, int]:
@@ -141,10 +140,10 @@ class Ring:
 class Side:
     """A side of the barrier: the least cost for each length, and the times that have it."""
 
-    def __init__(self, laid: Layout, side: frozenset[int], partners: list[int]):
-        self.rings = [Ring(laid, laid.of_side(side, ring), partners) for ring in (1, 2)]
+    def __init__(self, laid: Layout, side: frozenset[int], partners: list[int], most: int):
+        self.rings = [Ring(laid, laid.of_side(side, ring), partners, most) for ring in (1, 2)]
         self.hold = max(laid.window_needs().values()) if self.rings[0].at is not None else 0
-        self.zeros = np.zeros(MOST, dtype=int)
+        self.zeros = np.zeros(most + 1, dtype=int)
         self.costs = self.plain() if self.rings[0].at is None else self.coordinated()
 
     def plain(self) -> np.ndarray:
@@ -153,10 +152,10 @@ class Side:
 
     def coordinated(self) -> np.ndarray:
         """Returns the costs of the coordinated side, and keeps the best local zero for each length."""
-        best = np.full(MOST, NEVER)
-        for zero in range(MOST):
+        best = np.full(len(self.zeros), NEVER)
+        for zero in range(len(best)):
             least = ceiling(self.hold + self.rings[0].clearance) + zero
-            if least >= MOST:
+            if least >= len(best):
                 break
             costs = sum(added(ring.by_end(zero, self.hold), ring.tail[0]) for ring in self.rings)
             costs[:least] = NEVER
@@ -169,22 +168,34 @@ class Side:
         return {p: t for ring in self.rings for p, t in ring.times(length, int(self.zeros[length]), self.hold).items()}
 
 
+def laid_out(laid: Layout, partners: list[int], most: int) -> tuple[list[Side], list[np.ndarray]]:
+    """Returns the sides of a pattern, and the least costs of the first of them, of the first two, and so on, by their length in all."""
+    sides = [Side(laid, it, partners, most) for it in laid.sides]
+    totals = [np.where(np.arange(most + 1) == 0, 0, NEVER)]
+    for side in sides:
+        totals.append(np.minimum(added(totals[-1], side.costs), NEVER))
+    return sides, totals
+
+
+def refuse_shared(laid: Layout) -> None:
+    """Refuses a split that patterns of other cycles have too."""
+    tables = laid.tables
+    users = [it for it in tables.patterns() if value(tables, ("pattern", it, 4)) == laid.split and it != laid.pattern]
+    other = next((it for it in users if Layout(tables, it).cycle != laid.cycle), None)
+    if other is not None:
+        raise NoChange(f"pattern {laid.pattern} shares split {laid.split} with pattern {other}, which has another cycle: give it a split of its own")
+
+
 def least_change(tables: Tables, pattern: int, known: Intersection) -> Change:
     """Returns the least change of splits with which a pattern keeps rules 17 to 19; NoChange where there is none."""
     laid = Layout(tables, pattern)
     if not has_pair(tables, pattern):
         raise NoChange(f"pattern {pattern}: say first which phases it coordinates")
-    users = [it for it in tables.patterns() if value(tables, ("pattern", it, 4)) == laid.split and it != pattern]
-    shared = [it for it in users if Layout(tables, it).cycle != laid.cycle]
-    if shared:
-        raise NoChange(f"pattern {pattern} shares split {laid.split} with pattern {shared[0]}, which has another cycle: give it a split of its own")
-    sides = [Side(laid, it, known.partners) for it in laid.sides]
-    totals = [np.where(SECONDS == 0, 0, NEVER)]
-    for side in sides:
-        totals.append(np.minimum(added(totals[-1], side.costs), NEVER))
+    refuse_shared(laid)
     length = laid.cycle // 10
+    sides, totals = laid_out(laid, known.partners, length)
     if totals[-1][length] >= NEVER:
-        enough = np.flatnonzero(totals[-1] < NEVER)
+        enough = np.flatnonzero(laid_out(laid, known.partners, LONGEST)[1][-1] < NEVER)
         words = f"it needs a cycle of {enough[0]} s at least" if enough.size else "no cycle up to 255 s is long enough"
         raise NoChange(f"pattern {pattern}: no splits keep the rules in a cycle of {length} s; {words}")
     after: dict[int, int] = {}
@@ -192,9 +203,9 @@ def least_change(tables: Tables, pattern: int, known: Intersection) -> Change:
         share = chosen(before, side.costs, length)
         after |= side.times(share)
         length -= share
-    before_ = {it: laid.time(it) // 10 for it in after}
-    changed = sorted(it for it in after if after[it] != before_[it])
-    return Change(pattern, laid.split, {it: before_[it] for it in changed}, {it: after[it] for it in changed})
+    times = {it: laid.time(it) // 10 for it in after}
+    changed = sorted(it for it in after if after[it] != times[it])
+    return Change(pattern, laid.split, {it: times[it] for it in changed}, {it: after[it] for it in changed})
 
 
 def apply(tables: Tables, change: Change) -> None:
