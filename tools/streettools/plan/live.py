@@ -1,0 +1,80 @@
+"""A walk over a live agent by SNMP version 1: the tables of plans, several columns in one question."""
+
+import ipaddress
+import socket
+from collections.abc import Callable
+
+from ..cabinet.messages import GET_NEXT, INTEGER, OCTETS, message, reply_of
+from .given import Fault, Unreadable
+from .walk import ASC, OWN, Name
+
+COLUMNS = [
+    *((*ASC, 1, 2, 1, column) for column in range(2, 24)),
+    *((*ASC, 4, 7, 1, column) for column in range(2, 6)),
+    *((*ASC, 4, 9, 1, column) for column in range(3, 6)),
+    *((*ASC, 6, 2, 1, column) for column in range(4, 16)),
+    (*ASC, 7, 3, 1, 3),
+    *((*ASC, 2, 2, 1, column) for column in (4, 6, 7, 9, 10, 11)),
+    (*ASC, 3, 3), (*ASC, 4, 2), (*ASC, 4, 4), (*ASC, 4, 14), *((*OWN, 3, number) for number in range(1, 8)), (*OWN, 2, 1),
+]  # fmt: skip
+"""Under which names there is something of a plan."""
+
+AT_ONCE = 12
+SECONDS, TRIES = 3.0, 3
+NO_SUCH_NAME = 2
+
+
+class Agent:
+    """An agent that answers at a port of a host."""
+
+    def __init__(self, host: str, port: int, community: str):
+        self.host, self.port, self.community = host, port, community.encode()
+        self.socket = socket.socket(socket.AF_INET, socket.SOCK_DGRAM)
+        self.socket.settimeout(SECONDS)
+        self.number = 0
+
+    def next_of(self, asked: list[Name]) -> tuple[int, int, list]:
+        """Returns status, index and bindings of what stands behind some names."""
+        self.number += 1
+        octets = message(GET_NEXT, self.number, [(name, None) for name in asked], self.community)
+        for _ in range(TRIES):
+            self.socket.sendto(octets, (self.host, self.port))
+            try:
+                while (reply := reply_of(self.socket.recv(65_536))).number != self.number:
+                    pass
+                return reply.status, reply.index, reply.bindings
+            except (TimeoutError, ConnectionRefusedError):
+                continue
+        raise Unreadable([Fault(f"{self.host}:{self.port}", f"no answer in {TRIES} tries; is it the port, and the community?")])
+
+
+def address(host: str, anywhere: bool) -> str:
+    """Returns the address of a host, which must be this machine where nothing else is said."""
+    try:
+        found = socket.gethostbyname(host)
+    except OSError:
+        raise Unreadable([Fault(host, "no such host")]) from None
+    if not anywhere and not ipaddress.ip_address(found).is_loopback:
+        raise Unreadable([Fault(host, "not on this machine: --anywhere lets other hosts be asked")])
+    return found
+
+
+def walk(agent: Agent, advance: Callable[[int], object] = lambda count: None) -> dict[Name, int | bytes]:
+    """Returns the objects of the tables of plans that an agent has. `advance` is told how many columns are over."""
+    found: dict[Name, int | bytes] = {}
+    waiting, reached = list(COLUMNS), {}
+    while waiting:
+        batch = waiting[:AT_ONCE]
+        status, index, bindings = agent.next_of([reached.get(column, column) for column in batch])
+        if status:
+            over = [batch[index - 1]] if 1 <= index <= len(batch) else batch
+        else:
+            over = [column for column, (name, _, __) in zip(batch, bindings, strict=True) if name[: len(column)] != column]
+            for column, (name, tag, content) in zip(batch, bindings, strict=True):
+                if column not in over:
+                    reached[column] = name
+                    if tag in (INTEGER, OCTETS):
+                        found[name] = content if tag == OCTETS else int.from_bytes(content, "big", signed=True)
+        waiting = [column for column in waiting if column not in over]
+        advance(len(over))
+    return found

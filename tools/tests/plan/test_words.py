@@ -1,0 +1,160 @@
+"""Places in texts that can't be read, warnings, and what lines of the program say."""
+
+import json
+
+import pytest
+
+from streettools.plan import check, explain, jsontext, names, reading, sources, street_facts, toml_text
+from streettools.plan.findings import Level
+
+SCENARIO = {"version": 1, "rounds": 10, "ticks": 10, "cabinets": [{}]}
+
+
+@pytest.mark.parametrize(
+    ("text", "place", "words"),
+    [
+        ('{\n  "version": 1,,\n}', (2, 16), "a name in double quotes was expected"),
+        ('{"a": [1, 2,]}', (1, 13), "the comma before it is one too many"),
+        ("{'a': 1}", (1, 2), "texts stand in double quotes"),
+        ('{"a": 007}', (1, 8), "numbers have no leading zeros"),
+        ('{"a": 1 // one\n}', (1, 9), "JSON has no comments"),
+        ('{"a": NaN}', (1, 7), "JSON has no such number"),
+        ('{"a": True}', (1, 7), "JSON has true, false and null"),
+        ('{"a" 1}', (1, 6), "a colon was expected behind the name"),
+        ('{"a": 1}\n{}', (2, 1), "the text was expected to end here"),
+        ('{"a": "b', (1, 7), "its closing quote was expected"),
+        ("", (1, 1), "but the text ends"),
+        ('{"a": 1e999}', (1, 7), "a number that is too great"),
+        ('{"a": "\\ud800"}', (1, 8), "half a character"),
+        ("[" * 128, (1, 128), "more than 127 deep"),
+        ("\ufeff{}", (1, 1), "a byte order mark stands before the text"),
+    ],
+)
+def test_a_text_that_is_no_json_has_line_column_and_what_was_expected(text, place, words):
+    """Fifteen usual mistakes."""
+    with pytest.raises(jsontext.NoJson) as caught:
+        jsontext.read(text.encode())
+    assert (caught.value.place.line, caught.value.place.column) == place and words in caught.value.words
+
+
+def test_octets_that_are_no_text_are_told():
+    """An octet of another encoding, in line 2."""
+    with pytest.raises(jsontext.NoJson, match="line 2, column 5: the octet e9 is no UTF-8"):
+        jsontext.read(b'{\n"caf\xe9": 1}')
+
+
+def test_a_value_is_found_by_its_path():
+    """The last of two equal names counts, also below it."""
+    text = '{"cabinets": [{"clock": 1}],\n "cabinets": [{},\n {"clock": 864000}]}'
+    assert str(jsontext.place_of(text, "cabinets[1].clock")) == "line 3, column 12"
+    assert str(jsontext.place_of(text, "cabinets[1].speed")) == "line 3, column 2"
+
+
+def findings(text: str, level: Level = Level.WARNING) -> list[str]:
+    """Returns what a check finds in a sheet, of one level."""
+    street = reading.street_of(toml_text.read(text))
+    return [str(it) for it in check.findings(sources.Source("street.toml", street=street)) if it.level is level]
+
+
+WARNINGS = {
+    "a yellow below what speed asks": ("[intersection.phase]\n2 = {speed = 45}", "yellow change of 4 s; 45 mph ask 4.3 s"),
+    "a grade that asks more": ("[intersection.phase]\n2 = {speed = 45, grade = -4, yellow = 4.3}", "45 mph at a grade of -4 % ask 4.8 s"),
+    "a clearance short for the width": ("[intersection.phase]\n4 = {crossing = 60}", "pedestrian clearance of 12 s; 60 ft at 3.5 ft/s take 17 s"),
+    "a split that only just fits": ("[intersection.pattern.1]\nsplits = {3 = 10, 4 = 35}", "pattern 1 gives phase 3 10 s, which only just fits: 0.5 s to spare"),
+    "a red clearance in seconds": ("[intersection.phase]\n3 = {red_clear = 0.2}", "red clearance of 0.2 s; are 2 s meant?"),
+    "a passage in seconds": ("[intersection.phase]\n3 = {passage = 0.3}", "passage time of 0.3 s; are 3 s meant?"),
+    "a maximum below the minimum": ("[intersection.phase]\n3 = {max_green = 4}", "maximum green of 4 s, less than its minimum green of 5 s"),
+    "a preempt without dwell phases": ("[intersection.preempt.2]\ndelay = 3\ntrack = [4]", "preempt 2 has no dwell phases, so its input does nothing"),
+    "an opening pattern that isn't there": ("command = 7", "opens with pattern 7, which isn't defined: it runs free"),
+}
+
+
+@pytest.mark.parametrize("what", WARNINGS)
+def test_what_no_rule_forbids_and_nobody_means_is_a_warning(what):
+    """Each by itself, with its numbers; the street of the standard table has none."""
+    text, words = WARNINGS[what]
+    found = findings(f'[[intersection]]\nname = "Main"\n{text}\n')
+    assert len(found) == 1 and words in found[0]
+    assert findings("[[intersection]]\n") == []
+
+
+def test_schedules_are_looked_at():
+    """A pattern that isn't defined, a section that nobody has, seconds that look like hours and minutes."""
+    undefined = findings('schedule = [{at = 06:00:00, pattern = 9}]\n[[intersection]]\nname = "Main"\n')
+    assert undefined == ["Main: warning: the schedule commands pattern 9, which isn't defined: the cabinet refuses the command"]
+    nobody = findings("schedule = [{at = 06:00:00, section = 2, pattern = 1}]\n[[intersection]]\n")
+    assert nobody == ["schedule: warning: section 2 has entries, but no intersection is of that section"]
+    hours = findings("schedule = [{at = 700, pattern = 1}, {at = 1630, pattern = 1}]\n[[intersection]]\n")
+    assert [it.split("; ")[1] for it in hours] == ["is 7:00 meant? That is second 25200", "is 16:30 meant? That is second 59400"]
+    assert findings("schedule = [{at = 06:00:00, pattern = 1}, {at = 70, pattern = 254}]\n[[intersection]]\n") == []
+
+
+def test_a_scenario_in_which_whole_seconds_stand_for_tenths_is_warned_of(tmp_path):
+    """Cells have tenths: 2 of red clearance are 0.2 s; a yellow of 4 breaks rule 10, and its sentence asks the same."""
+    path = tmp_path / "street.json"
+    path.write_text(json.dumps({**SCENARIO, "cabinets": [{"cells": [["phase", 2, 9, 2], ["phase", 2, 8, 4]]}]}))
+    found = [str(it) for it in check.findings(sources.load(str(path)))]
+    assert "yellow change of 0.4 s (are whole seconds meant? A cell has tenths of a second)" in found[0]
+    assert "red clearance of 0.2 s; are 2 s meant?" in found[1]
+
+
+@pytest.mark.parametrize(("speed", "due"), [(25, 3.0), (35, 3.6), (45, 4.3), (55, 5.0)])
+def test_yellow_changes_are_those_of_the_tables(speed, due):
+    """One second of reaction and 10 ft/s2 on the level, as the tables of agencies have them."""
+    assert street_facts.yellow_due(names.Phase(speed=speed), metric=False) == due
+
+
+def test_metric_speeds_and_lengths_are_the_same_street():
+    """72.4 km/h are 45 mph, and 18.3 m are 60 ft."""
+    phase = names.Phase(speed=72.4, crossing=18.3)
+    assert street_facts.yellow_due(phase, metric=True) == 4.3 and street_facts.clearance_due(phase, metric=True) == 17
+
+
+def explained(tmp_path, scenario, line: str) -> str:
+    """Returns what a line says of a scenario."""
+    path = tmp_path / "street.json"
+    path.write_text(scenario if isinstance(scenario, str) else json.dumps(scenario))
+    return "\n".join(explain.explained(sources.load(str(path)), line))
+
+
+def test_a_refusal_by_a_rule_is_explained(tmp_path):
+    """The rule, and the numbers of its row."""
+    words = explained(tmp_path, {**SCENARIO, "cabinets": [{}, {"cells": [["pattern", 1, 2, 80]]}]}, "scenario: cabinet 2 breaks rule 17 at row 1")
+    assert "rule 17 asks: the splits of each ring come to the cycle" in words
+    assert "cabinet 2: pattern 1 (split 1): the splits of ring 1" in words and "but the cycle is 80 s; take 10 s off" in words
+
+
+def test_a_refusal_of_a_value_is_explained_with_its_place(tmp_path):
+    """The line and the column of the number, and what may stand there."""
+    words = explained(tmp_path, '{"version":1,"rounds":10,\n"ticks":601,"cabinets":[{}]}', "scenario: limit ticks")
+    assert words == "line 2, column 9, ticks: error: 601 is not 1 to 600"
+    words = explained(tmp_path, '{"version":1,"rounds":10,,\n"ticks":601}', "scenario: not JSON")
+    assert "line 1, column 26" in words
+
+
+def test_a_refused_download_is_explained(tmp_path):
+    """By the tables that were in force then."""
+    loads = [{"round": it, "cabinet": 1, "cells": cells} for it, cells in ((1, [["pattern", 1, 3, 10]]), (5, [["phase", 4, 8, 20]]))]
+    words = explained(tmp_path, {**SCENARIO, "loads": loads}, "L 1 2 refused 10 4")
+    assert "phase 4 has a yellow change of 2 s" in words
+
+
+@pytest.mark.parametrize(
+    ("line", "words"),
+    [
+        ("trace: line 214 breaks rule 6", "another frame is due here"),
+        ("overlap: rule 4 at row 3", "longer than this parent may clear in"),
+        ("write fault", "a full disk"),
+        ("usage: arterial run", "none of its commands"),
+    ],
+)
+def test_other_lines_of_the_program_are_explained(tmp_path, line, words):
+    """Those that speak of no table."""
+    assert words in explained(tmp_path, SCENARIO, line)
+
+
+@pytest.mark.parametrize("line", ["what is this", "scenario: cabinet 1 breaks rule 10 at row 2", "scenario: cabinet 3 breaks rule 1 at row 2"])
+def test_a_line_that_does_not_fit_the_file_is_said_to(tmp_path, line):
+    """No line of the program, a rule that is kept, a cabinet that isn't there."""
+    with pytest.raises(explain.NotKnown):
+        explained(tmp_path, SCENARIO, line)
