@@ -4,12 +4,14 @@ Each side of the barrier is laid out by itself for every length that it may have
 seconds of change, summed over phases. On the coordinated side the later start of the coordinated phases, local zero, is tried at every second.
 """
 
+from collections.abc import Iterator
 from dataclasses import dataclass
 from functools import cached_property
 
 import numpy as np
 
 from ..shared.tables import Tables
+from . import rules
 from .cells import put, value
 from .layout import Layout, least_service
 from .names import Intersection
@@ -20,6 +22,8 @@ LONGEST = 255
 """A split, and a cycle, is 0 to 255 s."""
 
 NEVER = np.int64(10**6)
+FIRST, SPLIT_RULES = (*range(1, 10), 14, 16), (17, 18, 19)
+"""The rules on which splits depend, and those that ask of splits."""
 
 
 @dataclass(frozen=True)
@@ -212,3 +216,23 @@ def apply(tables: Tables, change: Change) -> None:
     """Puts the splits of a change into tables."""
     for phase, time in change.after.items():
         put(tables, ("split", change.split, phase, 3), time)
+
+
+def mend(tables: Tables, known: Intersection) -> Iterator[str]:
+    """Puts the least changes into tables that break rule 17, 18 or 19, and yields them in words; or why there are none."""
+    broken = rules.broken(tables)
+    first = next((it.rule for it in broken if it.rule in FIRST), None)
+    patterns = sorted({it.row for it in broken if it.rule in SPLIT_RULES})
+    if first is not None and (patterns or tables.patterns()):
+        yield f"mend rule {first} first: the splits depend on it"
+        return
+    for pattern in patterns:
+        try:
+            change = least_change(tables, pattern, known)
+            apply(tables, change)
+            yield change.words(known)
+        except NoChange as why:
+            yield str(why)
+    still = {it.row for it in rules.broken(tables) if it.rule in SPLIT_RULES} - set(patterns)
+    for pattern in sorted(still):
+        yield f"pattern {pattern} breaks a rule then, since it runs the same split: give it a split of its own"

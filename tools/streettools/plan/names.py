@@ -93,6 +93,22 @@ class NoNames(Exception):
     """A file isn't a names file, in words."""
 
 
+def is_measure(value: object) -> bool:
+    """Tells whether a value is a number, or none."""
+    return value is None or (isinstance(value, (int, float)) and not isinstance(value, bool))
+
+
+def refuse_kinds(found: Names) -> None:
+    """Refuses names that are no texts, measures that are no numbers, and partners that are no phases."""
+    for it in found.intersections:
+        measures = [it.travel, *(value for phase in it.phases.values() for value in (phase.speed, phase.grade, phase.crossing))]
+        texts = [it.name, it.note, *it.preempts.values(), *it.detectors.values(), *(phase.name for phase in it.phases.values())]
+        if not all(map(is_measure, measures)) or not all(isinstance(text, str) for text in texts):
+            raise TypeError(f"intersection {it.name!r} has a name that is no text, or a measure that is no number")
+        if not all(isinstance(phase, int) for phase in it.partners):
+            raise TypeError(f"intersection {it.name!r} has partners that are no phases")
+
+
 def read(content: str) -> Names:
     """Returns what a names file says."""
     try:
@@ -100,7 +116,9 @@ def read(content: str) -> Names:
         intersections = [of_intersection(it) for it in given.get("intersections", ())]
         sections = {int(number): it for number, it in given.get("sections", {}).items()}
         rest = {name: it for name, it in given.items() if name not in ("intersections", "sections")}
-        return Names(**rest, intersections=intersections, sections=sections)
+        found = Names(**rest, intersections=intersections, sections=sections)
+        refuse_kinds(found)
+        return found
     except (ValueError, TypeError, AttributeError) as fault:
         raise NoNames(f"no names file: {fault}") from None
 

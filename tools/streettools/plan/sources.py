@@ -102,6 +102,6 @@ def read_json(source: Source, content: bytes, known: names.Names) -> None:
     for fault in shapes.scenario_faults(scenario):
         place = jsontext.place_of(source.text, front + fault.path if fault.path != "." else front.rstrip(".") or ".")
         source.error(fault.words, fault.path, line=fault.line, place=str(place))
-    if not source.errors:
+    if isinstance(scenario, dict) and not any(fault.startswith(("cabinets", ".", "version")) for fault in (it.where for it in source.errors)):
         around = {name: value.get(name) for name in ("pulses", "respond")} if is_field else {"pulses": None, "respond": None}
         source.street = Street(scenario, known, [], value.get("bank", []) if is_field else [], **around)

@@ -158,3 +158,45 @@ def test_a_line_that_does_not_fit_the_file_is_said_to(tmp_path, line):
     """No line of the program, a rule that is kept, a cabinet that isn't there."""
     with pytest.raises(explain.NotKnown):
         explained(tmp_path, SCENARIO, line)
+
+
+FAR = """
+[[intersection]]
+name = "A"
+travel = {travel}
+[[intersection]]
+name = "B"
+[intersection.pattern.1]
+cycle = 90
+offset = 45
+"""
+
+
+def band_words(program, travel: int) -> list[str]:
+    """Returns what a check says of the bands of two intersections, 45 s apart in their offsets."""
+    street = reading.street_of(toml_text.read(FAR.replace("{travel}", str(travel))))
+    return [f"{it.level.value}: {it.words}" for it in check.findings(sources.Source("street.toml", street=street), str(program))]
+
+
+def test_offsets_that_leave_no_band_are_told(program):
+    """The windows are 24.5 s. With no time between them and offsets 0 and 45 s nobody meets both greens, either way; with 45 s outbound all do,
+    and since twice 45 s is the cycle, inbound too; with 30 s those of 9.5 s do outbound, and inbound those of as many."""
+    assert band_words(program, 0) == ["warning: the offsets of pattern 1 leave no through band, A to B or back"]
+    assert band_words(program, 45) == []
+    assert band_words(program, 30) == []
+
+
+def test_a_plan_with_a_wrong_value_elsewhere_has_its_broken_rules_told_too(tmp_path):
+    """The value first, as the program does; then the rule."""
+    path = tmp_path / "street.json"
+    cabinets = [{"cells": [["phase", 2, 8, 29]]}]
+    path.write_text(json.dumps({**SCENARIO, "cabinets": cabinets, "inputs": [{"round": 11, "cabinet": 1, "ped": 2}]}))
+    lines = [it.line for it in check.findings(sources.load(str(path)))]
+    assert lines == ["scenario: limit inputs[0].round", "scenario: cabinet 1 breaks rule 10 at row 2"]
+
+
+@pytest.mark.parametrize("text", ['{"intersections": [{"phases": {"x": {}}}]}', '{"intersections": [{"travel": "far"}]}', '{"title": 1, "street": 2}', "[]", "{"])
+def test_a_file_that_is_no_names_file_is_refused(text):
+    """Phases that are none, measures in words, unknown names, other JSON, none."""
+    with pytest.raises(names.NoNames):
+        names.read(text)
