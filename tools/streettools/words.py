@@ -35,6 +35,8 @@ TOOLS = (
 PROVE = Word("prove", "proves the program here, and builds it")
 """What the launcher itself does."""
 
+LAUNCH = Word("launch", "what the launcher's shell hands over to Python; no word for users")
+
 PROGRAM = ("run", "check", "overlaps", "band", "respond", "generate", "survey")
 """Commands of the program itself."""
 
@@ -50,9 +52,12 @@ def meant(word: str) -> str | None:
     return next(iter(difflib.get_close_matches(word, known, 1)), None)
 
 
+def is_word(word: str) -> bool:
+    """Tells whether a word is a command that `run` takes."""
+    return word in [it.name for it in (*tools(), LAUNCH)]
+
+
 def run(words: list[str]) -> int:
     """Runs the command of the tools that the first word names with the other words, and returns its exit status."""
     name, *rest = words
-    if name not in [it.name for it in tools()]:
-        raise KeyError(name)
     return importlib.import_module(f"streettools.{name}.command").main(rest)

@@ -5,15 +5,15 @@ use Rattle.sig_types.specs.declared.frame.Mode.TheVariants.{Coord}
 use Rattle.sig_tables.specs.Past.{Past}
 use Rattle.sig_tables.specs.Seen.{mode_seen}
 use Rattle.controller.specs.declared.Controller.{Controller}
-use Rattle.tick_context.specs.declared.course.Course.{Course}
+use Rattle.tick_context.specs.declared.tick_state.TickState.{TickState}
 use Rattle.tick_context.specs.Modes.{is_coord}
-use Rattle.tick_context.specs.Binds.{BindingIs, IsBound}
+use Rattle.tick_context.specs.Binds.{ActivePatternIs, IsBound}
 use Rattle.controller.specs.Runs.{Runs}
 
 -- in step with pattern n, that is the pattern which is kept
-pub binding-in : (c : Controller) (k : Course) (past : Past) (n : ℕ) → Runs c k past → mode_seen past ≡ Coord n → BindingIs c.binding past.tables n
-binding-in c k past n r e = subst (λ (m : Mode). IsBound c.binding past.tables m) e r.bound
+pub active_pattern-in : (c : Controller) (k : TickState) (past : Past) (n : ℕ) → Runs c k past → mode_seen past ≡ Coord n → ActivePatternIs c.active_pattern past.tables n
+active_pattern-in c k past n r e = subst (λ (m : Mode). IsBound c.active_pattern past.tables m) e r.bound
 
--- whether the mode of a course is in step with a pattern
-pub coord-of : (c : Controller) (k : Course) (past : Past) (b x : Bool) → Runs c k past → b ≡ is_coord k.mode → b ≡ x → is_coord (mode_seen past) ≡ x
-coord-of c k past b x r e f = sym (ap is_coord r.course.mode) ∙ sym e ∙ f
+-- whether the mode of a tick state is in step with a pattern
+pub coord-of : (c : Controller) (k : TickState) (past : Past) (b x : Bool) → Runs c k past → b ≡ is_coord k.mode → b ≡ x → is_coord (mode_seen past) ≡ x
+coord-of c k past b x r e f = sym (ap is_coord r.tick_state.mode) ∙ sym e ∙ f

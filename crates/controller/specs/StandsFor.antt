@@ -13,19 +13,19 @@ use Rattle.ped_clock.specs.Stands.{SignalsStand, step_count as signal_steps}
 use Rattle.phase_clock.specs.Stands.{ClocksStand, step_count}
 use Rattle.coord_count.specs.declared.Count.{Count}
 use Rattle.coord_count.specs.Stands.{CountStands, counter_of}
-use Rattle.preempt_run.specs.Dwelling.{NamesPhases}
+use Rattle.preempt_stages.specs.Dwelling.{NamesPhases}
 use Rattle.preempt_run.specs.Stands.{PreemptsStand, step_count as preempt_steps}
 use Rattle.prio_queue.specs.Stands.{QueueStands}
 use Rattle.controller.specs.Shows.{ShowsColours}
 use Rattle.tick_context.specs.Shows.{is_signalling}
-use Rattle.tick_context.specs.Orders.{OrdersStand, order_ticks}
-use Rattle.tick_context.specs.Binds.{BindingStands}
+use Rattle.tick_context.specs.UnitCommands.{UnitCommandsStand, order_ticks}
+use Rattle.tick_context.specs.Binds.{ActivePatternStands}
 use Rattle.controller.specs.declared.Controller.{Controller}
 
 -- the number of ticks so far, each of which all clocks were given
 abbrev pub tick_count : Controller → ℕ
 tick_count c =
-    max (max (step_count c.clocks) (signal_steps c.signals)) (max (order_ticks c.orders) (preempt_steps c.preempts))
+    max (max (step_count c.clocks) (signal_steps c.signals)) (max (order_ticks c.unit_commands) (preempt_steps c.preempts))
 
 -- the number of tables put in force since the opening
 abbrev pub install_count : Controller → ℕ
@@ -37,7 +37,7 @@ pub record CountsOn (count : Count) (past : Past) (n : ℕ) : Type 0 where
   pub within : counter_of count < cycle_time past.tables n
 
 -- what the controller keeps is what the past gives
-pub record Keeps (c : Controller) (past : Past) : Type 0 where
+pub record ControllerKeeps (c : Controller) (past : Past) : Type 0 where
   pub tables : c.tables ≡ past.tables
   pub layout : LaidOut c.layout past.tables
   pub ordered : Ordered c.layout past.tables 1
@@ -56,11 +56,11 @@ pub record Keeps (c : Controller) (past : Past) : Type 0 where
   pub latest : c.latest ≡ latest_on past.moments
   pub start : c.start_run ≡ start_run past.moments
   pub few_start : start_run past.moments ≤ 60
-  pub orders : OrdersStand c.orders past
-  pub binding : BindingStands c.binding past.tables
+  pub unit_commands : UnitCommandsStand c.unit_commands past
+  pub active_pattern : ActivePatternStands c.active_pattern past.tables
   pub counts : (n : ℕ) → is_in_step (frame_seen past) past.version n ≡ true → CountsOn c.count past n
   pub old_frame : (frame_seen past).version ≤ past.version
 
 -- the controller stands for a history: it keeps what this has come to
-abbrev pub StandsFor : Controller → History → Type 0
-StandsFor c h = Keeps c (past_at h)
+abbrev pub ControllerStands : Controller → History → Type 0
+ControllerStands c h = ControllerKeeps c (past_at h)

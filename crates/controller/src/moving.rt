@@ -10,11 +10,11 @@ ghost use Rattle.ring_barrier.specs.Shows.{Opens};
 ghost use Rattle.tick_context.specs.Moves.{AreMoves};
 
 use crate::Controller;
-use flash_mode::Turn;
+use flash_mode::RingTurn;
 use ring_barrier::{Changes, RingView, View, changes, changes_toward, is_idle};
 use sig_tables::Layout;
 use sig_types::PhaseSet;
-use tick_context::{Course, Sight, is_coord, is_resting, no_changes};
+use tick_context::{TickInputs, TickState, is_coord, is_resting, no_changes};
 
 /// The phases that the rings look at now, and once they are cleared.
 #[derive(Clone, Copy)]
@@ -32,18 +32,18 @@ impl Controller {
     ghost use Rattle.sig_tables.specs.Coordinating.{has_room};
     ghost use Rattle.sig_tables.specs.Moves.{can_join, goal_moves};
     ghost use Rattle.sig_tables.specs.Layout.{LaidOut, Ordered};
-    ghost use Rattle.sig_tables.specs.Course.{course_of, Rings};
+    ghost use Rattle.sig_tables.specs.TickState.{tick_state_of, Rings};
     ghost use Rattle.sig_tables.specs.View.{is_done, is_startable, clearance_of};
-    ghost use Rattle.sig_tables.specs.Seen.{mode_seen, demand_seen, turn_seen, view_seen, moves_seen};
+    ghost use Rattle.sig_tables.specs.Seen.{mode_seen, demand_seen, ring_turn_seen, view_seen, moves_seen};
     ghost use Rattle.controller.specs.Runs.{Runs};
     ghost use Rattle.tick_context.specs.Sees.{Sees};
     ghost use Rattle.controller.specs.Wanting.{Wants};
-    ghost use Rattle.controller.specs.StandsFor.{Keeps, tick_count};
+    ghost use Rattle.controller.specs.StandsFor.{ControllerKeeps, tick_count};
 
     /// Whether each ring is open at this tick.
     fn opening(&self) -> [bool; 2]
         requires few { tick_count self.now < 4294967295 }
-        ensures opening { (past : Past) → Keeps self.now past → Opens result (view_seen past) }
+        ensures opening { (past : Past) → ControllerKeeps self.now past → Opens result (view_seen past) }
     {
         let [first, second] = self.frame.on;
         if self.shown.clearing.is_empty() {
@@ -54,52 +54,54 @@ impl Controller {
     }
 
     /// Those of the phases that have room where they begin after so many ticks: all of them where no pattern binds.
-    fn with_room(&self, course: &Course, after: u32, among: PhaseSet) -> PhaseSet
-        ensures room { (past : Past) → Runs self.now course.now past
-            → Has result (λ p. has among p && has_room (bound (mode_seen past)) past.tables (course_of past).counter after p) }
+    fn with_room(&self, tick_state: &TickState, after: u32, among: PhaseSet) -> PhaseSet
+        ensures room { (past : Past) → Runs self.now tick_state.now past
+            → Has result (λ p. has among p && has_room (bound (mode_seen past)) past.tables (tick_state_of past).counter after p) }
     {
-        if is_coord(course.mode) {
-            self.binding.with_room(course.counter, after, among)
+        if is_coord(tick_state.mode) {
+            self.active_pattern
+                .with_room(tick_state.counter, after, among)
         } else {
             among
         }
     }
 
     /// The phases that the pattern which binds never serves; none where no pattern does.
-    fn omitted(&self, course: &Course) -> PhaseSet
-        ensures omitted { (past : Past) → Runs self.now course.now past → Has result (omits (bound (mode_seen past)) past.tables) }
+    fn omitted(&self, tick_state: &TickState) -> PhaseSet
+        ensures omitted { (past : Past) → Runs self.now tick_state.now past → Has result (omits (bound (mode_seen past)) past.tables) }
     {
-        if is_coord(course.mode) {
-            self.binding.options.omitted
+        if is_coord(tick_state.mode) {
+            self.active_pattern.options.omitted
         } else {
             PhaseSet::empty()
         }
     }
 
     /// The Green phases that the pattern which binds forces off; none where no pattern does.
-    fn forced(&self, course: &Course) -> PhaseSet
-        ensures forced { (past : Past) → Runs self.now course.now past → Has result (is_forced (view_seen past)) }
+    fn forced(&self, tick_state: &TickState) -> PhaseSet
+        ensures forced { (past : Past) → Runs self.now tick_state.now past → Has result (is_forced (view_seen past)) }
     {
-        if is_coord(course.mode) {
+        if is_coord(tick_state.mode) {
             let green = self.layout.enabled.meet(self.shown.green);
-            self.binding.forced(course.counter, green)
+            self.active_pattern.forced(tick_state.counter, green)
         } else {
             PhaseSet::empty()
         }
     }
 
     /// The phases that may join the other ring without a call.
-    fn joining(&self, course: &Course, startable: PhaseSet) -> PhaseSet
-        ensures joining { (past : Past) → Runs self.now course.now past → Has startable (is_startable (view_seen past))
+    fn joining(&self, tick_state: &TickState, startable: PhaseSet) -> PhaseSet
+        ensures joining { (past : Past) → Runs self.now tick_state.now past → Has startable (is_startable (view_seen past))
             → Has result (can_join (view_seen past)) }
     {
         let able = self.layout.dual_entry.meet(startable);
-        self.with_room(course, 0, able).minus(self.omitted(course))
+        self.with_room(tick_state, 0, able)
+            .minus(self.omitted(tick_state))
     }
 
     /// How long what is on in a ring clears, 0 where nothing is, in ticks.
     fn clearance_of(&self, on: u8) -> u32
-        ensures clearance { (past : Past) → Keeps self.now past → on ≤ 16 → result ≡ clearance_of past.tables on }
+        ensures clearance { (past : Past) → ControllerKeeps self.now past → on ≤ 16 → result ≡ clearance_of past.tables on }
     {
         if on == 0 {
             0
@@ -111,25 +113,25 @@ impl Controller {
     }
 
     /// What is wanted by the rings, of these phases with demand.
-    fn wanted(&self, course: &Course, demand: PhaseSet) -> Wanted
-        ensures wants { (past : Past) → Runs self.now course.now past → phases_of demand ≡ demand_seen past → Wants result (view_seen past) }
+    fn wanted(&self, tick_state: &TickState, demand: PhaseSet) -> Wanted
+        ensures wants { (past : Past) → Runs self.now tick_state.now past → phases_of demand ≡ demand_seen past → Wants result (view_seen past) }
     {
         let first = self.clearance_of(self.frame.on[0]);
         let second = self.clearance_of(self.frame.on[1]);
         Wanted {
-            now: self.with_room(course, 0, demand),
+            now: self.with_room(tick_state, 0, demand),
             after: [
-                self.with_room(course, first, demand),
-                self.with_room(course, second, demand),
+                self.with_room(tick_state, first, demand),
+                self.with_room(tick_state, second, demand),
             ],
-            across: self.with_room(course, first.max(second), demand),
+            across: self.with_room(tick_state, first.max(second), demand),
         }
     }
 
     /// What both rings do at this tick, where they have to look, with the phases in the order of the sequence in force.
     fn looking(
         &self,
-        course: &Course,
+        tick_state: &TickState,
         layout: &Layout,
         demand: PhaseSet,
         opening: [bool; 2],
@@ -137,13 +139,13 @@ impl Controller {
         forced: PhaseSet,
     ) -> Changes
         requires few { tick_count self.now < 4294967295 }
-        ensures changes { (past : Past) → Runs self.now course.now past → LaidOut layout.now past.tables
+        ensures changes { (past : Past) → Runs self.now tick_state.now past → LaidOut layout.now past.tables
             → Ordered layout.now past.tables (sequence_in past.tables (mode_seen past)) → phases_of demand ≡ demand_seen past
             → Opens opening (view_seen past) → Has done (is_done (view_seen past)) → Has forced (is_forced (view_seen past))
             → AreMoves result (ring_moves (view_seen past)) }
     {
         let startable = self.startable();
-        let wanted = self.wanted(course, demand);
+        let wanted = self.wanted(tick_state, demand);
         let wanted_after = wanted.after;
         let on = self.frame.on;
         let last = self.last;
@@ -159,7 +161,7 @@ impl Controller {
             wanted: wanted.now,
             wanted_after,
             wanted_across: wanted.across,
-            joining: self.joining(course, startable),
+            joining: self.joining(tick_state, startable),
             done,
             forced,
         })
@@ -167,37 +169,44 @@ impl Controller {
 
     /// What both rings do at this tick by the rules of actuated control. Where no ring is open and no phase has demand, is
     /// done or is forced off, they need not look.
-    fn ring_changes(&self, course: &Course, sight: &Sight) -> Changes
+    fn ring_changes(&self, tick_state: &TickState, tick_inputs: &TickInputs) -> Changes
         requires few { tick_count self.now < 4294967295 }
-        ensures changes { (past : Past) → Runs self.now course.now past → Sees sight.now past → turn_seen past ≡ Rings
+        ensures changes { (past : Past) → Runs self.now tick_state.now past → Sees tick_inputs.now past → ring_turn_seen past ≡ Rings
             → AreMoves result (ring_moves (view_seen past)) }
     {
         let opening = self.opening();
-        let forced = self.forced(course);
-        if is_resting(opening, sight.demand, forced) {
+        let forced = self.forced(tick_state);
+        if is_resting(opening, tick_inputs.demand, forced) {
             return no_changes();
         }
-        let done = self.done(course, sight);
+        let done = self.done(tick_state, tick_inputs);
         if is_idle(opening, done, forced) {
             no_changes()
-        } else if is_coord(course.mode) {
+        } else if is_coord(tick_state.mode) {
             self.looking(
-                course,
-                &self.binding.layout,
-                sight.demand,
+                tick_state,
+                &self.active_pattern.layout,
+                tick_inputs.demand,
                 opening,
                 done,
                 forced,
             )
         } else {
-            self.looking(course, &self.layout, sight.demand, opening, done, forced)
+            self.looking(
+                tick_state,
+                &self.layout,
+                tick_inputs.demand,
+                opening,
+                done,
+                forced,
+            )
         }
     }
 
     /// What both rings do at this tick on the way to a goal.
-    fn goal_changes(&self, course: &Course, goal: PhaseSet) -> Changes
+    fn goal_changes(&self, tick_state: &TickState, goal: PhaseSet) -> Changes
         requires few { tick_count self.now < 4294967295 }
-        ensures changes { (past : Past) → Runs self.now course.now past → AreMoves result (goal_moves (view_seen past) (phases_of goal)) }
+        ensures changes { (past : Past) → Runs self.now tick_state.now past → AreMoves result (goal_moves (view_seen past) (phases_of goal)) }
     {
         let on = self.frame.on;
         let opening = self.opening();
@@ -207,22 +216,22 @@ impl Controller {
             opening,
             startable: self.startable(),
         };
-        changes_toward(&rings, goal, self.cleared(course))
+        changes_toward(&rings, goal, self.cleared(tick_state))
     }
 
     /// The phases that end and those that begin at this tick.
-    pub(crate) fn moves(&self, course: &Course, sight: &Sight) -> Changes
+    pub(crate) fn moves(&self, tick_state: &TickState, tick_inputs: &TickInputs) -> Changes
         requires few { tick_count self.now < 4294967295 }
-        ensures moves { (past : Past) → Runs self.now course.now past → Sees sight.now past → AreMoves result (moves_seen past) }
+        ensures moves { (past : Past) → Runs self.now tick_state.now past → Sees tick_inputs.now past → AreMoves result (moves_seen past) }
     {
-        match course.turn {
-            Turn::Rest => no_changes(),
-            Turn::StartUp => Changes {
+        match tick_state.ring_turn {
+            RingTurn::Rest => no_changes(),
+            RingTurn::StartUp => Changes {
                 ends: PhaseSet::empty(),
                 begins: self.layout.starts_up,
             },
-            Turn::Rings => self.ring_changes(course, sight),
-            Turn::Goal(goal) => self.goal_changes(course, goal),
+            RingTurn::Rings => self.ring_changes(tick_state, tick_inputs),
+            RingTurn::Goal(goal) => self.goal_changes(tick_state, goal),
         }
     }
 }

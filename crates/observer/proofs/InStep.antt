@@ -12,12 +12,12 @@ use Rattle.sig_tables.specs.Choosing.{is_in_step}
 use Rattle.sig_tables.specs.Clock.{clock_now, target_in}
 use Rattle.sig_tables.specs.Counting.{last_counter}
 use Rattle.sig_tables.specs.Counters.{counters_since, counter_in}
-use Rattle.sig_tables.specs.Course.{course_of}
+use Rattle.sig_tables.specs.TickState.{tick_state_of}
 use Rattle.sig_tables.specs.Decide.{next_moment, colours_of}
 use Rattle.sig_tables.specs.Seen.{frame_seen, mode_seen, moves_seen}
-use Rattle.preempt_run.proofs.Goes.{one-mode}
-use Rattle.tick_context.specs.declared.course.Course.{Course}
-use Rattle.tick_context.specs.Course.{OnCourse}
+use Rattle.preempt_stages.proofs.Goes.{one-mode}
+use Rattle.tick_context.specs.declared.tick_state.TickState.{TickState}
+use Rattle.tick_context.specs.TickState.{TickStateIs}
 use Rattle.tick_context.proofs.Counted.{counters-head, step-version, some-cycle}
 use Rattle.tick_context.proofs.Sought.{reached-from}
 use Rattle.tick_context.proofs.Steps.{coord-step, seek-defined}
@@ -46,7 +46,7 @@ pub counter-below : (o : Observer) (past : Past) (n : ℕ) → Remembers o past 
 counter-below o past n k e = subst (λ (x : ℕ). x < cycle_time past.tables n) (sym (counters-last past n e)) (k.within n (coord-step past n e))
 
 -- so is that of the frame which the tick gives
-pub next-within : (k : Course) (past : Past) (n : ℕ) → OnCourse k past → is_in_step (next_moment past).frame past.version n ≡ true
+pub next-within : (k : TickState) (past : Past) (n : ℕ) → TickStateIs k past → is_in_step (next_moment past).frame past.version n ≡ true
     → (next_moment past).frame.counter < cycle_time past.tables n
 next-within k past n on step =
     let reached : same_mode (next_moment past).frame.mode (Coord n) ≡ true =
@@ -54,7 +54,7 @@ next-within k past n on step =
     elim (reached-from (mode_seen past) past.tables (colours_of past (moves_seen past)) n reached) [
       | inl e ↦ subst (λ (x : ℕ). x < cycle_time past.tables n) on.counter (on.within n e)
       | inr e ↦
-          let zero : (course_of past).counter ≡ 0 =
+          let zero : (tick_state_of past).counter ≡ 0 =
           ap (λ (m : Mode). counter_in past.tables m (target_in past.tables m (clock_now past)) past.moments) e in
           subst (λ (x : ℕ). x < cycle_time past.tables n) (sym zero) (some-cycle past.tables n (seek-defined past n e))
     ]

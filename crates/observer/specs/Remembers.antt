@@ -12,16 +12,16 @@ use Rattle.sig_tables.specs.Layout.{LaidOut, Ordered}
 use Rattle.sig_tables.specs.Seen.{frame_seen}
 use Rattle.call_store.specs.Stands.{CallsStand}
 use Rattle.prio_queue.specs.Stands.{QueueStands}
-use Rattle.preempt_run.specs.Dwelling.{NamesPhases}
-use Rattle.preempt_run.specs.Stands.{preempts_seen}
-use Rattle.tick_context.specs.Orders.{OrdersStand, order_ticks}
-use Rattle.tick_context.specs.Binds.{BindingStands}
-use Rattle.look_back.specs.Lookouts.{LooksOver}
+use Rattle.preempt_stages.specs.Dwelling.{NamesPhases}
+use Rattle.preempt_stages.specs.Inputs.{preempts_seen}
+use Rattle.tick_context.specs.UnitCommands.{UnitCommandsStand, order_ticks}
+use Rattle.tick_context.specs.Binds.{ActivePatternStands}
+use Rattle.look_back.specs.FrameHistories.{LooksOver}
 use Rattle.observer.specs.declared.Observer.{Observer}
 
 -- the number of ticks so far, and of tables put in force since the opening
 abbrev pub tick_count : Observer → ℕ
-tick_count o = order_ticks o.orders
+tick_count o = order_ticks o.unit_commands
 
 abbrev pub install_count : Observer → ℕ
 install_count o = o.version
@@ -37,10 +37,10 @@ pub record Remembers (o : Observer) (past : Past) : Type 0 where
   pub calls : CallsStand o.calls past
   pub inputs : (i : ℕ) → 0 < i → i ≤ 8 → has o.inputs i ≡ is_in (preempts_seen past) i
   pub requests : QueueStands o.requests past
-  pub orders : OrdersStand o.orders past
+  pub unit_commands : UnitCommandsStand o.unit_commands past
   pub commanded : o.commanded ≡ is_commanded past.commanded
-  pub binding : BindingStands o.binding past.tables
-  pub lookout : LooksOver o.lookout past.moments
+  pub active_pattern : ActivePatternStands o.active_pattern past.tables
+  pub frame_history : LooksOver o.frame_history past.moments
   pub some : 0 < length past.moments
   pub names : NamesPhases (frame_seen past)
   pub within : (n : ℕ) → is_in_step (frame_seen past) past.version n ≡ true → (frame_seen past).counter < cycle_time past.tables n
@@ -48,5 +48,5 @@ pub record Remembers (o : Observer) (past : Past) : Type 0 where
   pub old_frame : (frame_seen past).version ≤ past.version
 
 -- the observer stands for a history: it remembers what this has come to
-abbrev pub StandsFor : Observer → History → Type 0
-StandsFor o h = Remembers o (past_at h)
+abbrev pub ObserverStands : Observer → History → Type 0
+ObserverStands o h = Remembers o (past_at h)

@@ -33,7 +33,7 @@ impl Observer {
     ghost use Rattle.prio_queue.specs.Idle.{IsIdle};
     ghost use Rattle.tick_context.specs.Lasting.{IsFresh};
     ghost use Rattle.tick_context.specs.Strides.{is_told, ticks_more};
-    ghost use Rattle.observer.specs.Remembers.{Remembers, StandsFor, tick_count, install_count};
+    ghost use Rattle.observer.specs.Remembers.{Remembers, ObserverStands, tick_count, install_count};
     ghost use Rattle.tick_context.specs.Even.{IsEven};
     ghost use Rattle.observer.specs.Rests.{GoesFree, Rests};
 
@@ -51,7 +51,7 @@ impl Observer {
         } else if self.frame.target != 0 {
             false
         } else {
-            let command = self.orders.command();
+            let command = self.unit_commands.command();
             is_free(running(&self.tables, self.version, command, &self.frame))
         }
     }
@@ -75,7 +75,7 @@ impl Observer {
     /// Whether the cabinet rests in free operation, where nothing has been told since the last tick: so it does until something
     /// is told.
     fn is_at_rest(&self) -> bool
-        ensures rests { (h : History) → StandsFor self.now (ticked h) → IsTrue result → Rests (past_at (ticked h)) }
+        ensures rests { (h : History) → ObserverStands self.now (ticked h) → IsTrue result → Rests (past_at (ticked h)) }
     {
         shows_sixteen(self.frame);
         if !self.goes_free() {
@@ -93,11 +93,11 @@ impl Observer {
     /// is active in free operation.
     fn even_left(&self, most: u32) -> u32
         ensures within { result ≤ most }
-        ensures even { 0 < result → IsEven self.now.orders self.now.tables result }
+        ensures even { 0 < result → IsEven self.now.unit_commands self.now.tables result }
         ensures idle { 0 < result → IsIdle self.now.requests }
     {
         if self.requests.is_idle() {
-            self.orders.even(&self.tables, most)
+            self.unit_commands.even(&self.tables, most)
         } else {
             0
         }
@@ -107,15 +107,16 @@ impl Observer {
     fn pass(&mut self, ticks: u32)
         requires some { 0 < ticks }
         requires few { tick_count self.old + ticks ≤ 4294967295 }
-        requires even { IsEven self.old.orders self.old.tables ticks }
+        requires even { IsEven self.old.unit_commands self.old.tables ticks }
         requires idle { IsIdle self.old.requests }
-        ensures stands { (h : History) → StandsFor self.old h → Rests (past_at h) → StandsFor self.new (ticks_more ticks h) }
+        ensures stands { (h : History) → ObserverStands self.old h → Rests (past_at h) → ObserverStands self.new (ticks_more ticks h) }
         ensures ticks { tick_count self.new ≡ tick_count self.old + ticks }
         ensures installs { install_count self.new ≡ install_count self.old }
     {
         let active = self.calls.active(&self.layout, None);
-        self.orders.pass(ticks, &self.tables);
-        self.lookout.push_again(active, PhaseSet::empty(), ticks);
+        self.unit_commands.pass(ticks, &self.tables);
+        self.frame_history
+            .push_again(active, PhaseSet::empty(), ticks);
     }
 
     /// Passes over ticks that come, at most so many, and says how many, where nothing has been told since the last tick: none but
@@ -123,8 +124,8 @@ impl Observer {
     pub(crate) fn pass_on(&mut self, most: u32) -> u32
         requires few { tick_count self.old + most ≤ 4294967295 }
         ensures within { result ≤ most }
-        ensures stands { (h : History) → StandsFor self.old (ticked h) → StandsFor self.new (ticks_more result (ticked h)) }
-        ensures plain { (h : History) (k : ℕ) → StandsFor self.old (ticked h) → k < result → is_told (ticked h) (suc k) ≡ false }
+        ensures stands { (h : History) → ObserverStands self.old (ticked h) → ObserverStands self.new (ticks_more result (ticked h)) }
+        ensures plain { (h : History) (k : ℕ) → ObserverStands self.old (ticked h) → k < result → is_told (ticked h) (suc k) ≡ false }
         ensures ticks { tick_count self.new ≡ tick_count self.old + result }
         ensures installs { install_count self.new ≡ install_count self.old }
     {

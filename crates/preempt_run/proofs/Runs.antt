@@ -12,7 +12,7 @@ use Rattle.preempt_run.specs.declared.Preempts.{Preempts}
 use Rattle.preempt_run.specs.Tally.{TallyStands, count_of}
 use Rattle.preempt_run.specs.Stands.{PreemptsStand}
 use Rattle.preempt_run.proofs.Tallies.{counted}
-use Rattle.preempt_run.proofs.Goes.{goes_on, begins, same_mode-itself, one-mode}
+use Rattle.preempt_stages.proofs.Goes.{goes_on, begins, same_mode-itself, one-mode}
 use Rattle.std.proofs.lemmas.Bool.Decides.{Decides-eqb, eqb_tells}
 use Rattle.std.proofs.Common.{inl, inr}
 

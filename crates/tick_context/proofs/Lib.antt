@@ -8,7 +8,7 @@ pub mod Again
 pub mod Rings
 pub mod Seen
 pub mod Signals
-pub mod Turns
+pub mod RingTurns
 pub mod Binds
 pub mod Wanting
 pub mod Sought

@@ -1,9 +1,9 @@
 pub mod Told
 pub mod Shows
-pub mod Orders
+pub mod UnitCommands
 pub mod Modes
 pub mod Binds
-pub mod Course
+pub mod TickState
 pub mod Sees
 pub mod Moves
 pub mod Rests

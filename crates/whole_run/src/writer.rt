@@ -7,30 +7,15 @@ use crate::piece::put_all;
 use io_edge::{Failed, Sink};
 use sig_types::{NoMemory, Octets};
 use std::alloc::Global;
-use trace_text::{Line, Runs, write_line};
+use trace_text::{Line, Runs, same_octets, write_line};
 
 /// Why a trace was not written whole.
-#[derive(Clone, Copy, Debug, PartialEq, Eq)]
+#[derive(Clone, Copy, PartialEq, Eq)]
 pub enum Stop {
     /// A write failed.
     WriteFault,
     /// There was not memory enough.
     NoMemory,
-}
-
-/// The same octets.
-fn same_octets(octets: &Option<Octets>) -> Option<Octets>
-    ensures { result ≡ octets.now }
-{
-    match octets {
-        None => None,
-        Some(octets) => {
-            let mut same = Octets::new();
-            // There is room for them, as there was for those.
-            let _ = same.try_extend_from_slice(octets.as_slice());
-            Some(same)
-        }
-    }
 }
 
 /// The most bytes that are held.

@@ -98,7 +98,7 @@ def parser():
     words.add_argument("--cabinet", type=number(1, 64), default=1, metavar="N", help="which cabinet of the scenario answers (1)")
     words.add_argument("--step", type=number(0, 864_000), metavar="TICKS", help="ticks that go by after each datagram (those of the clock)")
     words.add_argument("--record", metavar="FILE", help="at the end write the scenario of all that came, for arterial run")
-    words.add_argument("--program", metavar="PATH", help="the built program; the one that ./arterial runs, built on first use")
+    words.add_argument("--program", metavar="PATH", help="the program (the one that ./arterial prove has built)")
     return words
 
 

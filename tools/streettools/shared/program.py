@@ -2,10 +2,11 @@
 
 import os
 import pathlib
+import shutil
 import subprocess
 
-TOP = pathlib.Path(__file__).resolve().parents[3]
-BUILT = TOP / "crates/arterial/out/arterial"
+HERE = pathlib.Path(__file__).resolve().parents[2]
+"""The folder that has the package: `tools` of a checkout, or the one of an installation, which has the program beside it."""
 
 
 class NoProgram(Exception):
@@ -21,16 +22,27 @@ class Refused(Exception):
         self.status = ran.returncode
 
 
-def found(name=None):
-    """Returns the program of this name; where there is no name the one that ./arterial runs, which is proved and built first where
-    it is missing or older than a source."""
-    if name is None:
-        if subprocess.run([TOP / "arterial", "--version"], stdin=subprocess.DEVNULL, stdout=subprocess.DEVNULL).returncode == 125:
-            raise NoProgram("the program could not be built")
-        name = BUILT
-    path = pathlib.Path(name).resolve()
+def found(name: str | None = None) -> pathlib.Path:
+    """Returns the program of this name; where there is no name the one that ARTERIAL_PROGRAM names, the one that is installed with
+    these tools, the one that was proved in this checkout, or the one on the path."""
+    path = pathlib.Path(name or os.environ.get("ARTERIAL_PROGRAM") or usual()).resolve()
     if not (path.is_file() and os.access(path, os.X_OK)):
         raise NoProgram(f"no program at {path}")
+    return path
+
+
+def usual() -> str:
+    """Returns the path of the program where nothing names it."""
+    if (HERE / "arterial").is_file():
+        return str(HERE / "arterial")
+    if (HERE / "proved").is_file():
+        asked = subprocess.run([HERE / "proved"], capture_output=True, text=True)
+        if asked.returncode:
+            raise NoProgram(asked.stderr.strip())
+        return asked.stdout.rstrip("\n")
+    path = shutil.which("arterial")
+    if path is None:
+        raise NoProgram("there is no program arterial on the path")
     return path
 
 

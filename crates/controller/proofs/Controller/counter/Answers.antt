@@ -11,10 +11,10 @@ pub returns-then-is_coord : goal.returns-then-is_coord
 returns-then-is_coord c = record {
   counter = λ past k b e.
       let (n, m) = in-coord c.args.mode (sym c.is_coord.ensures ∙ c.if-is_coord.true) in
-      c.counter_on.ensures.counter past n k (subst (λ (x : Mode). IsBound c.args.self.now.binding past.tables x) m b) (sym e ∙ m)
+      c.counter_on.ensures.counter past n k (subst (λ (x : Mode). IsBound c.args.self.now.active_pattern past.tables x) m b) (sym e ∙ m)
       ∙ ap (λ (x : Mode). counter_in past.tables x c.args.target past.moments) (sym m);
   within = λ past n k b e m.
-      c.counter_on.ensures.within past n k (subst (λ (x : Mode). IsBound c.args.self.now.binding past.tables x) m b) (sym e ∙ m);
+      c.counter_on.ensures.within past n k (subst (λ (x : Mode). IsBound c.args.self.now.active_pattern past.tables x) m b) (sym e ∙ m);
 }
 
 pub returns-else-is_coord : goal.returns-else-is_coord

@@ -24,22 +24,22 @@ returns-then-counter-self c = record {
       ∙ ap (λ (v : ℕ). next_counter (correction_of past.tables n) (counters_since n v past.moments) c.args.target)
       (sym (eq-true (last_frame past.moments).version past.version (step-version n past.version past.moments step)));
   within = λ past n k b e.
-      let is_cycle : c.args.self.now.binding.plan.cycle ≡ cycle_time past.tables n = ap (λ (x : Plan). x.cycle) b.plan in
-      let is_window : c.args.self.now.binding.plan.window ≡ window past.tables n = ap (λ (x : Plan). x.window) b.plan in
+      let is_cycle : c.args.self.now.active_pattern.plan.cycle ≡ cycle_time past.tables n = ap (λ (x : Plan). x.cycle) b.plan in
+      let is_window : c.args.self.now.active_pattern.plan.window ≡ window past.tables n = ap (λ (x : Plan). x.window) b.plan in
       let few : window past.tables n < cycle_time past.tables n = window-within past.tables n (coord-defined past n e) in
-      let below : c.next.result < c.args.self.now.binding.plan.cycle = c.next.ensures.within (omega arith) in
+      let below : c.next.result < c.args.self.now.active_pattern.plan.cycle = c.next.ensures.within (omega arith) in
       omega arith;
 }
 
 pub returns-else-counter-self : goal.returns-else-counter-self
 returns-else-counter-self c = record {
   counter = λ past n k b e.
-      let is_cycle : c.args.self.now.binding.plan.cycle ≡ cycle_time past.tables n = ap (λ (x : Plan). x.cycle) b.plan in
+      let is_cycle : c.args.self.now.active_pattern.plan.cycle ≡ cycle_time past.tables n = ap (λ (x : Plan). x.cycle) b.plan in
       let within = (k.counts n (coord-step past n e)).within in
       let kept = c.counter.ensures.kept in
       absurd (omega arith);
   within = λ past n k b e.
-      let is_cycle : c.args.self.now.binding.plan.cycle ≡ cycle_time past.tables n = ap (λ (x : Plan). x.cycle) b.plan in
+      let is_cycle : c.args.self.now.active_pattern.plan.cycle ≡ cycle_time past.tables n = ap (λ (x : Plan). x.cycle) b.plan in
       let within = (k.counts n (coord-step past n e)).within in
       let kept = c.counter.ensures.kept in
       absurd (omega arith);

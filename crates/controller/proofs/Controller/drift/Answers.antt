@@ -24,8 +24,8 @@ returns-clause-stands c = λ h k.
       latest = k.latest;
       start = k.start;
       few_start = k.few_start;
-      orders = c.drift.ensures.stands past k.orders;
-      binding = k.binding;
+      unit_commands = c.drift.ensures.stands past k.unit_commands;
+      active_pattern = k.active_pattern;
       counts = λ n s. let q = k.counts n s in record { stands = q.stands; within = q.within };
       old_frame = k.old_frame;
     }

@@ -1,7 +1,7 @@
 use Rattle.std.proofs.Common.{sym, subst}
 use Rattle.sig_types.specs.declared.frame.Mode.{Mode}
 use Rattle.sig_tables.specs.declared.tables.Tables.{Tables}
-use Rattle.tick_context.specs.Binds.{BindingStands, IsBound, Names}
+use Rattle.tick_context.specs.Binds.{ActivePatternStands, IsBound, Names}
 use Rattle.tick_context.proofs.Steps.{mode-named}
 use Rattle.controller.proofs.Controller.follow.Goals as goal
 
@@ -26,9 +26,9 @@ returns-clause-keeps c = λ past k.
       latest = k.latest;
       start = k.start;
       few_start = k.few_start;
-      orders = k.orders;
-      binding = subst (λ (t : Tables). BindingStands c.follow.new.self t) k.tables
-          (c.follow.ensures.stands (subst (λ (t : Tables). BindingStands c.args.self.now.binding t) (sym k.tables) k.binding));
+      unit_commands = k.unit_commands;
+      active_pattern = subst (λ (t : Tables). ActivePatternStands c.follow.new.self t) k.tables
+          (c.follow.ensures.stands (subst (λ (t : Tables). ActivePatternStands c.args.self.now.active_pattern t) (sym k.tables) k.active_pattern));
       counts = k.counts;
       old_frame = k.old_frame;
     }
@@ -37,5 +37,5 @@ pub returns-clause-bound : goal.returns-clause-bound
 returns-clause-bound c = λ past k e.
     subst (λ (t : Tables). IsBound c.follow.new.self t c.args.mode) k.tables
     (c.follow.ensures.bound
-    (subst (λ (t : Tables). BindingStands c.args.self.now.binding t) (sym k.tables) k.binding)
+    (subst (λ (t : Tables). ActivePatternStands c.args.self.now.active_pattern t) (sym k.tables) k.active_pattern)
     (subst (λ (t : Tables). Names t c.args.mode) (sym k.tables) (subst (λ (m : Mode). Names past.tables m) (sym e) (mode-named past))))

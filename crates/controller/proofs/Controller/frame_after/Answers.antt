@@ -5,10 +5,10 @@ use Rattle.controller.proofs.Controller.frame_after.Goals as goal
 pub returns : goal.returns
 returns c = record {
   frame = λ past r red p.
-      frame-parts past c.args.mode c.args.veh c.args.ped c.on_in_ring.result c.on_in_ring-2.result c.args.course.now.counter c.args.course.now.target
+      frame-parts past c.args.mode c.args.veh c.args.ped c.on_in_ring.result c.on_in_ring-2.result c.args.tick_state.now.counter c.args.tick_state.now.target
       c.args.self.now.version
       p (c.on_in_ring.ensures.on past c.args.veh r.keeps red) (c.on_in_ring-2.ensures.on past c.args.veh r.keeps red)
-      r.course.counter r.course.target r.keeps.version;
+      r.tick_state.counter r.tick_state.target r.keeps.version;
   veh = refl;
   ped = refl;
 }

@@ -30,15 +30,15 @@ returns-in-Veh-clause-stands c = λ h k.
       latest = k.latest;
       start = k.start;
       few_start = k.few_start;
-      orders = record {
-        command = k.orders.command;
-        since = k.orders.since;
-        clock = k.orders.clock;
-        ticks = k.orders.ticks;
-        gain = k.orders.gain;
-        lose = k.orders.lose;
+      unit_commands = record {
+        command = k.unit_commands.command;
+        since = k.unit_commands.since;
+        clock = k.unit_commands.clock;
+        ticks = k.unit_commands.ticks;
+        gain = k.unit_commands.gain;
+        lose = k.unit_commands.lose;
       };
-      binding = k.binding;
+      active_pattern = k.active_pattern;
       counts = λ n s. let q = k.counts n s in record { stands = q.stands; within = q.within };
       old_frame = k.old_frame;
     }
@@ -66,15 +66,15 @@ returns-in-Ped-clause-stands c = λ h k.
       latest = k.latest;
       start = k.start;
       few_start = k.few_start;
-      orders = record {
-        command = k.orders.command;
-        since = k.orders.since;
-        clock = k.orders.clock;
-        ticks = k.orders.ticks;
-        gain = k.orders.gain;
-        lose = k.orders.lose;
+      unit_commands = record {
+        command = k.unit_commands.command;
+        since = k.unit_commands.since;
+        clock = k.unit_commands.clock;
+        ticks = k.unit_commands.ticks;
+        gain = k.unit_commands.gain;
+        lose = k.unit_commands.lose;
       };
-      binding = k.binding;
+      active_pattern = k.active_pattern;
       counts = λ n s. let q = k.counts n s in record { stands = q.stands; within = q.within };
       old_frame = k.old_frame;
     }
@@ -102,15 +102,15 @@ returns-in-Preempt-clause-stands c = λ h k.
       latest = k.latest;
       start = k.start;
       few_start = k.few_start;
-      orders = record {
-        command = k.orders.command;
-        since = k.orders.since;
-        clock = k.orders.clock;
-        ticks = k.orders.ticks;
-        gain = k.orders.gain;
-        lose = k.orders.lose;
+      unit_commands = record {
+        command = k.unit_commands.command;
+        since = k.unit_commands.since;
+        clock = k.unit_commands.clock;
+        ticks = k.unit_commands.ticks;
+        gain = k.unit_commands.gain;
+        lose = k.unit_commands.lose;
       };
-      binding = k.binding;
+      active_pattern = k.active_pattern;
       counts = λ n s. let q = k.counts n s in record { stands = q.stands; within = q.within };
       old_frame = k.old_frame;
     }

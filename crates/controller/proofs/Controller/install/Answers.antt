@@ -2,7 +2,7 @@ use Rattle.std.proofs.Common.{◌≡◌, ◌≤◌, ◌+◌, ℕ, refl, ap, arit
 use Rattle.sig_tables.specs.Past.{Install}
 use Rattle.sig_tables.specs.Decide.{with_event}
 use Rattle.sig_tables.specs.Seen.{frame_seen, moment_seen}
-use Rattle.tick_context.proofs.Events.{moment-kept, calls-kept, orders-kept, queue-kept, not-yet}
+use Rattle.tick_context.proofs.Events.{moment-kept, calls-kept, unit_commands-kept, queue-kept, not-yet}
 use Rattle.sig_tables.specs.Past.{Past}
 use Rattle.sig_tables.specs.Decide.{past_at}
 use Rattle.controller.proofs.Controller.install.Goals as goal
@@ -30,8 +30,8 @@ returns-clause-stands c = λ h k.
       latest = k.latest;
       start = k.start;
       few_start = k.few_start;
-      orders = orders-kept c.args.self.now.orders past c.args.tables e k.orders;
-      binding = c.none-self.ensures.stands c.args.tables;
+      unit_commands = unit_commands-kept c.args.self.now.unit_commands past c.args.tables e k.unit_commands;
+      active_pattern = c.none-self.ensures.stands c.args.tables;
       counts = λ n s. absurd (not-yet (frame_seen past) past.version n k.old_frame s);
       old_frame = (let old : (frame_seen past).version ≤ past.version = k.old_frame in omega arith);
     }

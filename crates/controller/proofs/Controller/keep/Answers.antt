@@ -9,8 +9,8 @@ use Rattle.sig_tables.specs.Command.{command_now}
 use Rattle.sig_tables.specs.Preempts.{preempts_on}
 use Rattle.sig_tables.specs.Decide.{next_moment, colours_of}
 use Rattle.sig_tables.specs.Seen.{frame_seen, moment_seen, moves_seen}
-use Rattle.preempt_run.proofs.Called.{seen-is}
-use Rattle.preempt_run.proofs.OnPhases.{names-phases}
+use Rattle.preempt_stages.proofs.Inputs.{seen-is}
+use Rattle.preempt_stages.proofs.OnPhases.{names-phases}
 use Rattle.sig_tables.specs.Layout.{Has}
 use Rattle.call_store.specs.Stands.{is_walking}
 use Rattle.controller.specs.Shows.{ShowsColours}
@@ -46,9 +46,9 @@ returns-clause-keeps c = λ past r s n.
       signals = c.step-3.ensures.stands past.moments m k.signals g (sym k.tables) (λ t. ped ∙ n.signals t);
       preempts = c.step-4.ensures.stands past m k.preempts g (sym (seen-is past))
           (names-phases c.args.next.now.frame past.tables (colours_of past (moves_seen past)) (ap (λ (x : Frame). x.on) f));
-      requests = c.step-5.ensures.stands past m k.requests (one-more (moment_seen past).number) r.course.active;
-      orders = c.step-6.ensures.stands past m k.orders (record { number = refl; command = refl; is_commanded = refl; clock = refl })
-          r.course.command r.course.clock;
+      requests = c.step-5.ensures.stands past m k.requests (one-more (moment_seen past).number) r.tick_state.active;
+      unit_commands = c.step-6.ensures.stands past m k.unit_commands (record { number = refl; command = refl; is_commanded = refl; clock = refl })
+          r.tick_state.command r.tick_state.clock;
       shown = shown;
       walking = walking-in;
       signalling = subst (λ (x : Frame). Has c.signalling_in-signalling.result (is_signalling x)) f (c.signalling_in-signalling.ensures.signalling past k n walking);
@@ -66,7 +66,7 @@ returns-clause-keeps c = λ past r s n.
       few_start = few-next m past.moments
           (λ now last. start-again past.tables past.version (command_now past) (preempts_on past.heard (moment_seen past)) past.moments
           (colours_of past (moves_seen past)) last now);
-      binding = k.binding;
+      active_pattern = k.active_pattern;
       counts = λ n st. c.count_after-count.ensures.counts past r f n (subst (λ (x : Frame). is_in_step x past.version n ≡ true) g st);
       old_frame = same-most past.version;
     }

@@ -1,7 +1,7 @@
 use Rattle.std.proofs.Common.{ℕ, sym, ◌∙◌, ap}
 use Rattle.sig_tables.specs.declared.tables.Tables.{Tables}
 use Rattle.sig_tables.specs.Choosing.{mode_sought}
-use Rattle.preempt_run.specs.Stands.{preempts_seen}
+use Rattle.preempt_stages.specs.Inputs.{preempts_seen}
 use Rattle.controller.proofs.Controller.mode.Goals as goal
 
 pub returns : goal.returns

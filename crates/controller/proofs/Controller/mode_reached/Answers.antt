@@ -8,6 +8,6 @@ use Rattle.controller.proofs.Controller.mode_reached.Goals as goal
 pub returns : goal.returns
 returns c = record {
   reached = λ past r.
-      c.reached.ensures past.tables (sought-phases c.args.self.now.binding past.tables (mode_seen past) c.args.course.now.mode r.bound r.course.mode)
-      ∙ ap (λ (m : Mode). mode_reached m past.tables c.args.veh.now) r.course.mode;
+      c.reached.ensures past.tables (sought-phases c.args.self.now.active_pattern past.tables (mode_seen past) c.args.tick_state.now.mode r.bound r.tick_state.mode)
+      ∙ ap (λ (m : Mode). mode_reached m past.tables c.args.veh.now) r.tick_state.mode;
 }

@@ -34,8 +34,8 @@ returns-clause-stands c =
       latest = refl;
       start = refl;
       few_start = omega arith;
-      orders = c.of-2.ensures.stands c.args.tables;
-      binding = c.none.ensures.stands c.args.tables;
+      unit_commands = c.of-2.ensures.stands c.args.tables;
+      active_pattern = c.none.ensures.stands c.args.tables;
       counts = λ n t. absurd (false≢true t);
       old_frame = omega arith;
     }

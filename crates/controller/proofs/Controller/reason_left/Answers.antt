@@ -13,7 +13,7 @@ returns-then-is_coord c = record {
   left = λ past k keeps b a o some within.
       let (n, e) = in-coord c.args.self.now.frame.mode (sym c.is_coord.ensures ∙ c.if-is_coord.true) in
       subst (λ (x : Option ℕ). HasNoReason x k past c.args.phase) (sym (ap bound e))
-      (c.bound_left.ensures.left past n k keeps (subst (λ (m : Mode). IsBound c.args.self.now.binding past.tables m) e b)
+      (c.bound_left.ensures.left past n k keeps (subst (λ (m : Mode). IsBound c.args.self.now.active_pattern past.tables m) e b)
       (a ∙ ap (λ (x : Option ℕ). not (is_in (quiet_with x past) c.args.phase)) (ap bound e)) some within);
 }
 

@@ -15,9 +15,9 @@ use Rattle.sig_tables.specs.Decide.{next_moment, colours_of}
 use Rattle.sig_tables.specs.Priority.{active_in}
 use Rattle.sig_tables.specs.Seen.{frame_seen, moment_seen, moves_seen}
 use Rattle.call_store.specs.Stands.{is_walking}
-use Rattle.preempt_run.specs.Dwelling.{NamesPhases, is_dwell}
-use Rattle.preempt_run.proofs.Called.{seen-is}
-use Rattle.preempt_run.proofs.OnPhases.{last-wide}
+use Rattle.preempt_stages.specs.Dwelling.{NamesPhases, is_dwell}
+use Rattle.preempt_stages.proofs.Inputs.{seen-is}
+use Rattle.preempt_stages.proofs.OnPhases.{last-wide}
 use Rattle.prio_queue.specs.Places.{some_number}
 use Rattle.controller.specs.Shows.{ShowsColours}
 use Rattle.tick_context.specs.Shows.{is_signalling}
@@ -63,7 +63,7 @@ returns-clause-keeps c = λ past k beside e at quiet opposed r.
       });
       requests = c.step-4.ensures.stands past m k.requests (one-more (moment_seen past).number)
           (sym (ap (λ (x : Mode). some_number (active_in past.tables x ((moment_seen past).number + 1) past.asked)) r.mode));
-      orders = c.step-5.ensures.stands past m k.orders (record { number = refl; command = refl; is_commanded = refl; clock = refl })
+      unit_commands = c.step-5.ensures.stands past m k.unit_commands (record { number = refl; command = refl; is_commanded = refl; clock = refl })
           e at;
       shown = shown;
       walking = walking;
@@ -78,7 +78,7 @@ returns-clause-keeps c = λ past k beside e at quiet opposed r.
       few_start = few-next m past.moments
           (λ now last. start-again past.tables past.version (command_now past) (preempts_on past.heard (moment_seen past)) past.moments
           (colours_of past (moves_seen past)) last now);
-      binding = k.binding;
+      active_pattern = k.active_pattern;
       counts = λ n st. absurd (false≢true (sym (free-apart m.frame past.version n free) ∙ st));
       old_frame = same-most past.version;
     }

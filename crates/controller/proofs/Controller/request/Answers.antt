@@ -16,7 +16,7 @@ returns-clause-stands c = λ h k.
       clocks = k.clocks;
       signals = k.signals;
       preempts = k.preempts;
-      requests = c.request.ensures.stands past k.requests (c.ticks-ticks.ensures.ticks ∙ k.orders.ticks);
+      requests = c.request.ensures.stands past k.requests (c.ticks-ticks.ensures.ticks ∙ k.unit_commands.ticks);
       shown = k.shown;
       walking = k.walking;
       signalling = k.signalling;
@@ -25,15 +25,15 @@ returns-clause-stands c = λ h k.
       latest = k.latest;
       start = k.start;
       few_start = k.few_start;
-      orders = record {
-        command = k.orders.command;
-        since = k.orders.since;
-        clock = k.orders.clock;
-        ticks = k.orders.ticks;
-        gain = k.orders.gain;
-        lose = k.orders.lose;
+      unit_commands = record {
+        command = k.unit_commands.command;
+        since = k.unit_commands.since;
+        clock = k.unit_commands.clock;
+        ticks = k.unit_commands.ticks;
+        gain = k.unit_commands.gain;
+        lose = k.unit_commands.lose;
       };
-      binding = k.binding;
+      active_pattern = k.active_pattern;
       counts = λ n s. let q = k.counts n s in record { stands = q.stands; within = q.within };
       old_frame = k.old_frame;
     }

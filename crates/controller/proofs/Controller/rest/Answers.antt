@@ -28,18 +28,18 @@ returns-clause-keeps c = λ past k beside e none r.
       latest = k.latest;
       start = k.start;
       few_start = k.few_start;
-      orders = record {
-        command = k.orders.command;
-        since = k.orders.since;
-        clock = k.orders.clock;
-        ticks = k.orders.ticks;
-        gain = k.orders.gain;
-        lose = k.orders.lose;
+      unit_commands = record {
+        command = k.unit_commands.command;
+        since = k.unit_commands.since;
+        clock = k.unit_commands.clock;
+        ticks = k.unit_commands.ticks;
+        gain = k.unit_commands.gain;
+        lose = k.unit_commands.lose;
       };
-      binding = k.binding;
+      active_pattern = k.active_pattern;
       counts = k.counts;
       old_frame = k.old_frame;
-    }) beside e (c.clock_now-clock.ensures.clock past k.orders)
+    }) beside e (c.clock_now-clock.ensures.clock past k.unit_commands)
     (λ p h. ap (λ (x : Mode). is_in (quiet_with (bound x) past) p) r.mode ∙ c.active-active.ensures.quiet None past k.calls k.layout tt p h)
     (λ p h. c.empty.ensures.has p ∙ sym (unopposed past.tables (frame_seen past) _ p h free))
     r

@@ -6,7 +6,7 @@ use Rattle.sig_tables.specs.Modes.{sequence_in}
 use Rattle.sig_tables.specs.Seen.{mode_seen, view_seen}
 use Rattle.tick_context.specs.Moves.{AreMoves}
 use Rattle.tick_context.proofs.Binds.{in-coord, first-sequence}
-use Rattle.controller.proofs.Running.{coord-of, binding-in}
+use Rattle.controller.proofs.Running.{coord-of, active_pattern-in}
 use Rattle.controller.proofs.Controller.ring_changes.Goals as goal
 
 pub returns-then-is_resting : goal.returns-then-is_resting
@@ -30,9 +30,9 @@ returns-then-is_idle c = record {
 pub returns-then-is_coord : goal.returns-then-is_coord
 returns-then-is_coord c = record {
   changes = λ past r s t.
-      let (n, e) = in-coord (mode_seen past) (coord-of c.args.self.now c.args.course.now past _ _ r c.is_coord.ensures c.if-is_coord.true) in
-      let b = binding-in c.args.self.now c.args.course.now past n r e in
-      c.looking.ensures.changes past r b.laid (subst (λ (m : Mode). Ordered c.args.self.now.binding.layout past.tables (sequence_in past.tables m))
+      let (n, e) = in-coord (mode_seen past) (coord-of c.args.self.now c.args.tick_state.now past _ _ r c.is_coord.ensures c.if-is_coord.true) in
+      let b = active_pattern-in c.args.self.now c.args.tick_state.now past n r e in
+      c.looking.ensures.changes past r b.laid (subst (λ (m : Mode). Ordered c.args.self.now.active_pattern.layout past.tables (sequence_in past.tables m))
       (sym e) b.ordered)
       s.demand (c.opening-opening.ensures.opening past r.keeps) (c.done-done.ensures.done past r s) (c.forced-forced.ensures.forced past r);
 }
@@ -42,7 +42,7 @@ returns-else-is_coord c = record {
   changes = λ past r s t.
       let one : sequence_in past.tables (mode_seen past) ≡ 1 =
       first-sequence past.tables past.moments (mode_seen past) t
-      (coord-of c.args.self.now c.args.course.now past _ _ r c.is_coord.ensures c.if-is_coord.false) in
+      (coord-of c.args.self.now c.args.tick_state.now past _ _ r c.is_coord.ensures c.if-is_coord.false) in
       c.looking-else-is_coord.ensures.changes past r r.keeps.layout
       (subst (λ (n : ℕ). Ordered c.args.self.now.layout past.tables n) (sym one) r.keeps.ordered)
       s.demand (c.opening-opening.ensures.opening past r.keeps) (c.done-done.ensures.done past r s) (c.forced-forced.ensures.forced past r);

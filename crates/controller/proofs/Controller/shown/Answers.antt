@@ -9,11 +9,11 @@ returns c = record {
       let past : Past = past_at h in
       record {
         frame = k.frame;
-        command = c.command.ensures.command past k.orders;
-        clock = c.clock.ensures.clock past k.orders;
+        command = c.command.ensures.command past k.unit_commands;
+        clock = c.clock.ensures.clock past k.unit_commands;
         vehicle = c.vehicle.ensures.has past k.calls;
         pedestrian = c.pedestrian.ensures.has past k.calls;
-        requests = c.states.ensures.states past k.requests (c.ticks.ensures.ticks ∙ k.orders.ticks);
+        requests = c.states.ensures.states past k.requests (c.ticks.ensures.ticks ∙ k.unit_commands.ticks);
         version = k.version;
       };
 }

@@ -3,7 +3,7 @@ use Rattle.sig_types.specs.declared.frame.Ped.{Ped}
 use Rattle.sig_types.specs.declared.frame.Frame.{Frame}
 use Rattle.std.proofs.Common.{subst}
 use Rattle.sig_types.specs.Colour.{signal_of}
-use Rattle.ped_clock.specs.Passed.{SignalLasts}
+use Rattle.call_store.specs.Signals.{SignalLasts}
 use Rattle.controller.proofs.Controller.signal_left.Goals as goal
 
 pub returns : goal.returns

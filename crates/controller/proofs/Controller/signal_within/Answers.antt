@@ -5,7 +5,7 @@ use Rattle.sig_types.specs.declared.frame.Ped.TheVariants.{Walk}
 use Rattle.sig_types.specs.Colour.{signal_of}
 use Rattle.sig_tables.specs.declared.tables.Tables.{Tables}
 use Rattle.sig_tables.specs.Lesser.{signal_runs_within}
-use Rattle.ped_clock.specs.Signals.{lesser_of}
+use Rattle.call_store.specs.Signals.{lesser_of}
 use Rattle.sig_tables.specs.Seen.{frame_seen}
 use Rattle.controller.proofs.Controller.signal_within.Goals as goal
 

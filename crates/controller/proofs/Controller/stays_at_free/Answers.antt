@@ -9,7 +9,7 @@ use Rattle.controller.proofs.Controller.stays_at_free.Goals as goal
 
 pub returns-else-self-ne0-2 : goal.returns-else-self-ne0-2
 returns-else-self-ne0-2 c = λ past k fresh o t.
-    let mine : c.command-command.result ≡ (moment_seen past).command = c.command-command.ensures.command past k.orders ∙ rw fresh.commanded refl in
+    let mine : c.command-command.result ≡ (moment_seen past).command = c.command-command.ensures.command past k.unit_commands ∙ rw fresh.commanded refl in
     let counter : c.args.self.now.frame.counter ≡ 0 = omega arith in
     let target : c.args.self.now.frame.target ≡ 0 = omega arith in
     record {

@@ -4,8 +4,8 @@ use Rattle.sig_types.specs.declared.frame.Frame.{Frame}
 use Rattle.sig_tables.specs.declared.tables.Tables.{Tables}
 use Rattle.sig_tables.specs.Slots.{is_defined}
 use Rattle.sig_tables.specs.Command.{command_now}
-use Rattle.preempt_run.specs.Stands.{preempts_seen}
-use Rattle.preempt_run.proofs.Called.{seen-is}
+use Rattle.preempt_stages.specs.Inputs.{preempts_seen}
+use Rattle.preempt_stages.proofs.Inputs.{seen-is}
 use Rattle.tick_context.proofs.Again.{free-is, no-preempts, free-on}
 use Rattle.controller.proofs.Controller.stays_free.Goals as goal
 

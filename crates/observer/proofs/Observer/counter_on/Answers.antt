@@ -16,30 +16,30 @@ pub returns-then-counter-self : goal.returns-then-counter-self
 returns-then-counter-self c = record {
   counter = λ past n k b e.
       let counters = counters_since n (last_frame past.moments).version past.moments in
-      let stands = c.count-count.ensures past.moments n (c.counting.ensures past.moments k.lookout) (coord-was past n e) in
+      let stands = c.count-count.ensures past.moments n (c.counting.ensures past.moments k.frame_history) (coord-was past n e) in
       c.next.ensures.next counters stands
       ∙ ap (λ (x : Correction). next_counter x counters c.args.target)
       (ap (λ (x : Plan). correction_in x c.of.result) (b.plan ∙ ap (λ (t : Tables). plan_of t n) (sym k.tables)) ∙ c.of.ensures.corrects n
       ∙ ap (λ (t : Tables). correction_of t n) k.tables);
   within = λ past n k b e.
-      let is_cycle : c.args.self.now.binding.plan.cycle ≡ cycle_time past.tables n = ap (λ (x : Plan). x.cycle) b.plan in
-      let is_window : c.args.self.now.binding.plan.window ≡ window past.tables n = ap (λ (x : Plan). x.window) b.plan in
+      let is_cycle : c.args.self.now.active_pattern.plan.cycle ≡ cycle_time past.tables n = ap (λ (x : Plan). x.cycle) b.plan in
+      let is_window : c.args.self.now.active_pattern.plan.window ≡ window past.tables n = ap (λ (x : Plan). x.window) b.plan in
       let few : window past.tables n < cycle_time past.tables n = window-within past.tables n (coord-defined past n e) in
-      let below : c.next.result < c.args.self.now.binding.plan.cycle = c.next.ensures.within (omega arith) in
+      let below : c.next.result < c.args.self.now.active_pattern.plan.cycle = c.next.ensures.within (omega arith) in
       omega arith;
 }
 
 pub returns-else-counter-self : goal.returns-else-counter-self
 returns-else-counter-self c = record {
   counter = λ past n k b e.
-      let is_cycle : c.args.self.now.binding.plan.cycle ≡ cycle_time past.tables n = ap (λ (x : Plan). x.cycle) b.plan in
-      let stands = c.count-count.ensures past.moments n (c.counting.ensures past.moments k.lookout) (coord-was past n e) in
+      let is_cycle : c.args.self.now.active_pattern.plan.cycle ≡ cycle_time past.tables n = ap (λ (x : Plan). x.cycle) b.plan in
+      let stands = c.count-count.ensures past.moments n (c.counting.ensures past.moments k.frame_history) (coord-was past n e) in
       let kept = c.counter.ensures.counter (counters_since n (last_frame past.moments).version past.moments) stands in
       let below = counter-below c.args.self.now past n k e in
       absurd (omega arith);
   within = λ past n k b e.
-      let is_cycle : c.args.self.now.binding.plan.cycle ≡ cycle_time past.tables n = ap (λ (x : Plan). x.cycle) b.plan in
-      let stands = c.count-count.ensures past.moments n (c.counting.ensures past.moments k.lookout) (coord-was past n e) in
+      let is_cycle : c.args.self.now.active_pattern.plan.cycle ≡ cycle_time past.tables n = ap (λ (x : Plan). x.cycle) b.plan in
+      let stands = c.count-count.ensures past.moments n (c.counting.ensures past.moments k.frame_history) (coord-was past n e) in
       let kept = c.counter.ensures.counter (counters_since n (last_frame past.moments).version past.moments) stands in
       let below = counter-below c.args.self.now past n k e in
       absurd (omega arith);

@@ -5,23 +5,23 @@ use Rattle.sig_types.specs.PhaseSet.{has}
 use Rattle.sig_tables.specs.Tables.{is_enabled}
 use Rattle.sig_tables.specs.Modes.{bound}
 use Rattle.sig_tables.specs.Coordinating.{is_forced_off}
-use Rattle.sig_tables.specs.Course.{course_of}
+use Rattle.sig_tables.specs.TickState.{tick_state_of}
 use Rattle.sig_tables.specs.Seen.{frame_seen, mode_seen, view_seen}
-use Rattle.sig_tables.proofs.FreeCourse.{forced-unbound}
+use Rattle.sig_tables.proofs.FreeTickState.{forced-unbound}
 use Rattle.tick_context.proofs.Binds.{in-coord, unbound}
-use Rattle.observer.proofs.Bound.{binding-in, coord-of}
+use Rattle.observer.proofs.Bound.{active_pattern-in, coord-of}
 use Rattle.tick_context.proofs.Wanting.{three}
 use Rattle.observer.proofs.Observer.forced.Goals as goal
 
 pub returns-then-is_coord : goal.returns-then-is_coord
 returns-then-is_coord c = record {
   forced = λ past r p h.
-      let (n, e) = in-coord (mode_seen past) (coord-of c.args.self.now c.args.course.now past _ _ r c.is_coord.ensures c.if-is_coord.true) in
+      let (n, e) = in-coord (mode_seen past) (coord-of c.args.self.now c.args.tick_state.now past _ _ r c.is_coord.ensures c.if-is_coord.true) in
       three (has c.forced.result p) (has c.meet-green.result p) (is_enabled past.tables p) (same_colour (colour_of (frame_seen past) p) Green)
-      (is_forced_off (bound (mode_seen past)) past.tables (course_of past).counter p)
-      (c.forced.ensures.forced past.tables n (binding-in c.args.self.now c.args.course.now past n r e) p h
-      ∙ ap (λ (k : ℕ). has c.meet-green.result p && is_forced_off (Some n) past.tables k p) r.course.counter
-      ∙ ap (λ (m : Option ℕ). has c.meet-green.result p && is_forced_off m past.tables (course_of past).counter p) (sym (ap bound e)))
+      (is_forced_off (bound (mode_seen past)) past.tables (tick_state_of past).counter p)
+      (c.forced.ensures.forced past.tables n (active_pattern-in c.args.self.now c.args.tick_state.now past n r e) p h
+      ∙ ap (λ (k : ℕ). has c.meet-green.result p && is_forced_off (Some n) past.tables k p) r.tick_state.counter
+      ∙ ap (λ (m : Option ℕ). has c.meet-green.result p && is_forced_off m past.tables (tick_state_of past).counter p) (sym (ap bound e)))
       (c.meet-green.ensures.has p ∙ ap (λ (x : Bool). x && has c.green.result p) (r.keeps.layout.enabled p h)
       ∙ ap (λ (x : Bool). is_enabled past.tables p && x) (c.green.ensures.green past r.keeps p h));
 }
@@ -31,5 +31,5 @@ returns-else-is_coord c = record {
   forced = λ past r p h.
       c.empty.ensures.has p
       ∙ sym (forced-unbound (view_seen past) p (unbound (mode_seen past)
-      (coord-of c.args.self.now c.args.course.now past _ _ r c.is_coord.ensures c.if-is_coord.false)));
+      (coord-of c.args.self.now c.args.tick_state.now past _ _ r c.is_coord.ensures c.if-is_coord.false)));
 }

@@ -10,7 +10,7 @@ use Rattle.observer.proofs.Observer.goes_free.Goals as goal
 
 pub returns-else-self-ne0-2 : goal.returns-else-self-ne0-2
 returns-else-self-ne0-2 c = λ past k fresh t.
-    let command : c.command-command.result ≡ (moment_seen past).command = c.command-command.ensures.command past k.orders ∙ rw fresh.commanded refl in
+    let command : c.command-command.result ≡ (moment_seen past).command = c.command-command.ensures.command past k.unit_commands ∙ rw fresh.commanded refl in
     let free : is_free (mode_running c.args.self.now.tables c.args.self.now.version c.command-command.result c.args.self.now.frame) ≡ true =
     ap is_free (sym c.running.ensures) ∙ sym c.is_free-else-self-ne0-2.ensures ∙ t in
     let by = by-command c.args.self.now.tables c.args.self.now.version c.command-command.result c.args.self.now.frame free in

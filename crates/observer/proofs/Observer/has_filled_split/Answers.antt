@@ -28,5 +28,5 @@ returns c = record {
       ∙ ap (λ (t : Tables). split_time t c.args.pattern c.args.phase) k.tables in
       filled (view_seen past) c.args.pattern c.args.phase c.time_of-split.result c.clearance.result c.saturating_sub-least.result c.run.result
       (sym mode ∙ two) split (c.clearance.ensures.time ∙ ap (λ (t : Tables). clearance t c.args.phase) k.tables)
-      c.saturating_sub-least.ensures (c.run.ensures past.moments (c.window.ensures past.moments k.lookout));
+      c.saturating_sub-least.ensures (c.run.ensures past.moments (c.window.ensures past.moments k.frame_history));
 }

@@ -4,7 +4,7 @@ use Rattle.sig_tables.specs.Past.{Past, Moment, Install}
 use Rattle.sig_tables.specs.Decide.{past_at, with_event}
 use Rattle.sig_tables.specs.Seen.{frame_seen, moment_seen}
 use Rattle.sig_tables.specs.Preempts.{preempt_on}
-use Rattle.tick_context.proofs.Events.{moment-kept, calls-kept, orders-kept, queue-kept, not-yet}
+use Rattle.tick_context.proofs.Events.{moment-kept, calls-kept, unit_commands-kept, queue-kept, not-yet}
 use Rattle.observer.proofs.Inputs.{kept-on}
 use Rattle.observer.proofs.Observer.install.Goals as goal
 
@@ -22,10 +22,10 @@ returns-clause-stands c = λ h k.
       inputs = kept-on c.args.self.now.inputs past (with_event (Install c.args.tables) past)
           (λ i. ap (λ (m : Moment). preempt_on (is_in m.preempts i) past.heard i) e) k.inputs;
       requests = queue-kept c.args.self.now.requests past c.args.tables e k.requests;
-      orders = orders-kept c.args.self.now.orders past c.args.tables e k.orders;
+      unit_commands = unit_commands-kept c.args.self.now.unit_commands past c.args.tables e k.unit_commands;
       commanded = k.commanded;
-      binding = c.none-self.ensures.stands c.args.tables;
-      lookout = k.lookout;
+      active_pattern = c.none-self.ensures.stands c.args.tables;
+      frame_history = k.frame_history;
       some = k.some;
       names = k.names;
       within = λ n s. absurd (not-yet (frame_seen past) past.version n k.old_frame s);

@@ -10,8 +10,8 @@ use Rattle.sig_tables.specs.Seen.{frame_seen, moment_seen, moves_seen}
 use Rattle.sig_tables.specs.Layout.{Has}
 use Rattle.sig_tables.proofs.Below.{is-above, is-within}
 use Rattle.call_store.specs.Stands.{is_walking}
-use Rattle.preempt_run.proofs.Called.{seen-is}
-use Rattle.preempt_run.proofs.OnPhases.{names-phases}
+use Rattle.preempt_stages.proofs.Inputs.{seen-is}
+use Rattle.preempt_stages.proofs.OnPhases.{names-phases}
 use Rattle.tick_context.proofs.Seen.{opposed-green}
 use Rattle.tick_context.proofs.Sought.{start-again}
 use Rattle.tick_context.proofs.Pickups.{few-next, one-more, same-most}
@@ -35,12 +35,12 @@ returns-clause-keeps c = λ past r s f.
       frame = f;
       calls = c.step.ensures.stands past m k.calls green walking refl refl refl;
       inputs = seen-on c.args.self.now.inputs past m (sym (seen-is past)) k.inputs;
-      requests = c.step-2.ensures.stands past m k.requests (one-more (moment_seen past).number) r.course.active;
-      orders = c.step-3.ensures.stands past m k.orders (record { number = refl; command = refl; is_commanded = refl; clock = refl })
-          r.course.command r.course.clock;
+      requests = c.step-2.ensures.stands past m k.requests (one-more (moment_seen past).number) r.tick_state.active;
+      unit_commands = c.step-3.ensures.stands past m k.unit_commands (record { number = refl; command = refl; is_commanded = refl; clock = refl })
+          r.tick_state.command r.tick_state.clock;
       commanded = refl;
-      binding = k.binding;
-      lookout = c.push.ensures past.moments m k.lookout
+      active_pattern = k.active_pattern;
+      frame_history = c.push.ensures past.moments m k.frame_history
           (record {
             frame = sym f;
             quiet = s.quiet;
@@ -49,7 +49,7 @@ returns-clause-keeps c = λ past r s f.
           (sym k.tables) (λ i a b. k.inputs i a b ∙ ap (λ (xs : List ℕ). is_in xs i) (seen-is past)) k.commanded;
       some = omega arith;
       names = names-phases m.frame past.tables (colours_of past (moves_seen past)) refl;
-      within = λ n. next-within c.args.course.now past n r.course;
+      within = λ n. next-within c.args.tick_state.now past n r.tick_state;
       few_start = few-next m past.moments
           (λ now last. start-again past.tables past.version (command_now past) (preempts_on past.heard (moment_seen past)) past.moments
           (colours_of past (moves_seen past)) last now);

@@ -5,7 +5,7 @@ use Rattle.sig_tables.specs.Looking.{last_on}
 use Rattle.sig_tables.specs.Layout.{Has}
 use Rattle.sig_tables.specs.View.{is_wanted, on_phase, clearance_of, greatest_clearance}
 use Rattle.sig_tables.specs.Seen.{frame_seen, view_seen}
-use Rattle.look_back.specs.Further.{FurtherStands}
+use Rattle.look_back.specs.LongCounts.{LongCountsStands}
 use Rattle.tick_context.proofs.Rings.{each-ring}
 use Rattle.tick_context.proofs.Wanting.{are-phases, wanted-room, each-set}
 use Rattle.observer.proofs.Observer.looking.Goals as goal
@@ -25,25 +25,25 @@ returns c = record {
       c.max.ensures ∙ ap (λ (n : ℕ). max n c.clearance_of-second.result) one ∙ ap (λ (n : ℕ). max (clearance_of past.tables (on_phase
       (view_seen past) 1)) n) two in
       let startable = c.startable-startable.ensures.startable past r.keeps in
-      let further : FurtherStands c.further-further.result.now past.moments = c.further-further.ensures past.moments r.keeps.lookout in
+      let long_counts : LongCountsStands c.long_counts-long_counts.result.now past.moments = c.long_counts-long_counts.ensures past.moments r.keeps.frame_history in
       let after1 : Has c.with_room-2.result (is_wanted (view_seen past) (clearance_of past.tables (on_phase (view_seen past) 1))) =
       subst (λ (k : ℕ). Has c.with_room-2.result (is_wanted (view_seen past) k)) one
-      (wanted-room c.args.sight.now.demand c.with_room-2.result (view_seen past) _ s.demand (c.with_room-2.ensures.room past r)) in
+      (wanted-room c.args.tick_inputs.now.demand c.with_room-2.result (view_seen past) _ s.demand (c.with_room-2.ensures.room past r)) in
       let after2 : Has c.with_room-3.result (is_wanted (view_seen past) (clearance_of past.tables (on_phase (view_seen past) 2))) =
       subst (λ (k : ℕ). Has c.with_room-3.result (is_wanted (view_seen past) k)) two
-      (wanted-room c.args.sight.now.demand c.with_room-3.result (view_seen past) _ s.demand (c.with_room-3.ensures.room past r)) in
+      (wanted-room c.args.tick_inputs.now.demand c.with_room-3.result (view_seen past) _ s.demand (c.with_room-3.ensures.room past r)) in
       let across : Has c.with_room-4.result (is_wanted (view_seen past) (greatest_clearance (view_seen past))) =
       subst (λ (k : ℕ). Has c.with_room-4.result (is_wanted (view_seen past) k)) both
-      (wanted-room c.args.sight.now.demand c.with_room-4.result (view_seen past) _ s.demand (c.with_room-4.ensures.room past r)) in
+      (wanted-room c.args.tick_inputs.now.demand c.with_room-4.result (view_seen past) _ s.demand (c.with_room-4.ensures.room past r)) in
       record {
         ends = c.changes.ensures.ends (view_seen past) (record {
           rings = record { laid = laid; on = λ q least most. ap (λ (x : Frame). on_in x q) r.keeps.frame; opening = c.opening.ensures.opening past r.keeps; startable = startable };
           ordered = ordered;
           last = each-ring (c.last_on.result ∷ c.last_on-2.result ∷ []) 0 (λ q. last_on q past.moments)
-              (c.last_on.ensures past.moments further) (c.last_on-2.ensures past.moments further);
-          latest = c.latest_on.ensures past.moments further;
-          demand = are-phases c.args.sight.now.demand _ s.demand;
-          wanted = wanted-room c.args.sight.now.demand c.with_room.result (view_seen past) 0 s.demand (c.with_room.ensures.room past r);
+              (c.last_on.ensures past.moments long_counts) (c.last_on-2.ensures past.moments long_counts);
+          latest = c.latest_on.ensures past.moments long_counts;
+          demand = are-phases c.args.tick_inputs.now.demand _ s.demand;
+          wanted = wanted-room c.args.tick_inputs.now.demand c.with_room.result (view_seen past) 0 s.demand (c.with_room.ensures.room past r);
           wanted_after = each-set c.with_room-2.result c.with_room-3.result (λ q. is_wanted (view_seen past) (clearance_of past.tables (on_phase (view_seen past) q)))
               after1 after2;
           wanted_across = across;
@@ -55,10 +55,10 @@ returns c = record {
           rings = record { laid = laid; on = λ q least most. ap (λ (x : Frame). on_in x q) r.keeps.frame; opening = c.opening.ensures.opening past r.keeps; startable = startable };
           ordered = ordered;
           last = each-ring (c.last_on.result ∷ c.last_on-2.result ∷ []) 0 (λ q. last_on q past.moments)
-              (c.last_on.ensures past.moments further) (c.last_on-2.ensures past.moments further);
-          latest = c.latest_on.ensures past.moments further;
-          demand = are-phases c.args.sight.now.demand _ s.demand;
-          wanted = wanted-room c.args.sight.now.demand c.with_room.result (view_seen past) 0 s.demand (c.with_room.ensures.room past r);
+              (c.last_on.ensures past.moments long_counts) (c.last_on-2.ensures past.moments long_counts);
+          latest = c.latest_on.ensures past.moments long_counts;
+          demand = are-phases c.args.tick_inputs.now.demand _ s.demand;
+          wanted = wanted-room c.args.tick_inputs.now.demand c.with_room.result (view_seen past) 0 s.demand (c.with_room.ensures.room past r);
           wanted_after = each-set c.with_room-2.result c.with_room-3.result (λ q. is_wanted (view_seen past) (clearance_of past.tables (on_phase (view_seen past) q)))
               after1 after2;
           wanted_across = across;

@@ -4,10 +4,10 @@ use Rattle.sig_types.specs.declared.frame.Mode.{Mode}
 use Rattle.sig_types.specs.declared.frame.Ped.TheVariants.{Walk}
 use Rattle.sig_types.specs.Phases.{all_phases}
 use Rattle.sig_tables.specs.Choosing.{mode_reached}
-use Rattle.sig_tables.specs.Course.{course_of}
+use Rattle.sig_tables.specs.TickState.{tick_state_of}
 use Rattle.sig_tables.specs.Ticking.{frame_of, frame_with}
 use Rattle.sig_tables.specs.Decide.{colours_of}
-use Rattle.sig_tables.specs.Seen.{sight_seen, mode_seen, moves_seen}
+use Rattle.sig_tables.specs.Seen.{tick_inputs_seen, mode_seen, moves_seen}
 use Rattle.tick_context.specs.Walks.{walk_after, signal_seen}
 use Rattle.observer.proofs.Observer.next_frame.Goals as goal
 
@@ -24,6 +24,6 @@ returns c = record {
       c.frame_after.ensures.frame past r
       (ped ∙ ap (λ (x : List Colour). map (λ (p : ℕ). if walk_after past c.mode_reached-mode.result x p then Walk else signal_seen past p) all_phases)
       (sym veh))
-      ∙ ap (λ (m : Mode). frame_of (course_of past) past (sight_seen past) c.colours-veh.result m) mode
-      ∙ ap (λ (x : List Colour). frame_with (course_of past) past (sight_seen past) x) veh;
+      ∙ ap (λ (m : Mode). frame_of (tick_state_of past) past (tick_inputs_seen past) c.colours-veh.result m) mode
+      ∙ ap (λ (x : List Colour). frame_with (tick_state_of past) past (tick_inputs_seen past) x) veh;
 }

@@ -18,10 +18,10 @@ returns-clause-stands c =
       inputs = λ i above within. c.empty.ensures.has i ∙ sym (on-at _ i above within);
       requests = λ i a b. let q = c.new-2.ensures.stands c.args.tables i a b in
           record { place = q.place; cancelled = q.cancelled; given = q.given; stays = q.stays; active = q.active };
-      orders = c.of.ensures.stands c.args.tables;
+      unit_commands = c.of.ensures.stands c.args.tables;
       commanded = refl;
-      binding = c.none.ensures.stands c.args.tables;
-      lookout = c.requires.lookout;
+      active_pattern = c.none.ensures.stands c.args.tables;
+      frame_history = c.requires.frame_history;
       some = omega arith;
       names = record { first = omega arith; second = omega arith };
       within = λ n t. absurd (false≢true t);

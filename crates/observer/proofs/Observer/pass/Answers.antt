@@ -3,12 +3,12 @@ use Rattle.sig_tables.specs.declared.tables.Tables.{Tables}
 use Rattle.sig_tables.specs.Past.{Past, Moment}
 use Rattle.sig_tables.specs.Decide.{past_at}
 use Rattle.sig_tables.specs.Seen.{frame_seen}
-use Rattle.tick_context.specs.declared.seeing.Sight.{Sight}
+use Rattle.tick_context.specs.declared.seeing.TickInputs.{TickInputs}
 use Rattle.tick_context.specs.Even.{IsEven}
 use Rattle.tick_context.specs.Lasting.{Looks}
 use Rattle.tick_context.specs.Strides.{ticks_more}
 use Rattle.tick_context.proofs.Striding.{more-past}
-use Rattle.look_back.specs.Lookouts.{LooksOver}
+use Rattle.look_back.specs.FrameHistories.{LooksOver}
 use Rattle.observer.specs.declared.Observer.{Observer}
 use Rattle.observer.specs.Remembers.{Remembers}
 use Rattle.observer.proofs.Passing.{more, moments-after, more-long, all-go-on, unopposed, pushed, remembers-after}
@@ -18,10 +18,10 @@ pub returns-clause-stands : goal.returns-clause-stands
 returns-clause-stands c = λ h k rests.
     let past : Past = past_at h in
     let n : ℕ = c.args.ticks in
-    let even : IsEven c.args.self.now.orders past.tables n =
-    subst (λ (t : Tables). IsEven c.args.self.now.orders t n) k.tables c.requires.even in
-    let sight : Sight = record { demand = c.empty.result; active = c.active-active.result; opposed = c.empty.result } in
-    let sees : Looks None sight past = record {
+    let even : IsEven c.args.self.now.unit_commands past.tables n =
+    subst (λ (t : Tables). IsEven c.args.self.now.unit_commands t n) k.tables c.requires.even in
+    let tick_inputs : TickInputs = record { demand = c.empty.result; active = c.active-active.result; opposed = c.empty.result } in
+    let sees : Looks None tick_inputs past = record {
       demand = c.empty.ensures.none ∙ sym rests.demand;
       quiet = c.active-active.ensures.quiet None past k.calls k.layout tt;
       opposed = λ p i. c.empty.ensures.has p ∙ sym (unopposed past p i rests.demand);
@@ -29,9 +29,9 @@ returns-clause-stands c = λ h k rests.
     let zero : (frame_seen past).counter ≡ 0 = (rests.lasts 0).goes.counter in
     let few : (frame_seen past).counter + n ≤ 4294967295 = omega (arith, zero, c.requires.few) in
     let looks : LooksOver c.push_again.new.self (more n past ++ past.moments) =
-    pushed c.args.self.now.lookout c.push_again.new.self c.active-active.result c.empty.result n past.moments (more n past) c.push_again.ensures
-    k.some k.lookout (more-long n past) few (all-go-on n sight past rests.lasts sees) in
-    let new : Observer = record c.args.self.now { orders = c.pass.new.self; lookout = c.push_again.new.self } in
+    pushed c.args.self.now.frame_history c.push_again.new.self c.active-active.result c.empty.result n past.moments (more n past) c.push_again.ensures
+    k.some k.frame_history (more-long n past) few (all-go-on n tick_inputs past rests.lasts sees) in
+    let new : Observer = record c.args.self.now { unit_commands = c.pass.new.self; frame_history = c.push_again.new.self } in
     let r : Remembers new (past_at (ticks_more n h)) =
     subst (λ (p : Past). Remembers new p) (sym (more-past n h))
     (remembers-after n c.args.self.now c.pass.new.self c.push_again.new.self past c.requires.some c.pass.ensures.passed k
@@ -46,10 +46,10 @@ returns-clause-stands c = λ h k rests.
       calls = r.calls;
       inputs = r.inputs;
       requests = r.requests;
-      orders = r.orders;
+      unit_commands = r.unit_commands;
       commanded = r.commanded;
-      binding = r.binding;
-      lookout = r.lookout;
+      active_pattern = r.active_pattern;
+      frame_history = r.frame_history;
       some = r.some;
       names = r.names;
       within = r.within;

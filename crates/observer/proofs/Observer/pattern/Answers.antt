@@ -16,10 +16,10 @@ returns-clause-stands c = λ h k.
       calls = record { vehicle = k.calls.vehicle; pedestrian = k.calls.pedestrian; detectors = k.calls.detectors; turned_on = k.calls.turned_on };
       inputs = kept-on c.args.self.now.inputs past (with_event (SetPattern c.args.command) past) (λ i. refl) k.inputs;
       requests = λ i a b. let q = k.requests i a b in record { place = q.place; cancelled = q.cancelled; given = q.given; stays = q.stays; active = q.active };
-      orders = c.pattern.ensures.stands past k.orders;
+      unit_commands = c.pattern.ensures.stands past k.unit_commands;
       commanded = refl;
-      binding = k.binding;
-      lookout = k.lookout;
+      active_pattern = k.active_pattern;
+      frame_history = k.frame_history;
       some = k.some;
       names = k.names;
       within = k.within;

@@ -5,7 +5,7 @@ use Rattle.observer.proofs.Observer.target.Goals as goal
 pub returns-then-has_pattern : goal.returns-then-has_pattern
 returns-then-has_pattern c = record {
   target = λ past k b.
-      target-some c.args.self.now.binding past.tables c.args.mode c.args.clock c.target.result (sym c.has_pattern.ensures ∙ c.if-has_pattern.true) b
+      target-some c.args.self.now.active_pattern past.tables c.args.mode c.args.clock c.target.result (sym c.has_pattern.ensures ∙ c.if-has_pattern.true) b
       (c.target.ensures.target past.tables);
   below = c.target.ensures.below;
 }

@@ -7,7 +7,7 @@ use Rattle.sig_types.specs.PhaseSet.{has}
 use Rattle.sig_tables.proofs.Below.{is-above, is-within}
 use Rattle.sig_tables.specs.Decide.{colour_after, colours_of}
 use Rattle.sig_tables.specs.Seen.{frame_seen}
-use Rattle.ped_clock.specs.Walks.{greens_of}
+use Rattle.call_store.specs.Walks.{greens_of}
 use Rattle.tick_context.specs.Walks.{crossing_seen}
 use Rattle.tick_context.proofs.Filling.{made-at}
 use Rattle.tick_context.proofs.Signals.{begins-is}
@@ -30,7 +30,7 @@ returns c = record {
             (made-at Green (λ q. colour_after w q past.tables past.moments (colour_of (frame_seen past) q)) p h);
         called = c.pedestrian.ensures.has past r.keeps.calls;
         opposed = λ p h green. s.opposed p h;
-        greens = c.greens.ensures ∙ ap greens_of r.course.turn;
+        greens = c.greens.ensures ∙ ap greens_of r.tick_state.ring_turn;
         is_zero = c.is_zero.ensures.zero past r;
       });
 }

@@ -1,8 +1,9 @@
 use Rattle.std.proofs.Common.{◌≡◌, ◌<◌, ◌⊎◌, inl, inr, true, sym, ◌∙◌, arith}
 use Rattle.sig_types.specs.Phases.{is_in}
-use Rattle.preempt_run.specs.Stands.{preempts_seen}
+use Rattle.preempt_stages.specs.Inputs.{preempts_seen}
 use Rattle.preempt_run.proofs.Tallies.{counted}
-use Rattle.preempt_run.proofs.Called.{seen-on, none-beyond, not-called, called-counted}
+use Rattle.preempt_stages.proofs.Inputs.{none-beyond, not-called}
+use Rattle.preempt_run.proofs.Called.{seen-on, called-counted}
 use Rattle.preempt_run.proofs.Preempts.is_called.Goals as goal
 
 pub returns-then-number-eq0 : goal.returns-then-number-eq0

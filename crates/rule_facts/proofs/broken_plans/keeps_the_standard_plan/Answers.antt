@@ -6,6 +6,6 @@ pub returns-clause-turn : goal.returns-clause-turn
 unfolding std8 standard
 returns-clause-turn c = refl
 
-pub returns-clause-street : goal.returns-clause-street
+pub returns-clause-ring_layout : goal.returns-clause-ring_layout
 unfolding std8 standard
-returns-clause-street c = refl
+returns-clause-ring_layout c = refl
