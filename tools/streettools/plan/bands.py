@@ -2,23 +2,15 @@
 intersection takes."""
 
 import json
-import os
-import pathlib
 import subprocess
 from collections.abc import Iterator
 
-from ..shared.program import BUILT
+from ..shared.program import NoProgram, found
 from .cells import tables_of
 from .findings import Finding, Level
 from .reading import Street
 
 SECONDS = 60
-
-
-def program_at(path: str | None) -> pathlib.Path | None:
-    """Returns the built program, None where there is none."""
-    found = pathlib.Path(path) if path else BUILT
-    return found.resolve() if found.is_file() and os.access(found, os.X_OK) else None
 
 
 def questions(street: Street) -> Iterator[tuple[int, int, list[int], list[int]]]:
@@ -40,9 +32,10 @@ def findings(street: Street, path: str | None) -> Iterator[Finding]:
     asked = list(questions(street))
     if not asked:
         return
-    program = program_at(path)
-    if program is None:
-        yield Finding(Level.NOTE, "", "bands are not looked at: the program isn't built here (`./arterial --version` builds it)")
+    try:
+        program = found(path)
+    except NoProgram as why:
+        yield Finding(Level.NOTE, "", f"bands are not looked at: {why}")
         return
     scenario = {name: street.scenario[name] for name in ("version", "rounds", "ticks", "cabinets")}
     for section, pattern, numbers, travel in asked:

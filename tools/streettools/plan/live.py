@@ -11,15 +11,15 @@ from .walk import ASC, OWN, Name
 COLUMNS = [
     *((*ASC, 1, 2, 1, column) for column in range(2, 24)),
     *((*ASC, 4, 7, 1, column) for column in range(2, 6)),
-    *((*ASC, 4, 9, 1, column) for column in range(3, 6)),
+    *((*ASC, 4, 9, 1, column, split) for split in range(1, 33) for column in range(3, 6)),
     *((*ASC, 6, 2, 1, column) for column in range(4, 16)),
     (*ASC, 7, 3, 1, 3),
     *((*ASC, 2, 2, 1, column) for column in (4, 6, 7, 9, 10, 11)),
     (*ASC, 3, 3), (*ASC, 4, 2), (*ASC, 4, 4), (*ASC, 4, 14), *((*OWN, 3, number) for number in range(1, 8)), (*OWN, 2, 1),
 ]  # fmt: skip
-"""Under which names there is something of a plan."""
+"""Under which names there is something of a plan. The long columns of splits are asked split by split, side by side."""
 
-AT_ONCE = 12
+AT_ONCE = 24
 SECONDS, TRIES = 3.0, 3
 NO_SUCH_NAME = 2
 
