@@ -56,6 +56,13 @@ def kinds() -> dict[Cell, Numbers | Lists]:
     return found
 
 
+@functools.cache
+def places() -> dict[Cell, int]:
+    """Returns the place of each cell in the order of the tables."""
+    return {cell: place for place, cell in enumerate(kinds())}
+
+
+@functools.cache
 def unset(cell: Cell) -> Value:
     """Returns what stands in a cell that a standard table doesn't name."""
     match cell:
@@ -80,7 +87,7 @@ def put(tables: Tables, cell: Cell, new: Value) -> None:
 def differing(old: Tables, new: Tables) -> list[Cell]:
     """Returns the cells in which two tables differ, in the order of the tables."""
     named = old.cells.keys() | new.cells.keys()
-    return [cell for cell in kinds() if cell in named and value(old, cell) != value(new, cell)]
+    return sorted((cell for cell in named if value(old, cell) != value(new, cell)), key=places().__getitem__)
 
 
 def written(cell: Cell, new: Value) -> list:

@@ -4,6 +4,7 @@ A field turns what a sheet says into the value of a cell and back. What it can't
 """
 
 import enum
+import math
 from dataclasses import dataclass, field
 
 from .cells import BYTE, PHASE, PREEMPT, UNIT, Lists, Numbers
@@ -21,6 +22,11 @@ class Unit(enum.Enum):
     COUNT = 0
 
 
+def is_number(given: object) -> bool:
+    """Tells whether something is a number, and a finite one."""
+    return isinstance(given, (int, float)) and not isinstance(given, bool) and math.isfinite(given)
+
+
 def shown(number: float) -> str:
     """Returns a number as people write it."""
     return f"{number:g}"
@@ -36,7 +42,7 @@ class Time:
 
     def read(self, given: object) -> int:
         """Returns the cell's value."""
-        if isinstance(given, bool) or not isinstance(given, (int, float)):
+        if not is_number(given):
             raise Wrong(f"{given!r} is no number")
         scale = self.unit.value or 1
         found = round(given * scale)

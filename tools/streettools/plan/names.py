@@ -8,6 +8,8 @@ import json
 import pathlib
 from dataclasses import dataclass, field
 
+from .fields import is_number
+
 
 @dataclass
 class Phase:
@@ -95,7 +97,7 @@ class NoNames(Exception):
 
 def is_measure(value: object) -> bool:
     """Tells whether a value is a number, or none."""
-    return value is None or (isinstance(value, (int, float)) and not isinstance(value, bool))
+    return value is None or is_number(value)
 
 
 def refuse_kinds(found: Names) -> None:

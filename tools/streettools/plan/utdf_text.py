@@ -2,8 +2,8 @@
 files of their own (6)."""
 
 import csv
-import io
 import math
+from collections.abc import Iterator
 from dataclasses import dataclass, field
 
 from .given import Fault, Unreadable
@@ -36,11 +36,19 @@ class Utdf:
         return next(found, default)
 
 
+def rows_of(text: str) -> Iterator[list[str]]:
+    """Yields the fields of each line."""
+    try:
+        for row in csv.reader(text.removeprefix("\ufeff").splitlines()):
+            yield [it.strip() for it in row]
+    except csv.Error as fault:
+        raise Unreadable([Fault("", f"not comma-separated: {fault}")]) from None
+
+
 def read(text: str) -> Utdf:
     """Returns what a UTDF file has."""
     found, section, header = Utdf(), None, None
-    for row in csv.reader(io.StringIO(text.removeprefix("\ufeff"))):
-        row = [it.strip() for it in row]
+    for row in rows_of(text):
         first = row[0] if row else ""
         if not any(row):
             continue

@@ -98,7 +98,8 @@ def say_patterns(sheet: dict, usual: Tables, tables: Tables, partners: Collectio
     """Says the patterns and splits that differ. A split of one defined pattern alone stands with it."""
     cells = differing(usual, tables)
     changed = {cell[1] for cell in cells if cell[0] == "split"}
-    users = {split: [it for it in tables.patterns() if value(tables, ("pattern", it, 4)) == split] for split in SPLITS}
+    runs = {it: value(tables, ("pattern", it, 4)) for it in tables.patterns()}
+    users = {split: [it for it, run in runs.items() if run == split] for split in SPLITS}
     for number in PATTERNS:
         split = value(tables, ("pattern", number, 4))
         own = split in changed and users[split] == [number]
