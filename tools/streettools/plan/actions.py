@@ -12,7 +12,21 @@ from ..shared import files
 from ..shared.commandline import say
 from ..shared.status import Status
 from ..shared.tables import Tables
-from . import check, explain, jsontext, live, loads, names, sources, toml_text, utdf_in, utdf_out, utdf_text, walk, writing
+from . import (
+    check,
+    explain,
+    jsontext,
+    live,
+    loads,
+    names,
+    sources,
+    toml_text,
+    utdf_in,
+    utdf_out,
+    utdf_text,
+    walk,
+    writing,
+)
 from .cells import cells_between, tables_of
 from .findings import Level, counted
 from .given import Unreadable
@@ -67,7 +81,10 @@ def to_scenario(words: argparse.Namespace) -> int:
     street = taken(words.file, words.names).street
     tell(street.notes)
     if street.is_field() and not words.field:
-        say("plan", f"{len(street.bank)} detectors have no place in a scenario: --field writes a field file, for `./arterial respond`")
+        say(
+            "plan",
+            f"{len(street.bank)} detectors have no place in a scenario: --field writes a field file, for `./arterial respond`",
+        )
     write_scenario(words.output, street.field_file() if words.field else street.scenario)
     where = words.names_out or (words.output and str(names.beside(pathlib.Path(words.output))))
     nothing = names.Names(intersections=[names.Intersection() for _ in street.names.intersections])
@@ -98,7 +115,8 @@ def do_check(words: argparse.Namespace) -> int:
 
 
 def do_fix(words: argparse.Namespace, street: Street) -> None:
-    """Proposes the least change of splits for each pattern that breaks rule 17, 18 or 19; writes the street with it where an output is named."""
+    """Proposes the least change of splits for each pattern that breaks rule 17, 18 or 19; writes the street with it
+    where an output is named."""
     from . import fix  # here, since numpy takes a while
 
     for number, cabinet in enumerate(street.scenario["cabinets"], 1):
@@ -136,7 +154,8 @@ def draw(words: argparse.Namespace) -> int:
 
 
 def do_explain(words: argparse.Namespace) -> int:
-    """Tells what a line of the program says; or, of standard input, what each of its lines says, past those that are none of the program's."""
+    """Tells what a line of the program says; or, of standard input, what each of its lines says, past those that are
+    none of the program's."""
     source = sources.load(words.file, words.names)
     if words.line != "-":
         print("\n".join(explain.explained(source, words.line.strip())))

@@ -1,5 +1,5 @@
-"""Whether the offsets of a plan leave a through band, as `./arterial band` tells: asked where a sheet says how long the way to the next
-intersection takes."""
+"""Whether the offsets of a plan leave a through band, as `./arterial band` tells: asked where a sheet says how long the
+way to the next intersection takes."""
 
 import json
 import subprocess
@@ -14,7 +14,8 @@ SECONDS = 60
 
 
 def questions(street: Street) -> Iterator[tuple[int, int, list[int], list[int]]]:
-    """Yields each section and pattern of which a band can be asked: the numbers of the cabinets, and the times from each to the next."""
+    """Yields each section and pattern of which a band can be asked: the numbers of the cabinets, and the times from
+    each to the next."""
     cabinets = street.scenario["cabinets"]
     for section in range(1, 9):
         numbers = [number for number, it in enumerate(cabinets, 1) if it.get("section", 1) == section]
@@ -40,7 +41,9 @@ def findings(street: Street, path: str | None) -> Iterator[Finding]:
     scenario = {name: street.scenario[name] for name in ("version", "rounds", "ticks", "cabinets")}
     for section, pattern, numbers, travel in asked:
         question = {"scenario": scenario, "section": section, "pattern": pattern, "travel": travel}
-        ran = subprocess.run([program, "band"], input=json.dumps(question).encode(), capture_output=True, timeout=SECONDS)
+        ran = subprocess.run(
+            [program, "band"], input=json.dumps(question).encode(), capture_output=True, timeout=SECONDS
+        )
         lines = ran.stdout.decode().split("\n")
         if ran.returncode == 0 and len(lines) > 1:
             yield from told(street, section, pattern, numbers, lines)

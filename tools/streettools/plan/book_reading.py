@@ -131,7 +131,9 @@ def read_street(rows: list[list], sheet: dict) -> None:
         elif header:
             header = False
         elif isinstance(block, list):
-            block.append({key: read_value(key, it) for key, it in zip(("at", "section", "pattern"), row) if it is not None})
+            block.append(
+                {key: read_value(key, it) for key, it in zip(("at", "section", "pattern"), row) if it is not None}
+            )
         elif block is None:
             read_pair(sheet, name, values)
         else:

@@ -1,8 +1,7 @@
 """Cells of a cabinet's tables: which there are, what may stand in each, and how tables differ.
 
-A cell is a tuple, as ("phase", 2, 4): a table's name, the numbers of the row, the column. Lists of phases are tuples of numbers. The
-cells and their ranges are those of docs/SCENARIO.md.
-"""
+A cell is a tuple, as ("phase", 2, 4): a table's name, the numbers of the row, the column. Lists of phases are tuples of
+numbers. The cells and their ranges are those of docs/SCENARIO.md."""
 
 import functools
 from collections.abc import Iterable
@@ -51,7 +50,9 @@ def kinds() -> dict[Cell, Numbers | Lists]:
     found |= {("sequence", number, ring): Lists() for number in SEQUENCES for ring in RINGS}
     found |= {("unit", column): kind for column, kind in UNIT.items()}
     found |= {("pattern", number, column): kind for number in PATTERNS for column, kind in PATTERN.items()}
-    found |= {("split", number, phase, column): kind for number in SPLITS for phase in ALL for column, kind in SPLIT.items()}
+    found |= {
+        ("split", number, phase, column): kind for number in SPLITS for phase in ALL for column, kind in SPLIT.items()
+    }
     found |= {("preempt", number, column): kind for number in PREEMPTS for column, kind in PREEMPT.items()}
     return found
 

@@ -14,7 +14,8 @@ RINGS_FIRST = range(1, 10)
 
 
 def broken_rules(street: Street, tables: list[Tables]) -> Iterator[Finding]:
-    """Yields the broken rules of the opening tables, cabinet by cabinet; the first is the one that the program tells."""
+    """Yields the broken rules of the opening tables, cabinet by cabinet; the first is the one that the program
+    tells."""
     for number, it in enumerate(tables, 1):
         known, where = street.names.intersection(number), street.names.called(number)
         found = rules.broken(it)
@@ -46,8 +47,8 @@ def broken_loads(street: Street, tables: list[Tables]) -> Iterator[Finding]:
 
 
 def findings(source: Source, program: str | None = None) -> list[Finding]:
-    """Returns all that a check finds in a file: errors first, in the order of the program. What names and values don't allow to be looked at is
-    left for later."""
+    """Returns all that a check finds in a file: errors first, in the order of the program. What names and values don't
+    allow to be looked at is left for later."""
     found, street = list(source.findings), source.street
     if street is not None and not (source.errors and source.text is None):
         tables = [tables_of(it) for it in street.scenario["cabinets"]]

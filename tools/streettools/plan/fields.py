@@ -53,7 +53,13 @@ class Time:
                 hint = f": are tenths meant? The sheet has seconds, so write {shown(given / 10)}"
             raise Wrong(f"{shown(given)}{self.what()} is not {least} to {most}{hint}")
         if abs(given * scale - found) > 1e-6:
-            step = "tenths of a second" if scale == 10 else "whole seconds" if self.unit is Unit.SECONDS else "whole numbers"
+            step = (
+                "tenths of a second"
+                if scale == 10
+                else "whole seconds"
+                if self.unit is Unit.SECONDS
+                else "whole numbers"
+            )
             raise Wrong(f"{shown(given)}{self.what()}: a cabinet holds {step} here")
         return found
 
@@ -144,7 +150,9 @@ UNIT_FIELDS = {
 PATTERN_FIELDS = {name: Time(column, unit, BYTE) for name, column, unit in (
     ("cycle", 2, Unit.SECONDS), ("offset", 3, Unit.SECONDS), ("split", 4, Unit.COUNT), ("sequence", 5, Unit.COUNT),
 )}  # fmt: skip
-SPLIT_MODES = Word(4, {1: "other", 2: "none", 3: "minimum", 4: "maximum", 5: "pedestrian", 6: "maximum and pedestrian", 7: "omitted"})
+SPLIT_MODES = Word(
+    4, {1: "other", 2: "none", 3: "minimum", 4: "maximum", 5: "pedestrian", 6: "maximum and pedestrian", 7: "omitted"}
+)
 SPLIT_TIME = Time(3, Unit.SECONDS, BYTE)
 PREEMPT_FIELDS = {
     "delay": seconds(4, PREEMPT), "min_duration": seconds(5, PREEMPT), "max_presence": seconds(11, PREEMPT),

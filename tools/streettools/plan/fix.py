@@ -1,8 +1,8 @@
 """The least change of a pattern's splits with which it keeps rules 17, 18 and 19: found exactly, for whole seconds.
 
-Each side of the barrier is laid out by itself for every length that it may have; then the lengths are chosen that make the cycle. Costs are
-seconds of change, summed over phases. On the coordinated side the later start of the coordinated phases, local zero, is tried at every second.
-"""
+Each side of the barrier is laid out by itself for every length that it may have; then the lengths are chosen that make
+the cycle. Costs are seconds of change, summed over phases. On the coordinated side the later start of the coordinated
+phases, local zero, is tried at every second."""
 
 from collections.abc import Iterator
 from dataclasses import dataclass
@@ -39,7 +39,11 @@ class Change:
         """Returns the change in words."""
         parts = [f"{known.phase_name(it)} from {self.before[it]} to {self.after[it]} s" for it in self.after]
         total = sum(abs(self.after[it] - self.before[it]) for it in self.after if it not in known.partners)
-        return f"pattern {self.pattern} (split {self.split}) keeps the rules with " + ", ".join(parts) + f": {total} s of change, the least there is"
+        return (
+            f"pattern {self.pattern} (split {self.split}) keeps the rules with "
+            + ", ".join(parts)
+            + f": {total} s of change, the least there is"
+        )
 
 
 class NoChange(Exception):
@@ -79,7 +83,8 @@ class Ring:
         return self.cost(phase, ceiling(least_service(self.laid.tables, phase) + self.laid.tables.clearance(phase)))
 
     def behind(self, phases: list[int]) -> list[np.ndarray]:
-        """Returns, for each of some last phases of the side and for none, the least cost of it and those behind it by their length."""
+        """Returns, for each of some last phases of the side and for none, the least cost of it and those behind it by
+        their length."""
         found = [np.where(self.seconds == 0, 0, NEVER)]
         for phase in reversed(phases):
             costs = added(found[0], self.waited(phase))
@@ -111,7 +116,8 @@ class Ring:
         return ceiling(hold + self.laid.tables.clearance(self.phases[self.at]))
 
     def by_end(self, zero: int, hold: int) -> np.ndarray:
-        """Returns the least cost of all up to the coordinated phase by where it ends, with its start at local zero or before."""
+        """Returns the least cost of all up to the coordinated phase by where it ends, with its start at local zero or
+        before."""
         costs = np.full(len(self.seconds), NEVER)
         for end in range(zero + self.need(hold), len(costs)):
             costs[end] = (self.front[-1][: zero + 1] + self.pair_cost[end - zero : end + 1][::-1]).min()
@@ -173,7 +179,8 @@ class Side:
 
 
 def laid_out(laid: Layout, partners: list[int], most: int) -> tuple[list[Side], list[np.ndarray]]:
-    """Returns the sides of a pattern, and the least costs of the first of them, of the first two, and so on, by their length in all."""
+    """Returns the sides of a pattern, and the least costs of the first of them, of the first two, and so on, by their
+    length in all."""
     sides = [Side(laid, it, partners, most) for it in laid.sides]
     totals = [np.where(np.arange(most + 1) == 0, 0, NEVER)]
     for side in sides:
@@ -187,7 +194,9 @@ def refuse_shared(laid: Layout) -> None:
     users = [it for it in tables.patterns() if value(tables, ("pattern", it, 4)) == laid.split and it != laid.pattern]
     other = next((it for it in users if Layout(tables, it).cycle != laid.cycle), None)
     if other is not None:
-        raise NoChange(f"pattern {laid.pattern} shares split {laid.split} with pattern {other}, which has another cycle: give it a split of its own")
+        raise NoChange(
+            f"pattern {laid.pattern} shares split {laid.split} with pattern {other}, which has another cycle: give it a split of its own"
+        )
 
 
 def least_change(tables: Tables, pattern: int, known: Intersection) -> Change:
@@ -219,7 +228,8 @@ def apply(tables: Tables, change: Change) -> None:
 
 
 def mend(tables: Tables, known: Intersection) -> Iterator[str]:
-    """Puts the least changes into tables that break rule 17, 18 or 19, and yields them in words; or why there are none."""
+    """Puts the least changes into tables that break rule 17, 18 or 19, and yields them in words; or why there are
+    none."""
     broken = rules.broken(tables)
     first = next((it.rule for it in broken if it.rule in FIRST), None)
     patterns = sorted({it.row for it in broken if it.rule in SPLIT_RULES})

@@ -1,4 +1,5 @@
-"""What a sheet says, taken up name by name: what can't be taken is kept as a fault with its place, and reading goes on."""
+"""What a sheet says, taken up name by name: what can't be taken is kept as a fault with its place, and reading goes
+on."""
 
 import datetime
 import difflib

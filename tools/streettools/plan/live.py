@@ -45,7 +45,9 @@ class Agent:
                 return reply.status, reply.index, reply.bindings
             except (TimeoutError, ConnectionRefusedError):
                 continue
-        raise Unreadable([Fault(f"{self.host}:{self.port}", f"no answer in {TRIES} tries; is it the port, and the community?")])
+        raise Unreadable(
+            [Fault(f"{self.host}:{self.port}", f"no answer in {TRIES} tries; is it the port, and the community?")]
+        )
 
 
 def address(host: str, anywhere: bool) -> str:
@@ -69,7 +71,9 @@ def walk(agent: Agent, advance: Callable[[int], object] = lambda count: None) ->
         if status:
             over = [batch[index - 1]] if 1 <= index <= len(batch) else batch
         else:
-            over = [column for column, (name, _, __) in zip(batch, bindings, strict=True) if name[: len(column)] != column]
+            over = [
+                column for column, (name, _, __) in zip(batch, bindings, strict=True) if name[: len(column)] != column
+            ]
             for column, (name, tag, content) in zip(batch, bindings, strict=True):
                 if column not in over:
                     reached[column] = name

@@ -40,7 +40,13 @@ SPLITS = [
 ]
 """Greatest green, yellow and all red of each phase together; the partners' are those of the phases that they face."""
 
-NAMES = ["Main St & 1st Ave", "Main St & Mill Rd", "Main St & Oak St", *(f"Main St & {it}th Ave" for it in range(4, 8)), "Main St & Station Sq"]
+NAMES = [
+    "Main St & 1st Ave",
+    "Main St & Mill Rd",
+    "Main St & Oak St",
+    *(f"Main St & {it}th Ave" for it in range(4, 8)),
+    "Main St & Station Sq",
+]
 
 
 @pytest.fixture(scope="module")
@@ -67,7 +73,9 @@ def test_rings_times_and_recalls_of_synchro_come_in(eight):
     street, _ = eight
     tables = [tables_of(it) for it in street.scenario["cabinets"]]
     assert [tables[1].sequence(1, ring) for ring in (1, 2)] == [(1, 2, 4), (6, 8)]
-    assert [tables[2].sequence(1, ring) for ring in (1, 2)] == [(1, 2, 3, 4), (5, 6, 8)] and concurrent(tables[2], 8) == {3, 4}
+    assert [tables[2].sequence(1, ring) for ring in (1, 2)] == [(1, 2, 3, 4), (5, 6, 8)] and concurrent(
+        tables[2], 8
+    ) == {3, 4}
     assert tables[4].sequence(1, 2) == (6, 5, 7, 8)
     assert tables[7].sequence(1, 1) == (2, 4, 9)
     # minimum green, passage, greatest green (30.7 rounded up), yellow, all red, walk, don't walk; minimum recall, dual entry
@@ -76,7 +84,9 @@ def test_rings_times_and_recalls_of_synchro_come_in(eight):
     assert tables[3].phase(2, 21) == 1 + 128 + 1024  # maximum recall
     assert tables[6].phase(4, 21) == 1 + 256 + 1024  # pedestrian recall
     assert tables[7].phase(4, 4) == 8  # 7.5 s, rounded up
-    assert [[phase for phase in it.enabled() if it.split(1, phase, 5)] for it in tables if it.pattern(1, 2)] == [[2, 6]] * 7
+    assert [[phase for phase in it.enabled() if it.split(1, phase, 5)] for it in tables if it.pattern(1, 2)] == [
+        [2, 6]
+    ] * 7
 
 
 def test_names_and_speeds_of_synchro_come_in(eight):
@@ -176,7 +186,8 @@ def test_objects_without_a_place_are_listed():
 
 
 def test_a_recorded_walk_of_a_cabinet_comes_in_whole():
-    """`snmpwalk -On` of `./cabinet` (in two pieces, one behind the other): all cells of the scenario's second cabinet, nothing without a place."""
+    """`snmpwalk -On` of `./cabinet` (in two pieces, one behind the other): all cells of the scenario's second cabinet,
+    nothing without a place."""
     street = walk.street_of([walk.read((TOP / "tools/tests/plan/two-cabinets-2.walk").read_text())], ["x"])
     due = Tables("std8")
     due.put(cells_of_second())
@@ -186,7 +197,6 @@ def test_a_recorded_walk_of_a_cabinet_comes_in_whole():
 
 def cells_of_second() -> list:
     """Returns the cells of the second cabinet of scenarios/two-cabinets.json."""
-
 
     return json.loads((TOP / "scenarios/two-cabinets.json").read_text())["cabinets"][1]["cells"]
 
@@ -228,7 +238,12 @@ class Fake:
         for index, (name, _, __) in enumerate(asked.bindings, 1):
             found = next((it for it in self.objects if it[0] > name), None)
             if found is None:
-                return self.response(asked.number, 2, index, b"".join(field(0x30, name_of(it[0]) + value_of(None)) for it in asked.bindings))
+                return self.response(
+                    asked.number,
+                    2,
+                    index,
+                    b"".join(field(0x30, name_of(it[0]) + value_of(None)) for it in asked.bindings),
+                )
             pairs += field(0x30, name_of(found[0]) + value_of(found[1]))
         return self.response(asked.number, 0, 0, pairs)
 
@@ -267,7 +282,9 @@ def test_an_agent_that_does_not_answer_is_told(monkeypatch):
 @contextlib.contextmanager
 def cabinet(program, *words: object):
     """A live cabinet, which gives its port."""
-    agent = subprocess.Popen([TOP / "cabinet", "--port", "0", "--step", "1", "--program", program, *words], stderr=subprocess.PIPE, text=True)
+    agent = subprocess.Popen(
+        [TOP / "cabinet", "--port", "0", "--step", "1", "--program", program, *words], stderr=subprocess.PIPE, text=True
+    )
     try:
         yield int(re.search(r"127\.0\.0\.1:(\d+)", agent.stderr.readline())[1])
     finally:
@@ -305,7 +322,9 @@ def test_the_commands_of_a_download_load_a_live_cabinet(program, tmp_path):
         assert ran.returncode == 0, ran.stderr
         agent = live.Agent("127.0.0.1", port, "public")
         agent.socket.settimeout(SECONDS)
-        agent.socket.sendto(message(GET, 1, [(loads.object_of(tuple(it[:-1])), None) for it in cells]), ("127.0.0.1", port))
+        agent.socket.sendto(
+            message(GET, 1, [(loads.object_of(tuple(it[:-1])), None) for it in cells]), ("127.0.0.1", port)
+        )
         reply = reply_of(agent.socket.recv(65_536))
     found = [content.hex() if tag == 4 else int.from_bytes(content, "big") for _, tag, content in reply.bindings]
     assert reply.status == 0 and found == [it[-1] for it in cells]
