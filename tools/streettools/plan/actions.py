@@ -12,15 +12,28 @@ from ..shared import files
 from ..shared.commandline import say
 from ..shared.status import Status
 from ..shared.tables import Tables
-from . import check, explain, jsontext, live, loads, names, rules, sources, toml_text, utdf_in, utdf_out, utdf_text, walk, writing
+from . import (
+    check,
+    explain,
+    jsontext,
+    live,
+    loads,
+    names,
+    sources,
+    toml_text,
+    utdf_in,
+    utdf_out,
+    utdf_text,
+    walk,
+    writing,
+)
 from .cells import cells_between, tables_of
-from .findings import Finding, Level, counted
+from .findings import Level, counted
 from .given import Unreadable
 from .reading import Street, street_of
 from .sources import Source
 
 BOOK, PICTURES = ".xlsx", (".svg", ".png", ".pdf")
-PATTERN_RULES = (17, 18, 19)
 
 
 class Refused(Exception):
@@ -68,7 +81,10 @@ def to_scenario(words: argparse.Namespace) -> int:
     street = taken(words.file, words.names).street
     tell(street.notes)
     if street.is_field() and not words.field:
-        say("plan", f"{len(street.bank)} detectors have no place in a scenario: --field writes a field file, for `./arterial respond`")
+        say(
+            "plan",
+            f"{len(street.bank)} detectors have no place in a scenario: --field writes a field file, for `./arterial respond`",
+        )
     write_scenario(words.output, street.field_file() if words.field else street.scenario)
     where = words.names_out or (words.output and str(names.beside(pathlib.Path(words.output))))
     nothing = names.Names(intersections=[names.Intersection() for _ in street.names.intersections])
@@ -94,26 +110,19 @@ def do_check(words: argparse.Namespace) -> int:
             print(it)
         print(f"{words.file}: {counted(found)}")
     if words.fix and source.street is not None and not source.errors:
-        do_fix(words, source.street, found)
+        do_fix(words, source.street)
     return Status.REFUSED if any(it.level is Level.ERROR for it in found) else Status.DONE
 
 
-def do_fix(words: argparse.Namespace, street: Street, found: list[Finding]) -> None:
-    """Proposes the least change of splits for each pattern that breaks rule 17, 18 or 19; writes the street with it where an output is named."""
+def do_fix(words: argparse.Namespace, street: Street) -> None:
+    """Proposes the least change of splits for each pattern that breaks rule 17, 18 or 19; writes the street with it
+    where an output is named."""
     from . import fix  # here, since numpy takes a while
 
     for number, cabinet in enumerate(street.scenario["cabinets"], 1):
         tables, known = tables_of(cabinet), street.names.intersection(number)
-        broken = rules.broken(tables)
-        if any(it.rule not in PATTERN_RULES and it.rule < max(PATTERN_RULES) for it in broken):
-            continue
-        for pattern in sorted({it.row for it in broken if it.rule in PATTERN_RULES}):
-            try:
-                change = fix.least_change(tables, pattern, known)
-                fix.apply(tables, change)
-                print(f"{street.names.called(number)}: fix: {change.words(known)}")
-            except fix.NoChange as why:
-                print(f"{street.names.called(number)}: fix: {why}")
+        for line in fix.mend(tables, known):
+            print(f"{street.names.called(number)}: fix: {line}")
         cabinet["cells"] = cells_between(Tables(cabinet.get("base", "std8")), tables)
     if words.output:
         put_fixed(words.output, street)
@@ -145,12 +154,20 @@ def draw(words: argparse.Namespace) -> int:
 
 
 def do_explain(words: argparse.Namespace) -> int:
-    """Tells what lines of the program say."""
-    lines = sys.stdin.read().splitlines() if words.line == "-" else [words.line]
+    """Tells what a line of the program says; or, of standard input, what each of its lines says, past those that are
+    none of the program's."""
     source = sources.load(words.file, words.names)
-    for line in filter(None, map(str.strip, lines)):
-        print("\n".join(explain.explained(source, line)))
-    return Status.DONE
+    if words.line != "-":
+        print("\n".join(explain.explained(source, words.line.strip())))
+        return Status.DONE
+    status = Status.DONE
+    for line in filter(None, map(str.strip, sys.stdin)):
+        try:
+            print("\n".join(explain.explained(source, line)))
+        except explain.NotKnown as why:
+            say("plan", why)
+            status = Status.REFUSED
+    return status
 
 
 def from_utdf(words: argparse.Namespace) -> int:

@@ -1,13 +1,11 @@
-"""Whether the offsets of a plan leave a through band, as `./arterial band` tells: asked where a sheet says how long the way to the next
-intersection takes."""
+"""Whether the offsets of a plan leave a through band, as `./arterial band` tells: asked where a sheet says how long the
+way to the next intersection takes."""
 
 import json
-import os
-import pathlib
 import subprocess
 from collections.abc import Iterator
 
-from ..shared.program import BUILT
+from ..shared.program import NoProgram, found
 from .cells import tables_of
 from .findings import Finding, Level
 from .reading import Street
@@ -15,14 +13,9 @@ from .reading import Street
 SECONDS = 60
 
 
-def program_at(path: str | None) -> pathlib.Path | None:
-    """Returns the built program, None where there is none."""
-    found = pathlib.Path(path) if path else BUILT
-    return found.resolve() if found.is_file() and os.access(found, os.X_OK) else None
-
-
 def questions(street: Street) -> Iterator[tuple[int, int, list[int], list[int]]]:
-    """Yields each section and pattern of which a band can be asked: the numbers of the cabinets, and the times from each to the next."""
+    """Yields each section and pattern of which a band can be asked: the numbers of the cabinets, and the times from
+    each to the next."""
     cabinets = street.scenario["cabinets"]
     for section in range(1, 9):
         numbers = [number for number, it in enumerate(cabinets, 1) if it.get("section", 1) == section]
@@ -40,14 +33,17 @@ def findings(street: Street, path: str | None) -> Iterator[Finding]:
     asked = list(questions(street))
     if not asked:
         return
-    program = program_at(path)
-    if program is None:
-        yield Finding(Level.NOTE, "", "bands are not looked at: the program isn't built here (`./arterial --version` builds it)")
+    try:
+        program = found(path)
+    except NoProgram as why:
+        yield Finding(Level.NOTE, "", f"bands are not looked at: {why}")
         return
     scenario = {name: street.scenario[name] for name in ("version", "rounds", "ticks", "cabinets")}
     for section, pattern, numbers, travel in asked:
         question = {"scenario": scenario, "section": section, "pattern": pattern, "travel": travel}
-        ran = subprocess.run([program, "band"], input=json.dumps(question).encode(), capture_output=True, timeout=SECONDS)
+        ran = subprocess.run(
+            [program, "band"], input=json.dumps(question).encode(), capture_output=True, timeout=SECONDS
+        )
         lines = ran.stdout.decode().split("\n")
         if ran.returncode == 0 and len(lines) > 1:
             yield from told(street, section, pattern, numbers, lines)

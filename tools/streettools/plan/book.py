@@ -1,5 +1,5 @@
-"""A sheet as a workbook: a page for the street, one for each intersection, one for each list of events. It reads as the tables of TOML do
-(book_reading)."""
+"""A sheet as a workbook: a page for the street, one for each intersection, one for each list of events. It reads as the
+tables of TOML do (book_reading)."""
 
 import datetime
 import json
@@ -80,13 +80,17 @@ class Page:
             self.line(name, shown(name, value))
 
     def block(self, title: str, table: dict) -> None:
-        """Writes a block: its title; then columns by number, with a line for each name, or a line for each name and value."""
+        """Writes a block: its title; then columns by number, with a line for each name, or a line for each name and
+        value."""
         self.row += 1
         if title == BLOCKS["coordination"]:
             self.line(title, font=HEADING)
             self.pairs(table)
             return
-        rows = {number: dict(flat(row if isinstance(row, dict) else dict(zip(("ring 1", "ring 2"), row)))) for number, row in table.items()}
+        rows = {
+            number: dict(flat(row if isinstance(row, dict) else dict(zip(("ring 1", "ring 2"), row))))
+            for number, row in table.items()
+        }
         self.line(title, *(int(number) for number in rows), font=HEADING)
         for name in dict.fromkeys(name for row in rows.values() for name in row):
             self.line(name, *(shown(name, row[name]) if name in row else None for row in rows.values()))

@@ -47,7 +47,7 @@ def from_json(value: object, name: str) -> object:
 
 def read_value(name: str, value: object) -> object:
     """Returns what a page's cell says."""
-    last = name.split()[0]
+    last = (name.split() or [""])[0]
     if last in PHASE_LISTS:
         words = str(value).replace(",", " ").split()
         return [] if words == ["none"] else [int(it) if it.isdecimal() else it for it in words]
@@ -131,7 +131,9 @@ def read_street(rows: list[list], sheet: dict) -> None:
         elif header:
             header = False
         elif isinstance(block, list):
-            block.append({key: read_value(key, it) for key, it in zip(("at", "section", "pattern"), row) if it is not None})
+            block.append(
+                {key: read_value(key, it) for key, it in zip(("at", "section", "pattern"), row) if it is not None}
+            )
         elif block is None:
             read_pair(sheet, name, values)
         else:

@@ -1,8 +1,7 @@
 """Cells of a cabinet's tables: which there are, what may stand in each, and how tables differ.
 
-A cell is a tuple, as ("phase", 2, 4): a table's name, the numbers of the row, the column. Lists of phases are tuples of numbers. The
-cells and their ranges are those of docs/SCENARIO.md.
-"""
+A cell is a tuple, as ("phase", 2, 4): a table's name, the numbers of the row, the column. Lists of phases are tuples of
+numbers. The cells and their ranges are those of docs/SCENARIO.md."""
 
 import functools
 from collections.abc import Iterable
@@ -51,11 +50,20 @@ def kinds() -> dict[Cell, Numbers | Lists]:
     found |= {("sequence", number, ring): Lists() for number in SEQUENCES for ring in RINGS}
     found |= {("unit", column): kind for column, kind in UNIT.items()}
     found |= {("pattern", number, column): kind for number in PATTERNS for column, kind in PATTERN.items()}
-    found |= {("split", number, phase, column): kind for number in SPLITS for phase in ALL for column, kind in SPLIT.items()}
+    found |= {
+        ("split", number, phase, column): kind for number in SPLITS for phase in ALL for column, kind in SPLIT.items()
+    }
     found |= {("preempt", number, column): kind for number in PREEMPTS for column, kind in PREEMPT.items()}
     return found
 
 
+@functools.cache
+def places() -> dict[Cell, int]:
+    """Returns the place of each cell in the order of the tables."""
+    return {cell: place for place, cell in enumerate(kinds())}
+
+
+@functools.cache
 def unset(cell: Cell) -> Value:
     """Returns what stands in a cell that a standard table doesn't name."""
     match cell:
@@ -80,7 +88,7 @@ def put(tables: Tables, cell: Cell, new: Value) -> None:
 def differing(old: Tables, new: Tables) -> list[Cell]:
     """Returns the cells in which two tables differ, in the order of the tables."""
     named = old.cells.keys() | new.cells.keys()
-    return [cell for cell in kinds() if cell in named and value(old, cell) != value(new, cell)]
+    return sorted((cell for cell in named if value(old, cell) != value(new, cell)), key=places().__getitem__)
 
 
 def written(cell: Cell, new: Value) -> list:

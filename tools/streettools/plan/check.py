@@ -14,7 +14,8 @@ RINGS_FIRST = range(1, 10)
 
 
 def broken_rules(street: Street, tables: list[Tables]) -> Iterator[Finding]:
-    """Yields the broken rules of the opening tables, cabinet by cabinet; the first is the one that the program tells."""
+    """Yields the broken rules of the opening tables, cabinet by cabinet; the first is the one that the program
+    tells."""
     for number, it in enumerate(tables, 1):
         known, where = street.names.intersection(number), street.names.called(number)
         found = rules.broken(it)
@@ -46,18 +47,15 @@ def broken_loads(street: Street, tables: list[Tables]) -> Iterator[Finding]:
 
 
 def findings(source: Source, program: str | None = None) -> list[Finding]:
-    """Returns all that a check finds in a file: errors first, in the order of the program."""
-    found = list(source.findings)
-    street = source.street
-    if street is None or source.errors:
-        return sorted(found, key=lambda it: list(Level).index(it.level))
-    tables = [tables_of(it) for it in street.scenario["cabinets"]]
-    errors = list(broken_rules(street, tables))
-    sound = [not rules.broken(it) for it in tables]
-    found += errors
-    if all(sound):
-        found += broken_loads(street, tables)
-    found += warnings.all_of(street, tables, sound)
-    if all(sound):
-        found += bands.findings(street, program)
+    """Returns all that a check finds in a file: errors first, in the order of the program. What names and values don't
+    allow to be looked at is left for later."""
+    found, street = list(source.findings), source.street
+    if street is not None and not (source.errors and source.text is None):
+        tables = [tables_of(it) for it in street.scenario["cabinets"]]
+        sound = [not rules.broken(it) for it in tables]
+        found += broken_rules(street, tables)
+        if not source.errors:
+            found += broken_loads(street, tables) if all(sound) else ()
+            found += warnings.all_of(street, tables, sound)
+            found += bands.findings(street, program) if all(sound) else ()
     return sorted(found, key=lambda it: list(Level).index(it.level))

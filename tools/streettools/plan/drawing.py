@@ -55,7 +55,9 @@ def read(given: object) -> Drawing:
     if len(rings) == 1:
         rings.append([()] * len(rings[0]))
     if len(rings[0]) != len(rings[1]):
-        raise Wrong(f"ring 1 has {len(rings[0]) - 1} barriers and ring 2 {len(rings[1]) - 1}: both cross each barrier together")
+        raise Wrong(
+            f"ring 1 has {len(rings[0]) - 1} barriers and ring 2 {len(rings[1]) - 1}: both cross each barrier together"
+        )
     drawing = Drawing(tuple(zip(*rings, strict=True)))
     drawn = [*drawing.ring(1), *drawing.ring(2)]
     for phase in drawn:
@@ -68,8 +70,8 @@ def read(given: object) -> Drawing:
 
 
 def free_number(near: tuple[int, ...], taken: set[int]) -> int:
-    """Returns the number for a partner of some phases: the one that faces the last of them in the standard rings, or the first that is
-    free."""
+    """Returns the number for a partner of some phases: the one that faces the last of them in the standard rings, or
+    the first that is free."""
     facing = [it + 4 if (it - 1) % 8 < 4 else it - 4 for it in (near[-1], near[0])]
     for number in (*facing, *ALL):
         if number not in taken:
@@ -78,7 +80,8 @@ def free_number(near: tuple[int, ...], taken: set[int]) -> int:
 
 
 def with_partners(drawing: Drawing) -> tuple[Drawing, dict[int, int]]:
-    """Returns the drawing with partners where a ring has no phase on a side; and for each partner the phase that it is like."""
+    """Returns the drawing with partners where a ring has no phase on a side; and for each partner the phase that it is
+    like."""
     taken, partners, sides = set(drawing.phases()), {}, []
     for side in drawing.sides:
         rings = list(side)
@@ -94,8 +97,9 @@ def with_partners(drawing: Drawing) -> tuple[Drawing, dict[int, int]]:
 
 
 def apply(tables: Tables, drawing: Drawing) -> None:
-    """Puts rings, lists of concurrent phases, sequence 1 and what is enabled into standard tables. A list of the standard table stays where it
-    says the same. Where the rings aren't those of the standard table its pattern 1 is no longer defined."""
+    """Puts rings, lists of concurrent phases, sequence 1 and what is enabled into standard tables. A list of the
+    standard table stays where it says the same. Where the rings aren't those of the standard table its pattern 1 is no
+    longer defined."""
     drawn = set(drawing.phases())
     for phase in ALL:
         on = ENABLED * (phase in drawn)
@@ -143,7 +147,8 @@ def of_tables(tables: Tables) -> Drawing | None:
 
 
 def order_lines(drawing: Drawing | None, rings: list[tuple]) -> list[str]:
-    """Returns the lines of a sequence, with bars where the drawing has barriers and the phases of each side stand together."""
+    """Returns the lines of a sequence, with bars where the drawing has barriers and the phases of each side stand
+    together."""
     plain = [" ".join(map(str, ring)) for ring in rings]
     if drawing is None:
         return plain
@@ -162,7 +167,8 @@ def order_lines(drawing: Drawing | None, rings: list[tuple]) -> list[str]:
 
 
 def read_order(given: object) -> list[tuple]:
-    """Returns the phases of both rings of a sequence. Bars are for the reader's eye; numbers that are no phases are kept."""
+    """Returns the phases of both rings of a sequence. Bars are for the reader's eye; numbers that are no phases are
+    kept."""
     if not isinstance(given, list) or len(given) != 2 or not all(isinstance(it, str) for it in given):
         raise Wrong('a sequence is two lines, as ["2 1 | 3 4", "6 5 | 7 8"]')
     rings = []

@@ -68,7 +68,13 @@ def broken_rule(source: Source, line: str, found: re.Match) -> list[str]:
     if number > len(street.scenario["cabinets"]):
         raise NotKnown(f"the file has no cabinet {number}")
     tables = tables_of(street.scenario["cabinets"][number - 1])
-    return said(street, number, rules.Broken(rule, row), rules.broken(tables), lambda it: sentences(tables, street.names.intersection(number), it))
+    return said(
+        street,
+        number,
+        rules.Broken(rule, row),
+        rules.broken(tables),
+        lambda it: sentences(tables, street.names.intersection(number), it),
+    )
 
 
 def refused_load(source: Source, line: str, found: re.Match) -> list[str]:
@@ -84,7 +90,9 @@ def refused_load(source: Source, line: str, found: re.Match) -> list[str]:
         before = before if rules.broken(new, before) else new
     new = with_cells(before, loads[count - 1]["cells"])
     known = street.names.intersection(number)
-    return said(street, number, rules.Broken(rule, row), rules.broken(new, before), lambda it: sentences(new, known, it, before))
+    return said(
+        street, number, rules.Broken(rule, row), rules.broken(new, before), lambda it: sentences(new, known, it, before)
+    )
 
 
 def said(street, number: int, broken: rules.Broken, all_broken: list[rules.Broken], words: Callable) -> list[str]:
@@ -95,7 +103,11 @@ def said(street, number: int, broken: rules.Broken, all_broken: list[rules.Broke
     if broken not in all_broken:
         raise NotKnown(f"{asks}; the file as it stands keeps it in row {broken.row}")
     more = len(all_broken) - 1
-    tail = [f"{more} more {'rule is' if more == 1 else 'rules are'} broken there: `plan check` has them all"] if more else []
+    tail = (
+        [f"{more} more {'rule is' if more == 1 else 'rules are'} broken there: `plan check` has them all"]
+        if more
+        else []
+    )
     return [asks, *(f"{street.names.called(number)}: {it}" for it in words(broken)), *tail]
 
 

@@ -4,6 +4,7 @@ A field turns what a sheet says into the value of a cell and back. What it can't
 """
 
 import enum
+import math
 from dataclasses import dataclass, field
 
 from .cells import BYTE, PHASE, PREEMPT, UNIT, Lists, Numbers
@@ -21,6 +22,11 @@ class Unit(enum.Enum):
     COUNT = 0
 
 
+def is_number(given: object) -> bool:
+    """Tells whether something is a number, and a finite one."""
+    return isinstance(given, (int, float)) and not isinstance(given, bool) and math.isfinite(given)
+
+
 def shown(number: float) -> str:
     """Returns a number as people write it."""
     return f"{number:g}"
@@ -36,7 +42,7 @@ class Time:
 
     def read(self, given: object) -> int:
         """Returns the cell's value."""
-        if isinstance(given, bool) or not isinstance(given, (int, float)):
+        if not is_number(given):
             raise Wrong(f"{given!r} is no number")
         scale = self.unit.value or 1
         found = round(given * scale)
@@ -47,7 +53,13 @@ class Time:
                 hint = f": are tenths meant? The sheet has seconds, so write {shown(given / 10)}"
             raise Wrong(f"{shown(given)}{self.what()} is not {least} to {most}{hint}")
         if abs(given * scale - found) > 1e-6:
-            step = "tenths of a second" if scale == 10 else "whole seconds" if self.unit is Unit.SECONDS else "whole numbers"
+            step = (
+                "tenths of a second"
+                if scale == 10
+                else "whole seconds"
+                if self.unit is Unit.SECONDS
+                else "whole numbers"
+            )
             raise Wrong(f"{shown(given)}{self.what()}: a cabinet holds {step} here")
         return found
 
@@ -138,7 +150,9 @@ UNIT_FIELDS = {
 PATTERN_FIELDS = {name: Time(column, unit, BYTE) for name, column, unit in (
     ("cycle", 2, Unit.SECONDS), ("offset", 3, Unit.SECONDS), ("split", 4, Unit.COUNT), ("sequence", 5, Unit.COUNT),
 )}  # fmt: skip
-SPLIT_MODES = Word(4, {1: "other", 2: "none", 3: "minimum", 4: "maximum", 5: "pedestrian", 6: "maximum and pedestrian", 7: "omitted"})
+SPLIT_MODES = Word(
+    4, {1: "other", 2: "none", 3: "minimum", 4: "maximum", 5: "pedestrian", 6: "maximum and pedestrian", 7: "omitted"}
+)
 SPLIT_TIME = Time(3, Unit.SECONDS, BYTE)
 PREEMPT_FIELDS = {
     "delay": seconds(4, PREEMPT), "min_duration": seconds(5, PREEMPT), "max_presence": seconds(11, PREEMPT),

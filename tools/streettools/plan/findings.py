@@ -1,4 +1,5 @@
-"""What a check finds: what the program refuses, what it takes and people will regret, and what was looked at in vain."""
+"""What a check finds: what the program refuses, what it takes and people will regret, and what was looked at in
+vain."""
 
 import enum
 from dataclasses import asdict, dataclass
@@ -39,7 +40,11 @@ class Finding:
 def counted(findings: list[Finding]) -> str:
     """Returns how many there are of each level."""
     words = []
-    for level, one, more in ((Level.ERROR, "error", "errors"), (Level.WARNING, "warning", "warnings"), (Level.NOTE, "note", "notes")):
+    for level, one, more in (
+        (Level.ERROR, "error", "errors"),
+        (Level.WARNING, "warning", "warnings"),
+        (Level.NOTE, "note", "notes"),
+    ):
         count = sum(it.level is level for it in findings)
         words.append(f"{count or 'no'} {one if count == 1 else more}")
     return ", ".join(words)

@@ -1,15 +1,17 @@
 """The least change of a pattern's splits with which it keeps rules 17, 18 and 19: found exactly, for whole seconds.
 
-Each side of the barrier is laid out by itself for every length that it may have; then the lengths are chosen that make the cycle. Costs are
-seconds of change, summed over phases. On the coordinated side the later start of the coordinated phases, local zero, is tried at every second.
-"""
+Each side of the barrier is laid out by itself for every length that it may have; then the lengths are chosen that make
+the cycle. Costs are seconds of change, summed over phases. On the coordinated side the later start of the coordinated
+phases, local zero, is tried at every second."""
 
+from collections.abc import Iterator
 from dataclasses import dataclass
 from functools import cached_property
 
 import numpy as np
 
 from ..shared.tables import Tables
+from . import rules
 from .cells import put, value
 from .layout import Layout, least_service
 from .names import Intersection
@@ -20,6 +22,8 @@ LONGEST = 255
 """A split, and a cycle, is 0 to 255 s."""
 
 NEVER = np.int64(10**6)
+FIRST, SPLIT_RULES = (*range(1, 10), 14, 16), (17, 18, 19)
+"""The rules on which splits depend, and those that ask of splits."""
 
 
 @dataclass(frozen=True)
@@ -35,7 +39,11 @@ class Change:
         """Returns the change in words."""
         parts = [f"{known.phase_name(it)} from {self.before[it]} to {self.after[it]} s" for it in self.after]
         total = sum(abs(self.after[it] - self.before[it]) for it in self.after if it not in known.partners)
-        return f"pattern {self.pattern} (split {self.split}) keeps the rules with " + ", ".join(parts) + f": {total} s of change, the least there is"
+        return (
+            f"pattern {self.pattern} (split {self.split}) keeps the rules with "
+            + ", ".join(parts)
+            + f": {total} s of change, the least there is"
+        )
 
 
 class NoChange(Exception):
@@ -75,7 +83,8 @@ class Ring:
         return self.cost(phase, ceiling(least_service(self.laid.tables, phase) + self.laid.tables.clearance(phase)))
 
     def behind(self, phases: list[int]) -> list[np.ndarray]:
-        """Returns, for each of some last phases of the side and for none, the least cost of it and those behind it by their length."""
+        """Returns, for each of some last phases of the side and for none, the least cost of it and those behind it by
+        their length."""
         found = [np.where(self.seconds == 0, 0, NEVER)]
         for phase in reversed(phases):
             costs = added(found[0], self.waited(phase))
@@ -107,7 +116,8 @@ class Ring:
         return ceiling(hold + self.laid.tables.clearance(self.phases[self.at]))
 
     def by_end(self, zero: int, hold: int) -> np.ndarray:
-        """Returns the least cost of all up to the coordinated phase by where it ends, with its start at local zero or before."""
+        """Returns the least cost of all up to the coordinated phase by where it ends, with its start at local zero or
+        before."""
         costs = np.full(len(self.seconds), NEVER)
         for end in range(zero + self.need(hold), len(costs)):
             costs[end] = (self.front[-1][: zero + 1] + self.pair_cost[end - zero : end + 1][::-1]).min()
@@ -169,7 +179,8 @@ class Side:
 
 
 def laid_out(laid: Layout, partners: list[int], most: int) -> tuple[list[Side], list[np.ndarray]]:
-    """Returns the sides of a pattern, and the least costs of the first of them, of the first two, and so on, by their length in all."""
+    """Returns the sides of a pattern, and the least costs of the first of them, of the first two, and so on, by their
+    length in all."""
     sides = [Side(laid, it, partners, most) for it in laid.sides]
     totals = [np.where(np.arange(most + 1) == 0, 0, NEVER)]
     for side in sides:
@@ -183,7 +194,9 @@ def refuse_shared(laid: Layout) -> None:
     users = [it for it in tables.patterns() if value(tables, ("pattern", it, 4)) == laid.split and it != laid.pattern]
     other = next((it for it in users if Layout(tables, it).cycle != laid.cycle), None)
     if other is not None:
-        raise NoChange(f"pattern {laid.pattern} shares split {laid.split} with pattern {other}, which has another cycle: give it a split of its own")
+        raise NoChange(
+            f"pattern {laid.pattern} shares split {laid.split} with pattern {other}, which has another cycle: give it a split of its own"
+        )
 
 
 def least_change(tables: Tables, pattern: int, known: Intersection) -> Change:
@@ -212,3 +225,24 @@ def apply(tables: Tables, change: Change) -> None:
     """Puts the splits of a change into tables."""
     for phase, time in change.after.items():
         put(tables, ("split", change.split, phase, 3), time)
+
+
+def mend(tables: Tables, known: Intersection) -> Iterator[str]:
+    """Puts the least changes into tables that break rule 17, 18 or 19, and yields them in words; or why there are
+    none."""
+    broken = rules.broken(tables)
+    first = next((it.rule for it in broken if it.rule in FIRST), None)
+    patterns = sorted({it.row for it in broken if it.rule in SPLIT_RULES})
+    if first is not None and (patterns or tables.patterns()):
+        yield f"mend rule {first} first: the splits depend on it"
+        return
+    for pattern in patterns:
+        try:
+            change = least_change(tables, pattern, known)
+            apply(tables, change)
+            yield change.words(known)
+        except NoChange as why:
+            yield str(why)
+    still = {it.row for it in rules.broken(tables) if it.rule in SPLIT_RULES} - set(patterns)
+    for pattern in sorted(still):
+        yield f"pattern {pattern} breaks a rule then, since it runs the same split: give it a split of its own"

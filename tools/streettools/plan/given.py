@@ -1,11 +1,12 @@
-"""What a sheet says, taken up name by name: what can't be taken is kept as a fault with its place, and reading goes on."""
+"""What a sheet says, taken up name by name: what can't be taken is kept as a fault with its place, and reading goes
+on."""
 
 import datetime
 import difflib
 from collections.abc import Callable, Iterable, Iterator
 from dataclasses import dataclass, field
 
-from .fields import Wrong
+from .fields import Wrong, is_number
 
 DAY_TICKS = 864_000
 
@@ -113,14 +114,14 @@ def number(least: int, most: int) -> Callable[[object], int]:
 
 def measure(given: object) -> float:
     """Returns a number that isn't below 0."""
-    if isinstance(given, bool) or not isinstance(given, (int, float)) or given < 0:
+    if not is_number(given) or given < 0:
         raise Wrong(f"{given!r} is no number from 0 on")
     return given
 
 
 def percent(given: object) -> float:
     """Returns a grade in per cent."""
-    if isinstance(given, bool) or not isinstance(given, (int, float)) or abs(given) > 30:
+    if not is_number(given) or abs(given) > 30:
         raise Wrong(f"{given!r} is no grade in per cent")
     return given
 
@@ -133,7 +134,7 @@ def day_ticks(given: object) -> int:
         ticks = (given.hour * 3600 + given.minute * 60 + given.second) * 10 + given.microsecond / 100_000
     elif isinstance(given, str):
         ticks = 10 * clock_seconds(given)
-    elif isinstance(given, (int, float)) and not isinstance(given, bool):
+    elif is_number(given):
         ticks = 10 * given
     else:
         raise Wrong(f"{given!r} is no time of day, as 07:30:00")

@@ -1,4 +1,5 @@
-"""An intersection of a sheet as a cabinet of a scenario: the standard table, the rings as drawn, and what the sheet says besides."""
+"""An intersection of a sheet as a cabinet of a scenario: the standard table, the rings as drawn, and what the sheet
+says besides."""
 
 from dataclasses import dataclass, field
 
@@ -43,7 +44,9 @@ def started(it: Given) -> Read:
     """Returns the intersection with its standard table and its rings."""
     base = it.take("standard", word_of("std8", "max8"), "std8")
     found = Read(base, Tables(base), names.Intersection())
-    kinds = {number: row.take("kind", word_of("vehicle", "pedestrian"), "vehicle") for number, row in it.each("phase", 16)}
+    kinds = {
+        number: row.take("kind", word_of("vehicle", "pedestrian"), "vehicle") for number, row in it.each("phase", 16)
+    }
     drawn = it.take("rings", drawing.read)
     if drawn is not None:
         try:
@@ -55,13 +58,16 @@ def started(it: Given) -> Read:
         if kind == "pedestrian":
             crossing_alone(found.tables, number)
     for partner, like in found.partners.items():
-        found.notes.append(f"phase {partner} is entered beside phase {like}: the rings need a partner there; nothing calls it")
+        found.notes.append(
+            f"phase {partner} is entered beside phase {like}: the rings need a partner there; nothing calls it"
+        )
     found.names.partners = sorted(found.partners)
     return found
 
 
 def crossing_alone(tables: Tables, phase: int) -> None:
-    """Gives a phase the times of a crossing that is served alone: no vehicles; yellow is the buffer behind the clearance."""
+    """Gives a phase the times of a crossing that is served alone: no vehicles; yellow is the buffer behind the
+    clearance."""
     kept = value(tables, ("phase", phase, 21)) & fields.ENABLED
     for column, new in {2: 7, 3: 0, 4: 0, 5: 0, 6: 0, 8: 30, 9: 0, 10: 20, 20: 2, 21: kept}.items():
         put(tables, ("phase", phase, column), new)
@@ -77,7 +83,11 @@ def read_phase(it: Given, number: int, found: Read) -> None:
     cell = ("phase", number, 21)
     for name in fields.OPTIONS:
         options = value(found.tables, cell)
-        put(found.tables, cell, it.take(name, lambda said, name=name, options=options: fields.read_option(name, said, options), options))
+        put(
+            found.tables,
+            cell,
+            it.take(name, lambda said, name=name, options=options: fields.read_option(name, said, options), options),
+        )
     about = names.Phase(
         name=it.take("name", given.text, ""), kind=it.take("kind", word_of("vehicle", "pedestrian"), "vehicle"),
         speed=it.take("speed", given.measure), grade=it.take("grade", given.percent), crossing=it.take("crossing", given.measure),
@@ -96,8 +106,8 @@ def fill_partners(found: Read) -> None:
 
 
 def read_split(it: Given, number: int, found: Read, usual: tuple[int, ...] | None) -> None:
-    """Takes up times, modes and coordinated phases of a split, and gives partners theirs. `usual` are the phases that are coordinated where
-    nothing is said."""
+    """Takes up times, modes and coordinated phases of a split, and gives partners theirs. `usual` are the phases that
+    are coordinated where nothing is said."""
     said_times = set()
     for name, each, column in (("splits", fields.SPLIT_TIME, 3), ("modes", fields.SPLIT_MODES, 4)):
         below = it.below(name)
@@ -125,7 +135,8 @@ def coordinated(said: object, found: Read) -> tuple[int, ...]:
 
 
 def fill_split_partners(found: Read, number: int, said: set[int], pair: tuple[int, ...] | None) -> None:
-    """Gives each partner that nothing was said of the time of the phases that it faces, and coordinates it beside them."""
+    """Gives each partner that nothing was said of the time of the phases that it faces, and coordinates it beside
+    them."""
     for partner in found.partners:
         if partner in said:
             continue
@@ -134,19 +145,24 @@ def fill_split_partners(found: Read, number: int, said: set[int], pair: tuple[in
         time = sum(value(found.tables, ("split", number, phase, 3)) for phase in faced)
         put(found.tables, ("split", number, partner, 3), min(time, 255))
         if pair is not None:
-            put(found.tables, ("split", number, partner, 5), int(partner in pair or any(phase in pair for phase in faced)))
+            put(
+                found.tables,
+                ("split", number, partner, 5),
+                int(partner in pair or any(phase in pair for phase in faced)),
+            )
 
 
 def usual_pair(found: Read, number: int) -> tuple[int, ...]:
-    """Returns the phases that a split coordinates where nothing is said: those that it has, or the main street, 2 and 6, as far as drawn."""
+    """Returns the phases that a split coordinates where nothing is said: those that it has, or the main street, 2 and
+    6, as far as drawn."""
     drawn = [phase for phase in found.tables.enabled() if phase not in found.partners]
     has = tuple(phase for phase in drawn if value(found.tables, ("split", number, phase, 5)))
     return has or tuple(phase for phase in (2, 6) if phase in drawn)
 
 
 def read_pattern(it: Given, number: int, found: Read, used: dict[int, str]) -> None:
-    """Takes up a pattern, with its splits where they stand with it. A pattern that is named with a cycle has split and sequence of its own
-    number and 1, where nothing else is said."""
+    """Takes up a pattern, with its splits where they stand with it. A pattern that is named with a cycle has split and
+    sequence of its own number and 1, where nothing else is said."""
     it.allow((*fields.PATTERN_FIELDS, *SPLIT_NAMES))
     said = {name: it.take(name, each.read) for name, each in fields.PATTERN_FIELDS.items()}
     if said["cycle"]:
@@ -162,7 +178,10 @@ def read_pattern(it: Given, number: int, found: Read, used: dict[int, str]) -> N
     if split not in SPLITS:
         it.fault("say the number of the split in which these times stand, 1 to 32", "split")
     elif split in used:
-        it.fault(f"the times of split {split} stand with {used[split]} already: say them once, or give this pattern another split", "splits")
+        it.fault(
+            f"the times of split {split} stand with {used[split]} already: say them once, or give this pattern another split",
+            "splits",
+        )
     else:
         used[split] = f"pattern {number}"
         read_split(it, split, found, usual_pair(found, split))

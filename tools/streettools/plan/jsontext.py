@@ -1,4 +1,5 @@
-"""The text of a scenario as JSON (RFC 8259): where it can't be read, with what was expected there; and where a value stands."""
+"""The text of a scenario as JSON (RFC 8259): where it can't be read, with what was expected there; and where a value
+stands."""
 
 import json
 import math
@@ -6,7 +7,9 @@ import re
 from dataclasses import dataclass
 
 DEEPEST = 127
-LONE = re.compile(r"\\u[dD][89abAB][0-9a-fA-F]{2}(?!\\u[dD][c-fC-F][0-9a-fA-F]{2})|(?<!\\u[dD][89abAB]..)\\u[dD][c-fC-F][0-9a-fA-F]{2}")
+LONE = re.compile(
+    r"\\u[dD][89abAB][0-9a-fA-F]{2}(?!\\u[dD][c-fC-F][0-9a-fA-F]{2})|(?<!\\u[dD][89abAB]..)\\u[dD][c-fC-F][0-9a-fA-F]{2}"
+)
 EXPECTED = {
     "Expecting value": "a value was expected: a number, a text in double quotes, true, false, null, a list or an object",
     "Expecting property name enclosed in double quotes": "a name in double quotes was expected",
@@ -56,7 +59,8 @@ def place_at(text: str, at: int) -> Place:
 
 
 def decoded(content: bytes, replaced: bool = False) -> str:
-    """Returns the text of some bytes, which must be UTF-8; where octets may be `replaced`, those that are none are read as Latin letters."""
+    """Returns the text of some bytes, which must be UTF-8; where octets may be `replaced`, those that are none are read
+    as Latin letters."""
     if replaced:
         try:
             return content.decode()
@@ -154,7 +158,8 @@ def space(text: str, at: int) -> int:
 
 
 def place_of(text: str, path: str) -> Place:
-    """Returns where the value of a path stands in a text that is JSON; where a part of the path isn't there, where the part before it stands."""
+    """Returns where the value of a path stands in a text that is JSON; where a part of the path isn't there, where the
+    part before it stands."""
     decoder, at = json.JSONDecoder(), space(text, 0)
     for step in [] if path == "." else steps(path):
         below = member(decoder, text, at, step) if isinstance(step, str) else item(decoder, text, at, step)

@@ -1,7 +1,7 @@
-"""A pattern laid over its cycle, as the rules of tables ask of it: slots, sides, and the last moment at which each phase may end, in ticks.
+"""A pattern laid over its cycle, as the rules of tables ask of it: slots, sides, and the last moment at which each
+phase may end, in ticks.
 
-docs/DEFINITIONS.md says it in words (`slot_start`, `side_end`, `side_clearance`, `leaves_room`, `zero_point`).
-"""
+docs/DEFINITIONS.md says it in words (`slot_start`, `side_end`, `side_clearance`, `leaves_room`, `zero_point`)."""
 
 from dataclasses import dataclass
 from functools import cached_property
@@ -24,7 +24,8 @@ def crossing_time(tables: Tables, phase: int) -> int:
 
 
 def least_service(tables: Tables, phase: int) -> int:
-    """Returns the least service of a phase in ticks: its least green, or walk and pedestrian clearance where these take longer."""
+    """Returns the least service of a phase in ticks: its least green, or walk and pedestrian clearance where these take
+    longer."""
     return max(least_green(tables, phase), crossing_time(tables, phase))
 
 
@@ -34,10 +35,13 @@ def concurrent(tables: Tables, phase: int) -> set[int]:
 
 
 def sides_by_phase(tables: Tables) -> dict[int, frozenset[int]]:
-    """Returns the side of the barrier of each enabled phase: it, those concurrent with it, and those that share one of these with it."""
+    """Returns the side of the barrier of each enabled phase: it, those concurrent with it, and those that share one of
+    these with it."""
     enabled = tables.enabled()
     near = {phase: set(value(tables, ("phase", phase, 23))) & set(enabled) for phase in enabled}
-    return {one: frozenset(it for it in enabled if it == one or it in near[one] or near[one] & near[it]) for one in enabled}
+    return {
+        one: frozenset(it for it in enabled if it == one or it in near[one] or near[one] & near[it]) for one in enabled
+    }
 
 
 def sides(tables: Tables) -> list[frozenset[int]]:
@@ -111,7 +115,9 @@ class Layout:
 
     def last_end(self, phase: int) -> int:
         """Returns the last moment at which the green of a phase may end, from the start of the sequence."""
-        return min(self.slots[phase][1] - self.tables.clearance(phase), self.side_end(phase) - self.side_clearance(phase))
+        return min(
+            self.slots[phase][1] - self.tables.clearance(phase), self.side_end(phase) - self.side_clearance(phase)
+        )
 
     @cached_property
     def coordinated(self) -> list[int]:
@@ -133,7 +139,8 @@ class Layout:
 
     @cached_property
     def window(self) -> int:
-        """How long after local zero both coordinated phases may stay green; below 0 where they can't be green together."""
+        """How long after local zero both coordinated phases may stay green; below 0 where they can't be green
+        together."""
         return min(self.last_end(phase) for phase in self.coordinated) - self.zero
 
     def room(self, phase: int) -> int:
@@ -152,4 +159,8 @@ class Layout:
 
     def waited(self) -> list[int]:
         """Returns the phases that are neither coordinated nor omitted."""
-        return [phase for phase in ALL if phase in self.slots and phase not in self.coordinated and not self.is_omitted(phase)]
+        return [
+            phase
+            for phase in ALL
+            if phase in self.slots and phase not in self.coordinated and not self.is_omitted(phase)
+        ]

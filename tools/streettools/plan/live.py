@@ -11,15 +11,15 @@ from .walk import ASC, OWN, Name
 COLUMNS = [
     *((*ASC, 1, 2, 1, column) for column in range(2, 24)),
     *((*ASC, 4, 7, 1, column) for column in range(2, 6)),
-    *((*ASC, 4, 9, 1, column) for column in range(3, 6)),
+    *((*ASC, 4, 9, 1, column, split) for split in range(1, 33) for column in range(3, 6)),
     *((*ASC, 6, 2, 1, column) for column in range(4, 16)),
     (*ASC, 7, 3, 1, 3),
     *((*ASC, 2, 2, 1, column) for column in (4, 6, 7, 9, 10, 11)),
     (*ASC, 3, 3), (*ASC, 4, 2), (*ASC, 4, 4), (*ASC, 4, 14), *((*OWN, 3, number) for number in range(1, 8)), (*OWN, 2, 1),
 ]  # fmt: skip
-"""Under which names there is something of a plan."""
+"""Under which names there is something of a plan. The long columns of splits are asked split by split, side by side."""
 
-AT_ONCE = 12
+AT_ONCE = 24
 SECONDS, TRIES = 3.0, 3
 NO_SUCH_NAME = 2
 
@@ -45,7 +45,9 @@ class Agent:
                 return reply.status, reply.index, reply.bindings
             except (TimeoutError, ConnectionRefusedError):
                 continue
-        raise Unreadable([Fault(f"{self.host}:{self.port}", f"no answer in {TRIES} tries; is it the port, and the community?")])
+        raise Unreadable(
+            [Fault(f"{self.host}:{self.port}", f"no answer in {TRIES} tries; is it the port, and the community?")]
+        )
 
 
 def address(host: str, anywhere: bool) -> str:
@@ -69,7 +71,9 @@ def walk(agent: Agent, advance: Callable[[int], object] = lambda count: None) ->
         if status:
             over = [batch[index - 1]] if 1 <= index <= len(batch) else batch
         else:
-            over = [column for column, (name, _, __) in zip(batch, bindings, strict=True) if name[: len(column)] != column]
+            over = [
+                column for column, (name, _, __) in zip(batch, bindings, strict=True) if name[: len(column)] != column
+            ]
             for column, (name, tag, content) in zip(batch, bindings, strict=True):
                 if column not in over:
                     reached[column] = name

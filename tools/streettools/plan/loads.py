@@ -1,4 +1,5 @@
-"""The downloads that bring cabinets from one plan to another, each of which keeps the rules; and the SNMP Sets that carry them."""
+"""The downloads that bring cabinets from one plan to another, each of which keeps the rules; and the SNMP Sets that
+carry them."""
 
 from collections.abc import Iterator
 
@@ -39,7 +40,8 @@ def groups(cells: list[Cell]) -> list[list[Cell]]:
 
 
 def packed(old: Tables, new: Tables, cells: list[Cell], may: set[int]) -> list[list[Cell]] | None:
-    """Returns cells as downloads, each of which keeps the rules (or breaks those that it may), of whole groups; None where that can't be."""
+    """Returns cells as downloads, each of which keeps the rules (or breaks those that it may), of whole groups; None
+    where that can't be."""
     found: list[list[Cell]] = []
     waiting, now = groups(cells), old
     while waiting:
@@ -60,8 +62,8 @@ def packed(old: Tables, new: Tables, cells: list[Cell], may: set[int]) -> list[l
 
 
 def downloads(old: Tables, new: Tables, flash: bool = False) -> list[list[list]]:
-    """Returns the downloads, as lists of cells, from old to new tables. Where they don't go otherwise, the first takes the patterns out that
-    the last define anew. `flash` says that the cabinet flashes when they come."""
+    """Returns the downloads, as lists of cells, from old to new tables. Where they don't go otherwise, the first takes
+    the patterns out that the last define anew. `flash` says that the cabinet flashes when they come."""
     may = {FLASH_RULE} if flash else set()
     wrong = [it for it in rules.broken(new, old) if it.rule not in may]
     if wrong:
@@ -115,7 +117,8 @@ def binding(name: Name, new: int | str) -> str:
 
 
 def sets(load: dict, number: int, host: str, community: str) -> Iterator[str]:
-    """Yields the commands of snmpset that carry a download with this id: begin, parts, the total upon which the tables are tested, finish."""
+    """Yields the commands of snmpset that carry a download with this id: begin, parts, the total upon which the tables
+    are tested, finish."""
     head = f"snmpset -v1 -c {community} {host}"
     yield f"{head} {binding(BEGIN, number)}"
     cells = load["cells"]

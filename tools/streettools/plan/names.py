@@ -8,6 +8,8 @@ import json
 import pathlib
 from dataclasses import dataclass, field
 
+from .fields import is_number
+
 
 @dataclass
 class Phase:
@@ -44,7 +46,8 @@ class Intersection:
 
 @dataclass
 class Names:
-    """Names of a street. Speeds are in miles an hour and lengths in feet, or with `metric` in kilometres an hour and metres."""
+    """Names of a street. Speeds are in miles an hour and lengths in feet, or with `metric` in kilometres an hour and
+    metres."""
 
     title: str = ""
     units: str = "us"
@@ -84,13 +87,40 @@ def text(names: Names) -> str:
 def of_intersection(given: dict) -> Intersection:
     """Returns an intersection as a names file has it."""
     phases = {int(number): Phase(**it) for number, it in given.get("phases", {}).items()}
-    numbered = {name: {int(number): it for number, it in given.get(name, {}).items()} for name in ("preempts", "detectors")}
+    numbered = {
+        name: {int(number): it for number, it in given.get(name, {}).items()} for name in ("preempts", "detectors")
+    }
     rest = {name: it for name, it in given.items() if name not in ("phases", "preempts", "detectors")}
     return Intersection(**rest, **numbered, phases=phases)
 
 
 class NoNames(Exception):
     """A file isn't a names file, in words."""
+
+
+def is_measure(value: object) -> bool:
+    """Tells whether a value is a number, or none."""
+    return value is None or is_number(value)
+
+
+def refuse_kinds(found: Names) -> None:
+    """Refuses names that are no texts, measures that are no numbers, and partners that are no phases."""
+    for it in found.intersections:
+        measures = [
+            it.travel,
+            *(value for phase in it.phases.values() for value in (phase.speed, phase.grade, phase.crossing)),
+        ]
+        texts = [
+            it.name,
+            it.note,
+            *it.preempts.values(),
+            *it.detectors.values(),
+            *(phase.name for phase in it.phases.values()),
+        ]
+        if not all(map(is_measure, measures)) or not all(isinstance(text, str) for text in texts):
+            raise TypeError(f"intersection {it.name!r} has a name that is no text, or a measure that is no number")
+        if not all(isinstance(phase, int) for phase in it.partners):
+            raise TypeError(f"intersection {it.name!r} has partners that are no phases")
 
 
 def read(content: str) -> Names:
@@ -100,7 +130,9 @@ def read(content: str) -> Names:
         intersections = [of_intersection(it) for it in given.get("intersections", ())]
         sections = {int(number): it for number, it in given.get("sections", {}).items()}
         rest = {name: it for name, it in given.items() if name not in ("intersections", "sections")}
-        return Names(**rest, intersections=intersections, sections=sections)
+        found = Names(**rest, intersections=intersections, sections=sections)
+        refuse_kinds(found)
+        return found
     except (ValueError, TypeError, AttributeError) as fault:
         raise NoNames(f"no names file: {fault}") from None
 

@@ -15,7 +15,11 @@ def has_sequence(tables: Tables, pattern: int) -> bool:
 
 def rule_14(tables: Tables) -> Iterator[int]:
     """The split of a pattern is 1 to 32, and its sequence has phases."""
-    return (it for it in tables.patterns() if not 1 <= value(tables, ("pattern", it, 4)) <= 32 or not has_sequence(tables, it))
+    return (
+        it
+        for it in tables.patterns()
+        if not 1 <= value(tables, ("pattern", it, 4)) <= 32 or not has_sequence(tables, it)
+    )
 
 
 def rule_15(tables: Tables) -> Iterator[int]:
@@ -49,7 +53,9 @@ def rule_17(tables: Tables) -> Iterator[int]:
     for number in split_patterns(tables):
         laid = Layout(tables, number)
         rings = [sum(map(laid.time, order)) for order in laid.orders]
-        equal = all(sum(map(laid.time, laid.of_side(it, 1))) == sum(map(laid.time, laid.of_side(it, 2))) for it in laid.sides)
+        equal = all(
+            sum(map(laid.time, laid.of_side(it, 1))) == sum(map(laid.time, laid.of_side(it, 2))) for it in laid.sides
+        )
         if rings != [laid.cycle, laid.cycle] or not equal:
             yield number
 

@@ -1,4 +1,5 @@
-"""The sentences of rules 14 to 19, which ask of patterns: splits and offsets, with what each phase needs and which has time to spare."""
+"""The sentences of rules 14 to 19, which ask of patterns: splits and offsets, with what each phase needs and which has
+time to spare."""
 
 from ..shared.tables import Tables
 from . import pattern_rules, rules

@@ -1,4 +1,5 @@
-"""A picture of a sheet: a pattern's rings and barriers with the slot of each phase, what each phase needs of it, and what is wrong."""
+"""A picture of a sheet: a pattern's rings and barriers with the slot of each phase, what each phase needs of it, and
+what is wrong."""
 
 import textwrap
 from dataclasses import dataclass
@@ -33,14 +34,19 @@ class Slot:
 
 
 def slots(tables: Tables, pattern: int) -> list[Slot]:
-    """Returns the slots of a pattern, or of the rings where no pattern is defined: as long as their greatest greens and clearances."""
+    """Returns the slots of a pattern, or of the rings where no pattern is defined: as long as their greatest greens and
+    clearances."""
     if pattern in tables.patterns():
         laid = Layout(tables, pattern)
         lengths = {phase: laid.time(phase) / 10 for phase in laid.slots}
         orders = laid.orders
     else:
         orders = tuple(value(tables, ("sequence", 1, ring)) for ring in (1, 2))
-        lengths = {phase: value(tables, ("phase", phase, 6)) + tables.clearance(phase) / 10 for order in orders for phase in order}
+        lengths = {
+            phase: value(tables, ("phase", phase, 6)) + tables.clearance(phase) / 10
+            for order in orders
+            for phase in order
+        }
     found = []
     for ring, order in enumerate(orders, 1):
         at = 0.0
@@ -54,8 +60,25 @@ def draw_slot(axes, tables: Tables, known: Intersection, slot: Slot, pattern: in
     """Draws a slot: green, yellow and red clearance, with a line as long as the least service and a name."""
     low, height = (1.2 if slot.ring == 1 else 0.0), 1.0
     if slot.phase in known.partners:
-        axes.barh(low + height / 2, slot.length, height, left=slot.start, color=PALE, edgecolor=FAINT, hatch="///", linewidth=0.5)
-        axes.text(slot.start + slot.length / 2, low + height / 2, f"{slot.phase}: partner", ha="center", va="center", fontsize=8, color=FAINT)
+        axes.barh(
+            low + height / 2,
+            slot.length,
+            height,
+            left=slot.start,
+            color=PALE,
+            edgecolor=FAINT,
+            hatch="///",
+            linewidth=0.5,
+        )
+        axes.text(
+            slot.start + slot.length / 2,
+            low + height / 2,
+            f"{slot.phase}: partner",
+            ha="center",
+            va="center",
+            fontsize=8,
+            color=FAINT,
+        )
         return
     yellow, red = (value(tables, ("phase", slot.phase, column)) / 10 for column in (8, 9))
     green = max(0.0, slot.length - yellow - red)
@@ -64,7 +87,14 @@ def draw_slot(axes, tables: Tables, known: Intersection, slot: Slot, pattern: in
     edge, width = (WRONG, 2.5) if slot.phase in short else (INK, 0.8)
     axes.barh(low + height / 2, slot.length, height, left=slot.start, fill=False, edgecolor=edge, linewidth=width)
     least = least_service(tables, slot.phase) / 10
-    axes.plot([slot.start, slot.start + least], [low + 0.1] * 2, color=WRONG if least > green else GREEN, linewidth=3, solid_capstyle="butt", zorder=5)
+    axes.plot(
+        [slot.start, slot.start + least],
+        [low + 0.1] * 2,
+        color=WRONG if least > green else GREEN,
+        linewidth=3,
+        solid_capstyle="butt",
+        zorder=5,
+    )
     laid = Layout(tables, pattern)
     held = pattern in tables.patterns() and slot.phase in laid.coordinated
     name = "\n".join(textwrap.wrap(known.phase(slot.phase).name, max(6, int(slot.length * 1.1)))[:3])
@@ -109,7 +139,12 @@ def title(tables: Tables, known: Intersection, called: str, pattern: int) -> str
 def write(tables: Tables, known: Intersection, called: str, pattern: int, path: str) -> None:
     """Writes the picture of an intersection's pattern, as SVG, PNG or PDF by the name of its file."""
     broken = [it for it in rules.broken(tables) if it.rule < 14 or it.rule > 19 or it.row == pattern]
-    words = [line for it in broken for said in sentences(tables, known, it) for line in textwrap.wrap(f"rule {it.rule}: {said}", LETTERS)]
+    words = [
+        line
+        for it in broken
+        for said in sentences(tables, known, it)
+        for line in textwrap.wrap(f"rule {it.rule}: {said}", LETTERS)
+    ]
     laid = Layout(tables, pattern)
     short = {it for it in laid.waited() if laid.room(it) < 0} if any(it.rule == 18 for it in broken) else set()
     plt.rcParams.update(STYLE)
@@ -120,8 +155,15 @@ def write(tables: Tables, known: Intersection, called: str, pattern: int, path: 
     for slot in drawn:
         draw_slot(axes, tables, known, slot, pattern, short)
     draw_barriers(axes, tables, drawn)
-    axes.set(xlim=(0, max((it.start + it.length for it in drawn), default=1)), ylim=(-0.15, 2.35), yticks=[0.5, 1.7], yticklabels=["ring 2", "ring 1"])
-    axes.set_xlabel("seconds; the thick line in a slot is the least service of its phase, red where the green is too short for it")
+    axes.set(
+        xlim=(0, max((it.start + it.length for it in drawn), default=1)),
+        ylim=(-0.15, 2.35),
+        yticks=[0.5, 1.7],
+        yticklabels=["ring 2", "ring 1"],
+    )
+    axes.set_xlabel(
+        "seconds; the thick line in a slot is the least service of its phase, red where the green is too short for it"
+    )
     figure.suptitle(title(tables, known, called, pattern), x=0.01, ha="left", fontsize=11, fontweight="bold", color=INK)
     figure.text(0.06, 1 - 3.4 / height, table_text(tables, known), va="top", family="monospace", fontsize=8, color=INK)
     figure.text(0.06, 0.1 / height, "\n".join(words), va="bottom", fontsize=8, color=WRONG)

@@ -1,4 +1,5 @@
-"""A sheet, as the tables of TOML or of a workbook, as a scenario with its names; or as a field file, where it has detectors."""
+"""A sheet, as the tables of TOML or of a workbook, as a scenario with its names; or as a field file, where it has
+detectors."""
 
 import json
 from collections.abc import Callable
@@ -55,7 +56,7 @@ def read_master(it: Given, schedule: list[dict] | None) -> dict | None:
     clock = it.take("clock", given.day_ticks)
     if clock is not None:
         found["clock"] = clock
-    for name, limits in ((*((name, (0, 86_400)) for name in EVERY), ("retries", (1, 10)))):
+    for name, limits in (*((name, (0, 86_400)) for name in EVERY), ("retries", (1, 10))):
         said = it.take(name, given.number(*limits))
         if said is not None:
             found[name] = said
@@ -98,7 +99,9 @@ def read_detectors(it: Given, cabinet: int, ticks: int, found: names.Intersectio
         row.allow(("name", "phase", "delay", "extend", "no_activity", "max_presence", "erratic"))
         if "phase" not in row.table:
             row.fault("say which phase it calls", "phase")
-        times = {name: row.take(name, rounds_of(ticks), 0) for name in ("delay", "extend", "no_activity", "max_presence")}
+        times = {
+            name: row.take(name, rounds_of(ticks), 0) for name in ("delay", "extend", "no_activity", "max_presence")
+        }
         bank.append({
             "cabinet": cabinet, "detector": number, "phase": row.take("phase", given.number(1, 16), 1), **times,
             "erratic": row.take("erratic", given.number(0, 255), 0),
@@ -143,7 +146,8 @@ def respond_of(top: Given) -> dict | None:
 
 
 def read_events(top: Given, scenario: dict) -> list | None:
-    """Takes up what comes in round by round, which a sheet has as a scenario has it; returns the pulses of detectors."""
+    """Takes up what comes in round by round, which a sheet has as a scenario has it; returns the pulses of
+    detectors."""
     it = top.below("events")
     it.allow((*LISTS, "pulses"))
     for name in LISTS:

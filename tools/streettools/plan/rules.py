@@ -1,4 +1,5 @@
-"""The 22 rules of tables (docs/SCENARIO.md): all that are broken, by rule and row. The first of them is the one that the program tells."""
+"""The 22 rules of tables (docs/SCENARIO.md): all that are broken, by rule and row. The first of them is the one that
+the program tells."""
 
 from collections.abc import Callable
 from dataclasses import dataclass
@@ -17,7 +18,16 @@ class Broken:
 
 
 LISTS = (street.rule_1, street.rule_2, street.rule_3, street.rule_4, street.rule_5, street.rule_6)
-OTHERS = (street.rule_10, street.rule_11, street.rule_12, street.rule_13, street.rule_20, street.rule_22, pattern.rule_14, pattern.rule_15)
+OTHERS = (
+    street.rule_10,
+    street.rule_11,
+    street.rule_12,
+    street.rule_13,
+    street.rule_20,
+    street.rule_22,
+    pattern.rule_14,
+    pattern.rule_15,
+)
 LAID = (pattern.rule_16, pattern.rule_17, pattern.rule_18, pattern.rule_19)
 
 
@@ -27,8 +37,8 @@ def number_of(rule: Callable) -> int:
 
 
 def broken(tables: Tables, before: Tables | None = None) -> list[Broken]:
-    """Returns all rules that tables break, by rule and row. Where the rings don't hold together, what is asked of barriers, orders and patterns
-    isn't looked at. `before` are the tables that a download finds in force."""
+    """Returns all rules that tables break, by rule and row. Where the rings don't hold together, what is asked of
+    barriers, orders and patterns isn't looked at. `before` are the tables that a download finds in force."""
 
     def rows(*rules: Callable) -> list[Broken]:
         return [Broken(number_of(rule), row) for rule in rules for row in rule(tables)]

@@ -1,4 +1,5 @@
-"""A broken rule as a sentence with its numbers, and what would mend it: rings, lists, sequences, times, preempts, downloads."""
+"""A broken rule as a sentence with its numbers, and what would mend it: rings, lists, sequences, times, preempts,
+downloads."""
 
 from ..shared.tables import ALL, Tables
 from . import rules, street_rules
@@ -66,7 +67,17 @@ class Sentences:
         """The list holds phases, and not its own."""
         strange = [it for it in self.listed(row) if it not in ALL]
         own = "itself" if row in self.listed(row) else ""
-        wrong = " and ".join(filter(None, (own, f"{many(strange)}, which {'is no phase' if len(strange) == 1 else 'are no phases'}" if strange else "")))
+        wrong = " and ".join(
+            filter(
+                None,
+                (
+                    own,
+                    f"{many(strange)}, which {'is no phase' if len(strange) == 1 else 'are no phases'}"
+                    if strange
+                    else "",
+                ),
+            )
+        )
         return f"{self.phase(row)} may be on beside {wrong}; its list is {many(self.listed(row))}: take that out"
 
     def rule_3(self, row: int) -> str:
@@ -105,7 +116,7 @@ class Sentences:
         """There are two sides or more."""
         enabled = self.tables.enabled()
         what = f"phases {many(enabled)} all stand on one side of the barrier" if enabled else "no phase is enabled"
-        return f"{what}; there must be two sides or more, each with a phase in both rings, as in `rings = [\"2 | 4\", \"6 | 8\"]`"
+        return f'{what}; there must be two sides or more, each with a phase in both rings, as in `rings = ["2 | 4", "6 | 8"]`'
 
     def rule_8(self, row: int) -> str:
         """Each ring of a sequence has each of its enabled phases once, and nothing else."""

@@ -2,7 +2,24 @@
 
 from collections.abc import Iterator
 
-from .values import MOST_TICKS, WHOLE, Fault, Test, below, cell, community, flag, listing, may, members, must, octets, thing, whole, word
+from .values import (
+    MOST_TICKS,
+    WHOLE,
+    Fault,
+    Test,
+    below,
+    cell,
+    community,
+    flag,
+    listing,
+    may,
+    members,
+    must,
+    octets,
+    thing,
+    whole,
+    word,
+)
 
 BYTE, WORD = whole(0, 255), whole(0, 65535)
 EVERY, TEN, PHASE = may(whole(0, 86400)), must(whole(1, 10)), must(whole(1, 16))
@@ -44,7 +61,9 @@ def leaves_after_coming(path: str, value: dict) -> Iterator[Fault]:
     """Tests a priority request for not leaving before it comes."""
     come, gone = value.get("arrival"), value.get("departure")
     if "cancel" not in value and type(come) is int and type(gone) is int and come > gone:
-        yield Fault("limit", below(path, "departure"), f"the vehicle is gone after {gone} ticks, but comes after {come}")
+        yield Fault(
+            "limit", below(path, "departure"), f"the vehicle is gone after {gone} ticks, but comes after {come}"
+        )
 
 
 def few_loads(load: Test) -> Test:
@@ -57,7 +76,9 @@ def few_loads(load: Test) -> Test:
             number = value["cabinet"]
             counts[number] = counts.get(number, 0) + 1
             if counts[number] > 100:
-                yield Fault("limit", path, f"this is download {counts[number]} of cabinet {number}, and 100 is the most")
+                yield Fault(
+                    "limit", path, f"this is download {counts[number]} of cabinet {number}, and 100 is the most"
+                )
 
     return test
 
@@ -80,13 +101,21 @@ def lists(rounds: int, cabinets: int) -> dict:
 
 
 def scenario_faults(value: object) -> Iterator[Fault]:
-    """Yields all faults of a value that is to be a scenario, but for the rules of tables, in the order in which the program looks."""
-    head = {"version": must(whole(1, 2)), "rounds": must(whole(1, 86_400)), "ticks": must(whole(1, 600)), "community": may(community)}
+    """Yields all faults of a value that is to be a scenario, but for the rules of tables, in the order in which the
+    program looks."""
+    head = {
+        "version": must(whole(1, 2)),
+        "rounds": must(whole(1, 86_400)),
+        "ticks": must(whole(1, 600)),
+        "community": may(community),
+    }
 
     def rest(_: str, it: dict) -> Iterator[Fault]:
         found = it.get("cabinets")
         count = size(len(found) if type(found) is list else 0, 64)
-        yield from members(WHOLE, it, {"cabinets": must(listing(1, 64, cabinet(it.get("version")))), "master": may(MASTER)})
+        yield from members(
+            WHOLE, it, {"cabinets": must(listing(1, 64, cabinet(it.get("version")))), "master": may(MASTER)}
+        )
         yield from members(WHOLE, it, lists(size(it.get("rounds"), 86_400), count))
         ticks = size(it.get("rounds"), 86_400) * size(it.get("ticks"), 600) * count
         if all(type(it.get(name)) is int for name in ("rounds", "ticks")) and ticks > MOST_TICKS:

@@ -1,4 +1,5 @@
-"""Files that `plan` reads: sheets (TOML), workbooks, scenarios and field files (JSON), told apart by their names or by their first letters."""
+"""Files that `plan` reads: sheets (TOML), workbooks, scenarios and field files (JSON), told apart by their names or by
+their first letters."""
 
 import pathlib
 import sys
@@ -36,7 +37,8 @@ def content_of(path: str) -> bytes:
 
 
 def load(path: str, named: str | None = None) -> Source:
-    """Reads a file. `named` is the file with the names of a scenario; where it isn't said, that beside the scenario, if there is one."""
+    """Reads a file. `named` is the file with the names of a scenario; where it isn't said, that beside the scenario, if
+    there is one."""
     source = Source(path)
     content = content_of(path)
     if path.endswith(".xlsx") or content[:4] == b"PK\x03\x04":
@@ -79,7 +81,11 @@ def read_sheet(source: Source, read) -> None:
         source.error(fault.words, fault.where)
     if not faults:
         for fault in shapes.scenario_faults(street.scenario):
-            source.error(fault.words, f"events, {fault.path}" if fault.path.startswith(reading.LISTS) else fault.path, line=fault.line)
+            source.error(
+                fault.words,
+                f"events, {fault.path}" if fault.path.startswith(reading.LISTS) else fault.path,
+                line=fault.line,
+            )
     for note in street.notes:
         source.findings.append(Finding(Level.NOTE, "", note))
     source.street = street
@@ -102,6 +108,10 @@ def read_json(source: Source, content: bytes, known: names.Names) -> None:
     for fault in shapes.scenario_faults(scenario):
         place = jsontext.place_of(source.text, front + fault.path if fault.path != "." else front.rstrip(".") or ".")
         source.error(fault.words, fault.path, line=fault.line, place=str(place))
-    if not source.errors:
-        around = {name: value.get(name) for name in ("pulses", "respond")} if is_field else {"pulses": None, "respond": None}
+    if isinstance(scenario, dict) and not any(
+        fault.startswith(("cabinets", ".", "version")) for fault in (it.where for it in source.errors)
+    ):
+        around = (
+            {name: value.get(name) for name in ("pulses", "respond")} if is_field else {"pulses": None, "respond": None}
+        )
         source.street = Street(scenario, known, [], value.get("bank", []) if is_field else [], **around)

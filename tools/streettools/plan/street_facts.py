@@ -1,4 +1,5 @@
-"""What speed and width ask of yellow changes and pedestrian clearances, after the FHWA Signal Timing Manual and the MUTCD."""
+"""What speed and width ask of yellow changes and pedestrian clearances, after the FHWA Signal Timing Manual and the
+MUTCD."""
 
 import math
 
@@ -14,10 +15,10 @@ WALKING = 3.5
 
 
 def yellow_due(phase: Phase, metric: bool) -> float | None:
-    """Returns the yellow change in seconds that the speed and the grade of an approach ask, to tenths; None where no speed is known.
+    """Returns the yellow change in seconds that the speed and the grade of an approach ask, to tenths; None where no
+    speed is known.
 
-    It is reaction + speed / (2 deceleration + 2 gravity grade).
-    """
+    It is reaction + speed / (2 deceleration + 2 gravity grade)."""
     if not phase.speed:
         return None
     miles = phase.speed * (MILES_IN_KILOMETRE if metric else 1)
@@ -26,7 +27,8 @@ def yellow_due(phase: Phase, metric: bool) -> float | None:
 
 
 def clearance_due(phase: Phase, metric: bool) -> int | None:
-    """Returns the pedestrian clearance in whole seconds that a crossing's length asks; None where no length is known."""
+    """Returns the pedestrian clearance in whole seconds that a crossing's length asks; None where no length is
+    known."""
     if not phase.crossing:
         return None
     feet = phase.crossing * (FEET_IN_METRE if metric else 1)

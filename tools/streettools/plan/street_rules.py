@@ -1,4 +1,5 @@
-"""The rules of tables (docs/SCENARIO.md) that ask of phases, rings, orders, times and preempts: each yields the rows that break it."""
+"""The rules of tables (docs/SCENARIO.md) that ask of phases, rings, orders, times and preempts: each yields the rows
+that break it."""
 
 from collections.abc import Callable, Iterator
 
@@ -38,12 +39,16 @@ def rule_1(tables: Tables) -> Iterator[int]:
 
 def rule_2(tables: Tables) -> Iterator[int]:
     """The list holds phases, and not its own."""
-    return phase_rule(tables, lambda it: all(other in ALL and other != it for other in value(tables, ("phase", it, 23))))
+    return phase_rule(
+        tables, lambda it: all(other in ALL and other != it for other in value(tables, ("phase", it, 23)))
+    )
 
 
 def rule_3(tables: Tables) -> Iterator[int]:
     """Each phase of the list has this one in turn."""
-    return phase_rule(tables, lambda it: all(it in value(tables, ("phase", other, 23)) for other in concurrent(tables, it)))
+    return phase_rule(
+        tables, lambda it: all(it in value(tables, ("phase", other, 23)) for other in concurrent(tables, it))
+    )
 
 
 def rule_4(tables: Tables) -> Iterator[int]:

@@ -9,7 +9,7 @@ import tomli_w
 
 from .given import Fault, Unreadable
 
-HEAD = "# A timing sheet: times in seconds; what isn't said is that of the standard table. docs/PLANS.md says what may stand here.\n"
+HEAD = "# A timing sheet, in seconds. What isn't said is that of the standard table; docs/PLANS.md has all names.\n"
 ROWS = ("phase", "detector", "sequence")
 """Tables of an intersection with a line for each row."""
 

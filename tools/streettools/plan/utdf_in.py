@@ -1,4 +1,5 @@
-"""A UTDF file as a sheet: rings by BRP, times, recalls, splits and offsets, names and speeds of streets. What isn't taken is named."""
+"""A UTDF file as a sheet: rings by BRP, times, recalls, splits and offsets, names and speeds of streets. What isn't
+taken is named."""
 
 import re
 
@@ -6,7 +7,18 @@ from .utdf_node import WAYS, Node
 from .utdf_plan import pair_of, pattern, plans
 from .utdf_text import Utdf, number
 
-COMPUTED = {"Start", "End", "Yield", "Yield170", "LocalStart", "LocalYield", "LocalYield170", "ActGreen", "MinSplit", "BRP"}
+COMPUTED = {
+    "Start",
+    "End",
+    "Yield",
+    "Yield170",
+    "LocalStart",
+    "LocalYield",
+    "LocalYield170",
+    "ActGreen",
+    "MinSplit",
+    "BRP",
+}
 """What Synchro computes of the others."""
 
 TENTHS = {"VehExt": "passage", "Yellow": "yellow", "AllRed": "red_clear", "MinGap": "min_gap"}
@@ -26,14 +38,18 @@ def rings(node: Node) -> list[str]:
         brp = int(node.at("BRP", phase) or 0)
         barrier, ring, position = brp // 100, brp // 10 % 10, brp % 10
         if ring not in (1, 2) or not barrier:
-            node.note(f"phase {phase} is left out: barrier, ring and position are {brp}, and there are rings 1 and 2 alone")
+            node.note(
+                f"phase {phase} is left out: barrier, ring and position are {brp}, and there are rings 1 and 2 alone"
+            )
         else:
             places.setdefault((barrier, ring), []).append((position, phase))
     node.used = [phase for phase in node.used if any(phase == it for row in places.values() for _, it in row)]
     barriers = sorted({barrier for barrier, _ in places})
     lines = []
     for ring in (1, 2):
-        sides = [" ".join(str(phase) for _, phase in sorted(places.get((barrier, ring), ()))) or "-" for barrier in barriers]
+        sides = [
+            " ".join(str(phase) for _, phase in sorted(places.get((barrier, ring), ()))) or "-" for barrier in barriers
+        ]
         lines.append(" | ".join(sides))
     return lines if any(set(line) - set("- |") for line in lines[1:]) else lines[:1]
 
@@ -75,7 +91,9 @@ def phase_row(node: Node, phase: int) -> dict:
         if value is not None:
             row[name] = round(value, 1)
             if abs(row[name] - value) > 1e-9:
-                node.note(f"{record} of phase {phase}, {value:g} s, is taken as {row[name]:g} s: a cabinet holds tenths")
+                node.note(
+                    f"{record} of phase {phase}, {value:g} s, is taken as {row[name]:g} s: a cabinet holds tenths"
+                )
     row.setdefault("walk", 0)
     row.setdefault("ped_clear", 0)
     recall = node.at("Recall", phase)
@@ -119,7 +137,11 @@ def sheet_of(utdf: Utdf) -> tuple[dict, list[str]]:
     sheet: dict = {"units": "metric"} if number(utdf.setting("Metric")) == 1 else {}
     sheet["intersection"] = [intersection(it) for it in nodes]
     notes = [note for it in nodes for note in it.all_notes()]
-    unknown = [name for name in utdf.sections if name not in ("network", "nodes", "links", "lanes", "timeplans", "phases", "plans")]
+    unknown = [
+        name
+        for name in utdf.sections
+        if name not in ("network", "nodes", "links", "lanes", "timeplans", "phases", "plans")
+    ]
     notes += [f"section [{name}] is not known" for name in unknown]
     notes += [f"not understood: {it}" for it in dict.fromkeys(utdf.strange)]
     taken = {"links": {"Name", "Speed"}, "lanes": {f"Phase{it}" for it in range(1, 5)}}

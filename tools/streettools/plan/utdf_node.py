@@ -23,7 +23,9 @@ class Node:
     def __post_init__(self) -> None:
         self.phases, self.plan = (self.utdf.table(section, self.number) for section in ("phases", "timeplans"))
         self.links, self.lanes = (self.utdf.table(section, self.number) for section in ("links", "lanes"))
-        self.used = [it for it in range(1, 17) if self.at("MinGreen", it) is not None or self.at("MaxGreen", it) is not None]
+        self.used = [
+            it for it in range(1, 17) if self.at("MinGreen", it) is not None or self.at("MaxGreen", it) is not None
+        ]
 
     def note(self, words: str) -> None:
         """Keeps something that wasn't taken as it stands."""
@@ -47,12 +49,16 @@ class Node:
     def all_notes(self) -> list[str]:
         """Returns what wasn't taken as it stands."""
         kept = "a cabinet holds whole seconds here"
-        return self.notes + [f"node {self.number}: {what} is rounded up for {', '.join(of)}: {kept}" for what, of in self.rounded.items()]
+        return self.notes + [
+            f"node {self.number}: {what} is rounded up for {', '.join(of)}: {kept}" for what, of in self.rounded.items()
+        ]
 
     def name(self) -> str:
         """Returns what the intersection is called: its streets, its description, or its number."""
         words, speeds = self.links.get("Name", {}), self.links.get("Speed", {})
         ways = sorted((way for way in WAYS if words.get(way)), key=lambda way: -(number(speeds.get(way, "")) or 0))
         streets = list(dict.fromkeys(words[way] for way in ways))
-        described = next((it.get("DESCRIPTION", "") for it in self.utdf.records("nodes") if it.get("INTID") == self.number), "")
+        described = next(
+            (it.get("DESCRIPTION", "") for it in self.utdf.records("nodes") if it.get("INTID") == self.number), ""
+        )
         return described or " & ".join(streets[:2]) or f"node {self.number}"

@@ -39,7 +39,8 @@ def brp(drawn: drawing.Drawing) -> dict[int, int]:
 
 
 def of_phases(tables: Tables, known: Intersection, pattern: int) -> dict[str, dict[int, str]]:
-    """Returns the records of a node's phases. The greatest green is what the pattern's split leaves, where it is defined."""
+    """Returns the records of a node's phases. The greatest green is what the pattern's split leaves, where it is
+    defined."""
     drawn = drawing.of_tables(tables)
     places = brp(drawn) if drawn else {}
     phases = [it for it in tables.enabled() if it not in known.partners]
@@ -49,7 +50,11 @@ def of_phases(tables: Tables, known: Intersection, pattern: int) -> dict[str, di
         return {it: shown(value(tables, ("phase", it, column)) / scale) for it in phases}
 
     def most(phase: int) -> str:
-        return shown((laid.time(phase) - tables.clearance(phase)) / 10) if laid else shown(value(tables, ("phase", phase, 6)))
+        return (
+            shown((laid.time(phase) - tables.clearance(phase)) / 10)
+            if laid
+            else shown(value(tables, ("phase", phase, 6)))
+        )
 
     crossings = [it for it in phases if value(tables, ("phase", it, 2))]
     return {
@@ -83,7 +88,14 @@ def text(street: Street, pattern: int) -> str:
     tables = [tables_of(it) for it in street.scenario["cabinets"]]
     numbered = [(number, it, street.names.intersection(number)) for number, it in enumerate(tables, 1)]
     metric = int(street.names.units == "metric")
-    for row in (["[Network]"], ["Network Settings"], ["RECORDNAME", "DATA"], ["UTDFVERSION", "8"], ["Metric", metric], []):
+    for row in (
+        ["[Network]"],
+        ["Network Settings"],
+        ["RECORDNAME", "DATA"],
+        ["UTDFVERSION", "8"],
+        ["Metric", metric],
+        [],
+    ):
         lines.writerow(row)
     for row in (["[Nodes]"], ["Node Data"], ["INTID", "TYPE", "X", "Y", "Z", "DESCRIPTION"]):
         lines.writerow(row)

@@ -33,7 +33,8 @@ def starts(node: Node, drawn: list[str], splits: dict[int, int]) -> dict[int, in
 
 
 def offset(node: Node, drawn: list[str], splits: dict[int, int], pair: list[int], cycle: int) -> int:
-    """Returns the offset of the start of green of the later coordinated phase, by the point that UTDF's offset refers to."""
+    """Returns the offset of the start of green of the later coordinated phase, by the point that UTDF's offset refers
+    to."""
     given, point = node.setting("Offset") or 0.0, int(node.setting("Referenced To") or 0)
     begin = starts(node, drawn, splits)
     zero = max(begin[it] for it in pair)
@@ -50,7 +51,9 @@ def offset(node: Node, drawn: list[str], splits: dict[int, int], pair: list[int]
         node.note(f"the offset refers to point {point}, which is not known; it is taken as the begin of green")
     exact = (given + zero - points.get(point, zero)) % cycle
     if abs(exact - round(exact)) > 1e-9:
-        node.note(f"the offset comes to {exact:g} s, and is taken as {round(exact)} s: a cabinet holds whole seconds here")
+        node.note(
+            f"the offset comes to {exact:g} s, and is taken as {round(exact)} s: a cabinet holds whole seconds here"
+        )
     return round(exact) % cycle
 
 
@@ -66,8 +69,14 @@ def pattern(node: Node, drawn: list[str]) -> dict | None:
         total = sum(node.at(record, phase) or 0 for record in ("MaxGreen", "Yellow", "AllRed"))
         splits[phase] = round(total)
         if abs(total - splits[phase]) > 1e-9:
-            node.note(f"the split of phase {phase}, {total:g} s, is taken as {splits[phase]} s: a cabinet holds whole seconds here")
-    found = {"cycle": node.whole(cycle, "the cycle", "pattern 1"), "splits": {str(phase): time for phase, time in splits.items()}, "coordinated": pair}
+            node.note(
+                f"the split of phase {phase}, {total:g} s, is taken as {splits[phase]} s: a cabinet holds whole seconds here"
+            )
+    found = {
+        "cycle": node.whole(cycle, "the cycle", "pattern 1"),
+        "splits": {str(phase): time for phase, time in splits.items()},
+        "coordinated": pair,
+    }
     return found | {"offset": offset(node, drawn, splits, pair, found["cycle"])}
 
 
@@ -80,7 +89,11 @@ def plans(node: Node) -> dict[str, dict]:
         cycle = number(it.get("CL", ""))
         splits = {str(phase): round(number(it.get(f"S{phase}", "")) or 0) for phase in node.used}
         if cycle:
-            row = {"cycle": round(cycle), "offset": round(number(it.get("OFF", "")) or 0) % round(cycle), "splits": splits}
+            row = {
+                "cycle": round(cycle),
+                "offset": round(number(it.get("OFF", "")) or 0) % round(cycle),
+                "splits": splits,
+            }
             node.note(f"plan {it.get('PLANID', '?')} is pattern {len(found) + 1}")
             found[str(len(found) + 1)] = row
     return found

@@ -1,9 +1,9 @@
-"""The text of UTDF (Synchro's Universal Traffic Data Format): comma-separated sections of records, in one file (versions 7 and 8) or in
-files of their own (6)."""
+"""The text of UTDF (Synchro's Universal Traffic Data Format): comma-separated sections of records, in one file
+(versions 7 and 8) or in files of their own (6)."""
 
 import csv
-import io
 import math
+from collections.abc import Iterator
 from dataclasses import dataclass, field
 
 from .given import Fault, Unreadable
@@ -17,7 +17,8 @@ HEADERS = ("RECORDNAME", "INTID", "PLANID")
 
 @dataclass
 class Utdf:
-    """Sections by name, each with its records; a record has the names of the header. `strange` are lines of sections that aren't known."""
+    """Sections by name, each with its records; a record has the names of the header. `strange` are lines of sections
+    that aren't known."""
 
     sections: dict[str, list[dict[str, str]]] = field(default_factory=dict)
     strange: list[str] = field(default_factory=list)
@@ -28,19 +29,31 @@ class Utdf:
 
     def table(self, section: str, node: str) -> dict[str, dict[str, str]]:
         """Returns the records of an intersection by their names."""
-        return {it["RECORDNAME"]: it for it in self.records(section) if it.get("INTID") == node and it.get("RECORDNAME")}
+        return {
+            it["RECORDNAME"]: it for it in self.records(section) if it.get("INTID") == node and it.get("RECORDNAME")
+        }
 
     def setting(self, name: str, default: str = "") -> str:
         """Returns a setting of the network."""
-        found = (it.get("DATA", "") for it in self.records("network") if it.get("RECORDNAME", "").lower() == name.lower())
+        found = (
+            it.get("DATA", "") for it in self.records("network") if it.get("RECORDNAME", "").lower() == name.lower()
+        )
         return next(found, default)
+
+
+def rows_of(text: str) -> Iterator[list[str]]:
+    """Yields the fields of each line."""
+    try:
+        for row in csv.reader(text.removeprefix("\ufeff").splitlines()):
+            yield [it.strip() for it in row]
+    except csv.Error as fault:
+        raise Unreadable([Fault("", f"not comma-separated: {fault}")]) from None
 
 
 def read(text: str) -> Utdf:
     """Returns what a UTDF file has."""
     found, section, header = Utdf(), None, None
-    for row in csv.reader(io.StringIO(text.removeprefix("\ufeff"))):
-        row = [it.strip() for it in row]
+    for row in rows_of(text):
         first = row[0] if row else ""
         if not any(row):
             continue
@@ -56,7 +69,14 @@ def read(text: str) -> Utdf:
         else:
             found.sections.setdefault(section, []).append(dict(zip(header, row)))
     if not found.records("phases"):
-        raise Unreadable([Fault("", "no phases in it: a section [Phases], or a line `Phasing Data`, with a header RECORDNAME,INTID,D1,..")])
+        raise Unreadable(
+            [
+                Fault(
+                    "",
+                    "no phases in it: a section [Phases], or a line `Phasing Data`, with a header RECORDNAME,INTID,D1,..",
+                )
+            ]
+        )
     return found
 
 

@@ -1,4 +1,5 @@
-"""The names and values of a scenario (docs/SCENARIO.md): each fault with its path and in words, in the order in which the program looks."""
+"""The names and values of a scenario (docs/SCENARIO.md): each fault with its path and in words, in the order in which
+the program looks."""
 
 from collections.abc import Callable, Iterator
 from dataclasses import dataclass
@@ -34,7 +35,9 @@ def below(path: str, name: str) -> str:
 
 def shown(value: object) -> str:
     """Returns a value in a few words."""
-    words = {bool: str(value).lower(), type(None): "null", dict: "an object", list: "a list"}.get(type(value), repr(value))
+    words = {bool: str(value).lower(), type(None): "null", dict: "an object", list: "a list"}.get(
+        type(value), repr(value)
+    )
     return words if len(words) < 60 else words[:57] + ".."
 
 
@@ -110,7 +113,9 @@ CELL_LENGTHS = {"phase": 4, "sequence": 4, "unit": 3, "pattern": 4, "split": 5, 
 def cell(path: str, value: object) -> Iterator[Fault]:
     """Tests a cell. Whatever is wrong in it, its own path is told."""
     if type(value) is not list or not value or type(value[0]) is not str or value[0] not in CELL_LENGTHS:
-        yield Fault("field", path, f"{shown(value)}: a cell begins with one of " + ", ".join(f'"{it}"' for it in CELL_LENGTHS))
+        yield Fault(
+            "field", path, f"{shown(value)}: a cell begins with one of " + ", ".join(f'"{it}"' for it in CELL_LENGTHS)
+        )
         return
     name, *numbers, new = value
     wanted = CELL_LENGTHS[name]
@@ -159,8 +164,8 @@ def members(path: str, value: dict, names: dict[str, Name]) -> Iterator[Fault]:
 
 
 def thing(names: dict[str, Name], alternatives: tuple[dict[str, Name], ...] = (), after: Test | None = None) -> Test:
-    """Returns what tests an object: its names in order; then the one of the alternatives that stands, known by its first name; then what is to
-    hold of it all."""
+    """Returns what tests an object: its names in order; then the one of the alternatives that stands, known by its
+    first name; then what is to hold of it all."""
 
     def test(path: str, value: object) -> Iterator[Fault]:
         if type(value) is not dict:
@@ -170,7 +175,9 @@ def thing(names: dict[str, Name], alternatives: tuple[dict[str, Name], ...] = ()
         known = set(names).union(*(standing if len(standing) == 1 else alternatives))
         for name in sorted(value, key=str.encode):
             if name not in known:
-                yield Fault("field", below(path, name), f'"{name}" is no name here; known are ' + ", ".join(sorted(known)))
+                yield Fault(
+                    "field", below(path, name), f'"{name}" is no name here; known are ' + ", ".join(sorted(known))
+                )
         yield from members(path, value, names)
         if len(standing) == 1:
             yield from members(path, value, standing[0])

@@ -123,7 +123,8 @@ class Walked:
     without: dict[str, list[str]] = field(default_factory=dict)
 
     def clear(self, names: Iterable[Name]) -> None:
-        """Empties the tables of which a controller has anything, and the patterns: what it doesn't tell isn't that of the standard table."""
+        """Empties the tables of which a controller has anything, and the patterns: what it doesn't tell isn't that of
+        the standard table."""
         told = {cell[0] for cell in map(cell_of, names) if cell is not None} | {"pattern"}
         for cell in kinds():
             if cell[0] in told and cell[0] != "unit":
@@ -132,7 +133,9 @@ class Walked:
     def leave(self, name: Name, why: str = "") -> None:
         """Keeps an object that has no place."""
         rest = name[len(ASC) :] if name[: len(ASC)] == ASC else None
-        subject = next((word for front, word in sorted(SUBJECTS.items(), reverse=True) if rest and rest[: len(front)] == front), "")
+        subject = next(
+            (word for front, word in sorted(SUBJECTS.items(), reverse=True) if rest and rest[: len(front)] == front), ""
+        )
         key = f"{subject or 'others'}{f' ({why})' if why else ''}"
         self.without.setdefault(key, []).append(".".join(map(str, name)))
 
@@ -149,7 +152,13 @@ class Walked:
             self.take_cell(name, ("unit", 5), value)
         elif name == (*ASC, *FORCE_MODE) and value in FORCE_WORDS:
             put(self.tables, ("unit", 7), FORCE_WORDS[value])
-        elif name[: len(ASC)] == ASC and rest[:3] == DETECTOR and len(rest) == 5 and rest[3] in DETECTOR_COLUMNS and isinstance(value, int):
+        elif (
+            name[: len(ASC)] == ASC
+            and rest[:3] == DETECTOR
+            and len(rest) == 5
+            and rest[3] in DETECTOR_COLUMNS
+            and isinstance(value, int)
+        ):
             self.detectors.setdefault(rest[4], {})[DETECTOR_COLUMNS[rest[3]]] = value
         elif not self.is_quiet(name, rest):
             self.leave(name)
@@ -158,9 +167,15 @@ class Walked:
         """Tells whether an object says nothing of a plan: an index, or what is shown just now."""
         if name[: len(OWN)] == OWN:
             return True
-        is_index = rest[:3] in (*TABLES, DETECTOR) and rest[3:4] in ((1,), (2,)) and not (rest[:3] == (6, 2, 1) and rest[3] == 2)
+        is_index = (
+            rest[:3] in (*TABLES, DETECTOR)
+            and rest[3:4] in ((1,), (2,))
+            and not (rest[:3] == (6, 2, 1) and rest[3] == 2)
+        )
         is_index = is_index and not (rest[:3] == DETECTOR and rest[3] == 2)
-        return name[: len(ASC)] == ASC and (is_index or rest[:4] in ((7, 3, 1, 1), (7, 3, 1, 2)) or any(rest[:2] == it for it in STATUS))
+        return name[: len(ASC)] == ASC and (
+            is_index or rest[:4] in ((7, 3, 1, 1), (7, 3, 1, 2)) or any(rest[:2] == it for it in STATUS)
+        )
 
     def take_cell(self, name: Name, cell: tuple, value: int | bytes) -> None:
         """Takes up an object that is a cell, where its value may stand there."""
@@ -187,8 +202,18 @@ def bank_of(walked: Walked, cabinet: int, notes: list[str]) -> list[dict]:
             seconds = row.get(name, 0) * unit
             times[name] = -int(-seconds // 1)
             if abs(times[name] - seconds) > 1e-9:
-                notes.append(f"detector {number}: {name} of {seconds:g} s is taken as {times[name]} s, a whole number of rounds")
-        bank.append({"cabinet": cabinet, "detector": number, "phase": row["phase"], **times, "erratic": min(row.get("erratic", 0), 255)})
+                notes.append(
+                    f"detector {number}: {name} of {seconds:g} s is taken as {times[name]} s, a whole number of rounds"
+                )
+        bank.append(
+            {
+                "cabinet": cabinet,
+                "detector": number,
+                "phase": row["phase"],
+                **times,
+                "erratic": min(row.get("erratic", 0), 255),
+            }
+        )
     return bank
 
 
@@ -201,13 +226,17 @@ def street_of(walks: list[dict[Name, int | bytes]], called: list[str]) -> Street
         for name, value in objects.items():
             walked.take(name, value)
         if not walked.placed:
-            raise Unreadable([Fault(called[number - 1], "nothing of the phase, split and pattern tables of NTCIP 1202 is in it")])
+            raise Unreadable(
+                [Fault(called[number - 1], "nothing of the phase, split and pattern tables of NTCIP 1202 is in it")]
+            )
         cabinet: dict = {"base": "std8", "cells": cells_between(Tables("std8"), walked.tables)}
         cabinet |= {name: it for name, it in (("pattern", walked.command), ("clock", walked.clock)) if it}
         street.scenario["cabinets"].append(cabinet)
         street.names.intersections.append(names.Intersection(name=called[number - 1]))
         street.notes.append(f"{called[number - 1]}: {walked.placed} cells taken")
         for subject, left in walked.without.items():
-            street.notes.append(f"{called[number - 1]}: no place for {len(left)} of {subject}: {left[0]}{' ..' if len(left) > 1 else ''}")
+            street.notes.append(
+                f"{called[number - 1]}: no place for {len(left)} of {subject}: {left[0]}{' ..' if len(left) > 1 else ''}"
+            )
         street.bank += bank_of(walked, number, street.notes)
     return street

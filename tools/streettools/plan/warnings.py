@@ -1,4 +1,5 @@
-"""What the program takes and hardly anybody means: times that are short for the street, units that were mixed up, plans that are not there."""
+"""What the program takes and hardly anybody means: times that are short for the street, units that were mixed up, plans
+that are not there."""
 
 from collections.abc import Iterator
 
@@ -38,7 +39,9 @@ def of_phases(tables: Tables, number: int, names: Names) -> Iterator[Finding]:
         due = street_facts.yellow_due(about, metric)
         if due is not None and row[8] < round(10 * due):
             grade = f" at a grade of {about.grade:g} %" if about.grade else ""
-            yield warn(where, f"{name} has a yellow change of {seconds(row[8])}; {about.speed:g} {speed}{grade} ask {due:g} s")
+            yield warn(
+                where, f"{name} has a yellow change of {seconds(row[8])}; {about.speed:g} {speed}{grade} ask {due:g} s"
+            )
         due = street_facts.clearance_due(about, metric)
         if due is not None and row[2] and row[3] < due:
             counts = seconds(row[8] + row[9])
@@ -49,9 +52,15 @@ def of_phases(tables: Tables, number: int, names: Names) -> Iterator[Finding]:
         if due is not None and not row[2] and about.kind == "pedestrian":
             yield warn(where, f"{name} is a crossing and has no walk")
         if row[9] in RED_LIKE_SECONDS:
-            yield warn(where, f"{name} has a red clearance of {seconds(row[9])}; are {row[9]} s meant? A cell has tenths of a second")
+            yield warn(
+                where,
+                f"{name} has a red clearance of {seconds(row[9])}; are {row[9]} s meant? A cell has tenths of a second",
+            )
         if row[5] in PASSAGE_LIKE_SECONDS:
-            yield warn(where, f"{name} has a passage time of {seconds(row[5])}; are {row[5]} s meant? A cell has tenths of a second")
+            yield warn(
+                where,
+                f"{name} has a passage time of {seconds(row[5])}; are {row[5]} s meant? A cell has tenths of a second",
+            )
         if row[6] < row[4] and about.kind == "vehicle":
             yield warn(where, f"{name} has a maximum green of {row[6]} s, less than its minimum green of {row[4]} s")
 
@@ -98,11 +107,16 @@ def of_commands(street: Street, tables: list[Tables]) -> Iterator[Finding]:
     schedule = street.scenario.get("master", {}).get("schedule", [])
     for number, cabinet in enumerate(cabinets, 1):
         if undefined(tables[number - 1], cabinet.get("pattern", 0)):
-            yield warn(names.called(number), f"it opens with pattern {cabinet['pattern']}, which isn't defined: it runs free")
+            yield warn(
+                names.called(number), f"it opens with pattern {cabinet['pattern']}, which isn't defined: it runs free"
+            )
         mine = {it["pattern"] for it in schedule if it["section"] == cabinet.get("section", 1)}
         for pattern in sorted(mine):
             if all(undefined(it, pattern) for it in (tables[number - 1], *later.get(number, ()))):
-                yield warn(names.called(number), f"the schedule commands pattern {pattern}, which isn't defined: the cabinet refuses the command")
+                yield warn(
+                    names.called(number),
+                    f"the schedule commands pattern {pattern}, which isn't defined: the cabinet refuses the command",
+                )
     sections = {cabinet.get("section", 1) for cabinet in cabinets}
     for section in sorted({it["section"] for it in schedule} - sections):
         yield warn("schedule", f"section {section} has entries, but no intersection is of that section")

@@ -20,7 +20,9 @@ def drawings(tables: Tables, known: names.Intersection) -> Iterator[drawing.Draw
     """Yields the drawings to be tried: without partners, the whole one, none."""
     found = drawing.of_tables(tables)
     if found is not None and known.partners:
-        without = tuple(tuple(tuple(it for it in ring if it not in known.partners) for ring in side) for side in found.sides)
+        without = tuple(
+            tuple(tuple(it for it in ring if it not in known.partners) for ring in side) for side in found.sides
+        )
         if all(side[0] or side[1] for side in without):
             yield drawing.Drawing(without)
     if found is not None:
@@ -69,7 +71,8 @@ def say_cell(sheet: dict, tables: Tables, cell: tuple) -> None:
 
 
 def say_options(row: dict, options: int, usual: int) -> None:
-    """Says those options of a phase that differ from the usual ones; all of them where there is nothing to differ from."""
+    """Says those options of a phase that differ from the usual ones; all of them where there is nothing to differ
+    from."""
     for name in fields.OPTIONS:
         now = fields.show_option(name, options)
         if now != fields.show_option(name, usual):
@@ -77,14 +80,21 @@ def say_options(row: dict, options: int, usual: int) -> None:
 
 
 def say_split(row: dict, usual: Tables, tables: Tables, number: int, partners: Collection[int]) -> None:
-    """Says a split: the times of all enabled phases where one differs, the coordinated phases, modes that differ; nothing of partners."""
+    """Says a split: the times of all enabled phases where one differs, the coordinated phases, modes that differ;
+    nothing of partners."""
     enabled = set(tables.enabled())
     times = {phase: value(tables, ("split", number, phase, 3)) for phase in ALL}
     before = {phase: value(usual, ("split", number, phase, 3)) for phase in ALL}
-    said = {str(phase): time for phase, time in times.items() if (time != before[phase] or phase in enabled) and phase not in partners}
+    said = {
+        str(phase): time
+        for phase, time in times.items()
+        if (time != before[phase] or phase in enabled) and phase not in partners
+    }
     if said:
         row["splits"] = said
-    row["coordinated"] = [phase for phase in ALL if value(tables, ("split", number, phase, 5)) and phase not in partners]
+    row["coordinated"] = [
+        phase for phase in ALL if value(tables, ("split", number, phase, 5)) and phase not in partners
+    ]
     modes = {
         str(phase): fields.SPLIT_MODES.show(value(tables, ("split", number, phase, 4)))
         for phase in ALL
@@ -98,7 +108,8 @@ def say_patterns(sheet: dict, usual: Tables, tables: Tables, partners: Collectio
     """Says the patterns and splits that differ. A split of one defined pattern alone stands with it."""
     cells = differing(usual, tables)
     changed = {cell[1] for cell in cells if cell[0] == "split"}
-    users = {split: [it for it in tables.patterns() if value(tables, ("pattern", it, 4)) == split] for split in SPLITS}
+    runs = {it: value(tables, ("pattern", it, 4)) for it in tables.patterns()}
+    users = {split: [it for it, run in runs.items() if run == split] for split in SPLITS}
     for number in PATTERNS:
         split = value(tables, ("pattern", number, 4))
         own = split in changed and users[split] == [number]
@@ -134,7 +145,8 @@ def say_sequences(sheet: dict, usual: Tables, tables: Tables) -> None:
 
 
 def said(base: str, tables: Tables, known: names.Intersection, drawn: drawing.Drawing | None) -> dict | None:
-    """Returns an intersection as a sheet has it with this drawing, None where that doesn't come back as the same tables."""
+    """Returns an intersection as a sheet has it with this drawing, None where that doesn't come back as the same
+    tables."""
     sheet: dict = {} if base == "std8" else {"standard": base}
     if drawn is not None and drawn != drawing.STANDARD:
         sheet["rings"] = drawn.lines()
@@ -159,7 +171,13 @@ def intersection_sheet(cabinet: dict, known: names.Intersection) -> dict:
     """Returns a cabinet of a scenario as an intersection of a sheet."""
     tables, base = tables_of(cabinet), cabinet.get("base", "std8")
     head: dict = {name: it for name, it in (("name", known.name), ("note", known.note), ("travel", known.travel)) if it}
-    for name, show in (("pattern", given.command_word), ("clock", given.day_time), ("section", int), ("gain", int), ("lose", int)):
+    for name, show in (
+        ("pattern", given.command_word),
+        ("clock", given.day_time),
+        ("section", int),
+        ("gain", int),
+        ("lose", int),
+    ):
         if cabinet.get(name):
             head["command" if name == "pattern" else name] = show(cabinet[name])
     for drawn in drawings(tables, known):
@@ -180,7 +198,11 @@ def master_sheet(master: dict) -> dict:
         sheet["master"] = settings
     if "schedule" in master:
         sheet["schedule"] = [
-            {"at": given.day_time(10 * it["second"]), "section": it["section"], "pattern": given.command_word(it["pattern"])}
+            {
+                "at": given.day_time(10 * it["second"]),
+                "section": it["section"],
+                "pattern": given.command_word(it["pattern"]),
+            }
             for it in master["schedule"]
         ]
     return sheet

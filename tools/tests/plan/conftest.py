@@ -1,5 +1,6 @@
 """What the tests share: the built program, the repository's files, and the command as it is called."""
 
+import importlib.util
 import os
 import pathlib
 import subprocess
@@ -10,6 +11,11 @@ import pytest
 TOP = pathlib.Path(__file__).resolve().parents[3]
 sys.dont_write_bytecode = True
 sys.path[:0] = [str(TOP / "tools"), str(TOP / "vectors")]
+
+collect_ignore_glob = (
+    [] if all(map(importlib.util.find_spec, ("tomli_w", "openpyxl", "numpy", "tqdm", "matplotlib"))) else ["test_*.py"]
+)
+"""Nothing is tested where a package is missing."""
 
 PROGRAM = pathlib.Path(os.environ.get("ARTERIAL_PROGRAM", TOP / "crates/arterial/out/arterial"))
 SECONDS = 60
@@ -26,7 +32,9 @@ def program():
 
 def said(program: pathlib.Path, text: bytes) -> str:
     """Returns what the program says of a scenario on standard error; the empty text where it takes it."""
-    ran = subprocess.run([program, "run"], input=text, stdout=subprocess.DEVNULL, stderr=subprocess.PIPE, timeout=SECONDS)
+    ran = subprocess.run(
+        [program, "run"], input=text, stdout=subprocess.DEVNULL, stderr=subprocess.PIPE, timeout=SECONDS
+    )
     return ran.stderr.decode().strip()
 
 

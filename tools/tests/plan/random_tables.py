@@ -1,4 +1,5 @@
-"""Random tables that keep the rules, and some that break one: rings drawn by chance, patterns laid so that each phase has its time."""
+"""Random tables that keep the rules, and some that break one: rings drawn by chance, patterns laid so that each phase
+has its time."""
 
 import random
 
@@ -27,8 +28,20 @@ def phase_cells(dice: random.Random, sides: list) -> dict:
     starting = {ring[0] for ring in start if dice.random() < 0.7}
     everyone = [phase for side in sides for ring in side for phase in ring]
     for phase in range(1, 17):
-        row = {4: dice.randint(3, 15), 5: dice.randint(0, 60), 6: dice.randint(0, 90), 8: dice.randint(30, 60), 9: dice.randint(0, 30)}
-        row |= {2: 0, 3: 0, 10: dice.randint(0, 40), 20: dice.choice((1, 2, 5, 6)), 21: dice.choice((0, 32, 64, 128, 256, 1024))}
+        row = {
+            4: dice.randint(3, 15),
+            5: dice.randint(0, 60),
+            6: dice.randint(0, 90),
+            8: dice.randint(30, 60),
+            9: dice.randint(0, 30),
+        }
+        row |= {
+            2: 0,
+            3: 0,
+            10: dice.randint(0, 40),
+            20: dice.choice((1, 2, 5, 6)),
+            21: dice.choice((0, 32, 64, 128, 256, 1024)),
+        }
         if dice.random() < 0.5:
             row |= {2: dice.randint(1, 12), 3: dice.randint(0, 20)}
         if dice.random() < 0.2:
@@ -61,7 +74,8 @@ def sequence_cells(dice: random.Random, sides: list) -> tuple[dict, list[int]]:
 
 
 def least(cells: dict, phase: int) -> int:
-    """Returns the seconds that a phase must have in a split, with its service and the greatest clearance that there can be."""
+    """Returns the seconds that a phase must have in a split, with its service and the greatest clearance that there can
+    be."""
     service = max(cells["phase", phase, 4], cells["phase", phase, 2] + cells["phase", phase, 3])
     return service + 10
 
@@ -89,7 +103,11 @@ def pattern_cells(dice: random.Random, cells: dict, sides: list, used: list[int]
         cycle = sum(times[it] for each in sides for it in each[0])
         if cycle > 255 or max(times.values()) > 255 or any(key[:2] == ("split", split) for key in found):
             continue
-        found |= {("pattern", number, 2): cycle, ("pattern", number, 3): dice.randrange(cycle), ("pattern", number, 4): split}
+        found |= {
+            ("pattern", number, 2): cycle,
+            ("pattern", number, 3): dice.randrange(cycle),
+            ("pattern", number, 4): split,
+        }
         found |= {("pattern", number, 5): dice.choice(used)}
         found |= {("split", split, phase, 3): time for phase, time in times.items()}
         found |= {("split", split, phase, 5): int(phase in pair) for phase in range(1, 17) if phase in times}
@@ -99,8 +117,14 @@ def pattern_cells(dice: random.Random, cells: dict, sides: list, used: list[int]
 
 def loose_cells(dice: random.Random, sides: list) -> dict:
     """Returns the cabinet's own numbers, and preempts."""
-    cells: dict = {("unit", 1): dice.randint(2, 4), ("unit", 5): dice.choice((0, 600)), ("unit", 6): dice.randint(0, 200)}
-    cells |= {("unit", column): dice.randint(1, 50) for column in (2, 3, 4)} | {("unit", column): dice.randint(1, 2) for column in (7, 8)}
+    cells: dict = {
+        ("unit", 1): dice.randint(2, 4),
+        ("unit", 5): dice.choice((0, 600)),
+        ("unit", 6): dice.randint(0, 200),
+    }
+    cells |= {("unit", column): dice.randint(1, 50) for column in (2, 3, 4)} | {
+        ("unit", column): dice.randint(1, 2) for column in (7, 8)
+    }
     for number in [it for it in range(1, 9) if dice.random() < 0.2]:
         cells |= {("preempt", number, column): dice.randint(0, 60) for column in range(4, 12)}
         for column in (12, 13, 15):

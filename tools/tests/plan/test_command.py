@@ -17,7 +17,11 @@ def test_a_sheet_goes_to_a_scenario_and_back_with_its_names(tmp_path):
     assert ran.returncode == 0 and b"phase 8 is entered beside phase 4" in ran.stderr
     assert json.loads((tmp_path / "street.names.json").read_text())["intersections"][1]["partners"] == [8]
     back = plan("sheet", out)
-    assert b'name = "Main St & Station Sq"' in back.stdout and b'"- | -"' not in back.stdout and b'"6   | -",' in back.stdout
+    assert (
+        b'name = "Main St & Station Sq"' in back.stdout
+        and b'"- | -"' not in back.stdout
+        and b'"6   | -",' in back.stdout
+    )
     (tmp_path / "again.toml").write_bytes(back.stdout)
     assert plan("scenario", tmp_path / "again.toml").stdout == out.read_bytes()
 
@@ -34,7 +38,9 @@ def test_a_check_tells_errors_and_ends_with_status_2(tmp_path):
     path = tmp_path / "street.toml"
     path.write_text(BAD)
     ran = plan("check", path)
-    assert ran.returncode == 2 and b"Main & 3rd: error, rule 17: pattern 1 (split 1): the splits of ring 1" in ran.stdout
+    assert (
+        ran.returncode == 2 and b"Main & 3rd: error, rule 17: pattern 1 (split 1): the splits of ring 1" in ran.stdout
+    )
     found = json.loads(plan("check", "--json", path).stdout)
     assert found[0]["rule"] == 17 and found[0]["line"] == "scenario: cabinet 1 breaks rule 17 at row 1"
     ran = plan("check", "--fix", path, "-o", tmp_path / "mended.toml")
@@ -97,5 +103,12 @@ def test_loads_are_written_for_a_scenario_and_for_snmp(tmp_path):
     old, new = tmp_path / "old.json", tmp_path / "new.json"
     old.write_text('{"version":1,"rounds":9,"ticks":10,"cabinets":[{}]}')
     new.write_text('{"version":1,"rounds":9,"ticks":10,"cabinets":[{"cells":[["phase",2,8,43]]}]}')
-    assert json.loads(plan("loads", old, new, "--round", "3").stdout) == {"loads": [{"round": 3, "cabinet": 1, "cells": [["phase", 2, 8, 43]]}]}
-    assert plan("loads", old, new, "--sets", "127.0.0.1:10161", "--id", "5").stdout.count(b"snmpset -v1 -c public 127.0.0.1:10161") == 4
+    assert json.loads(plan("loads", old, new, "--round", "3").stdout) == {
+        "loads": [{"round": 3, "cabinet": 1, "cells": [["phase", 2, 8, 43]]}]
+    }
+    assert (
+        plan("loads", old, new, "--sets", "127.0.0.1:10161", "--id", "5").stdout.count(
+            b"snmpset -v1 -c public 127.0.0.1:10161"
+        )
+        == 4
+    )

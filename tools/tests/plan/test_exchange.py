@@ -1,7 +1,9 @@
 """Synchro and controllers: a UTDF file worked out by hand, walks over agents, and what they have no place for."""
 
+import contextlib
 import json
 import re
+import shutil
 import signal
 import socket
 import subprocess
@@ -9,7 +11,7 @@ import threading
 
 import pytest
 
-from streettools.cabinet.messages import GET_NEXT, field, integer, kind_of, name_of, reply_of, value_of
+from streettools.cabinet.messages import GET, GET_NEXT, field, integer, kind_of, message, name_of, reply_of, value_of
 from streettools.plan import live, loads, reading, toml_text, utdf_in, utdf_out, utdf_text, walk
 from streettools.plan.cells import differing, kinds, tables_of, value
 from streettools.plan.given import Unreadable
@@ -38,7 +40,13 @@ SPLITS = [
 ]
 """Greatest green, yellow and all red of each phase together; the partners' are those of the phases that they face."""
 
-NAMES = ["Main St & 1st Ave", "Main St & Mill Rd", "Main St & Oak St", *(f"Main St & {it}th Ave" for it in range(4, 8)), "Main St & Station Sq"]
+NAMES = [
+    "Main St & 1st Ave",
+    "Main St & Mill Rd",
+    "Main St & Oak St",
+    *(f"Main St & {it}th Ave" for it in range(4, 8)),
+    "Main St & Station Sq",
+]
 
 
 @pytest.fixture(scope="module")
@@ -65,7 +73,9 @@ def test_rings_times_and_recalls_of_synchro_come_in(eight):
     street, _ = eight
     tables = [tables_of(it) for it in street.scenario["cabinets"]]
     assert [tables[1].sequence(1, ring) for ring in (1, 2)] == [(1, 2, 4), (6, 8)]
-    assert [tables[2].sequence(1, ring) for ring in (1, 2)] == [(1, 2, 3, 4), (5, 6, 8)] and concurrent(tables[2], 8) == {3, 4}
+    assert [tables[2].sequence(1, ring) for ring in (1, 2)] == [(1, 2, 3, 4), (5, 6, 8)] and concurrent(
+        tables[2], 8
+    ) == {3, 4}
     assert tables[4].sequence(1, 2) == (6, 5, 7, 8)
     assert tables[7].sequence(1, 1) == (2, 4, 9)
     # minimum green, passage, greatest green (30.7 rounded up), yellow, all red, walk, don't walk; minimum recall, dual entry
@@ -74,7 +84,9 @@ def test_rings_times_and_recalls_of_synchro_come_in(eight):
     assert tables[3].phase(2, 21) == 1 + 128 + 1024  # maximum recall
     assert tables[6].phase(4, 21) == 1 + 256 + 1024  # pedestrian recall
     assert tables[7].phase(4, 4) == 8  # 7.5 s, rounded up
-    assert [[phase for phase in it.enabled() if it.split(1, phase, 5)] for it in tables if it.pattern(1, 2)] == [[2, 6]] * 7
+    assert [[phase for phase in it.enabled() if it.split(1, phase, 5)] for it in tables if it.pattern(1, 2)] == [
+        [2, 6]
+    ] * 7
 
 
 def test_names_and_speeds_of_synchro_come_in(eight):
@@ -174,7 +186,8 @@ def test_objects_without_a_place_are_listed():
 
 
 def test_a_recorded_walk_of_a_cabinet_comes_in_whole():
-    """`snmpwalk -On` of `./cabinet` for the second cabinet of a scenario: all of its cells, and nothing without a place."""
+    """`snmpwalk -On` of `./cabinet` (in two pieces, one behind the other): all cells of the scenario's second cabinet,
+    nothing without a place."""
     street = walk.street_of([walk.read((TOP / "tools/tests/plan/two-cabinets-2.walk").read_text())], ["x"])
     due = Tables("std8")
     due.put(cells_of_second())
@@ -184,7 +197,6 @@ def test_a_recorded_walk_of_a_cabinet_comes_in_whole():
 
 def cells_of_second() -> list:
     """Returns the cells of the second cabinet of scenarios/two-cabinets.json."""
-
 
     return json.loads((TOP / "scenarios/two-cabinets.json").read_text())["cabinets"][1]["cells"]
 
@@ -226,7 +238,12 @@ class Fake:
         for index, (name, _, __) in enumerate(asked.bindings, 1):
             found = next((it for it in self.objects if it[0] > name), None)
             if found is None:
-                return self.response(asked.number, 2, index, b"".join(field(0x30, name_of(it[0]) + value_of(None)) for it in asked.bindings))
+                return self.response(
+                    asked.number,
+                    2,
+                    index,
+                    b"".join(field(0x30, name_of(it[0]) + value_of(None)) for it in asked.bindings),
+                )
             pairs += field(0x30, name_of(found[0]) + value_of(found[1]))
         return self.response(asked.number, 0, 0, pairs)
 
@@ -262,18 +279,52 @@ def test_an_agent_that_does_not_answer_is_told(monkeypatch):
         live.walk(live.Agent("127.0.0.1", 9, "public"))
 
 
-def test_a_live_cabinet_is_walked_over(program):
-    """`./cabinet` with the scenario's second cabinet, asked by `plan from live`."""
-    words = [TOP / "cabinet", "--port", "0", "--step", "1", "--program", program, "--scenario", TOP / "scenarios/two-cabinets.json", "--cabinet", "2"]
-    agent = subprocess.Popen(words, stderr=subprocess.PIPE, text=True)
+@contextlib.contextmanager
+def cabinet(program, *words: object):
+    """A live cabinet, which gives its port."""
+    agent = subprocess.Popen(
+        [TOP / "cabinet", "--port", "0", "--step", "1", "--program", program, *words], stderr=subprocess.PIPE, text=True
+    )
     try:
-        port = re.search(r"127\.0\.0\.1:(\d+)", agent.stderr.readline())[1]
-        ran = plan("from", "live", f"127.0.0.1:{port}")
+        yield int(re.search(r"127\.0\.0\.1:(\d+)", agent.stderr.readline())[1])
     finally:
         agent.send_signal(signal.SIGINT)
         agent.communicate(timeout=SECONDS)
+
+
+def walked(port: int) -> Tables:
+    """Returns the tables that `plan from live` finds."""
+    ran = plan("from", "live", f"127.0.0.1:{port}")
     assert ran.returncode == 0, ran.stderr
+    return tables_of(reading.street_of(toml_text.read(ran.stdout.decode())).scenario["cabinets"][0])
+
+
+def test_a_live_cabinet_is_walked_over(program):
+    """`./cabinet` with the scenario's second cabinet, asked by `plan from live`."""
     due = Tables("std8")
     due.put(cells_of_second())
-    found = reading.street_of(toml_text.read(ran.stdout.decode())).scenario["cabinets"][0]
-    assert not differing(tables_of(found), due)
+    with cabinet(program, "--scenario", TOP / "scenarios/two-cabinets.json", "--cabinet", "2") as port:
+        assert not differing(walked(port), due)
+
+
+def test_the_commands_of_a_download_load_a_live_cabinet(program, tmp_path):
+    """`plan loads --sets` writes what a shell runs; the cabinet then answers with the new values."""
+    if shutil.which("snmpset") is None:
+        pytest.skip("no snmpset")
+    old, new = tmp_path / "old.json", tmp_path / "new.json"
+    cells = [["phase", 2, 8, 43], ["sequence", 2, 1, "02010304"], ["sequence", 2, 2, "06050708"], ["pattern", 1, 3, 20], ["unit", 5, 900],
+             ["preempt", 1, 13, "0206"], ["split", 3, 5, 4, 4]]  # fmt: skip
+    old.write_text('{"version":1,"rounds":9,"ticks":10,"cabinets":[{}]}')
+    new.write_text(json.dumps({"version": 1, "rounds": 9, "ticks": 10, "cabinets": [{"cells": cells}]}))
+    with cabinet(program) as port:
+        commands = plan("loads", old, new, "--sets", f"127.0.0.1:{port}").stdout.replace(b"snmpset ", b"snmpset -t 20 ")
+        ran = subprocess.run(["sh"], input=commands, capture_output=True, timeout=SECONDS)
+        assert ran.returncode == 0, ran.stderr
+        agent = live.Agent("127.0.0.1", port, "public")
+        agent.socket.settimeout(SECONDS)
+        agent.socket.sendto(
+            message(GET, 1, [(loads.object_of(tuple(it[:-1])), None) for it in cells]), ("127.0.0.1", port)
+        )
+        reply = reply_of(agent.socket.recv(65_536))
+    found = [content.hex() if tag == 4 else int.from_bytes(content, "big") for _, tag, content in reply.bindings]
+    assert reply.status == 0 and found == [it[-1] for it in cells]

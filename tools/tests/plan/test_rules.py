@@ -97,26 +97,50 @@ def test_a_broken_sheet_has_its_sentence_with_the_numbers(rule):
 def test_the_program_refuses_the_same_rule(rule, program):
     """What the program says of the scenario is the first of what a check finds."""
     street = reading.street_of(toml_text.read(f"[[intersection]]\n{CASES[rule][1]}\n"))
-    assert said(program, json.dumps(street.scenario).encode()) == f"scenario: cabinet 1 breaks rule {rule} at row {CASES[rule][0]}"
+    assert (
+        said(program, json.dumps(street.scenario).encode())
+        == f"scenario: cabinet 1 breaks rule {rule} at row {CASES[rule][0]}"
+    )
 
 
-LAYOUT = {"version": 1, "rounds": 6, "ticks": 10, "cabinets": [{}], "loads": [{"round": 1, "cabinet": 1, "cells": [["phase", 3, 22, 2]]}]}
+LAYOUT = {
+    "version": 1,
+    "rounds": 6,
+    "ticks": 10,
+    "cabinets": [{}],
+    "loads": [{"round": 1, "cabinet": 1, "cells": [["phase", 3, 22, 2]]}],
+}
 
 
 def test_a_download_that_moves_a_phase_is_told_with_rule_21():
     """Of a download alone: phase 3 goes to the other ring. Other rules are broken besides, and the first is told."""
     before, after = tables_of({}), tables_of({"cells": [["phase", 8, 21, 0], ["phase", 8, 23, "03"]]})
     assert rules.Broken(21, 8) in rules.broken(after, before)
-    moved = [["phase", 1, 21, 0], ["phase", 5, 21, 0], ["sequence", 1, 1, "020304"], ["sequence", 1, 2, "060708"], ["pattern", 1, 2, 0]]
+    moved = [
+        ["phase", 1, 21, 0],
+        ["phase", 5, 21, 0],
+        ["sequence", 1, 1, "020304"],
+        ["sequence", 1, 2, "060708"],
+        ["pattern", 1, 2, 0],
+    ]
     scenario = {**LAYOUT, "loads": [{"round": 1, "cabinet": 1, "cells": moved}]}
     found = check.findings(sources.Source("street.json", street=reading.Street(scenario, reading.names.Names())))
     assert [(it.level, it.rule) for it in found] == [(Level.WARNING, 21)]
-    assert "download 1, due in round 1, will be refused: the download turns phase 1 off; a cabinet takes that in flash alone" in found[0].words
+    assert (
+        "download 1, due in round 1, will be refused: the download turns phase 1 off; a cabinet takes that in flash alone"
+        in found[0].words
+    )
 
 
 def test_the_cabinet_refuses_that_download_with_rule_21(program):
     """Verify is answered with the refusal that the check foretells."""
-    moved = [["phase", 1, 21, 0], ["phase", 5, 21, 0], ["sequence", 1, 1, "020304"], ["sequence", 1, 2, "060708"], ["pattern", 1, 2, 0]]
+    moved = [
+        ["phase", 1, 21, 0],
+        ["phase", 5, 21, 0],
+        ["sequence", 1, 1, "020304"],
+        ["sequence", 1, 2, "060708"],
+        ["pattern", 1, 2, 0],
+    ]
     text = json.dumps({**LAYOUT, "loads": [{"round": 1, "cabinet": 1, "cells": moved}]}).encode()
     trace = subprocess.run([program, "run"], input=text, capture_output=True, check=True).stdout
     assert b"\nL 1 1 refused 21 1\n" in trace
@@ -167,7 +191,23 @@ def test_the_program_agrees_on_random_tables_with_wrong_cells(program):
         assert said(program, text) == first_line(text)
 
 
-OTHERS = (b"0", b"-1", b"-0", b"1.0", b"1e999", b"17", b"256", b"864000", b"18446744073709551616", b"null", b"true", b"[]", b'"x"', b'"\\ud800"', b"NaN")
+OTHERS = (
+    b"0",
+    b"-1",
+    b"-0",
+    b"1.0",
+    b"1e999",
+    b"17",
+    b"256",
+    b"864000",
+    b"18446744073709551616",
+    b"null",
+    b"true",
+    b"[]",
+    b'"x"',
+    b'"\\ud800"',
+    b"NaN",
+)
 VALUE = re.compile(rb'"(?:[^"\\]|\\.)*"|-?\d+|true|false')
 
 
@@ -178,8 +218,11 @@ def other_value(dice: random.Random, text: bytes) -> bytes:
 
 
 def test_damaged_texts_have_the_fault_that_another_reader_finds():
-    """Scenarios with octets and values changed: the first fault is that of the reader of the vectors, which shares nothing with this one."""
-    texts = [it.read_bytes() for name in ("free", "whole") for it in sorted((TOP / "vectors" / name).glob("*.json"))[:8]]
+    """Scenarios with octets and values changed: the first fault is that of the reader of the vectors, which shares
+    nothing with this one."""
+    texts = [
+        it.read_bytes() for name in ("free", "whole") for it in sorted((TOP / "vectors" / name).glob("*.json"))[:8]
+    ]
     texts = [it for it in texts if len(it) < 20_000]
     dice, count = random.Random(5), 0
     for number in range(400):

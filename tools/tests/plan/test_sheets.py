@@ -17,7 +17,7 @@ from .random_tables import cells_of
 SCENARIOS = sorted(it for it in (TOP / "scenarios").glob("*.json"))
 TABLES = 2_000
 AT_ONCE = 50
-BOOKS = 40
+BOOKS = 20
 DEFAULTS = {"base": "std8", "pattern": 0, "clock": 0, "section": 1, "gain": 0, "lose": 0}
 
 
@@ -26,13 +26,18 @@ def street(path) -> reading.Street:
     value = json.loads(path.read_text())
     if "scenario" not in value:
         return reading.Street(value, names.Names())
-    return reading.Street(value["scenario"], names.Names(), [], value["bank"], value.get("pulses"), value.get("respond"))
+    return reading.Street(
+        value["scenario"], names.Names(), [], value["bank"], value.get("pulses"), value.get("respond")
+    )
 
 
 def same(old: reading.Street, new: reading.Street) -> bool:
     """Tells whether two streets hold the same: all tables cell by cell, and all else."""
     cabinets = [it.scenario["cabinets"] for it in (old, new)]
-    rest = [[DEFAULTS | {name: it for name, it in cabinet.items() if name != "cells"} for cabinet in some] for some in cabinets]
+    rest = [
+        [DEFAULTS | {name: it for name, it in cabinet.items() if name != "cells"} for cabinet in some]
+        for some in cabinets
+    ]
     tables = all(not differing(tables_of(a), tables_of(b)) for a, b in zip(*cabinets, strict=True))
     others = [{name: it for name, it in some.scenario.items() if name != "cabinets"} for some in (old, new)]
     around = [(some.bank, some.pulses, some.respond) for some in (old, new)]
@@ -91,11 +96,23 @@ splits = {1 = 15, 2 = 45, 4 = 30, 6 = 60}
 
 
 def test_a_t_intersection_gets_the_partner_that_its_rings_need():
-    """Phase 8 stands beside 4 with its times, no walk and no call; it has the side's time, and the names file says that it is a partner."""
+    """Phase 8 stands beside 4 with its times, no walk and no call; it has the side's time, and the names file says that
+    it is a partner."""
     found = reading.street_of(toml_text.read(T))
     tables = tables_of(found.scenario["cabinets"][0])
     assert [tables.enabled(), tables.sequence(1, 1), tables.sequence(1, 2)] == [[1, 2, 4, 6, 8], (1, 2, 4), (6, 8)]
-    assert [tables.phase(8, column) for column in (2, 3, 4, 5, 6, 8, 9, 20, 21, 22)] == [0, 0, 10, 0, 0, 36, 15, 2, 1, 2]
+    assert [tables.phase(8, column) for column in (2, 3, 4, 5, 6, 8, 9, 20, 21, 22)] == [
+        0,
+        0,
+        10,
+        0,
+        0,
+        36,
+        15,
+        2,
+        1,
+        2,
+    ]
     assert [concurrent(tables, phase) for phase in (4, 8, 2, 6)] == [{8}, {4}, {6}, {1, 2}]
     assert tables.phase(4, 21) == 1 + 32 + 64 + 256 + 1024
     assert [tables.split(1, phase, 3) for phase in (1, 2, 4, 6, 8)] == [15, 45, 30, 60, 30]
@@ -153,7 +170,16 @@ def test_detectors_are_timed_in_rounds():
     """With rounds of 2 s a delay of 8 s is 4 rounds; 5 s are none, and are refused."""
     head = "[run]\nticks = 20\n[[intersection]]\n[intersection.detector]\n3 = {phase = 4, delay = "
     found = reading.street_of(toml_text.read(head + "8}\n"))
-    row = {"cabinet": 1, "detector": 3, "phase": 4, "delay": 4, "extend": 0, "no_activity": 0, "max_presence": 0, "erratic": 0}
+    row = {
+        "cabinet": 1,
+        "detector": 3,
+        "phase": 4,
+        "delay": 4,
+        "extend": 0,
+        "no_activity": 0,
+        "max_presence": 0,
+        "erratic": 0,
+    }
     assert found.field_file()["bank"] == [row]
     with pytest.raises(Unreadable, match="whole rounds"):
         reading.street_of(toml_text.read(head + "5}\n"))

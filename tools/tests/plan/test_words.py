@@ -57,14 +57,35 @@ def findings(text: str, level: Level = Level.WARNING) -> list[str]:
 
 
 WARNINGS = {
-    "a yellow below what speed asks": ("[intersection.phase]\n2 = {speed = 45}", "yellow change of 4 s; 45 mph ask 4.3 s"),
-    "a grade that asks more": ("[intersection.phase]\n2 = {speed = 45, grade = -4, yellow = 4.3}", "45 mph at a grade of -4 % ask 4.8 s"),
-    "a clearance short for the width": ("[intersection.phase]\n4 = {crossing = 60}", "pedestrian clearance of 12 s; 60 ft at 3.5 ft/s take 17 s"),
-    "a split that only just fits": ("[intersection.pattern.1]\nsplits = {3 = 10, 4 = 35}", "pattern 1 gives phase 3 10 s, which only just fits: 0.5 s to spare"),
-    "a red clearance in seconds": ("[intersection.phase]\n3 = {red_clear = 0.2}", "red clearance of 0.2 s; are 2 s meant?"),
+    "a yellow below what speed asks": (
+        "[intersection.phase]\n2 = {speed = 45}",
+        "yellow change of 4 s; 45 mph ask 4.3 s",
+    ),
+    "a grade that asks more": (
+        "[intersection.phase]\n2 = {speed = 45, grade = -4, yellow = 4.3}",
+        "45 mph at a grade of -4 % ask 4.8 s",
+    ),
+    "a clearance short for the width": (
+        "[intersection.phase]\n4 = {crossing = 60}",
+        "pedestrian clearance of 12 s; 60 ft at 3.5 ft/s take 17 s",
+    ),
+    "a split that only just fits": (
+        "[intersection.pattern.1]\nsplits = {3 = 10, 4 = 35}",
+        "pattern 1 gives phase 3 10 s, which only just fits: 0.5 s to spare",
+    ),
+    "a red clearance in seconds": (
+        "[intersection.phase]\n3 = {red_clear = 0.2}",
+        "red clearance of 0.2 s; are 2 s meant?",
+    ),
     "a passage in seconds": ("[intersection.phase]\n3 = {passage = 0.3}", "passage time of 0.3 s; are 3 s meant?"),
-    "a maximum below the minimum": ("[intersection.phase]\n3 = {max_green = 4}", "maximum green of 4 s, less than its minimum green of 5 s"),
-    "a preempt without dwell phases": ("[intersection.preempt.2]\ndelay = 3\ntrack = [4]", "preempt 2 has no dwell phases, so its input does nothing"),
+    "a maximum below the minimum": (
+        "[intersection.phase]\n3 = {max_green = 4}",
+        "maximum green of 4 s, less than its minimum green of 5 s",
+    ),
+    "a preempt without dwell phases": (
+        "[intersection.preempt.2]\ndelay = 3\ntrack = [4]",
+        "preempt 2 has no dwell phases, so its input does nothing",
+    ),
     "an opening pattern that isn't there": ("command = 7", "opens with pattern 7, which isn't defined: it runs free"),
 }
 
@@ -81,11 +102,16 @@ def test_what_no_rule_forbids_and_nobody_means_is_a_warning(what):
 def test_schedules_are_looked_at():
     """A pattern that isn't defined, a section that nobody has, seconds that look like hours and minutes."""
     undefined = findings('schedule = [{at = 06:00:00, pattern = 9}]\n[[intersection]]\nname = "Main"\n')
-    assert undefined == ["Main: warning: the schedule commands pattern 9, which isn't defined: the cabinet refuses the command"]
+    assert undefined == [
+        "Main: warning: the schedule commands pattern 9, which isn't defined: the cabinet refuses the command"
+    ]
     nobody = findings("schedule = [{at = 06:00:00, section = 2, pattern = 1}]\n[[intersection]]\n")
     assert nobody == ["schedule: warning: section 2 has entries, but no intersection is of that section"]
     hours = findings("schedule = [{at = 700, pattern = 1}, {at = 1630, pattern = 1}]\n[[intersection]]\n")
-    assert [it.split("; ")[1] for it in hours] == ["is 7:00 meant? That is second 25200", "is 16:30 meant? That is second 59400"]
+    assert [it.split("; ")[1] for it in hours] == [
+        "is 7:00 meant? That is second 25200",
+        "is 16:30 meant? That is second 59400",
+    ]
     assert findings("schedule = [{at = 06:00:00, pattern = 1}, {at = 70, pattern = 254}]\n[[intersection]]\n") == []
 
 
@@ -119,9 +145,16 @@ def explained(tmp_path, scenario, line: str) -> str:
 
 def test_a_refusal_by_a_rule_is_explained(tmp_path):
     """The rule, and the numbers of its row."""
-    words = explained(tmp_path, {**SCENARIO, "cabinets": [{}, {"cells": [["pattern", 1, 2, 80]]}]}, "scenario: cabinet 2 breaks rule 17 at row 1")
+    words = explained(
+        tmp_path,
+        {**SCENARIO, "cabinets": [{}, {"cells": [["pattern", 1, 2, 80]]}]},
+        "scenario: cabinet 2 breaks rule 17 at row 1",
+    )
     assert "rule 17 asks: the splits of each ring come to the cycle" in words
-    assert "cabinet 2: pattern 1 (split 1): the splits of ring 1" in words and "but the cycle is 80 s; take 10 s off" in words
+    assert (
+        "cabinet 2: pattern 1 (split 1): the splits of ring 1" in words
+        and "but the cycle is 80 s; take 10 s off" in words
+    )
 
 
 def test_a_refusal_of_a_value_is_explained_with_its_place(tmp_path):
@@ -134,7 +167,10 @@ def test_a_refusal_of_a_value_is_explained_with_its_place(tmp_path):
 
 def test_a_refused_download_is_explained(tmp_path):
     """By the tables that were in force then."""
-    loads = [{"round": it, "cabinet": 1, "cells": cells} for it, cells in ((1, [["pattern", 1, 3, 10]]), (5, [["phase", 4, 8, 20]]))]
+    loads = [
+        {"round": it, "cabinet": 1, "cells": cells}
+        for it, cells in ((1, [["pattern", 1, 3, 10]]), (5, [["phase", 4, 8, 20]]))
+    ]
     words = explained(tmp_path, {**SCENARIO, "loads": loads}, "L 1 2 refused 10 4")
     assert "phase 4 has a yellow change of 2 s" in words
 
@@ -153,8 +189,66 @@ def test_other_lines_of_the_program_are_explained(tmp_path, line, words):
     assert words in explained(tmp_path, SCENARIO, line)
 
 
-@pytest.mark.parametrize("line", ["what is this", "scenario: cabinet 1 breaks rule 10 at row 2", "scenario: cabinet 3 breaks rule 1 at row 2"])
+@pytest.mark.parametrize(
+    "line",
+    ["what is this", "scenario: cabinet 1 breaks rule 10 at row 2", "scenario: cabinet 3 breaks rule 1 at row 2"],
+)
 def test_a_line_that_does_not_fit_the_file_is_said_to(tmp_path, line):
     """No line of the program, a rule that is kept, a cabinet that isn't there."""
     with pytest.raises(explain.NotKnown):
         explained(tmp_path, SCENARIO, line)
+
+
+FAR = """
+[[intersection]]
+name = "A"
+travel = {travel}
+[[intersection]]
+name = "B"
+[intersection.pattern.1]
+cycle = 90
+offset = 45
+"""
+
+
+def band_words(program, travel: int) -> list[str]:
+    """Returns what a check says of the bands of two intersections, 45 s apart in their offsets."""
+    street = reading.street_of(toml_text.read(FAR.replace("{travel}", str(travel))))
+    return [
+        f"{it.level.value}: {it.words}"
+        for it in check.findings(sources.Source("street.toml", street=street), str(program))
+    ]
+
+
+def test_offsets_that_leave_no_band_are_told(program):
+    """The windows are 24.5 s. With no time between them and offsets 0 and 45 s nobody meets both greens, either way;
+    with 45 s outbound all do, and since twice 45 s is the cycle, inbound too; with 30 s those of 9.5 s do outbound, and
+    inbound those of as many."""
+    assert band_words(program, 0) == ["warning: the offsets of pattern 1 leave no through band, A to B or back"]
+    assert band_words(program, 45) == []
+    assert band_words(program, 30) == []
+
+
+def test_a_plan_with_a_wrong_value_elsewhere_has_its_broken_rules_told_too(tmp_path):
+    """The value first, as the program does; then the rule."""
+    path = tmp_path / "street.json"
+    cabinets = [{"cells": [["phase", 2, 8, 29]]}]
+    path.write_text(json.dumps({**SCENARIO, "cabinets": cabinets, "inputs": [{"round": 11, "cabinet": 1, "ped": 2}]}))
+    lines = [it.line for it in check.findings(sources.load(str(path)))]
+    assert lines == ["scenario: limit inputs[0].round", "scenario: cabinet 1 breaks rule 10 at row 2"]
+
+
+@pytest.mark.parametrize(
+    "text",
+    [
+        '{"intersections": [{"phases": {"x": {}}}]}',
+        '{"intersections": [{"travel": "far"}]}',
+        '{"title": 1, "street": 2}',
+        "[]",
+        "{",
+    ],
+)
+def test_a_file_that_is_no_names_file_is_refused(text):
+    """Phases that are none, measures in words, unknown names, other JSON, none."""
+    with pytest.raises(names.NoNames):
+        names.read(text)
