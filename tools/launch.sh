@@ -39,7 +39,8 @@ has_mark() {
 # Runs the program, and adds to its answer what it does not say: which command was meant, that a byte order mark is in
 # the way. Where the reader of its output has gone, nothing is said.
 run_and_tell() {
-    guard=$(command -v setpriv) && guard="$guard --pdeathsig TERM"
+    # (a link is that of a smaller system, whose setpriv lacks this)
+    guard=$(command -v setpriv) && [ ! -L "$guard" ] && guard="$guard --pdeathsig TERM" || guard=
     # shellcheck disable=SC2086
     { said=$($guard "$program" "$@" 2>&1 >&3 3>&-); } 3>&1
     status=$?
