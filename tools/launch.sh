@@ -1,5 +1,5 @@
-# What `arterial` does with its words. To be read by a script that has set `checkout` (empty where the program is installed), `program`, and
-# `tools`, the folder that has the package streettools.
+# What `arterial` does with its words. To be read by a script that has set `checkout` (empty where the program is
+# installed), `program`, and `tools`, the folder that has the package streettools.
 [ -n "$checkout" ] && . "$tools/trust.sh"
 
 say() {
@@ -36,10 +36,11 @@ has_mark() {
     [ -f /dev/stdin ] && [ "$(head -c 3 /dev/stdin)" = "$(printf '\357\273\277')" ]
 }
 
-# Runs the program, and adds to its answer what it does not say: which command was meant, that a byte order mark is in the way. Where the reader
-# of its output has gone, nothing is said.
+# Runs the program, and adds to its answer what it does not say: which command was meant, that a byte order mark is in
+# the way. Where the reader of its output has gone, nothing is said.
 run_and_tell() {
-    guard=$(command -v setpriv) && guard="$guard --pdeathsig TERM"
+    # (a link is that of a smaller system, whose setpriv lacks this)
+    guard=$(command -v setpriv) && [ ! -L "$guard" ] && guard="$guard --pdeathsig TERM" || guard=
     # shellcheck disable=SC2086
     { said=$($guard "$program" "$@" 2>&1 >&3 3>&-); } 3>&1
     status=$?

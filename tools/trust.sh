@@ -1,14 +1,14 @@
-# Whether the program of a checkout is the one that was proved there, from the sources that stand there. To be read by sh scripts that
-# have set `checkout` and `program`.
+# Whether the program of a checkout is the one that was proved there, from the sources that stand there. To be read by
+# sh scripts that have set `checkout` and `program`.
 #
 # crates/arterial/out/proved/ is written where a proof ends (streettools/launch/record.py):
 #   sums             SHA-256 of the program and of every file that its proof has read
 #   first, second    the names of these files and of the folders between them, each name ended by a NUL
 #   kit              the kit's folder, then its own WHAT, which has the checksums of what it was made of
 #   tested           its time is that of the last test of the sums
-# A file whose time of change (ctime) is not past that of `tested` has not been written, moved or replaced since. So one look at times
-# is enough as long as nothing was touched; else all sums are tested again. A clock that was set back can deceive it, and so can
-# who writes `proved` anew, which everybody can who may write the checkout.
+# A file whose time of change (ctime) is not past that of `tested` has not been written, moved or replaced since. So
+# one look at times is enough as long as nothing was touched; else all sums are tested again. A clock that was set
+# back can deceive it, and so can who writes `proved` anew, which everybody can who may write the checkout.
 proved=$checkout/crates/arterial/out/proved
 
 # Whether nothing was touched since the sums were tested.
@@ -33,7 +33,8 @@ is_kit() {
     } <"$proved/kit"
 }
 
-# Tests all sums. Returns 0 where all are right, 1 where there is no proof or it was one of other sources, 123 where the program alone is another.
+# Tests all sums. Returns 0 where all are right, 1 where there is no proof or it was one of other sources, 123 where
+# the program alone is another.
 test_sums() {
     [ -e "$proved/sums" ] && [ -e "$program" ] || { why="there is no proved program here yet" && return 1; }
     is_kit || { why="the kit is not the one of the proof" && return 1; }

@@ -1,4 +1,5 @@
-"""Runs a command of the tools: `python3 -m streettools look ..`, or `python3 tools/streettools look ..` with no installation."""
+"""Runs a command of the tools: `python3 -m streettools look ..`, or `python3 tools/streettools look ..` with no
+installation."""
 
 import pathlib
 import signal

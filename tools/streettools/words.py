@@ -1,7 +1,7 @@
 """The words of the launcher: the one place where a command of the tools is named.
 
-A new command is one line in TOOLS, and a module `streettools/NAME/command.py` with `main(words: list[str]) -> int`. It is shown in help and
-taken as a word only if that module is there.
+A new command is one line in TOOLS, and a module `streettools/NAME/command.py` with `main(words: list[str]) -> int`.
+It is shown in help and taken as a word only if that module is there.
 """
 
 import difflib

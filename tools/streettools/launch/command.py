@@ -32,7 +32,14 @@ def recorded(words: list[str]) -> int:
     return Status.DONE
 
 
-DOES = {"prove": prove.main, "unproved": unproved.main, "help": help.main, "meant": meant, "sums": sums, "record": recorded}
+DOES = {
+    "prove": prove.main,
+    "unproved": unproved.main,
+    "help": help.main,
+    "meant": meant,
+    "sums": sums,
+    "record": recorded,
+}
 
 
 def main(words: list[str]) -> int:

@@ -13,7 +13,8 @@ FIRST = "the program is proved and built: {} crates, some half an hour on four p
 
 
 class Course:
-    """Tells of each crate as it is done, of the minutes that are gone, and of those that are left by the crates' known shares."""
+    """Tells of each crate as it is done, of the minutes that are gone, and of those that are left by the crates'
+    known shares."""
 
     def __init__(self, names: list[str], top: pathlib.Path) -> None:
         self.shares = shares.of(names, top)

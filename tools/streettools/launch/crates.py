@@ -1,4 +1,5 @@
-"""The crates of a checkout, as crates.txt lists them: which of them the program stands on, and the files that a proof of these reads."""
+"""The crates of a checkout, as crates.txt lists them: which of them the program stands on, and the files that a proof
+of these reads."""
 
 import hashlib
 import os
@@ -16,7 +17,8 @@ PARTS = ("src", "specs", "proofs", "c")
 
 
 def uses(top: pathlib.Path) -> dict[str, list[str]]:
-    """Returns for each crate of the checkout the crates of the checkout that it stands on directly, in the list's order."""
+    """Returns for each crate of the checkout the crates of the checkout that it stands on directly, in the list's
+    order."""
     found = dict(re.findall(r"^([a-z]\w*)(?: staticlib)?:(.*)$", (top / LISTS[0]).read_text(), re.M))
     return {name: [it for it in below.split() if it in found] for name, below in found.items()}
 
@@ -62,7 +64,8 @@ def files(top: pathlib.Path) -> Iterator[str]:
 
 
 def folders(names: list[str]) -> list[str]:
-    """Returns the folders in which these files' own folders stand: what is moved to the place of a folder changes the one above it."""
+    """Returns the folders in which these files' own folders stand: what is moved to the place of a folder changes the
+    one above it."""
     found = set()
     for name in names:
         found.update(str(it) for it in list(pathlib.PurePath(name).parents)[1:-1])

@@ -10,7 +10,9 @@ from streettools.shared.status import Status
 
 from . import crates, source
 
-FROM_SOURCE = "there is no proved program here yet: this is the text in its source (./arterial prove proves and builds the program)"
+FROM_SOURCE = (
+    "there is no proved program here yet: this is the text in its source (./arterial prove proves and builds it)"
+)
 
 
 def of_command(text: str, name: str) -> str | None:
@@ -24,11 +26,16 @@ def beside() -> str:
     listed = [*[words.PROVE] * (crates.TOP / crates.LISTS[0]).is_file(), *words.tools()]
     lines = [f"  arterial {word.name:8} {word.does}\n" for word in listed]
     head = "\nBeside the program, and not proved (arterial COMMAND --help tells more of each command):\n\n"
-    return head + "".join(lines) + "\nA file can be named behind run, check, overlaps, band and respond, in place of < FILE.\n"
+    return (
+        head
+        + "".join(lines)
+        + "\nA file can be named behind run, check, overlaps, band and respond, in place of < FILE.\n"
+    )
 
 
 def main(given: list[str]) -> int:
-    """Prints help; the words are the program's path, empty where it is not proved, and a command, if it is of one alone."""
+    """Prints help; the words are the program's path, empty where it is not proved, and a command, if it is of one
+    alone."""
     program, *names = given
     if program:
         text = subprocess.run([program, "--help"], capture_output=True, text=True, check=True).stdout

@@ -1,8 +1,10 @@
-"""Proves the libraries that the program stands on, several side by side: first those with the longest chain of others above them.
+"""Proves the libraries that the program stands on, several side by side: first those with the longest chain of others
+above them.
 
-The kit's own command for all crates gives each one job, and a crate that waits holds a place. Towards the end of the chain one processor would
-work there, and the others wait. So each crate is proved here by a call of its own, in a copy of the sources that it needs, with the libraries
-below it linked into it, and with the processors that no other crate needs. What it makes is linked back into the checkout.
+The kit's own command for all crates gives each one job, and a crate that waits holds a place. Towards the end of the
+chain one processor would work there, and the others wait. So each crate is proved here by a call of its own, in a
+copy of the sources that it needs, with the libraries below it linked into it, and with the processors that no other
+crate needs. What it makes is linked back into the checkout.
 """
 
 import contextlib
@@ -78,7 +80,9 @@ def keys(top: pathlib.Path, known: dict[str, list[str]], names: list[str]) -> di
     folder, found = kit.folder(), {}
     for name in names:
         sums = sorted((file, crates.sum_of(top / file)) for file in crates.files_of(top, name))
-        text = repr((sums, crates.listed(top, [name]), [found[it] for it in known[name]], folder and kit.identity(folder)))
+        text = repr(
+            (sums, crates.listed(top, [name]), [found[it] for it in known[name]], folder and kit.identity(folder))
+        )
         found[name] = hashlib.sha256(text.encode()).hexdigest()
     return found
 
@@ -96,7 +100,8 @@ def with_jobs(memory: float, jobs: int) -> float:
 
 
 def jobs_for(machine: Machine, running: list[Running], waiting: int, memory: float) -> int:
-    """Returns how many jobs the next of the crates that wait gets, 0 where it has to wait. The first runs however little memory there is."""
+    """Returns how many jobs the next of the crates that wait gets, 0 where it has to wait. The first runs however
+    little memory there is."""
     room = machine.memory - sum(it.memory for it in running)
     if len(running) >= machine.processors or (running and memory > room):
         return 0
@@ -119,7 +124,9 @@ def linked(source: pathlib.Path, to: pathlib.Path) -> None:
 class Lanes:
     """Crates that are proved side by side."""
 
-    def __init__(self, top: pathlib.Path, rt: str, log: BinaryIO, course: Course, keep: bool, machine: Machine | None = None) -> None:
+    def __init__(
+        self, top: pathlib.Path, rt: str, log: BinaryIO, course: Course, keep: bool, machine: Machine | None = None
+    ) -> None:
         self.top, self.rt, self.log, self.course, self.keep = top, rt, log, course, keep
         self.machine = machine or Machine.here()
         known = crates.uses(top)
@@ -133,7 +140,8 @@ class Lanes:
         self.lanes = top / "crates" / crates.PROGRAM / "out/lanes"
 
     def run(self) -> None:
-        """Proves all; NotProved where one fails, once those beside it have ended. However it ends, what was kept stands in the checkout."""
+        """Proves all; NotProved where one fails, once those beside it have ended. However it ends, what was kept
+        stands in the checkout."""
         shutil.rmtree(self.lanes, ignore_errors=True)
         self.take_proved()
         failed = None
@@ -162,7 +170,8 @@ class Lanes:
         self.course.taken(sorted(self.ended))
 
     def is_proved(self, name: str) -> bool:
-        """Tells whether the library is there that a call has left for the same sources. The kit tests this again as it builds the program."""
+        """Tells whether the library is there that a call has left for the same sources. The kit tests this again as
+        it builds the program."""
         key = self.top / "crates" / name / KEY
         return key.is_file() and key.read_text() == self.keys[name] and (self.top / "crates" / name / RLIB).is_dir()
 
@@ -196,7 +205,9 @@ class Lanes:
             os.rename(kept, lane / "crates" / name / KEPT)
         with open(lane / "said", "wb") as said:
             words = [self.rt, "lib", "--jobs", str(jobs)]
-            tool = subprocess.Popen(words, cwd=lane / "crates" / name, stdin=subprocess.DEVNULL, stdout=said, stderr=subprocess.STDOUT)
+            tool = subprocess.Popen(
+                words, cwd=lane / "crates" / name, stdin=subprocess.DEVNULL, stdout=said, stderr=subprocess.STDOUT
+            )
         self.running.append(Running(name, lane, tool, jobs, memory))
 
     def end_some(self) -> str | None:
@@ -204,7 +215,10 @@ class Lanes:
         failed = None
         for it in [it for it in self.running if it.tool.poll() is not None]:
             self.running.remove(it)
-            self.log.write(f"== {it.crate}, jobs: {it.jobs}, status: {it.tool.returncode}\n".encode() + (it.folder / "said").read_bytes())
+            self.log.write(
+                f"== {it.crate}, jobs: {it.jobs}, status: {it.tool.returncode}\n".encode()
+                + (it.folder / "said").read_bytes()
+            )
             if it.tool.returncode:
                 failed = it.crate
                 self.bring_back(it, KEPT)

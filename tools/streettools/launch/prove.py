@@ -39,7 +39,11 @@ def parser() -> argparse.ArgumentParser:
         "once one proves and the other waits. Some half an hour on four processors, 15 GB of disk meanwhile.",
         epilog="example: ./arterial prove && ./arterial run scenarios/one-cabinet.json",
     )
-    words.add_argument("--keep", action="store_true", help="leave in crates/*/out what the proofs kept, for quicker proofs after an edit")
+    words.add_argument(
+        "--keep",
+        action="store_true",
+        help="leave in crates/*/out what the proofs kept, for quicker proofs after an edit",
+    )
     return words
 
 
@@ -63,18 +67,24 @@ def look_around(top: pathlib.Path) -> str:
     rt = kit.command()
     if not rt:
         path = os.environ.get("PATH", "")
-        raise Failed(f"the Rattle kit's command rt is not on the path ({path}): README.md says under Start what is needed")
+        raise Failed(
+            f"the Rattle kit's command rt is not on the path ({path}): README.md says under Start what is needed"
+        )
     out = top / "crates" / crates.PROGRAM / "out"
     try:
         out.mkdir(exist_ok=True)
         (out / ".building").touch()
     except OSError as fault:
-        raise Failed(f"{fault.filename} can't be written ({fault.strerror}): a proof needs a checkout that it can write to") from None
+        raise Failed(
+            f"{fault.filename} can't be written ({fault.strerror}): a proof needs a checkout that it can write to"
+        ) from None
     free = shutil.disk_usage(out).free
     if free < LEAST:
         kept = sum(size_of(it) for it in top.glob("crates/*/out"))
         if free + kept < LEAST:
-            raise Failed(f"{free / 1e9:.0f} GB of the disk are free at {top}, and the proofs need {LEAST / 1e9:.0f} while they run")
+            raise Failed(
+                f"{free / 1e9:.0f} GB of the disk are free at {top}, and the proofs need {LEAST / 1e9:.0f} while they run"
+            )
     return rt
 
 
@@ -94,7 +104,9 @@ def build(rt: str, top: pathlib.Path, log: BinaryIO) -> bool:
     """Proves and builds the program's own crate over the libraries, and tells whether that went well."""
     folder, jobs = top / "crates" / crates.PROGRAM, len(os.sched_getaffinity(0))
     words = [rt, "run", "--jobs", str(min(jobs, lanes.MOST_JOBS)), "--", "run"]
-    with open(folder / "stdin", "rb") as given, subprocess.Popen(words, cwd=folder, stdin=given, stdout=log, stderr=log) as tool:
+    with open(folder / "stdin", "rb") as given, subprocess.Popen(
+        words, cwd=folder, stdin=given, stdout=log, stderr=log
+    ) as tool:
         try:
             return tool.wait() == 0
         except BaseException:
@@ -120,7 +132,9 @@ def prove(rt: str, top: pathlib.Path, keep: bool) -> None:
         except lanes.NotProved as name:
             failed = name
         if failed:
-            raise Failed(f"the program could not be built, since {failed} failed:\n{why_of(log)}\narterial: all that was said is in {log}")
+            raise Failed(
+                f"the program could not be built, since {failed} failed:\n{why_of(log)}\narterial: all that was said is in {log}"
+            )
         course.done(crates.PROGRAM)
     try:
         record.write(top, before)

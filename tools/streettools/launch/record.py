@@ -1,4 +1,5 @@
-"""What is kept beside the program of what was proved: checksums, and the moment of their last test. `tools/trust.sh` reads it."""
+"""What is kept beside the program of what was proved: checksums, and the moment of their last test. `tools/trust.sh`
+reads it."""
 
 import os
 import pathlib
@@ -19,7 +20,8 @@ def program_of(top: pathlib.Path) -> pathlib.Path:
 
 
 def write(top: pathlib.Path, before: dict[str, str]) -> None:
-    """Records the program, which a proof of sources with these checksums has just built; Changed if a source has changed since."""
+    """Records the program, which a proof of sources with these checksums has just built; Changed if a source has
+    changed since."""
     begun, now = time.time(), crates.sums(top)
     for name in sorted({*before, *now}):
         if before.get(name) != now.get(name):

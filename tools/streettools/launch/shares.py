@@ -9,7 +9,8 @@ SECONDS = {"station": 220, "arterial": 130}
 """Processor seconds of a crate's first check with one job, as measured."""
 
 START, EACH_RUST, EACH_PROOF = 10, 0.055, 0.018
-"""Where nothing was measured: seconds of a check before its first function, and for a line of a program and one of specifications or proofs."""
+"""Where nothing was measured: seconds of a check before its first function, and for a line of a program and one of
+specifications or proofs."""
 
 
 def of(names: list[str], top: pathlib.Path) -> dict[str, float]:
@@ -27,5 +28,7 @@ def guessed(folder: pathlib.Path) -> float:
 def lines(folder: pathlib.Path) -> tuple[int, int]:
     """Returns how many lines of programs a crate has, and of specifications and proofs."""
     files = [it for part in crates.PARTS for it in (folder / part).rglob("*") if it.is_file()]
-    counts = {suffix: sum(it.read_bytes().count(b"\n") for it in files if it.suffix == suffix) for suffix in (".rt", ".antt")}
+    counts = {
+        suffix: sum(it.read_bytes().count(b"\n") for it in files if it.suffix == suffix) for suffix in (".rt", ".antt")
+    }
     return counts[".rt"], counts[".antt"]

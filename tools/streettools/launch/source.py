@@ -5,7 +5,8 @@ import re
 
 
 def text(top: pathlib.Path, file: str, name: str) -> str | None:
-    """Returns the constant text of this name in a source file, None where it does not stand there in a form that is known."""
+    """Returns the constant text of this name in a source file, None where it does not stand there in a form that is
+    known."""
     try:
         source = (top / "crates" / file).read_text()
     except OSError:

@@ -1,6 +1,8 @@
-"""Carries a command out by the program without its proofs, which the kit compiles with run-time checks, runs, and throws away.
+"""Carries a command out by the program without its proofs, which the kit compiles with run-time checks, runs, and
+throws away.
 
-Such a run has limits of the kit: 64 MiB of input, 1 MiB of output, a minute of time. An answer comes whole or not at all.
+Such a run has limits of the kit: 64 MiB of input, 1 MiB of output, a minute of time. An answer comes whole or not at
+all.
 """
 
 import os
@@ -61,7 +63,9 @@ def ran(rt: str, arguments: list[str], stdin: BinaryIO, stdout: BinaryIO) -> tup
     """Runs the program and returns its exit status and what it wrote to standard error; its output goes to a file."""
     command = [rt, "try", "--seconds", str(SECONDS), "--", *arguments]
     folder = crates.TOP / "crates" / crates.PROGRAM
-    with subprocess.Popen(command, cwd=folder, stdin=stdin, stdout=stdout, stderr=subprocess.PIPE) as tool, waiting(USUAL):
+    with subprocess.Popen(command, cwd=folder, stdin=stdin, stdout=stdout, stderr=subprocess.PIPE) as tool, waiting(
+        USUAL
+    ):
         try:
             said = tool.communicate()[1]
         except BaseException:
@@ -101,7 +105,8 @@ def answer(rt: str, arguments: list[str]) -> int:
 
 
 def written(output: bytes, status: int) -> int:
-    """Writes the program's output, and returns the exit status, which is that of a write fault where it can't be written."""
+    """Writes the program's output, and returns the exit status, which is that of a write fault where it can't be
+    written."""
     try:
         sys.stdout.buffer.write(output)
         sys.stdout.flush()
@@ -135,9 +140,15 @@ def main(given: list[str]) -> int:
     rt = kit.command()
     if not rt:
         path = os.environ.get("PATH", "")
-        say("arterial", f"{why}, and the Rattle kit's command rt is not on the path ({path}): README.md says under Start what is needed")
+        say(
+            "arterial",
+            f"{why}, and the Rattle kit's command rt is not on the path ({path}): README.md says under Start what is needed",
+        )
         return Status.NO_PROGRAM
-    say("arterial", f"{why}: the program without its proofs answers, in about a minute (./arterial prove or ./test proves it here)")
+    say(
+        "arterial",
+        f"{why}: the program without its proofs answers, in about a minute (./arterial prove or ./test proves it here)",
+    )
     try:
         return answer(rt, arguments)
     except Unfinished as fault:

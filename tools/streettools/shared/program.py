@@ -6,7 +6,8 @@ import shutil
 import subprocess
 
 HERE = pathlib.Path(__file__).resolve().parents[2]
-"""The folder that has the package: `tools` of a checkout, or the one of an installation, which has the program beside it."""
+"""The folder that has the package: `tools` of a checkout, or the one of an installation, which has the program beside
+it."""
 
 
 class NoProgram(Exception):
@@ -23,8 +24,8 @@ class Refused(Exception):
 
 
 def found(name: str | None = None) -> pathlib.Path:
-    """Returns the program of this name; where there is no name the one that ARTERIAL_PROGRAM names, the one that is installed with
-    these tools, the one that was proved in this checkout, or the one on the path."""
+    """Returns the program of this name; where there is no name the one that ARTERIAL_PROGRAM names, the one that is
+    installed with these tools, the one that was proved in this checkout, or the one on the path."""
     path = pathlib.Path(name or os.environ.get("ARTERIAL_PROGRAM") or usual()).resolve()
     if not (path.is_file() and os.access(path, os.X_OK)):
         raise NoProgram(f"no program at {path}")

@@ -11,7 +11,13 @@ import pytest
 
 HERE = pathlib.Path(__file__).resolve().parent
 TOP = HERE.parents[2]
-CRATES = {"sig_types": "arrayvec", "io_edge": "sig_types", "laws": "sig_types", "station": "io_edge", "arterial": "io_edge station"}
+CRATES = {
+    "sig_types": "arrayvec",
+    "io_edge": "sig_types",
+    "laws": "sig_types",
+    "station": "io_edge",
+    "arterial": "io_edge station",
+}
 """Crates and what they stand on; the program does not stand on the laws."""
 
 PROVED = ["sig_types", "io_edge", "station", "arterial"]
@@ -46,7 +52,8 @@ class Tried:
         self.as_whom = {}
 
     def started(self, *words, path=str(HERE), **names):
-        """Starts the launcher with these words, in a group of its own as a terminal has one, with this folder before the system's."""
+        """Starts the launcher with these words, in a group of its own as a terminal has one, with this folder before
+        the system's."""
         names = {"PATH": f"{path}:/usr/bin:/bin", "TRIED": str(self.told), "PAUSE": "0", "FAILS": "", **names}
         pipe = subprocess.PIPE
         return subprocess.Popen(

@@ -31,7 +31,12 @@ def test_all_stands_where_a_unix_user_looks_for_it(whole, tmp_path):
     to = tmp_path / "an empty prefix"
     assert done(whole.top / "tools/install", "--prefix", to) == (0, f"install: arterial is at {to}/bin/arterial\n", "")
     assert gzip.decompress((to / "share/man/man1/arterial.1.gz").read_bytes()) == (TOP / "docs/arterial.1").read_bytes()
-    for name in ("snmp/mibs/ARTERIAL-PROFILE-MIB", "arterial/scenario.schema.json", "doc/arterial/examples/one-cabinet.json", "doc/arterial/README.md"):
+    for name in (
+        "snmp/mibs/ARTERIAL-PROFILE-MIB",
+        "arterial/scenario.schema.json",
+        "doc/arterial/examples/one-cabinet.json",
+        "doc/arterial/README.md",
+    ):
         assert (to / "share" / name).is_file()
     assert not list(to.rglob("__pycache__")) and not list(to.rglob("tests"))
 
@@ -49,7 +54,11 @@ def test_the_installed_program_takes_files_and_tools_and_needs_no_kit(whole, tmp
         assert done(to / f"bin/arterial-{command}", "--help", env=names)[1].startswith(f"usage: {command} ")
     status, written, said = done(program, "--help", env=names)
     assert (status, said) == (0, "") and "  arterial look " in written and "arterial prove" not in written
-    assert done(program, "prove", env=names) == (125, "", "arterial: the program is installed here, and proved in a checkout\n")
+    assert done(program, "prove", env=names) == (
+        125,
+        "",
+        "arterial: the program is installed here, and proved in a checkout\n",
+    )
 
 
 def test_what_was_installed_is_removed_and_nothing_else(whole, tmp_path):
@@ -67,12 +76,16 @@ def test_nothing_is_installed_that_was_not_proved(tried, proved, tmp_path):
     file = proved.top / "crates/io_edge/src/lib.rt"
     file.write_text("// another\n")
     for word in ("install", "package"):
-        status, _, said = done(proved.top / "tools" / word, *([tmp_path] if word == "package" else ["--prefix", tmp_path / "to"]))
+        status, _, said = done(
+            proved.top / "tools" / word, *([tmp_path] if word == "package" else ["--prefix", tmp_path / "to"])
+        )
         assert status == 125 and said.count("\n") == 1 and "./arterial prove" in said
     assert not (tmp_path / "to").exists()
 
 
-@pytest.mark.parametrize(("words", "status"), [(["--prefix"], 2), (["--fast"], 2), (["--help"], 0), (["--prefix", "/proc/none"], 1)])
+@pytest.mark.parametrize(
+    ("words", "status"), [(["--prefix"], 2), (["--fast"], 2), (["--help"], 0), (["--prefix", "/proc/none"], 1)]
+)
 def test_bad_words_get_one_line(whole, words, status):
     answered, _, said = done(whole.top / "tools/install", *words)
     assert answered == status and said.count("\n") == (status != 0)
@@ -90,7 +103,12 @@ def test_a_package_names_its_commit_and_what_it_needs_and_is_the_same_each_time(
     assert [it[0] for it in made] == [0, 0], made
     first, second = (it[1].strip() for it in made)
     told = done("dpkg-deb", "--field", first)[1]
-    assert "Package: arterial\n" in told and f"Made from commit {commit}.\n" in told and "Depends: libc6 " in told and "python3" in told
+    assert (
+        "Package: arterial\n" in told
+        and f"Made from commit {commit}.\n" in told
+        and "Depends: libc6 " in told
+        and "python3" in told
+    )
     assert "root/root" in done("dpkg-deb", "--contents", first)[1]
     with open(first, "rb") as one, open(second, "rb") as two:
         assert one.read() == two.read()

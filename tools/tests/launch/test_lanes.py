@@ -41,9 +41,12 @@ def test_a_crate_gets_the_processors_that_no_other_needs(processors, running, wa
     assert lanes.jobs_for(machine, [Check(it, GIB) for it in running], waiting, GIB) == jobs
 
 
-@pytest.mark.parametrize(("room", "running", "jobs"), [(1, 0, 1), (2.3, 0, 3), (8, 0, 4), (8, 7.5, 0), (8, 7, 1), (8, 6.3, 2)])
+@pytest.mark.parametrize(
+    ("room", "running", "jobs"), [(1, 0, 1), (2.3, 0, 3), (8, 0, 4), (8, 7.5, 0), (8, 7, 1), (8, 6.3, 2)]
+)
 def test_a_crate_waits_for_memory_or_does_with_fewer_jobs(room, running, jobs):
-    """A job more takes six tenths of the first: 1 GB with one job are 2.8 with four. What runs alone runs however little there is."""
+    """A job more takes six tenths of the first: 1 GB with one job are 2.8 with four. What runs alone runs however
+    little there is."""
     machine = lanes.Machine(4, room * GIB)
     checks = [Check(0, running * GIB)] if running else []
     assert lanes.jobs_for(machine, checks, 1, GIB) == jobs

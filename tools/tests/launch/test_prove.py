@@ -96,7 +96,9 @@ def test_of_two_calls_one_proves_and_the_other_waits(tried):
     running = tried.started("prove", PAUSE="0.3")
     wait_for(lambda: tried.calls()[0])
     status, written, said = tried.ran("prove")
-    assert (status, written) == (0, "") and said.startswith("arterial: another call proves the program: waiting for it\n")
+    assert (status, written) == (0, "") and said.startswith(
+        "arterial: another call proves the program: waiting for it\n"
+    )
     assert ended(running)[0] == 0
     assert sorted(tried.calls()[1]) == sorted(PROVED)
     assert len([call for call in tried.calls()[0] if call.startswith("run")]) == 1
@@ -114,7 +116,9 @@ def test_a_disk_that_is_too_small_is_told_before_it_begins(monkeypatch, capsys):
     monkeypatch.setattr(kit, "command", lambda: "/usr/bin/true")
     monkeypatch.setattr(prove, "is_proved", lambda top: False)
     monkeypatch.setattr(prove, "size_of", lambda folder: 0)
-    monkeypatch.setattr(prove.shutil, "disk_usage", lambda path: shutil._ntuple_diskusage(10**11, 9 * 10**10, 10**10))
+    monkeypatch.setattr(
+        prove.shutil, "disk_usage", lambda path: shutil._ntuple_diskusage(10**11, 9 * 10**10, 10**10)
+    )
     assert prove.main([]) == 125
     said = capsys.readouterr().err
     assert said.count("\n") == 1 and "10 GB of the disk are free" in said and "the proofs need 15" in said

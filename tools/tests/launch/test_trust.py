@@ -48,7 +48,16 @@ def test_prove_builds_it_again(proved):
     assert proved.ran("run", "--workers", "2") == (*BUILT, "")
 
 
-@pytest.mark.parametrize("name", ["crates/io_edge/src/lib.rt", "crates.txt", "HANDLES", "crates/arterial/src/main.rt", "crates/arterial/out/arterial"])
+@pytest.mark.parametrize(
+    "name",
+    [
+        "crates/io_edge/src/lib.rt",
+        "crates.txt",
+        "HANDLES",
+        "crates/arterial/src/main.rt",
+        "crates/arterial/out/arterial",
+    ],
+)
 def test_a_file_that_is_touched_is_no_change(proved, name):
     told = proved.calls()
     later(proved.top / name)
@@ -88,7 +97,9 @@ def test_with_other_sources_the_program_without_proofs_answers(proved, name):
         it.write("# more\n")
     status, written, said = proved.ran("run", "--workers", "2")
     assert (status, written) == BUILT
-    assert said.startswith(f"arterial: {name} has changed since the program was proved: the program without its proofs answers")
+    assert said.startswith(
+        f"arterial: {name} has changed since the program was proved: the program without its proofs answers"
+    )
 
 
 def test_a_source_that_is_gone_is_a_change(proved):
@@ -107,7 +118,9 @@ def test_a_folder_that_takes_the_place_of_another_is_a_change(proved):
     assert "crates/io_edge/src/lib.rt has changed" in proved.ran("run")[2]
 
 
-@pytest.mark.parametrize("name", ["crates/laws/src/lib.rt", "crates/io_edge/must-fail/short.edit", "crates/io_edge/out/kept", "README.md"])
+@pytest.mark.parametrize(
+    "name", ["crates/laws/src/lib.rt", "crates/io_edge/must-fail/short.edit", "crates/io_edge/out/kept", "README.md"]
+)
 def test_what_the_program_is_not_made_of_may_change(proved, name):
     (proved.top / name).parent.mkdir(exist_ok=True)
     (proved.top / name).write_text("another")
@@ -128,7 +141,9 @@ def test_with_another_kit_the_program_without_proofs_answers(tried, tmp_path):
     assert tried.ran("prove", path=path)[0] == 0
     assert tried.ran("run", "--workers", "2", path=path) == (*BUILT, "")
     kit(tmp_path / "a kit", "archive 1\ncommit 3\n")
-    assert tried.ran("run", "--workers", "2", path=path)[2].startswith("arterial: the kit is not the one of the proof: ")
+    assert tried.ran("run", "--workers", "2", path=path)[2].startswith(
+        "arterial: the kit is not the one of the proof: "
+    )
     shutil.rmtree(tmp_path / "a kit")
     assert tried.ran("run", "--workers", "2", path=path) == (*BUILT, "")
 

@@ -1,4 +1,5 @@
-"""While there is no proved program: the answer of the program without proofs, and what is said where that can't be had."""
+"""While there is no proved program: the answer of the program without proofs, and what is said where that can't be
+had."""
 
 import os
 import pathlib
@@ -56,14 +57,23 @@ def test_a_longer_input_than_the_kit_takes_is_not_cut(tried, tmp_path):
 
 def test_help_is_there_at_once(tried):
     status, written, said = tried.ran("--help")
-    assert status == 0 and written.startswith("the help\n") and "  arterial prove " in written and "  arterial look " in written
+    assert (
+        status == 0
+        and written.startswith("the help\n")
+        and "  arterial prove " in written
+        and "  arterial look " in written
+    )
     assert said.count("\n") == 1 and "no proved program" in said
     assert tried.ran("--version")[:2] == (0, "arterial 0\n")
     assert tried.calls()[0] == []
 
 
 def test_words_that_are_no_command_are_told_at_once(tried):
-    assert tried.ran("rnu") == (1, "", "usage: arterial run | check\narterial: `arterial --help` tells of all commands; was `arterial run` meant?\n")
+    assert tried.ran("rnu") == (
+        1,
+        "",
+        "usage: arterial run | check\narterial: `arterial --help` tells of all commands; was `arterial run` meant?\n",
+    )
     assert tried.ran() == (1, "", "usage: arterial run | check\narterial: `arterial --help` tells of all commands\n")
     assert tried.calls()[0] == []
 
@@ -71,7 +81,11 @@ def test_words_that_are_no_command_are_told_at_once(tried):
 def test_where_the_kit_is_missing_one_line_says_so(tried):
     status, written, said = tried.ran("run", path="/nowhere")
     assert (status, written) == (125, "")
-    assert said.count("\n") == 1 and "command rt is not on the path (/nowhere:/usr/bin:/bin)" in said and "README.md" in said
+    assert (
+        said.count("\n") == 1
+        and "command rt is not on the path (/nowhere:/usr/bin:/bin)" in said
+        and "README.md" in said
+    )
 
 
 def test_a_program_that_was_not_proved_here_is_not_run(tried):
@@ -164,7 +178,9 @@ def test_on_a_terminal_a_bar_shows_that_it_goes_on(tried):
     pytest.importorskip("tqdm")
     above, below = pty.openpty()
     names = {"PATH": f"{HERE}:/usr/bin:/bin", "TRIED": str(tried.told), "PAUSE": "2.5", "FAILS": ""}
-    running = subprocess.Popen([tried.top / "arterial", "run"], stdin=subprocess.DEVNULL, stdout=subprocess.PIPE, stderr=below, env=names)
+    running = subprocess.Popen(
+        [tried.top / "arterial", "run"], stdin=subprocess.DEVNULL, stdout=subprocess.PIPE, stderr=below, env=names
+    )
     os.close(below)
     shown = b""
     while True:

@@ -1,16 +1,19 @@
-"""Words of the launcher, with the program that was proved: files, help, wrong words, readers that go, byte order marks."""
+"""Words of the launcher, with the program that was proved: files, help, wrong words, readers that go, byte order
+marks."""
 
 import pathlib
 import subprocess
 
 import pytest
 
-from .conftest import BUILT, SECONDS, ended, wait_for
+from .conftest import BUILT, SECONDS, TOP, ended, wait_for
 
 MARK = "\ufeff"
 
 
-@pytest.mark.parametrize("words", [("run", "FILE"), ("run", "--workers", "2", "FILE"), ("run", "FILE", "--workers", "2")])
+@pytest.mark.parametrize(
+    "words", [("run", "FILE"), ("run", "--workers", "2", "FILE"), ("run", "FILE", "--workers", "2")]
+)
 def test_a_files_name_stands_for_standard_input(proved, tmp_path, words):
     file = tmp_path / "a scenario.json"
     file.write_text("in the file\n")
@@ -37,7 +40,9 @@ def test_a_dash_is_standard_input(proved):
     assert proved.ran("run", "-") == (7, "words run\none\ntwo\n", "")
 
 
-@pytest.mark.parametrize(("name", "why"), [("missing", "no such file"), (".", "a folder, and no file"), ("", "a folder, and no file")])
+@pytest.mark.parametrize(
+    ("name", "why"), [("missing", "no such file"), (".", "a folder, and no file"), ("", "a folder, and no file")]
+)
 def test_a_file_that_can_not_be_read_is_told_in_one_line(proved, tmp_path, name, why):
     given = str(tmp_path / name) if name else ""
     status, written, said = proved.ran("run", given)
@@ -57,7 +62,9 @@ def test_a_wrong_word_gets_the_usage_line_and_the_command_that_was_meant(proved)
     )  # fmt: skip
     assert proved.ran("zzz", **usage)[2] == "usage: arterial run\narterial: `arterial --help` tells of all commands\n"
     assert proved.ran("prov", **usage)[2].endswith("was `arterial prove` meant?\n")
-    assert proved.ran("run", "--worker", "2", **usage)[2].endswith("arterial: `arterial run --help` tells which words run takes\n")
+    assert proved.ran("run", "--worker", "2", **usage)[2].endswith(
+        "arterial: `arterial run --help` tells which words run takes\n"
+    )
 
 
 def test_words_of_the_insides_are_no_commands(proved):
@@ -84,6 +91,42 @@ def test_the_tools_are_words_of_the_launcher(proved, command):
     assert (status, said) == (0, "") and written.startswith(f"usage: {command} ")
 
 
+def test_in_a_virtual_environment_its_python_runs_the_tools(proved, tmp_path):
+    python = tmp_path / "bin/python3"
+    python.parent.mkdir()
+    python.write_text('#!/bin/sh\necho "in the environment" >&2\nexec /usr/bin/python3 "$@"\n')
+    python.chmod(0o755)
+    status, written, said = proved.ran("look", "--help", VIRTUAL_ENV=str(tmp_path))
+    assert (status, said) == (0, "in the environment\n") and written.startswith("usage: look ")
+    assert proved.ran("look", "--help", VIRTUAL_ENV="/nowhere")[:2] == (0, written)
+
+
+def test_the_tools_can_be_called_as_a_package_of_python(proved):
+    def called(*words):
+        ran = subprocess.run(
+            ["/usr/bin/python3", "-B", "-m", "streettools", *words],
+            cwd=proved.top / "tools",
+            capture_output=True,
+            text=True,
+        )
+        return ran.returncode, ran.stdout, ran.stderr
+
+    assert called("look", "--help")[1].startswith("usage: look ")
+    assert "cabinet" in called()[1] and "launch" not in called()[1]
+    assert called("lok") == (2, "", "streettools: no command lok: look?\n")
+
+
+def test_a_command_of_the_tools_is_a_line_and_a_module(proved):
+    """As a command that is to come: with its module it is a word of the launcher, in help and without."""
+    assert "  arterial sweep " not in proved.ran("--help")[1] or (TOP / "tools/streettools/sweep").is_dir()
+    folder = proved.top / "tools/streettools/sweep"
+    folder.mkdir(exist_ok=True)
+    (folder / "__init__.py").write_text("")
+    (folder / "command.py").write_text("def main(words):\n    print('swept', *words)\n    return 9\n")
+    assert "  arterial sweep " in proved.ran("--help")[1]
+    assert proved.ran("sweep", "--all", "x") == (9, "swept --all x\n", "")
+
+
 def test_a_reader_that_goes_leaves_no_word(proved):
     running = proved.started("run", SAYS="write fault", STATUS="4")
     assert ended(running) == (4, "", "")
@@ -92,7 +135,9 @@ def test_a_reader_that_goes_leaves_no_word(proved):
 def test_a_disk_that_is_full_is_told(proved):
     names = {"PATH": "/usr/bin:/bin", "SAYS": "write fault", "STATUS": "4"}
     with open("/dev/full", "wb") as full:
-        ran = subprocess.run([proved.top / "arterial", "run"], stdin=subprocess.DEVNULL, stdout=full, stderr=subprocess.PIPE, env=names)
+        ran = subprocess.run(
+            [proved.top / "arterial", "run"], stdin=subprocess.DEVNULL, stdout=full, stderr=subprocess.PIPE, env=names
+        )
     assert (ran.returncode, ran.stderr) == (4, b"write fault\n")
 
 
@@ -117,12 +162,21 @@ def test_a_link_to_the_launcher_is_the_launcher(proved):
     link.symlink_to(proved.top / "arterial")
     names = {"PATH": f"{proved.told}:/usr/bin:/bin"}
     for command in (link, "a-link"):
-        ran = subprocess.run([command, "run", "--workers", "2"], input="one\ntwo\n", capture_output=True, text=True, timeout=SECONDS, env=names)
+        ran = subprocess.run(
+            [command, "run", "--workers", "2"],
+            input="one\ntwo\n",
+            capture_output=True,
+            text=True,
+            timeout=SECONDS,
+            env=names,
+        )
         assert (ran.returncode, ran.stdout, ran.stderr) == (*BUILT, "")
 
 
 def test_the_launcher_can_be_called_from_its_own_folder(proved):
-    ran = subprocess.run(["sh", "arterial", "run", "--workers", "2"], input="one\ntwo\n", capture_output=True, text=True, cwd=proved.top)
+    ran = subprocess.run(
+        ["sh", "arterial", "run", "--workers", "2"], input="one\ntwo\n", capture_output=True, text=True, cwd=proved.top
+    )
     assert (ran.returncode, ran.stdout, ran.stderr) == (*BUILT, "")
 
 
