@@ -121,7 +121,12 @@ def street_of(source: Source):
 def by_table(words: dict[int, str]) -> Callable:
     """Returns what explains a line by a table of rules."""
 
-    def explained(source: Source, line: str, found: re.Match) -> list[str]:
+    def is_line(line: str) -> bool:
+    """Tells whether a line is one that the program writes."""
+    return any(re.fullmatch(pattern, line) for pattern, _ in LINES)
+
+
+def explained(source: Source, line: str, found: re.Match) -> list[str]:
         rule = int(found["rule"])
         if rule not in words:
             raise NotKnown(f"there is no rule {rule}")
@@ -139,6 +144,11 @@ LINES = (
     (r"read fault|write fault|out of memory", lambda _, line, __: [OTHERS[line]]),
     (r"usage: .*", lambda *_: ["the words behind `arterial` are none of its commands: `./arterial --help` has them"]),
 )
+
+
+def is_line(line: str) -> bool:
+    """Tells whether a line is one that the program writes."""
+    return any(re.fullmatch(pattern, line) for pattern, _ in LINES)
 
 
 def explained(source: Source, line: str) -> list[str]:

@@ -89,6 +89,15 @@ def test_names_and_speeds_of_synchro_come_in(eight):
     assert (known.phases[2].speed, known.phases[4].speed, known.phases[1].speed) == (45, 30, None)
 
 
+def test_detectors_of_synchro_come_in(eight):
+    """One for each lane group of the first node, in the order of the lanes: left turns and through lanes by approach."""
+    street, _ = eight
+    assert [it["phase"] for it in street.bank] == [3, 8, 7, 4, 5, 2, 1, 6]
+    assert [it["delay"] for it in street.bank] == [0, 5, 0, 0, 0, 0, 0, 0]
+    assert [it["extend"] for it in street.bank] == [0, 0, 0, 0, 0, 2, 0, 2]
+    assert street.names.intersections[0].detectors[2] == "NBT"
+
+
 def test_what_is_not_taken_from_synchro_is_named(eight):
     """Records without a place, and times that aren't whole."""
     notes = "\n".join(eight[1])
