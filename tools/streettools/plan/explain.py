@@ -121,12 +121,7 @@ def street_of(source: Source):
 def by_table(words: dict[int, str]) -> Callable:
     """Returns what explains a line by a table of rules."""
 
-    def is_line(line: str) -> bool:
-    """Tells whether a line is one that the program writes."""
-    return any(re.fullmatch(pattern, line) for pattern, _ in LINES)
-
-
-def explained(source: Source, line: str, found: re.Match) -> list[str]:
+    def explained(source: Source, line: str, found: re.Match) -> list[str]:
         rule = int(found["rule"])
         if rule not in words:
             raise NotKnown(f"there is no rule {rule}")
