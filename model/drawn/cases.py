@@ -20,6 +20,10 @@ from model.scenario_read import read_scenario  # noqa: E402
 from model.shapes import Refused  # noqa: E402
 
 
+TRIES = 4
+"""How often a scenario is drawn anew that is refused, where a trace is asked for."""
+
+
 class CaseKind(Enum):
     """The kinds of cases."""
 
@@ -57,12 +61,14 @@ def damaged_case(draw: Random) -> Case:
 
 
 def drawn_trace(draw: Random) -> bytes:
-    """Draws a trace in some order; the empty text where the scenario is refused."""
-    text = json.dumps(scenario(draw, most_ticks=400)).encode()
-    try:
-        return trace_in_order(draw, read_scenario(text))
-    except Refused:
-        return b""
+    """Draws a trace in some order; the empty text where each scenario of a few is refused."""
+    for _ in range(TRIES):
+        text = json.dumps(scenario(draw, most_ticks=400)).encode()
+        try:
+            return trace_in_order(draw, read_scenario(text))
+        except Refused:
+            continue
+    return b""
 
 
 def check_case(draw: Random) -> Case:

@@ -109,9 +109,10 @@ def master(draw: Random, street: Street, clock: int) -> dict[str, Any]:
 
 
 def length(draw: Random) -> tuple[int, int]:
-    """Draws rounds and ticks: mostly short runs, now and then over several cycles."""
+    """Draws rounds and ticks: mostly short runs, now and then over several cycles, seldom so long that a clock
+    drifts."""
     ticks = draw.choice([1, 2, 5, 10, 10, 20, 60, 100])
-    whole = draw.choice([70, 120, 200, 200, 400, 400, 900, 900, 2500])
+    whole = 12_600 if draw.random() < 0.008 else draw.choice([70, 120, 200, 200, 400, 400, 900, 900, 2500])
     return max(1, whole // ticks), ticks
 
 

@@ -1,4 +1,3 @@
-pub mod Tallies
 pub mod Called
 pub mod Dwelt
 pub mod First

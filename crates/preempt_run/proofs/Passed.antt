@@ -13,8 +13,8 @@ use Rattle.sig_tables.specs.Past.{Past, Moment}
 use Rattle.sig_tables.specs.Decide.{with_moment}
 use Rattle.sig_tables.proofs.Below.{phase-is}
 use Rattle.preempt_run.specs.declared.Preempts.{Preempts}
-use Rattle.preempt_run.specs.declared.tally.Tally.{Tally}
-use Rattle.preempt_run.specs.Tally.{TallyStands}
+use Rattle.phase_clock.specs.declared.tally.Tally.{Tally}
+use Rattle.phase_clock.specs.Tally.{TallyStands}
 use Rattle.preempt_stages.specs.Dwelling.{is_off, dwells_green, dwells_off}
 use Rattle.preempt_run.specs.Stands.{PreemptsStand, StaysBeside}
 use Rattle.preempt_run.specs.Passed.{IsClear, passed}

@@ -1,3 +1,2 @@
-pub mod Tally
 pub mod Stands
 pub mod Passed

@@ -9,7 +9,7 @@ use Rattle.sig_tables.specs.Looking.{in_a_row, last_frame, last_moment}
 use Rattle.sig_tables.specs.Preempts.{preempt_on}
 use Rattle.sig_tables.specs.Seen.{frame_seen}
 use Rattle.preempt_run.specs.declared.Preempts.{Preempts}
-use Rattle.preempt_run.specs.Tally.{TallyStands}
+use Rattle.phase_clock.specs.Tally.{TallyStands}
 use Rattle.preempt_stages.specs.Inputs.{preempts_seen}
 use Rattle.preempt_stages.specs.Dwelling.{dwells_green, dwells_off, is_dwell, NamesPhases, EachFits}
 

@@ -5,6 +5,7 @@
 
 ghost use Rattle.std.specs.Prelude.{◌≡◌, ◌<◌, ◌≤◌, ◌+◌, ◌*◌, ◌&&◌, ◌||◌, ◌==◌, ◌∷◌, [], ℕ, true, false, IsTrue};
 
+use phase_clock::Tally;
 use preempt_stages::{
     after_entry, after_exit, began, breaks_in, calls, due_green, dwelling_green, dwelling_off,
     exit_from, holds_dwell, is_dwell, phases_in, row_of, same_mode, same_stage, shows_sixteen,
@@ -14,9 +15,6 @@ use sig_tables::{PhaseList, Tables};
 use sig_types::{Frame, Mode, PhaseSet};
 
 mod passing;
-mod tally;
-
-use tally::Tally;
 
 /// What is kept of the preempt inputs and of the frames so far. Preempts are 1 to 8; those whose input is on stand in a
 /// set as phases do. All times are in ticks of a tenth of a second.

@@ -1,4 +1,4 @@
--- What a street does under a plan that breaks one rule: the standard pattern, picked up right after start-up, over one cycle.
+-- What the street sees under a plan that breaks one rule: the standard pattern, picked up right after start-up, over one cycle.
 use Rattle.std.specs.Prelude.{ℕ, true, false, List, [], ◌∷◌, set}
 use Rattle.sig_types.specs.declared.frame.Colour.{Colour}
 use Rattle.sig_types.specs.declared.frame.Field.TheVariants.{Veh}

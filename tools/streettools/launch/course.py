@@ -18,6 +18,7 @@ class Course:
     def __init__(self, names: list[str], top: pathlib.Path) -> None:
         self.shares = shares.of(names, top)
         self.left = dict(self.shares)
+        self.here = 0.0
         self.begun = time.monotonic()
         self.over = threading.Event()
 
@@ -41,21 +42,30 @@ class Course:
 
     def minutes(self) -> str:
         """Returns the minutes that are gone, and those left, in words."""
-        gone, part = (time.monotonic() - self.begun) / 60, self.part()
+        gone = (time.monotonic() - self.begun) / 60
         told = f"{gone:.0f} min gone"
-        return f"{told}, some {gone * (1 - part) / part:.0f} left" if part > 0.02 else told
+        enough = self.here > 0.02 * sum(self.shares.values())
+        return f"{told}, some {gone * sum(self.left.values()) / self.here:.0f} left" if enough else told
 
     def keep_time(self) -> None:
         """Keeps the minutes on the bar right."""
         while not self.over.wait(1):
             self.bar.set_postfix_str(self.minutes())
 
+    def taken(self, names: list[str]) -> None:
+        """Takes crates as done that an earlier call has proved: they say nothing of this call's pace."""
+        for name in names:
+            del self.left[name]
+        if names:
+            self.tell(f"{len(names)} of {len(self.shares)} were proved before")
+
     def done(self, name: str) -> None:
         """Takes a crate as done."""
-        if self.left.pop(name, None) is None:
-            return
-        count = len(self.shares)
-        told = f"{count - len(self.left):2} of {count}: {name}"
+        self.here += self.left.pop(name)
+        self.tell(f"{len(self.shares) - len(self.left):2} of {len(self.shares)}: {name}")
+
+    def tell(self, told: str) -> None:
+        """Tells what was done."""
         if self.bar is None:
             say("arterial", f"{told} ({self.minutes()})")
         else:

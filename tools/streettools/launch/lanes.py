@@ -14,11 +14,11 @@ import shutil
 import signal
 import subprocess
 import time
-from collections.abc import Callable
 from dataclasses import dataclass
 from typing import BinaryIO
 
 from . import crates, kit, shares
+from .course import Course
 
 RLIB, KEPT = pathlib.Path("out/rlib"), pathlib.Path("out/incremental")
 """What the check of a library leaves: what others stand on, and what speeds the next check."""
@@ -119,8 +119,8 @@ def linked(source: pathlib.Path, to: pathlib.Path) -> None:
 class Lanes:
     """Crates that are proved side by side."""
 
-    def __init__(self, top: pathlib.Path, rt: str, log: BinaryIO, done: Callable[[str], None], keep: bool, machine: Machine | None = None) -> None:
-        self.top, self.rt, self.log, self.done, self.keep = top, rt, log, done, keep
+    def __init__(self, top: pathlib.Path, rt: str, log: BinaryIO, course: Course, keep: bool, machine: Machine | None = None) -> None:
+        self.top, self.rt, self.log, self.course, self.keep = top, rt, log, course, keep
         self.machine = machine or Machine.here()
         known = crates.uses(top)
         self.below = {name: crates.parts_of(name, known)[:-1] for name in crates.parts(top)[:-1]}
@@ -157,10 +157,9 @@ class Lanes:
 
     def take_proved(self) -> None:
         """Takes the crates as done that an earlier call has proved from the same sources."""
-        for name in [it for it in self.waiting if self.is_proved(it)]:
-            self.waiting.remove(name)
-            self.ended.add(name)
-            self.done(name)
+        self.ended = {it for it in self.waiting if self.is_proved(it)}
+        self.waiting = [it for it in self.waiting if it not in self.ended]
+        self.course.taken(sorted(self.ended))
 
     def is_proved(self, name: str) -> bool:
         """Tells whether the library is there that a call has left for the same sources. The kit tests this again as it builds the program."""
@@ -205,7 +204,7 @@ class Lanes:
         failed = None
         for it in [it for it in self.running if it.tool.poll() is not None]:
             self.running.remove(it)
-            self.log.write(b"== %s, jobs: %d\n" % (it.crate.encode(), it.jobs) + (it.folder / "said").read_bytes())
+            self.log.write(f"== {it.crate}, jobs: {it.jobs}, status: {it.tool.returncode}\n".encode() + (it.folder / "said").read_bytes())
             if it.tool.returncode:
                 failed = it.crate
                 self.bring_back(it, KEPT)
@@ -215,7 +214,7 @@ class Lanes:
                 if self.keep:
                     self.bring_back(it, KEPT)
                 self.ended.add(it.crate)
-                self.done(it.crate)
+                self.course.done(it.crate)
             shutil.rmtree(it.folder, ignore_errors=True)
         return failed
 
@@ -229,8 +228,6 @@ class Lanes:
                 os.rename(made, to)
 
 
-def prove_all(top: pathlib.Path, log: BinaryIO, done: Callable[[str], None], keep: bool) -> None:
+def prove_all(rt: str, top: pathlib.Path, log: BinaryIO, course: Course, keep: bool) -> None:
     """Proves all libraries that the program stands on; NotProved where one fails."""
-    rt = kit.command()
-    assert rt, "the caller has looked for it"
-    Lanes(top, rt, log, done, keep).run()
+    Lanes(top, rt, log, course, keep).run()

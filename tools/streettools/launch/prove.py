@@ -115,12 +115,12 @@ def prove(rt: str, top: pathlib.Path, keep: bool) -> None:
     before = crates.sums(top)
     with open(log, "wb", buffering=0) as out, Course(crates.parts(top), top) as course:
         try:
-            lanes.prove_all(top, out, course.done, keep)
-            well = build(rt, top, out)
-        except lanes.NotProved:
-            well = False
-        if not well:
-            raise Failed(f"the program could not be built:\n{why_of(log)}\narterial: all that was said is in {log}")
+            lanes.prove_all(rt, top, out, course, keep)
+            failed = None if build(rt, top, out) else crates.PROGRAM
+        except lanes.NotProved as name:
+            failed = name
+        if failed:
+            raise Failed(f"the program could not be built, since {failed} failed:\n{why_of(log)}\narterial: all that was said is in {log}")
         course.done(crates.PROGRAM)
     try:
         record.write(top, before)

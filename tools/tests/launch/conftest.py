@@ -43,6 +43,7 @@ class Tried:
             'pub const VERSION: &str = "arterial 0\\n";\n'
         )
         self.program = self.top / "crates/arterial/out/arterial"
+        self.as_whom = {}
 
     def started(self, *words, path=str(HERE), **names):
         """Starts the launcher with these words, in a group of its own as a terminal has one, with this folder before the system's."""
@@ -50,7 +51,7 @@ class Tried:
         pipe = subprocess.PIPE
         return subprocess.Popen(
             [self.top / "arterial", *words], stdin=pipe, stdout=pipe, stderr=pipe, env=names, cwd="/", text=True,
-            start_new_session=True, preexec_fn=heeding,
+            start_new_session=True, preexec_fn=heeding, **self.as_whom,
         )  # fmt: skip
 
     def ran(self, *words, given="one\ntwo\n", **names):

@@ -3,11 +3,13 @@
 import os
 import pathlib
 import pty
+import shutil
 import subprocess
+import tempfile
 
 import pytest
 
-from .conftest import BUILT, HERE, SECONDS, ended, interrupt, wait_for
+from .conftest import BUILT, HERE, SECONDS, Tried, ended, interrupt, wait_for
 
 FIRST = "arterial: there is no proved program here yet: the program without its proofs answers, in about a minute (./arterial prove or ./test proves it here)\n"
 
@@ -118,21 +120,44 @@ def test_a_reader_that_has_gone_is_no_fault(tried):
     assert (running.returncode, running.stderr.read()) == (4, FIRST)
 
 
-def test_a_checkout_that_can_not_be_written_and_no_home_are_no_hindrance(tmp_path_factory):
-    from .conftest import Tried
-
-    tried = Tried(tmp_path_factory.mktemp("read only"))
-    folders = [tried.top, *(it for it in tried.top.rglob("*") if it.is_dir())]
-    for it in folders:
-        it.chmod(0o555)
-    try:
-        assert tried.ran("run", "--workers", "2") == (*BUILT, FIRST)
-        if os.geteuid():
-            status, _, said = tried.ran("prove")
-            assert status == 125 and "can't be written" in said
-    finally:
-        for it in folders:
+@pytest.fixture
+def guarded():
+    """A copy that its user may read, and not write; the user has no home."""
+    with tempfile.TemporaryDirectory(dir="/tmp") as folder:
+        os.chmod(folder, 0o755)
+        made = Tried(pathlib.Path(folder))
+        made.told.chmod(0o777)
+        for name in ("rt", "program"):
+            shutil.copy(HERE / name, folder)
+        made.path = folder
+        if os.geteuid() == 0:
+            made.as_whom = {"user": 65534, "group": 65534, "extra_groups": []}
+        else:
+            for it in [made.top, *made.top.rglob("*")]:
+                it.chmod(it.stat().st_mode & 0o555)
+        yield made
+        for it in [made.top, *(it for it in made.top.rglob("*") if it.is_dir())]:
             it.chmod(0o755)
+
+
+def test_a_checkout_that_can_not_be_written_and_no_home_are_no_hindrance_to_an_answer(guarded):
+    assert guarded.ran("run", "--workers", "2", path=guarded.path) == (*BUILT, FIRST)
+
+
+def test_a_checkout_that_can_not_be_written_is_told_before_a_proof_begins(guarded):
+    status, written, said = guarded.ran("prove", path=guarded.path)
+    assert (status, written) == (125, "") and said.count("\n") == 1 and "can't be written" in said
+    assert guarded.calls()[0] == []
+
+
+@pytest.mark.skipif(os.geteuid() != 0, reason="takes a second user")
+def test_who_may_not_write_the_checkout_runs_what_another_has_proved_there(guarded):
+    whom, guarded.as_whom = guarded.as_whom, {}
+    assert guarded.ran("prove", path=guarded.path)[0] == 0
+    guarded.as_whom = whom
+    assert guarded.ran("run", "--workers", "2") == (*BUILT, "")
+    (guarded.top / "crates.txt").touch()
+    assert guarded.ran("run", "--workers", "2") == (*BUILT, "")
 
 
 def test_on_a_terminal_a_bar_shows_that_it_goes_on(tried):

@@ -2,7 +2,7 @@ use Rattle.std.proofs.Common.{refl}
 use Rattle.sig_tables.specs.Standard.{std8, standard}
 use Rattle.rule_facts.specs.Needed.{slow_clearance}
 use Rattle.rule_facts.proofs.Late.{late-fails, slow-clearance-held}
-use Rattle.rule_facts.proofs.broken_plans.needs_rule_18_on_the_ring_layout.Goals as goal
+use Rattle.rule_facts.proofs.broken_plans.local_zero_needs_least_service.Goals as goal
 
 pub returns-clause-late : goal.returns-clause-late
 unfolding slow_clearance std8 standard

@@ -1,8 +1,8 @@
 use Rattle.std.proofs.Common.{refl}
 use Rattle.sig_tables.specs.Standard.{std8, standard}
-use Rattle.rule_facts.specs.RingLayout.{long_revert}
+use Rattle.rule_facts.specs.BrokenPlans.{long_revert}
 use Rattle.rule_facts.proofs.Late.{late-fails, long-revert-held}
-use Rattle.rule_facts.proofs.broken_plans.needs_rule_11_on_the_ring_layout.Goals as goal
+use Rattle.rule_facts.proofs.broken_plans.local_zero_needs_red_revert.Goals as goal
 
 pub returns-clause-broken : goal.returns-clause-broken
 unfolding long_revert std8 standard

@@ -2,7 +2,7 @@ use Rattle.std.proofs.Common.{refl}
 use Rattle.sig_tables.specs.Standard.{std8, standard}
 use Rattle.rule_facts.specs.Window.{five_ahead, short_window}
 use Rattle.rule_facts.proofs.Missed.{late-misses}
-use Rattle.rule_facts.proofs.broken_plans.needs_rule_19_on_the_ring_layout.Goals as goal
+use Rattle.rule_facts.proofs.broken_plans.offset_needs_correction_window.Goals as goal
 
 pub returns-clause-broken : goal.returns-clause-broken
 unfolding short_window std8 standard

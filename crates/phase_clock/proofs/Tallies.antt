@@ -4,8 +4,8 @@ use Rattle.std.proofs.lemmas.Bool.{false≢true}
 use Rattle.sig_types.specs.PhaseSet.{has}
 use Rattle.sig_tables.specs.Past.{Moment}
 use Rattle.sig_tables.specs.Looking.{in_a_row}
-use Rattle.preempt_run.specs.declared.tally.Tally.{Tally}
-use Rattle.preempt_run.specs.Tally.{HasNone, TallyStands, count_of}
+use Rattle.phase_clock.specs.declared.tally.Tally.{Tally}
+use Rattle.phase_clock.specs.Tally.{HasNone, TallyStands, count_of}
 
 pub counted : (tally : Tally) (last p : ℕ) (test : Moment → Bool) (past : List Moment) → TallyStands tally last p test past
     → count_of tally last p ≡ in_a_row test past
