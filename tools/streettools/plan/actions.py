@@ -154,14 +154,17 @@ def draw(words: argparse.Namespace) -> int:
 
 
 def do_explain(words: argparse.Namespace) -> int:
-    """Tells what a line of the program says; or, of standard input, what each of its lines says, past those that are
-    none of the program's."""
+    """Tells what a line of the program says; or, of standard input, what each of its lines says. Lines that are none of
+    the program's go on to standard error as they are."""
     source = sources.load(words.file, words.names)
     if words.line != "-":
         print("\n".join(explain.explained(source, words.line.strip())))
         return Status.DONE
     status = Status.DONE
     for line in filter(None, map(str.strip, sys.stdin)):
+        if not explain.is_line(line):
+            print(line, file=sys.stderr)
+            continue
         try:
             print("\n".join(explain.explained(source, line)))
         except explain.NotKnown as why:

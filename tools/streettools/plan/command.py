@@ -65,6 +65,10 @@ def add_conversions(parts) -> None:
     )
     add_file(part)
     add_output(part)
+
+
+def add_products(parts) -> None:
+    """Adds the parts that make a picture or downloads of plans."""
     part = add(
         parts,
         "picture",
@@ -176,6 +180,7 @@ def parser() -> argparse.ArgumentParser:
     )  # fmt: skip
     parts = whole.add_subparsers(dest="part", metavar="PART", required=True)
     add_conversions(parts)
+    add_products(parts)
     add_checks(parts)
     add_exchange(parts)
     return whole

@@ -141,6 +141,11 @@ LINES = (
 )
 
 
+def is_line(line: str) -> bool:
+    """Tells whether a line is one that the program writes."""
+    return any(re.fullmatch(pattern, line) for pattern, _ in LINES)
+
+
 def explained(source: Source, line: str) -> list[str]:
     """Returns what a line of the program says of a file."""
     for pattern, words in LINES:

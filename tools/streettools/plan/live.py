@@ -21,7 +21,8 @@ COLUMNS = [
 
 AT_ONCE = 24
 SECONDS, TRIES = 3.0, 3
-NO_SUCH_NAME = 2
+TOO_BIG, NO_SUCH_NAME = 1, 2
+"""Error statuses of RFC 1157."""
 
 
 class Agent:
@@ -62,23 +63,32 @@ def address(host: str, anywhere: bool) -> str:
 
 
 def walk(agent: Agent, advance: Callable[[int], object] = lambda count: None) -> dict[Name, int | bytes]:
-    """Returns the objects of the tables of plans that an agent has. `advance` is told how many columns are over."""
+    """Returns the objects of the tables of plans that an agent has. Where an answer would be too big for it, less is
+    asked at once. `advance` is told how many columns are over."""
     found: dict[Name, int | bytes] = {}
-    waiting, reached = list(COLUMNS), {}
+    waiting, reached, at_once = list(COLUMNS), {}, AT_ONCE
     while waiting:
-        batch = waiting[:AT_ONCE]
+        batch = waiting[:at_once]
         status, index, bindings = agent.next_of([reached.get(column, column) for column in batch])
-        if status:
-            over = [batch[index - 1]] if 1 <= index <= len(batch) else batch
-        else:
-            over = [
-                column for column, (name, _, __) in zip(batch, bindings, strict=True) if name[: len(column)] != column
-            ]
-            for column, (name, tag, content) in zip(batch, bindings, strict=True):
-                if column not in over:
-                    reached[column] = name
-                    if tag in (INTEGER, OCTETS):
-                        found[name] = content if tag == OCTETS else int.from_bytes(content, "big", signed=True)
+        if status == TOO_BIG and len(batch) > 1:
+            at_once = len(batch) // 2
+            continue
+        over = ended(agent, batch, status, index, bindings)
+        for column, (name, tag, content) in zip(batch, bindings):
+            if not status and column not in over:
+                reached[column] = name
+                if tag in (INTEGER, OCTETS):
+                    found[name] = content if tag == OCTETS else int.from_bytes(content, "big", signed=True)
         waiting = [column for column in waiting if column not in over]
         advance(len(over))
     return found
+
+
+def ended(agent: Agent, batch: list[Name], status: int, index: int, bindings: list) -> list[Name]:
+    """Returns the columns that are over: those behind which another begins, or the one behind which nothing comes."""
+    if status == NO_SUCH_NAME and 1 <= index <= len(batch):
+        return [batch[index - 1]]
+    if status or len(bindings) != len(batch):
+        words = f"it answers GetNext with status {status}, index {index}"
+        raise Unreadable([Fault(f"{agent.host}:{agent.port}", words)])
+    return [column for column, (name, _, __) in zip(batch, bindings) if name[: len(column)] != column]

@@ -56,50 +56,43 @@ def slots(tables: Tables, pattern: int) -> list[Slot]:
     return found
 
 
-def draw_slot(axes, tables: Tables, known: Intersection, slot: Slot, pattern: int, short: set[int]) -> None:
-    """Draws a slot: green, yellow and red clearance, with a line as long as the least service and a name."""
-    low, height = (1.2 if slot.ring == 1 else 0.0), 1.0
-    if slot.phase in known.partners:
-        axes.barh(
-            low + height / 2,
-            slot.length,
-            height,
-            left=slot.start,
-            color=PALE,
-            edgecolor=FAINT,
-            hatch="///",
-            linewidth=0.5,
-        )
-        axes.text(
-            slot.start + slot.length / 2,
-            low + height / 2,
-            f"{slot.phase}: partner",
-            ha="center",
-            va="center",
-            fontsize=8,
-            color=FAINT,
-        )
-        return
+def draw_partner(axes, slot: Slot, low: float) -> None:
+    """Draws the slot of a partner, hatched."""
+    look = {"color": PALE, "edgecolor": FAINT, "hatch": "///", "linewidth": 0.5}
+    axes.barh(low + 0.5, slot.length, 1.0, left=slot.start, **look)
+    place = (slot.start + slot.length / 2, low + 0.5)
+    axes.text(*place, f"{slot.phase}: partner", ha="center", va="center", fontsize=8, color=FAINT)
+
+
+def draw_slot(axes, tables: Tables, slot: Slot, low: float, is_short: bool) -> None:
+    """Draws a slot: green, yellow and red clearance, with a line as long as the least service."""
     yellow, red = (value(tables, ("phase", slot.phase, column)) / 10 for column in (8, 9))
-    green = max(0.0, slot.length - yellow - red)
+    green, least = max(0.0, slot.length - yellow - red), least_service(tables, slot.phase) / 10
     for start, length, colour in ((0, green, LIGHT), (green, yellow, YELLOW), (green + yellow, red, CLEARANCE)):
-        axes.barh(low + height / 2, length, height, left=slot.start + start, color=colour)
-    edge, width = (WRONG, 2.5) if slot.phase in short else (INK, 0.8)
-    axes.barh(low + height / 2, slot.length, height, left=slot.start, fill=False, edgecolor=edge, linewidth=width)
-    least = least_service(tables, slot.phase) / 10
-    axes.plot(
-        [slot.start, slot.start + least],
-        [low + 0.1] * 2,
-        color=WRONG if least > green else GREEN,
-        linewidth=3,
-        solid_capstyle="butt",
-        zorder=5,
-    )
-    laid = Layout(tables, pattern)
-    held = pattern in tables.patterns() and slot.phase in laid.coordinated
+        axes.barh(low + 0.5, length, 1.0, left=slot.start + start, color=colour)
+    edge, width = (WRONG, 2.5) if is_short else (INK, 0.8)
+    axes.barh(low + 0.5, slot.length, 1.0, left=slot.start, fill=False, edgecolor=edge, linewidth=width)
+    look = {"color": WRONG if least > green else GREEN, "linewidth": 3, "solid_capstyle": "butt", "zorder": 5}
+    axes.plot([slot.start, slot.start + least], [low + 0.1] * 2, **look)
+
+
+def draw_name(axes, known: Intersection, slot: Slot, low: float, is_held: bool) -> None:
+    """Writes the phase of a slot, its time and its name."""
     name = "\n".join(textwrap.wrap(known.phase(slot.phase).name, max(6, int(slot.length * 1.1)))[:3])
-    words = f"{slot.phase}{' coordinated' if held else ''}: {slot.length:g} s" + (f"\n{name}" if name else "")
-    axes.text(slot.start + 0.6, low + height - 0.08, words, ha="left", va="top", fontsize=8, color=INK, clip_on=True)
+    words = f"{slot.phase}{' coordinated' if is_held else ''}: {slot.length:g} s" + (f"\n{name}" if name else "")
+    axes.text(slot.start + 0.6, low + 0.92, words, ha="left", va="top", fontsize=8, color=INK, clip_on=True)
+
+
+def draw_slots(axes, laid: Layout, known: Intersection, drawn: list[Slot], short: set[int]) -> None:
+    """Draws all slots."""
+    held = laid.coordinated if laid.pattern in laid.tables.patterns() else []
+    for slot in drawn:
+        low = 1.2 if slot.ring == 1 else 0.0
+        if slot.phase in known.partners:
+            draw_partner(axes, slot, low)
+        else:
+            draw_slot(axes, laid.tables, slot, low, slot.phase in short)
+            draw_name(axes, known, slot, low, slot.phase in held)
 
 
 def draw_barriers(axes, tables: Tables, drawn: list[Slot]) -> None:
@@ -152,8 +145,7 @@ def write(tables: Tables, known: Intersection, called: str, pattern: int, path: 
     figure = plt.figure(figsize=(11, height))
     axes = figure.add_axes((0.06, 1 - 2.9 / height, 0.92, 2.3 / height))
     drawn = slots(tables, pattern)
-    for slot in drawn:
-        draw_slot(axes, tables, known, slot, pattern, short)
+    draw_slots(axes, laid, known, drawn, short)
     draw_barriers(axes, tables, drawn)
     axes.set(
         xlim=(0, max((it.start + it.length for it in drawn), default=1)),

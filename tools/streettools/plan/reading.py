@@ -5,7 +5,7 @@ import json
 from collections.abc import Callable
 from dataclasses import dataclass, field
 
-from . import given, intersection, names
+from . import given, intersection, names, started
 from .fields import Wrong
 from .given import Given, Unreadable
 
@@ -118,7 +118,7 @@ def read_names(top: Given) -> names.Names:
     sections.allow(map(str, range(1, 9)))
     called = {number: sections.take(str(number), given.text) for number in range(1, 9)}
     return names.Names(
-        title=top.take("title", given.text, ""), units=top.take("units", intersection.word_of("us", "metric"), "us"),
+        title=top.take("title", given.text, ""), units=top.take("units", started.word_of("us", "metric"), "us"),
         sections={number: name for number, name in called.items() if name},
     )  # fmt: skip
 

@@ -26,8 +26,12 @@ SECONDS = {
     "MinGreen": "min_green", "MaxGreen": "max_green", "Walk": "walk", "DontWalk": "ped_clear", "TimeBeforeReduce": "time_before_reduction",
     "TimeToReduce": "time_to_reduce",
 }  # fmt: skip
+DETECTORS = {"DetectPhase1", "DetectDelay1", "DetectExtend1"}
 RECALLS = {0: "none", 1: "minimum", 2: "pedestrian", 3: "maximum"}
 TIMEPLAN = {"Control Type", "Cycle Length", "Referenced To", "Reference Phase", "Offset"}
+LANES = re.compile("(" + "|".join(WAYS) + ")[LTRU]2?")
+"""Lane groups, as EBT."""
+
 TURNS = {"L": "left", "T": "", "R": "right", "U": "U-turn"}
 
 
@@ -59,7 +63,7 @@ def movements(node: Node) -> dict[int, list[str]]:
     found: dict[int, list[str]] = {}
     for record in ("Phase1", "Phase2", "Phase3", "Phase4"):
         for lanes, phase in node.lanes.get(record, {}).items():
-            if re.fullmatch("(" + "|".join(WAYS) + r")[LTRU]2?", lanes) and number(phase):
+            if LANES.fullmatch(lanes) and number(phase):
                 found.setdefault(int(number(phase)), []).append(lanes)
     return found
 
@@ -77,6 +81,22 @@ def about_phases(node: Node, rows: dict[str, dict]) -> None:
         speed = number(node.links.get("Speed", {}).get(way, ""))
         if turn == "T" and speed:
             rows[str(phase)]["speed"] = speed
+
+
+def detectors(node: Node) -> dict[str, dict]:
+    """Returns a detector for each lane group that has one, numbered in the order of the file: the phase that it calls,
+    its delay and extension."""
+    found: dict[str, dict] = {}
+    for lanes, phase in node.lanes.get("DetectPhase1", {}).items():
+        if not LANES.fullmatch(lanes) or not number(phase):
+            continue
+        row: dict = {"name": lanes, "phase": int(number(phase))}
+        for record, name in (("DetectDelay1", "delay"), ("DetectExtend1", "extend")):
+            value = number(node.lanes.get(record, {}).get(lanes, ""))
+            if value:
+                row[name] = node.whole(value, record, lanes)
+        found[str(len(found) + 1)] = row
+    return found
 
 
 def phase_row(node: Node, phase: int) -> dict:
@@ -124,6 +144,8 @@ def intersection(node: Node) -> dict:
     sheet: dict = {"name": node.name(), "rings": drawn, "phase": rows}
     laid = pattern(node, drawn)
     patterns = {"1": laid} if laid else plans(node)
+    called = detectors(node)
+    sheet |= {"detector": called} if called else {}
     if patterns:
         sheet |= {"pattern": patterns, "command": 1}
     left_out(node)
@@ -144,7 +166,7 @@ def sheet_of(utdf: Utdf) -> tuple[dict, list[str]]:
     ]
     notes += [f"section [{name}] is not known" for name in unknown]
     notes += [f"not understood: {it}" for it in dict.fromkeys(utdf.strange)]
-    taken = {"links": {"Name", "Speed"}, "lanes": {f"Phase{it}" for it in range(1, 5)}}
+    taken = {"links": {"Name", "Speed"}, "lanes": {f"Phase{it}" for it in range(1, 5)} | DETECTORS}
     for section, known in taken.items():
         names = dict.fromkeys(it.get("RECORDNAME", "") for it in utdf.records(section))
         left = [name for name in names if name and name not in known]

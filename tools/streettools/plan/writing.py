@@ -7,9 +7,10 @@ from . import drawing, fields, given, intersection, names
 from .cells import PATTERNS, SEQUENCES, SPLITS, differing, tables_of, value
 from .given import Given
 from .reading import EVERY, LISTS, Street
+from .started import Read
 
 
-def read_back(sheet: dict) -> intersection.Read | None:
+def read_back(sheet: dict) -> Read | None:
     """Returns what an intersection of a sheet comes to, None where it has faults."""
     it = Given(sheet)
     found, _ = intersection.read(it)

@@ -52,8 +52,9 @@ def test_refusals_can_be_piped_into_explain(tmp_path):
     """Lines on standard input, each in words."""
     path = tmp_path / "street.json"
     path.write_bytes(b'{"version":1,"rounds":1,"ticks":1,"cabinets":[{"cells":[["phase",2,8,29]]}]}')
-    ran = plan("explain", "-", path, given=b"scenario: cabinet 1 breaks rule 10 at row 2\n")
+    ran = plan("explain", "-", path, given=b"arterial: not proved\nscenario: cabinet 1 breaks rule 10 at row 2\n")
     assert ran.returncode == 0 and b"phase 2 has a yellow change of 2.9 s" in ran.stdout
+    assert ran.stderr == b"arterial: not proved\n"
 
 
 def test_a_workbook_is_a_sheet(tmp_path):

@@ -2,6 +2,7 @@
 
 import json
 import random
+import subprocess
 
 import pytest
 
@@ -234,3 +235,15 @@ def test_max8_and_unknown_options_come_back():
     back = reading.street_of({"intersection": [sheet]}).scenario["cabinets"][0]
     assert back["base"] == "max8" and not differing(tables_of(cabinet), tables_of(back))
     assert differing(tables_of(back), Tables("max8")) == [tuple(it[:-1]) for it in sorted(cells, key=lambda it: it[2])]
+
+
+def test_a_partner_stays_red_while_the_phase_that_it_faces_is_served(program):
+    """On the street: a car comes to phase 4 of the T, in free operation and in step with pattern 1; phase 8 is never on."""
+    for command in (0, 1):
+        scenario = reading.street_of(toml_text.read(T)).scenario | {"rounds": 200}
+        scenario["cabinets"][0]["pattern"] = command
+        scenario["inputs"] = [{"round": 70, "cabinet": 1, "veh": 4, "on": True}]
+        ran = subprocess.run([program, "run"], input=json.dumps(scenario).encode(), capture_output=True, check=True)
+        frames = [line.split() for line in ran.stdout.decode().splitlines() if line.startswith("F 1 ")]
+        assert {it[3][7] for it in frames} == {"R"} and {it[3][3] for it in frames} >= {"R", "G", "Y", "C"}
+        assert any(it[5] == ("C1" if command else "F") for it in frames)
