@@ -59,7 +59,7 @@ impl Writer {
 
     /// Writes all that is held.
     fn flush<K: Sink>(&mut self, sink: &mut K) -> Result<(), Stop>
-        ensures writes { Writes K.written K.faults result sink.old sink.new (held_by self.old) }
+        ensures writes { Writes K.written K.faults K.counts_exactly result sink.old sink.new (held_by self.old) }
         ensures none { OnOk result (held_by self.new ≡ []) }
     {
         match put_all(sink, self.held.as_slice()) {
@@ -73,7 +73,7 @@ impl Writer {
 
     /// Takes the bytes over, and writes what is held where there is no room for them. It takes no memory.
     pub fn put<K: Sink>(&mut self, sink: &mut K, bytes: &[u8]) -> Result<(), Stop>
-        ensures { HandsOver K.written K.faults result self.old self.new sink.old sink.new bytes.now }
+        ensures { HandsOver K.written K.faults K.counts_exactly result self.old self.new sink.old sink.new bytes.now }
     {
         if self.held.len() + bytes.len() <= PIECE {
             // There is room, so this takes no memory.
@@ -96,7 +96,7 @@ impl Writer {
 
     /// Takes a line over.
     pub fn put_line<K: Sink>(&mut self, sink: &mut K, line: &Line) -> Result<(), Stop>
-        ensures { HandsOver K.written K.faults result self.old self.new sink.old sink.new (line_text line.now) }
+        ensures { HandsOver K.written K.faults K.counts_exactly result self.old self.new sink.old sink.new (line_text line.now) }
     {
         let text = match write_line(self.alloc, line) {
             Ok(text) => text,
@@ -112,7 +112,7 @@ impl Writer {
         cab: u32,
         runs: &[(u32, u32)],
     ) -> Result<(), Stop>
-        ensures { HandsOver K.written K.faults result self.old self.new sink.old sink.new (line_text (Line.J cab runs.now)) }
+        ensures { HandsOver K.written K.faults K.counts_exactly result self.old self.new sink.old sink.new (line_text (Line.J cab runs.now)) }
     {
         let runs = match runs.to_vec(self.alloc) {
             Ok(runs) => Runs::new(runs),
@@ -129,7 +129,7 @@ impl Writer {
         pass: u32,
         octets: &Option<Octets>,
     ) -> Result<(), Stop>
-        ensures { HandsOver K.written K.faults result self.old self.new sink.old sink.new (line_text (Line.A cab pass octets.now)) }
+        ensures { HandsOver K.written K.faults K.counts_exactly result self.old self.new sink.old sink.new (line_text (Line.A cab pass octets.now)) }
     {
         let hex = same_octets(octets);
         self.put_line(sink, &Line::A { cab, pass, hex })
@@ -137,7 +137,7 @@ impl Writer {
 
     /// Takes the line of the scenario over, whose compact text is not copied.
     pub fn put_scenario<K: Sink>(&mut self, sink: &mut K, compact: &[u8]) -> Result<(), Stop>
-        ensures { HandsOver K.written K.faults result self.old self.new sink.old sink.new (line_text (Line.S compact.now)) }
+        ensures { HandsOver K.written K.faults K.counts_exactly result self.old self.new sink.old sink.new (line_text (Line.S compact.now)) }
     {
         match self.put(sink, b"S ") {
             Ok(()) => {}
@@ -152,7 +152,7 @@ impl Writer {
 
     /// Writes what is still held, so that all that was handed over is written.
     pub fn finish<K: Sink>(self, sink: &mut K) -> Result<(), Stop>
-        ensures { Writes K.written K.faults result sink.old sink.new (held_by self) }
+        ensures { Writes K.written K.faults K.counts_exactly result sink.old sink.new (held_by self) }
     {
         let mut writer = self;
         writer.flush(sink)
