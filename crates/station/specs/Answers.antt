@@ -7,11 +7,11 @@ use Rattle.scenario_data.specs.Content.{ScenarioContent}
 use Rattle.scenario_read.specs.Answers.{IsScenario, IsFirstFault}
 use Rattle.station.specs.declared.status.Status.{Status}
 use Rattle.station.specs.declared.status.Status.TheVariants.{Done, Scenario, ReadFault, WriteFault, NoMemory}
-use Rattle.whole_run.specs.Bytes.{AppendsFront}
+use Rattle.whole_run.specs.Bytes.{AppendsFront, AppendsUpTo}
 use Rattle.station.specs.Bytes.{AreInput, nothing_left}
 use Rattle.run_definition.specs.Lines.{run_text}
 use Rattle.trace_laws.specs.Text.{TellsAllKept}
-use Rattle.whole_run.specs.Orders.{AreBroughtBy}
+use Rattle.whole_run.specs.Orders.{AreBroughtBy, GoesOnSerially, closed_text}
 
 -- a text was written whole, or a write failed, and a front of the text was written and not all of it
 abbrev pub WritesText : Status → List ℕ → Type 0 → Option (List ℕ) → Option (List ℕ) → Type 0
@@ -45,7 +45,8 @@ pub record RunsWhole (workers : ℕ) (left ends old new : Option (List ℕ)) : T
   pub kept : TellsAllKept scenario journals (run_text scenario journals)
 
 -- it stopped short while it wrote: the source was read to its end, its bytes are a scenario, and a front of such a text was appended, and
--- not all of it
+-- not all of it: by the actual journals of the rounds that were closed and serial ones for those that are left; and where some are left,
+-- nothing was written beyond the lines of the closed ones
 pub record StopsShort (workers : ℕ) (left ends old new : Option (List ℕ)) : Type 0 where
   pub scenario : ScenarioContent
   pub journals : List (List (List ℕ))
@@ -53,6 +54,9 @@ pub record StopsShort (workers : ℕ) (left ends old new : Option (List ℕ)) : 
   pub input : IsRead left scenario
   pub ended : ends ≡ nothing_left left
   pub front : AppendsFront old new (run_text scenario journals)
+  pub closed : List (List (List ℕ))
+  pub goes_on : GoesOnSerially scenario closed journals
+  pub within : 0 < goes_on.left → AppendsUpTo old new (closed_text scenario closed)
 
 -- the refusal is that of the whole input, for its length
 abbrev pub IsLengthLimit : Refusal → Type 0

@@ -1,7 +1,7 @@
 //! What `overlaps` does: a trace is checked, and the overlap at one of its cabinets is told or refused.
 
 ghost use Rattle.std.specs.Prelude.{◌≡◌, ◌≤◌, ◌⊎◌, IfSome};
-ghost use Rattle.io_edge.specs.Edge.{Rises};
+ghost use Rattle.io_edge.specs.Edge.{Rises, Stays};
 ghost use Rattle.station.specs.Overlapped.{asked_by, Overlapped, IsOverlapDue};
 
 use crate::bytes::{ReadEnd, read_all};
@@ -46,6 +46,7 @@ pub fn overlaps<S: Source, K: Sink>(
         (K.written sink.old) (K.written sink.new) (Rises (K.faults sink.old) (K.faults sink.new)) }
     ensures due { ¬ Rises (S.faults source.old) (S.faults source.new)
         → IfSome (S.left source.old) (λ input. IsOverlapDue (asked_by overlap) result input (Rises (K.faults sink.old) (K.faults sink.new)) ⊎ (result ≡ Status.NoMemory)) }
+    ensures exact { result ≡ Status.Done → Stays S.counts_exactly (S.faults source.old) (S.faults source.new) × Stays K.counts_exactly (K.faults sink.old) (K.faults sink.new) }
     ensures kept { (S.faults source.old ≤ S.faults source.new) × (K.faults sink.old ≤ K.faults sink.new) }
 {
     traces_have_no_fault();

@@ -1,7 +1,7 @@
 //! The command that reads a field file and writes the scenario that it comes to.
 
 ghost use Rattle.std.specs.Prelude.{◌≡◌, ◌≤◌, ◌⊎◌, IfSome};
-ghost use Rattle.io_edge.specs.Edge.{Rises};
+ghost use Rattle.io_edge.specs.Edge.{Rises, Stays};
 ghost use Rattle.field_file.specs.Told.{HasResult, TellsResult, IsFirstResultFault};
 ghost use Rattle.station.specs.Replied.{Replied, IsReplyDue};
 
@@ -19,6 +19,7 @@ pub fn respond<S: Source, K: Sink>(alloc: Global, source: &mut S, sink: &mut K) 
         (K.written sink.old) (K.written sink.new) (Rises (K.faults sink.old) (K.faults sink.new)) }
     ensures due { ¬ Rises (S.faults source.old) (S.faults source.new)
         → IfSome (S.left source.old) (λ input. IsReplyDue HasResult IsFirstResultFault result input (Rises (K.faults sink.old) (K.faults sink.new)) ⊎ (result ≡ Status.NoMemory)) }
+    ensures exact { result ≡ Status.Done → Stays S.counts_exactly (S.faults source.old) (S.faults source.new) × Stays K.counts_exactly (K.faults sink.old) (K.faults sink.new) }
     ensures kept { (S.faults source.old ≤ S.faults source.new) × (K.faults sink.old ≤ K.faults sink.new) }
 {
     bytes_have_one_answer();

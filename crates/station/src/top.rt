@@ -1,7 +1,7 @@
 //! All that the program does.
 
 ghost use Rattle.std.specs.Prelude.{◌≡◌, ◌≤◌, ◌⊎◌, ◌↔◌, ◌∷◌, ℕ, List, [], Err, IfOk, IfSome, OnOk, IsTrue, map, string_bytes};
-ghost use Rattle.io_edge.specs.Edge.{Rises};
+ghost use Rattle.io_edge.specs.Edge.{Rises, Stays};
 ghost use Rattle.scenario_data.specs.Content.{scenario_content};
 ghost use Rattle.scenario_data.specs.declared.refusal.Refusal.{Refusal};
 ghost use Rattle.runnable.specs.Runnable.{Runnable};
@@ -48,6 +48,7 @@ fn read_scenario<S: Source>(alloc: Global, source: &mut S) -> Result<Scenario, U
     ensures ended { OnOk result (S.left source.new ≡ nothing_left (S.left source.old)) }
     ensures fault { result ≡ Err Unread.Fault → Rises (S.faults source.old) (S.faults source.new) }
     ensures refused { (r : Refusal) → result ≡ Err (Unread.Refused r) → IsRefused IsFirstFault r (S.left source.old) (S.left source.new) }
+    ensures exact { OnOk result (Stays S.counts_exactly (S.faults source.old) (S.faults source.new)) }
     ensures kept { S.faults source.old ≤ S.faults source.new }
 {
     let input = match whole_input(alloc, source) {
@@ -70,6 +71,7 @@ fn run<R: Threads + Sync, S: Source, K: Sink, G: Gate + Sync>(
 ) -> Status
     ensures ran { Ran crew.now.workers result (S.left source.old) (S.left source.new) (Rises (S.faults source.old) (S.faults source.new))
         (K.written sink.old) (K.written sink.new) (Rises (K.faults sink.old) (K.faults sink.new)) }
+    ensures exact { result ≡ Status.Done → Stays S.counts_exactly (S.faults source.old) (S.faults source.new) × Stays K.counts_exactly (K.faults sink.old) (K.faults sink.new) }
     ensures kept { (S.faults source.old ≤ S.faults source.new) × (K.faults sink.old ≤ K.faults sink.new) }
 {
     let scenario = match read_scenario(alloc, source) {
@@ -96,6 +98,7 @@ fn answer<R: Threads + Sync, S: Source, K: Sink, G: Gate + Sync>(
     gate: &G,
 ) -> Status
     requires asked { (words : List (List ℕ)) × AskFor words command }
+    ensures exact { result ≡ Status.Done → Stays S.counts_exactly (S.faults source.old) (S.faults source.new) × Stays K.counts_exactly (K.faults sink.old) (K.faults sink.new) }
     ensures kept { (S.faults source.old ≤ S.faults source.new) × (K.faults sink.old ≤ K.faults sink.new) }
     ensures answered { Answered command result (S.left source.old) (S.left source.new) (Rises (S.faults source.old) (S.faults source.new))
         (K.written sink.old) (K.written sink.new) (Rises (K.faults sink.old) (K.faults sink.new)) }
@@ -139,8 +142,9 @@ pub fn station<R: Threads + Sync, S: Source, K: Sink, G: Gate + Sync>(
     sink: &mut K,
     gate: &G,
 ) -> Status
-    // No count of faults falls.
+    // No count of faults falls. Done: where the source and the sink keep exact counts, both are as they were, so no fault was passed over.
     ensures kept { (S.faults source.old ≤ S.faults source.new) × (K.faults sink.old ≤ K.faults sink.new) }
+    ensures exact { result ≡ Status.Done → Stays S.counts_exactly (S.faults source.old) (S.faults source.new) × Stays K.counts_exactly (K.faults sink.old) (K.faults sink.new) }
 
     // Usage comes exactly where the words are no command; nothing is read or written then.
     ensures usage { result ≡ Status.Usage ↔ ¬ IsCommand (map string_bytes words.now.items) }

@@ -30,6 +30,9 @@ returns-in-Err-WriteFault-clause-ran g c =
         input = c.in-Ok.ensures.scenario;
         ended = c.in-Ok.ensures.ended;
         front = so.holds.front;
+        closed = so.closed;
+        goes_on = so.goes_on;
+        within = so.of_closed.up_to;
       },
     )
 
@@ -46,7 +49,13 @@ returns-clause-ran g c =
       input = c.in-Ok.ensures.scenario;
       ended = c.in-Ok.ensures.ended;
       front = so.holds.front;
+      closed = so.closed;
+      goes_on = so.goes_on;
+      within = so.of_closed.up_to;
     })
 
 pub returns-clause-kept : goal.returns-clause-kept
 returns-clause-kept g c = (c.in-Ok.ensures.kept, c.in-Err-NoMemory-write_trace.ensures.holds.kept)
+
+pub returns-in-Ok-write_trace-clause-exact : goal.returns-in-Ok-write_trace-clause-exact
+returns-in-Ok-write_trace-clause-exact g c = λ done. (c.in-Ok.ensures.exact, c.in-Ok-write_trace.ensures.holds.counts)
