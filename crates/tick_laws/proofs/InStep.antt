@@ -53,7 +53,7 @@ use Rattle.tick_laws.proofs.OneSide.{own, beside}
 use Rattle.tick_laws.proofs.PatternFacts.{holds-pair, plan-serves, times-serve, window-within}
 use Rattle.tick_laws.proofs.Modes.{same-coord}
 
-on-not-red : (f : Frame) (p : ℕ) → colour_of f p ≢ Red → is_on f p ≡ true
+pub on-not-red : (f : Frame) (p : ℕ) → colour_of f p ≢ Red → is_on f p ≡ true
 on-not-red f p ne = by (colour_of f p) ne
   where
     by : (c : Colour) → c ≢ Red → not (same_colour c Red) ≡ true
@@ -101,7 +101,7 @@ next-named past r (inr two) =
     (sym two) (named-first past.tables (colours_of past (moves_seen past)) 2)
 
 -- what is on in both rings is of one side
-named-beside : (t : Tables) (f : Frame) → FrameStands t f → NamesOn t f → on_in f 1 ≢ 0 → on_in f 2 ≢ 0
+pub named-beside : (t : Tables) (f : Frame) → FrameStands t f → NamesOn t f → on_in f 1 ≢ 0 → on_in f 2 ≢ 0
     → are_of_one_side t (on_in f 1) (on_in f 2) ≡ true
 named-beside t f stands named a b = elim (named 1 (inl refl)) [
   | inl none ↦ absurd (a none)

@@ -36,3 +36,5 @@ pub mod Quiet
 pub mod Search
 pub mod Clocks
 pub mod ClockRuns
+pub mod Waiting
+pub mod Barrier
