@@ -15,9 +15,10 @@ ghost use Rattle.sig_tables.specs.Splits.{coordinated_phases};
 ghost use Rattle.rule_book.specs.RingLayout.{is_used, comes_after};
 ghost use Rattle.rule_book.specs.Rules.{broken, Consistent};
 ghost use Rattle.sig_tables.specs.Past.{Event, History};
-ghost use Rattle.sig_tables.specs.Decide.{since_opening};
+ghost use Rattle.sig_tables.specs.Decide.{past_at, since_opening};
 ghost use Rattle.tick_laws.specs.Lawful.{Sound, SameLayout, Lawful};
 ghost use Rattle.rule_facts.specs.Admitted.{Admitted, KeepsApart};
+ghost use Rattle.rule_facts.specs.GivesWay.{EachGivesWay};
 ghost use Rattle.rule_facts.specs.Rules.{KeepsRules};
 ghost use Rattle.rule_facts.specs.Sides.{SidesCut, SidesHold};
 ghost use Rattle.rule_facts.specs.Sequences.{SequenceServes};
@@ -189,4 +190,10 @@ pub fn needs_rule_12()
 pub fn admitted_is_safe()
     ensures lawful { (opening : Tables) (events : List Event) → Admitted opening events → Lawful opening events }
     ensures apart { (h : History) → Admitted h.tables (since_opening h) → KeepsApart h }
+{}
+
+/// In a history that the rules admitted a green gives way in free operation: once its gap or its maximum is over and it is served, it ends for
+/// each phase that is called and may not be on with it, as soon as the other ring can leave its side of the barrier.
+pub fn greens_give_way()
+    ensures { (h : History) → Admitted h.tables (since_opening h) → EachGivesWay (past_at h).moments }
 {}
