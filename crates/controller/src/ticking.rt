@@ -74,7 +74,7 @@ impl Controller {
             return self.rest(command);
         }
         let tick_inputs = self.free_tick_inputs(demand);
-        let clock = self.unit_commands.clock_now();
+        let clock = self.context.unit_commands.clock_now();
         if self.is_plain(&tick_inputs) {
             return self.repeat(command, clock, tick_inputs.active, tick_inputs.opposed);
         }
@@ -96,7 +96,7 @@ impl Controller {
     {
         let mode = self.mode(command);
         self.follow(mode);
-        let tick_state = self.tick_state(mode, command);
+        let tick_state = self.context.tick_state(mode, command, self.count);
         let tick_inputs = self.tick_inputs(&tick_state);
         self.go_on(&tick_state, &tick_inputs)
     }

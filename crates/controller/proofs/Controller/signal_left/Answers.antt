@@ -9,7 +9,7 @@ use Rattle.controller.proofs.Controller.signal_left.Goals as goal
 pub returns : goal.returns
 returns c = record {
   left = λ past k keeps some within.
-      let shown = ap (λ (f : Frame). signal_of f c.args.phase) (sym keeps.frame) in
+      let shown = ap (λ (f : Frame). signal_of f c.args.phase) (sym keeps.context.frame) in
       subst (λ (s : Ped). SignalLasts k c.args.phase past.tables past.moments s) (sym shown)
       (c.left.ensures.left past.moments past.tables k keeps.signals shown some within);
 }
