@@ -6,6 +6,7 @@ ghost use Rattle.station.specs.Checked.{Checked, IsCheckDue};
 
 use crate::bytes::{ReadEnd, read_all};
 use crate::status::Status;
+use band_laws::bands_are_green;
 use io_edge::Source;
 use std::alloc::Global;
 use trace_check::{CheckFail, TraceFault, check};
@@ -24,6 +25,7 @@ pub fn check_input<S: Source>(alloc: Global, source: &mut S) -> Status
 {
     traces_have_no_fault();
     faults_are_determined();
+    bands_are_green();
     let text = match read_all(alloc, source, TRACE_LIMIT) {
         Ok(text) => text,
         Err(ReadEnd::Fault) => return Status::ReadFault,
