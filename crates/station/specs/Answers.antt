@@ -9,6 +9,7 @@ use Rattle.station.specs.declared.status.Status.{Status}
 use Rattle.station.specs.declared.status.Status.TheVariants.{Done, Scenario, ReadFault, WriteFault, NoMemory}
 use Rattle.whole_run.specs.Bytes.{AppendsFront, AppendsUpTo}
 use Rattle.station.specs.Bytes.{AreInput, nothing_left}
+use Rattle.station.specs.Io.{Io}
 use Rattle.run_definition.specs.Lines.{run_text}
 use Rattle.trace_laws.specs.Text.{TellsAllKept}
 use Rattle.whole_run.specs.Orders.{AreBroughtBy, GoesOnSerially, closed_text}
@@ -82,15 +83,14 @@ abbrev pub IsRefused : (List ℕ → Refusal → Type 0) → Refusal → Option 
 IsRefused IsFirst refusal left ends =
     (IsLengthLimit refusal × IsTooLong left ends) ⊎ ((IsLengthLimit refusal → ⊥) × HasFault IsFirst refusal left ends)
 
--- what an answer to a run by so many workers tells of the input, with the faults of reading, and of the output, with the faults of
--- writing
-abbrev pub Ran : ℕ → Status → Option (List ℕ) → Option (List ℕ) → Type 0 → Option (List ℕ) → Option (List ℕ) → Type 0 → Type 0
-Ran workers Done left ends unread old new unwritten = RunsWhole workers left ends old new
-Ran workers (Scenario refusal) left ends unread old new unwritten = IsRefused IsFirstFault refusal left ends × (new ≡ old)
-Ran workers ReadFault left ends unread old new unwritten = unread × (new ≡ old)
-Ran workers WriteFault left ends unread old new unwritten = unwritten × StopsShort workers left ends old new
-Ran workers NoMemory left ends unread old new unwritten = (new ≡ old) ⊎ StopsShort workers left ends old new
-Ran workers _ left ends unread old new unwritten = ⊥
+-- what an answer to a run by so many workers tells of the input and the output
+abbrev pub Ran : ℕ → Status → Io → Type 0
+Ran workers Done io = RunsWhole workers io.left io.ends io.old io.new
+Ran workers (Scenario refusal) io = IsRefused IsFirstFault refusal io.left io.ends × (io.new ≡ io.old)
+Ran workers ReadFault io = io.unread × (io.new ≡ io.old)
+Ran workers WriteFault io = io.unwritten × StopsShort workers io.left io.ends io.old io.new
+Ran workers NoMemory io = (io.new ≡ io.old) ⊎ StopsShort workers io.left io.ends io.old io.new
+Ran workers _ io = ⊥
 
 -- the answer is the refusal of the whole input for its length
 abbrev pub IsLengthRefusal : Status → Type 0
@@ -106,3 +106,8 @@ pub record IsDue (status : Status) (input : List ℕ) (unwritten : Type 0) : Typ
   pub too_long : 16777216 < length input → IsLengthRefusal status
   pub fault : IsShort input → IsNoScenario input → NamesFault IsFirstFault status input
   pub done : IsShort input → (s : ScenarioContent) → IsScenario input s → ¬ unwritten → status ≡ Done
+
+-- what an answer to a run tells; and where no read fails it is the one that the input is due, or memory was wanting
+pub record RunAnswer (workers : ℕ) (status : Status) (io : Io) : Type 0 where
+  pub told : Ran workers status io
+  pub due : ¬ io.unread → IfSome io.left (λ input. IsDue status input io.unwritten ⊎ (status ≡ NoMemory))

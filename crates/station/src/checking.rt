@@ -1,7 +1,8 @@
 //! What `check` does: all of the input is read, and it is a trace or has its first fault.
 
-ghost use Rattle.std.specs.Prelude.{◌≡◌, ◌≤◌, ◌⊎◌, IfSome};
-ghost use Rattle.io_edge.specs.Edge.{Rises, Stays};
+ghost use Rattle.std.specs.Prelude.{◌≡◌, ◌⊎◌, IfSome};
+ghost use Rattle.io_edge.specs.Edge.{Rises};
+ghost use Rattle.station.specs.Io.{Counts};
 ghost use Rattle.station.specs.Checked.{Checked, IsCheckDue};
 
 use crate::bytes::{ReadEnd, read_all};
@@ -20,8 +21,7 @@ pub fn check_input<S: Source>(alloc: Global, source: &mut S) -> Status
     ensures checked { Checked result (S.left source.old) (S.left source.new) (Rises (S.faults source.old) (S.faults source.new)) }
     ensures due { ¬ Rises (S.faults source.old) (S.faults source.new)
         → IfSome (S.left source.old) (λ input. IsCheckDue result input ⊎ (result ≡ Status.NoMemory)) }
-    ensures exact { result ≡ Status.Done → Stays S.counts_exactly (S.faults source.old) (S.faults source.new) }
-    ensures kept { S.faults source.old ≤ S.faults source.new }
+    ensures reads { Counts result S.counts_exactly (S.faults source.old) (S.faults source.new) }
 {
     traces_have_no_fault();
     faults_are_determined();
