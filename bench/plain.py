@@ -13,7 +13,7 @@ import tempfile
 TOP = pathlib.Path(__file__).resolve().parent.parent
 CABINET = (
     *("sig_types", "ber_code", "snmp_msg", "sig_tables", "oid_map", "agent", "pattern_plan", "call_store", "phase_clock", "ped_clock", "ring_barrier"),
-    *("coord_gate", "coord_count", "preempt_run", "flash_mode", "prio_queue", "tick_context", "controller", "rule_book", "stage_txn"),
+    *("coord_gate", "coord_count", "preempt_stages", "preempt_run", "flash_mode", "prio_queue", "tick_context", "controller", "rule_book", "stage_txn"),
     *("cabinet_history", "look_back", "observer", "cab_book"),
 )
 MASTER = ("scenario_data", "requests", "master_plan", "master_load", "master_poll", "link_sim", "master_rounds")

@@ -1,6 +1,6 @@
 //! The calls of a cabinet: what detectors and push buttons have asked for and no frame has served yet (FHWA Signal Timing
-//! Manual, detection and recall; NEMA TS 2, locking and non-lock memory). All is kept as sets of phases, so that an input
-//! and a tick look at sixteen phases in one step.
+//! Manual, detection and recall; NEMA TS 2, locking and non-lock memory); and where walk begins. All is kept as sets of
+//! phases, so that an input and a tick look at sixteen phases in one step.
 #![tactic(auto)]
 
 ghost use Rattle.std.specs.Prelude.{◌≡◌, ◌<◌, ◌≤◌, ◌&&◌, ◌||◌, ◌==◌, not, nat_le, ℕ, Bool, true, Option};
@@ -9,8 +9,10 @@ use pattern_plan::SplitOptions;
 use sig_tables::Layout;
 use sig_types::{Colour, Field, Frame, Ped, PhaseSet};
 
+mod crossing;
 mod served;
 
+pub use crossing::{Crosswalks, Greens, walks};
 pub use served::signalling;
 
 /// The locked calls of vehicles and of pedestrians, the detectors that are on, and those that were turned on since the

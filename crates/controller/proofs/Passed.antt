@@ -32,9 +32,9 @@ use Rattle.coord_count.specs.Stands.{CountStands}
 use Rattle.coord_count.proofs.Passed.{count-on}
 use Rattle.phase_clock.proofs.Passed.{clocks-on}
 use Rattle.ped_clock.proofs.Passed.{signals-on}
-use Rattle.preempt_run.specs.Dwelling.{is_dwell, NamesPhases}
-use Rattle.preempt_run.proofs.Called.{seen-is}
-use Rattle.preempt_run.proofs.OnPhases.{names-phases}
+use Rattle.preempt_stages.specs.Dwelling.{is_dwell, NamesPhases}
+use Rattle.preempt_stages.proofs.Inputs.{seen-is}
+use Rattle.preempt_stages.proofs.OnPhases.{names-phases}
 use Rattle.preempt_run.proofs.Passed.{preempts-on}
 use Rattle.prio_queue.proofs.Idle.{queue-on}
 use Rattle.tick_context.specs.declared.unit_commands.UnitCommands.{UnitCommands}
@@ -44,10 +44,12 @@ use Rattle.tick_context.specs.Modes.{is_coord}
 use Rattle.controller.specs.Shows.{ShowsColours}
 use Rattle.tick_context.specs.UnitCommands.{UnitCommandsStand, most}
 use Rattle.tick_context.specs.Even.{IsEven, UnitCommandsPassed}
-use Rattle.controller.specs.StandsFor.{ControllerKeeps, CountsOn}
+use Rattle.tick_context.specs.Context.{CountsOn}
+use Rattle.controller.specs.StandsFor.{ControllerKeeps}
 use Rattle.tick_context.specs.Lasting.{Lasts, opposed_with}
 use Rattle.tick_context.specs.Passed.{timed, planned_target}
 use Rattle.controller.specs.Passed.{counted, passed, IsReady}
+use Rattle.tick_context.proofs.EvenRuns.{unit_commands-next, next-passed, first-even, rest-even, rest-by, timed-none}
 use Rattle.tick_context.proofs.Again.{free-apart, no-counter, no-target}
 use Rattle.tick_context.proofs.Counted.{counters-head}
 use Rattle.tick_context.proofs.GoesOn.{Goes, tick-goes, frame-goes, goes-alike}
@@ -62,11 +64,10 @@ use Rattle.tick_context.proofs.Passed.{unit_commands-on, after}
 -- the controller with these parts
 abbrev built : Controller → UnitCommands → Frame → ℕ → ℕ → ℕ → Count → Controller
 built c new f a b d count = record c {
-  frame = f;
+  context = record c.context { frame = f; unit_commands = new };
   clocks = record c.clocks { steps = a };
   signals = record c.signals { steps = b };
   preempts = record c.preempts { steps = d };
-  unit_commands = new;
   count = count;
 }
 
@@ -96,30 +97,12 @@ passed-more k j c o new =
     built-same c new _ _
     (c.clocks.steps + k + j) (c.clocks.steps + (k + j)) (c.signals.steps + k + j) (c.signals.steps + (k + j))
     (c.preempts.steps + k + j) (c.preempts.steps + (k + j)) _ _
-    (timed-twice (is_coord c.frame.mode) c.frame (planned_target c.active_pattern.plan o.clock) (planned_target c.active_pattern.plan new.clock) k j c.count refl)
+    (timed-twice (is_coord c.context.frame.mode) c.context.frame (planned_target c.context.active_pattern.plan o.clock) (planned_target c.context.active_pattern.plan new.clock) k j c.count refl)
     (omega arith) (omega arith) (omega arith)
-    (counted-twice (is_coord c.frame.mode) c.frame (c.count.counter + k) (planned_target c.active_pattern.plan o.clock) k j c.count refl)
-
--- the orders on the way
-abbrev unit_commands-at : (k : ℕ) (o : UnitCommands) → o.clock + k < 864000 → UnitCommands
-unit_commands-at k o h = record {
-  command = o.command;
-  since = min (o.since + k) most;
-  clock = o.clock + k;
-  ticks = o.ticks + k;
-  gain = o.gain;
-  lose = o.lose;
-  of_day = h;
-}
-
-at-passed : (k : ℕ) (o : UnitCommands) (h : o.clock + k < 864000) → UnitCommandsPassed k o (unit_commands-at k o h)
-at-passed k o h = record { command = refl; since = refl; clock = refl; ticks = refl; gain = refl; lose = refl }
+    (counted-twice (is_coord c.context.frame.mode) c.context.frame (c.count.counter + k) (planned_target c.context.active_pattern.plan o.clock) k j c.count refl)
 
 timed-same : (f g : Frame) (a b x y : ℕ) → f ≡ g → a ≡ b → x ≡ y → timed true a x f ≡ timed true b y g
 timed-same f g a b x y e h i = rw (e, h, i) refl
-
-timed-none : (f : Frame) (counter target : ℕ) → counter ≡ f.counter → target ≡ f.target → timed true counter target f ≡ f
-timed-none f counter target c t = rw (c, t) refl
 
 -- the counter that is kept is that of the last frame
 count-is : (n : ℕ) (c : Controller) (past : Past) → ControllerKeeps c past → is_in_step (frame_seen past) past.version n ≡ true
@@ -130,21 +113,21 @@ count-is n c past k step =
 
 -- the frame that is kept is that of the tick
 frame-on : (mode : Mode) (j : ℕ) (c : Controller) (new : UnitCommands) (past : Past) → ControllerKeeps c past → Lasts mode (suc j) past → Goes mode past
-    → IsBound c.active_pattern past.tables mode → new.clock ≡ clock_now past
-    → timed (is_coord c.frame.mode) (c.count.counter + 1) (planned_target c.active_pattern.plan new.clock) c.frame ≡ (next_moment past).frame
+    → IsBound c.context.active_pattern past.tables mode → new.clock ≡ clock_now past
+    → timed (is_coord c.context.frame.mode) (c.count.counter + 1) (planned_target c.context.active_pattern.plan new.clock) c.context.frame ≡ (next_moment past).frame
 frame-on Free j c new past k l g bound clock =
-    let was : c.frame.mode ≡ Free = ap (λ (f : Frame). f.mode) k.frame ∙ l.was in
-    ap (λ (b : Bool). timed b (c.count.counter + 1) (planned_target c.active_pattern.plan new.clock) c.frame) (ap is_coord was)
-    ∙ k.frame
+    let was : c.context.frame.mode ≡ Free = ap (λ (f : Frame). f.mode) k.context.frame ∙ l.was in
+    ap (λ (b : Bool). timed b (c.count.counter + 1) (planned_target c.context.active_pattern.plan new.clock) c.context.frame) (ap is_coord was)
+    ∙ k.context.frame
     ∙ sym (frame-goes Free j past l
     ∙ timed-none (frame_seen past) _ _ (no-counter past g.now ∙ sym l.goes.counter) (no-target past g.now ∙ sym l.goes.target))
 frame-on (Coord n) j c new past k l g bound clock =
-    let was : c.frame.mode ≡ Coord n = ap (λ (f : Frame). f.mode) k.frame ∙ l.was in
+    let was : c.context.frame.mode ≡ Coord n = ap (λ (f : Frame). f.mode) k.context.frame ∙ l.was in
     let same = count-is n c past k (step-in (frame_seen past) past.version n l.was l.version) in
     let next = counter-next n j past l.fresh l.goes l.was g.now in
-    ap (λ (b : Bool). timed b (c.count.counter + 1) (planned_target c.active_pattern.plan new.clock) c.frame) (ap is_coord was)
-    ∙ timed-same c.frame (frame_seen past) (c.count.counter + 1) (tick_state_of past).counter
-    (planned_target c.active_pattern.plan new.clock) (tick_state_of past).target k.frame
+    ap (λ (b : Bool). timed b (c.count.counter + 1) (planned_target c.context.active_pattern.plan new.clock) c.context.frame) (ap is_coord was)
+    ∙ timed-same c.context.frame (frame_seen past) (c.count.counter + 1) (tick_state_of past).counter
+    (planned_target c.context.active_pattern.plan new.clock) (tick_state_of past).target k.context.frame
     (ap (λ (x : ℕ). x + 1) same ∙ sym next)
     (ap (λ (x : Plan). planned_target x new.clock) bound.plan ∙ ap (λ (x : ℕ). target_at past.tables n x) clock
     ∙ sym (ap (λ (m : Mode). target_in past.tables m (clock_now past)) g.now))
@@ -178,7 +161,7 @@ counts-coord n j c past k l g =
 
 counts-on : (mode : Mode) (j : ℕ) (c : Controller) (past : Past) → ControllerKeeps c past → Lasts mode (suc j) past → Goes mode past
     → (n : ℕ) → is_in_step (next_moment past).frame past.version n ≡ true
-    → CountsOn (counted (is_coord c.frame.mode) 1 c.count) (with_moment past (next_moment past)) n
+    → CountsOn (counted (is_coord c.context.frame.mode) 1 c.count) (with_moment past (next_moment past)) n
 counts-on Free j c past k l g n st =
     let free : (next_moment past).frame.mode ≡ Free = (goes-alike Free j past l).mode ∙ l.was in
     absurd (false≢true (sym (free-apart (next_moment past).frame past.version n free) ∙ st))
@@ -187,7 +170,7 @@ counts-on (Coord i) j c past k l g n st =
     let is : m.frame.mode ≡ Coord i = (goes-alike (Coord i) j past l).mode ∙ l.was in
     let mine : (i == n) ≡ true =
     ap (λ (x : Mode). same_mode x (Coord n)) (sym is) ∙ (and_parts (same_mode m.frame.mode (Coord n)) (m.frame.version == past.version) st).0 in
-    let coord : is_coord c.frame.mode ≡ true = ap is_coord (ap (λ (f : Frame). f.mode) k.frame ∙ l.was) in
+    let coord : is_coord c.context.frame.mode ≡ true = ap is_coord (ap (λ (f : Frame). f.mode) k.context.frame ∙ l.was) in
     subst (λ (b : Bool). CountsOn (counted b 1 c.count) (with_moment past m) n) (sym coord)
     (subst (λ (x : ℕ). CountsOn (counted true 1 c.count) (with_moment past m) x) ((Decides-eqb i n).0 mine) (counts-coord i j c past k l g))
 counts-on Start j c past k l g n st = absurd l.goes
@@ -200,25 +183,36 @@ counts-on (Dwell i) j c past k l g n st = absurd l.goes
 counts-on (Exit i) j c past k l g n st = absurd l.goes
 
 -- one tick
-pub keeps-on : (mode : Mode) (j : ℕ) (c : Controller) (new : UnitCommands) (past : Past) → UnitCommandsPassed 1 c.unit_commands new → ControllerKeeps c past
-    → Lasts mode (suc j) past → IsReady c mode past → IsEven c.unit_commands past.tables 1 → past.tables.unit.backup ≤ 65535
+pub keeps-on : (mode : Mode) (j : ℕ) (c : Controller) (new : UnitCommands) (past : Past) → UnitCommandsPassed 1 c.context.unit_commands new → ControllerKeeps c past
+    → Lasts mode (suc j) past → IsReady c mode past → IsEven c.context.unit_commands past.tables 1 → past.tables.unit.backup ≤ 65535
     → ControllerKeeps (passed 1 c new) (with_moment past (next_moment past))
 keeps-on mode j c new past by k l ready even few =
     let m : Moment = next_moment past in
     let g = tick-goes mode j past l in
     let a = goes-alike mode j past l in
     let unit_commands : UnitCommandsStand new (with_moment past m) =
-    unit_commands-on c.unit_commands new past m by k.unit_commands (record { number = refl; command = refl; is_commanded = refl; clock = refl }) l.fresh even few in
+    unit_commands-on c.context.unit_commands new past m by k.context.unit_commands (record { number = refl; command = refl; is_commanded = refl; clock = refl }) l.fresh even few in
     let names : NamesPhases m.frame = names-phases m.frame past.tables (colours_of past (moves_seen past)) refl in
     let going : is_start (frame_seen past).mode ≡ false = ap is_start l.was ∙ g.started in
     let still : false ≡ is_start m.frame.mode = sym (ap is_start (a.mode ∙ l.was) ∙ g.started) in
     record {
-      tables = k.tables;
-      layout = k.layout;
-      ordered = k.ordered;
-      version = k.version;
-      frame = frame-on mode j c new past k l g ready.bound unit_commands.clock;
-      calls = calls-on c.calls past m k.calls l.fresh.heard a.veh a.ped refl refl refl;
+      context = record {
+        tables = k.context.tables;
+        layout = k.context.layout;
+        ordered = k.context.ordered;
+        version = k.context.version;
+        frame = frame-on mode j c new past k l g ready.bound unit_commands.clock;
+        calls = calls-on c.context.calls past m k.context.calls l.fresh.heard a.veh a.ped refl refl refl;
+        requests = queue-on c.context.requests past m k.context.requests ready.idle (one-more (moment_seen past).number) g.active;
+        unit_commands = unit_commands;
+        active_pattern = k.context.active_pattern;
+        some = omega arith;
+        names = names;
+        few_start = few-next m past.moments
+            (λ now last. start-again past.tables past.version (command_now past) (preempts_on past.heard (moment_seen past)) past.moments
+            (colours_of past (moves_seen past)) last now);
+        old_frame = same-most past.version;
+      };
       clocks = clocks-on c.clocks ready.tick_inputs.active ready.tick_inputs.opposed past.moments m k.clocks ready.steady a.veh
           (λ p h. ap (λ (x : Mode). is_in (quiet_with (bound x) past) p) g.now ∙ ready.looks.quiet p h)
           (λ p h.
@@ -234,25 +228,17 @@ keeps-on mode j c new past by k l ready even few =
         wide = ap length a.veh ∙ l.wide;
         names = names;
       });
-      requests = queue-on c.requests past m k.requests ready.idle (one-more (moment_seen past).number) g.active;
       shown = subst (λ (veh : List Colour). ShowsColours c.shown veh) (sym a.veh) k.shown;
       walking = λ p h. k.walking p h ∙ ap (λ (ped : List Ped). same_signal (get_or ped (p - 1) Walk) Walk) (sym a.ped);
       signalling = λ p h.
           k.signalling p h
           ∙ ap (λ (ped : List Ped). same_signal (get_or ped (p - 1) Walk) Walk || same_signal (get_or ped (p - 1) Walk) Flashes) (sym a.ped);
-      names = names;
       last = each-ring c.last 0 (λ q. last_on q (m ∷ past.moments))
           (k.last 1 (omega arith) (omega arith) ∙ last-again m past.moments 1 a.on a.mode going l.first)
           (k.last 2 (omega arith) (omega arith) ∙ last-again m past.moments 2 a.on a.mode going l.second);
       latest = k.latest ∙ latest-again m past.moments a.on a.mode going l.first;
       start = k.start ∙ start-zero past.moments going ∙ start-next m past.moments c.start_run false still k.start;
-      few_start = few-next m past.moments
-          (λ now last. start-again past.tables past.version (command_now past) (preempts_on past.heard (moment_seen past)) past.moments
-          (colours_of past (moves_seen past)) last now);
-      unit_commands = unit_commands;
-      active_pattern = k.active_pattern;
       counts = counts-on mode j c past k l g;
-      old_frame = same-most past.version;
     }
 
 ready-on : (mode : Mode) (j : ℕ) (c : Controller) (o : UnitCommands) (past : Past) → Lasts mode (suc j) past → IsReady c mode past
@@ -268,57 +254,20 @@ ready-on mode j c o past l ready =
       bound = ready.bound;
     }
 
-first-even : (j : ℕ) (o : UnitCommands) (t : Tables) → IsEven o t (suc j) → IsEven o t 1
-first-even j o t even = record {
-  clock = omega (arith, even.clock);
-  gain = even.gain;
-  lose = even.lose;
-  few = even.few;
-  command = elim even.command [
-    | inl none ↦ inl none
-    | inr (inl never) ↦ inr (inl never)
-    | inr (inr short) ↦ inr (inr (omega (arith, short)))
-  ];
-}
-
--- of an even run what comes after its first tick is even
-rest-even : (j : ℕ) (o : UnitCommands) (t : Tables) (h : o.clock + 1 < 864000) → IsEven o t (suc j) → IsEven (unit_commands-at 1 o h) t j
-rest-even j o t h even = record {
-  clock = omega (arith, even.clock);
-  gain = even.gain;
-  lose = even.lose;
-  few = even.few;
-  command = elim even.command [
-    | inl none ↦ inl none
-    | inr (inl never) ↦ inr (inl never)
-    | inr (inr short) ↦ inr (inr (omega (arith, short)))
-  ];
-}
-
-rest-by : (j : ℕ) (o new : UnitCommands) (h : o.clock + 1 < 864000) → UnitCommandsPassed (suc j) o new → UnitCommandsPassed j (unit_commands-at 1 o h) new
-rest-by j o new h by = record {
-  command = by.command;
-  since = omega (arith, by.since);
-  clock = omega (arith, by.clock);
-  ticks = omega (arith, by.ticks);
-  gain = by.gain;
-  lose = by.lose;
-}
-
 -- and what is kept stands after all of them
-pub keeps-after : (n : ℕ) (mode : Mode) (c : Controller) (new : UnitCommands) (past : Past) → 0 < n → UnitCommandsPassed n c.unit_commands new → ControllerKeeps c past
-    → Lasts mode n past → IsReady c mode past → IsEven c.unit_commands past.tables n → past.tables.unit.backup ≤ 65535
+pub keeps-after : (n : ℕ) (mode : Mode) (c : Controller) (new : UnitCommands) (past : Past) → 0 < n → UnitCommandsPassed n c.context.unit_commands new → ControllerKeeps c past
+    → Lasts mode n past → IsReady c mode past → IsEven c.context.unit_commands past.tables n → past.tables.unit.backup ≤ 65535
     → ControllerKeeps (passed n c new) (after n past)
 keeps-after zero mode c new past some by k l ready even few = absurd (omega (arith, some))
 keeps-after (suc zero) mode c new past some by k l ready even few = keeps-on mode zero c new past by k l ready even few
 keeps-after (suc (suc j)) mode c new past some by k l ready even few =
-    let day : c.unit_commands.clock + 1 < 864000 = omega (arith, even.clock) in
-    let mid : UnitCommands = unit_commands-at 1 c.unit_commands day in
+    let day : c.context.unit_commands.clock + 1 < 864000 = omega (arith, even.clock) in
+    let mid : UnitCommands = unit_commands-next c.context.unit_commands day in
     let more : 0 < suc j = omega arith in
     let whole : 1 + suc j ≡ suc (suc j) = omega arith in
     let next : Past = with_moment past (next_moment past) in
     let first : ControllerKeeps (passed 1 c mid) next =
-    keeps-on mode (suc j) c mid past (at-passed 1 c.unit_commands day) k l ready (first-even (suc j) c.unit_commands past.tables even) few in
+    keeps-on mode (suc j) c mid past (next-passed c.context.unit_commands day) k l ready (first-even (suc j) c.context.unit_commands past.tables even) few in
     subst (λ (x : Controller). ControllerKeeps x (after (suc j) next)) (passed-more 1 (suc j) c mid new ∙ ap (λ (n : ℕ). passed n c new) whole)
-    (keeps-after (suc j) mode (passed 1 c mid) new next more (rest-by (suc j) c.unit_commands new day by) first (lasts-less mode (suc j) past l)
-    (ready-on mode (suc j) c mid past l ready) (rest-even (suc j) c.unit_commands past.tables day even) few)
+    (keeps-after (suc j) mode (passed 1 c mid) new next more (rest-by (suc j) c.context.unit_commands new day by) first (lasts-less mode (suc j) past l)
+    (ready-on mode (suc j) c mid past l ready) (rest-even (suc j) c.context.unit_commands past.tables day even) few)

@@ -14,10 +14,10 @@ use Rattle.controller.specs.Passed.{passed, IsReady}
 use Rattle.tick_context.proofs.Striding.{more-past}
 use Rattle.controller.proofs.Passed.{keeps-after}
 
-pub keeps-by : (n : ℕ) (mode : Mode) (c new : Controller) (h : History) → 0 < n → new ≡ passed n c new.unit_commands → UnitCommandsPassed n c.unit_commands new.unit_commands
-    → ControllerStands c h → Lasts mode n (past_at h) → IsReady c mode (past_at h) → IsEven c.unit_commands c.tables n → ControllerStands new (ticks_more n h)
+pub keeps-by : (n : ℕ) (mode : Mode) (c new : Controller) (h : History) → 0 < n → new ≡ passed n c new.context.unit_commands → UnitCommandsPassed n c.context.unit_commands new.context.unit_commands
+    → ControllerStands c h → Lasts mode n (past_at h) → IsReady c mode (past_at h) → IsEven c.context.unit_commands c.context.tables n → ControllerStands new (ticks_more n h)
 keeps-by n mode c new h some same by s l ready even =
-    let now : IsEven c.unit_commands (past_at h).tables n = subst (λ (t : Tables). IsEven c.unit_commands t n) s.tables even in
+    let now : IsEven c.context.unit_commands (past_at h).tables n = subst (λ (t : Tables). IsEven c.context.unit_commands t n) s.context.tables even in
     subst (λ (x : Controller). ControllerStands x (ticks_more n h)) (sym same)
-    (subst (λ (p : Past). ControllerKeeps (passed n c new.unit_commands) p) (sym (more-past n h))
-    (keeps-after n mode c new.unit_commands (past_at h) some by s l ready now now.few))
+    (subst (λ (p : Past). ControllerKeeps (passed n c new.context.unit_commands) p) (sym (more-past n h))
+    (keeps-after n mode c new.context.unit_commands (past_at h) some by s l ready now now.few))

@@ -11,4 +11,4 @@ use Rattle.controller.specs.StandsFor.{ControllerKeeps}
 pub record Runs (c : Controller) (k : TickState) (past : Past) : Type 0 where
   pub keeps : ControllerKeeps c past
   pub tick_state : TickStateIs k past
-  pub bound : IsBound c.active_pattern past.tables (mode_seen past)
+  pub bound : IsBound c.context.active_pattern past.tables (mode_seen past)

@@ -33,7 +33,7 @@ impl Controller {
     ghost use Rattle.sig_tables.specs.Ticking.{on_of};
     ghost use Rattle.sig_tables.specs.Decide.{with_moment, next_moment};
     ghost use Rattle.sig_tables.specs.Seen.{frame_seen, mode_seen, pedestrian_seen, demand_with, quiet_seen, opposed_seen};
-    ghost use Rattle.preempt_run.specs.Stands.{preempts_seen};
+    ghost use Rattle.preempt_stages.specs.Inputs.{preempts_seen};
     ghost use Rattle.tick_context.specs.Shows.{is_clearing, is_signalling};
     ghost use Rattle.tick_context.specs.Rests.{IsCurrent, Repeats};
     ghost use Rattle.controller.specs.Runs.{Runs};
@@ -47,14 +47,14 @@ impl Controller {
         ensures free { (past : Past) → ControllerKeeps self.now past → command ≡ command_now past → IsTrue result → mode_seen past ≡ Free }
         ensures beside { (past : Past) → ControllerKeeps self.now past → IsTrue result → preempts_seen past ≡ [] }
     {
-        if !is_free(self.frame.mode) {
+        if !is_free(self.context.frame.mode) {
             false
         } else if !self.preempts.on().is_empty() {
             false
         } else if command == FLASH_COMMAND {
             false
         } else {
-            !is_defined(&self.tables, command)
+            !is_defined(&self.context.tables, command)
         }
     }
 
@@ -66,7 +66,11 @@ impl Controller {
             && ((same_colour (colour_of (frame_seen past) p) Green && not (is_signalling (frame_seen past) p))
             && not (against p))) ≡ false }
     {
-        let called = self.layout.walks.meet(self.calls.pedestrian());
+        let called = self
+            .context
+            .layout
+            .walks
+            .meet(self.context.calls.pedestrian());
         let steady = self.shown.green.minus(self.signalling);
         called.meet(steady.minus(opposed)).is_empty()
     }
@@ -92,13 +96,13 @@ impl Controller {
             → (frame_seen past).on ≡ on_of past.tables (frame_seen past).veh 1 ∷ on_of past.tables (frame_seen past).veh 2 ∷ [] }
     {
         let red = self.shown.red;
-        if self.frame.version != self.version {
+        if self.context.frame.version != self.context.version {
             false
         } else {
             are_on(
-                self.frame.on,
-                self.on_in_ring(red, 1),
-                self.on_in_ring(red, 2),
+                self.context.frame.on,
+                self.context.on_in_ring(red, 1),
+                self.context.on_in_ring(red, 2),
             )
         }
     }
@@ -108,9 +112,9 @@ impl Controller {
     pub(crate) fn is_current(&self) -> bool
         ensures { (past : Past) → ControllerKeeps self.now past → IsTrue result → IsCurrent past }
     {
-        if self.frame.counter != 0 {
+        if self.context.frame.counter != 0 {
             false
-        } else if self.frame.target != 0 {
+        } else if self.context.frame.target != 0 {
             false
         } else {
             self.is_laid_out()
@@ -123,7 +127,7 @@ impl Controller {
             → phases_of demand ≡ demand_with None past → IsTrue result → Repeats past }
         ensures demand { IsTrue result → phases_of demand ≡ [] }
     {
-        shows_sixteen(self.frame);
+        shows_sixteen(self.context.frame);
         if !demand.is_empty() {
             false
         } else if !self.is_settled() {
@@ -133,21 +137,22 @@ impl Controller {
         } else if !self.is_current() {
             false
         } else {
-            are_both_on(self.frame.on)
+            are_both_on(self.context.frame.on)
         }
     }
 
     /// A tick at rest, with this pattern in command.
     pub(crate) fn rest(&mut self, command: u8) -> Frame
         requires few { tick_count self.old < 4294967295 }
-        ensures again { result ≡ self.old.frame }
+        ensures again { result ≡ self.old.context.frame }
         ensures keeps { (past : Past) → ControllerKeeps self.old past → preempts_seen past ≡ [] → command ≡ command_now past → demand_with None past ≡ []
             → Repeats past → ControllerKeeps self.new (with_moment past (next_moment past)) }
         ensures ticks { tick_count self.new ≡ tick_count self.old + 1 }
         ensures installs { install_count self.new ≡ install_count self.old }
     {
-        let clock = self.unit_commands.clock_now();
-        let active = self.calls.active(&self.layout, None);
+        let context = &self.context;
+        let clock = context.unit_commands.clock_now();
+        let active = context.calls.active(&context.layout, None);
         self.repeat(command, clock, active, PhaseSet::empty())
     }
 
@@ -158,7 +163,7 @@ impl Controller {
         ensures repeats { (past : Past) → ControllerKeeps self.now past → Sees tick_inputs.now past → (frame_seen past).mode ≡ Free → mode_seen past ≡ Free
             → IsTrue result → Repeats past }
     {
-        shows_sixteen(self.frame);
+        shows_sixteen(self.context.frame);
         if !self.clears_on() {
             false
         } else if !self.is_uncalled(tick_inputs.opposed) {
@@ -170,7 +175,7 @@ impl Controller {
         } else if !self.is_current() {
             false
         } else {
-            are_both_on(self.frame.on)
+            are_both_on(self.context.frame.on)
         }
     }
 
@@ -181,16 +186,16 @@ impl Controller {
             → mode_seen past ≡ Free → IsTrue result → Repeats past }
     {
         let moves = self.moves(tick_state, tick_inputs);
-        if !self.is_still(&self.frame.veh, moves) {
+        if !self.is_still(&self.context.frame.veh, moves) {
             return false;
         }
         let walks = self.walks(tick_state, tick_inputs, moves, Mode::Free);
-        if !self.is_steady(tick_state, &self.frame.ped, walks) {
+        if !self.is_steady(tick_state, &self.context.frame.ped, walks) {
             false
         } else if !self.is_current() {
             false
         } else {
-            are_both_on(self.frame.on)
+            are_both_on(self.context.frame.on)
         }
     }
 
@@ -205,20 +210,26 @@ impl Controller {
     ) -> Frame
         requires few { tick_count self.old < 4294967295 }
         requires of_day { clock < 864000 }
-        ensures again { result ≡ self.old.frame }
+        ensures again { result ≡ self.old.context.frame }
         ensures keeps { (past : Past) → ControllerKeeps self.old past → preempts_seen past ≡ [] → command ≡ command_now past → clock ≡ clock_now past
             → ((p : ℕ) → is_phase p ≡ true → is_in (quiet_seen past) p ≡ (is_green (frame_seen past) p && not (has active p)))
             → Has opposed (is_in (opposed_seen past)) → Repeats past → ControllerKeeps self.new (with_moment past (next_moment past)) }
         ensures ticks { tick_count self.new ≡ tick_count self.old + 1 }
         ensures installs { install_count self.new ≡ install_count self.old }
     {
-        self.calls.step(self.shown.green, self.walking);
-        self.clocks
-            .step(&self.frame, true, active, opposed, &self.tables);
-        self.signals.step(&self.frame, true, &self.tables);
+        self.context.calls.step(self.shown.green, self.walking);
+        self.clocks.step(
+            &self.context.frame,
+            true,
+            active,
+            opposed,
+            &self.context.tables,
+        );
+        self.signals
+            .step(&self.context.frame, true, &self.context.tables);
         self.preempts.stay();
-        self.requests.step(None);
-        self.unit_commands.step(command, clock);
-        self.frame
+        self.context.requests.step(None);
+        self.context.unit_commands.step(command, clock);
+        self.context.frame
     }
 }

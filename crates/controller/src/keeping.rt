@@ -70,7 +70,8 @@ impl Controller {
     ghost use Rattle.tick_context.specs.Sees.{Sees};
     ghost use Rattle.sig_tables.specs.Choosing.{is_in_step};
     ghost use Rattle.coord_count.specs.Stands.{CountStands};
-    ghost use Rattle.controller.specs.StandsFor.{ControllerKeeps, CountsOn, tick_count, install_count};
+    ghost use Rattle.tick_context.specs.Context.{CountsOn};
+    ghost use Rattle.controller.specs.StandsFor.{ControllerKeeps, tick_count, install_count};
 
     /// The phases that show Walk; the set that is kept, where every phase keeps its signal.
     fn walking_in(&self, next: &Next) -> PhaseSet
@@ -117,7 +118,7 @@ impl Controller {
         }
     }
 
-    /// ControllerKeeps the frame of this tick.
+    /// Keeps the frame of this tick.
     pub(crate) fn keep(&mut self, next: &Next, tick_state: &TickState, tick_inputs: &TickInputs)
         requires few { tick_count self.old < 4294967295 }
         requires of_day { tick_state.now.clock < 864000 }
@@ -131,18 +132,20 @@ impl Controller {
         let walking = self.walking_in(next);
         let signalling = self.signalling_in(next, walking);
         let count = self.count_after(frame, tick_state);
-        self.calls.step(next.shown.green, walking);
+        self.context.calls.step(next.shown.green, walking);
         self.clocks.step(
             frame,
             next.keeps_colours,
             tick_inputs.active,
             tick_inputs.opposed,
-            &self.tables,
+            &self.context.tables,
         );
-        self.signals.step(frame, next.keeps_signals, &self.tables);
+        self.signals
+            .step(frame, next.keeps_signals, &self.context.tables);
         self.preempts.step(frame);
-        self.requests.step(tick_state.active);
-        self.unit_commands
+        self.context.requests.step(tick_state.active);
+        self.context
+            .unit_commands
             .step(tick_state.command, tick_state.clock);
         self.count = count;
         self.shown = next.shown;
@@ -154,6 +157,6 @@ impl Controller {
         ];
         self.latest = latest_after(self.latest, frame.on, in_start);
         self.start_run = start_run_after(self.start_run, in_start);
-        self.frame = *frame;
+        self.context.frame = *frame;
     }
 }

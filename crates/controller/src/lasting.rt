@@ -15,7 +15,7 @@ impl Controller {
     ghost use Rattle.sig_tables.specs.Calls.{is_green};
     ghost use Rattle.sig_tables.specs.Modes.{bound};
     ghost use Rattle.sig_tables.specs.Seen.{frame_seen, demand_with, quiet_with};
-    ghost use Rattle.ped_clock.specs.Passed.{SignalLasts};
+    ghost use Rattle.call_store.specs.Signals.{SignalLasts};
     ghost use Rattle.tick_context.specs.Binds.{ActivePatternIs, IsBound};
     ghost use Rattle.tick_context.specs.Lasting.{Looks, ColourLasts, StaysUnserved, HasNoGap, HasNoMaximum, ComesBefore, HasNoReason, StaysUnforced, PhaseLasts, opposed_with};
     ghost use Rattle.controller.specs.StandsFor.{ControllerKeeps, tick_count};
@@ -28,7 +28,7 @@ impl Controller {
         ensures left { (past : Past) (k : ℕ) → ControllerKeeps self.now past → 0 < k → k ≤ result
             → ColourLasts k phase past.tables past.moments (colour_of (frame_seen past) phase) }
     {
-        match self.frame.veh[phase as usize - 1] {
+        match self.context.frame.veh[phase as usize - 1] {
             Colour::Green => u32::MAX,
             Colour::Red => u32::MAX,
             Colour::Yellow => {
@@ -50,7 +50,8 @@ impl Controller {
         ensures left { (past : Past) (k : ℕ) → ControllerKeeps self.now past → 0 < k → k ≤ result
             → SignalLasts k phase past.tables past.moments (signal_of (frame_seen past) phase) }
     {
-        self.signals.left(phase, self.frame.ped[phase as usize - 1])
+        self.signals
+            .left(phase, self.context.frame.ped[phase as usize - 1])
     }
 
     /// For how many ticks more a Green phase, 1 to 16, is not served. While it shows Walk or Flash it is not.
@@ -79,7 +80,7 @@ impl Controller {
         if active {
             u32::MAX
         } else {
-            let gap = u32::from(self.tables.phase(phase).passage.max(1));
+            let gap = u32::from(self.context.tables.phase(phase).passage.max(1));
             (gap - 1).saturating_sub(self.clocks.quiet(phase))
         }
     }
@@ -91,7 +92,7 @@ impl Controller {
         ensures left { (past : Past) (o : Option ℕ) (k : ℕ) → ControllerKeeps self.now past → opposed ≡ is_in (opposed_with o past) phase → 0 < k → k ≤ result
             → HasNoMaximum o k past phase }
     {
-        let maximum = 10 * u32::from(self.tables.phase(phase).maximum);
+        let maximum = 10 * u32::from(self.context.tables.phase(phase).maximum);
         if maximum == 0 {
             0
         } else if opposed {
@@ -105,23 +106,25 @@ impl Controller {
     fn force_left(&self, phase: u8) -> u32
         requires above { 0 < phase }
         requires within { phase ≤ 16 }
-        ensures left { (past : Past) (n k : ℕ) → ControllerKeeps self.now past → ActivePatternIs self.now.active_pattern past.tables n → 0 < k → k ≤ result
+        ensures left { (past : Past) (n k : ℕ) → ControllerKeeps self.now past → ActivePatternIs self.now.context.active_pattern past.tables n → 0 < k → k ≤ result
             → ComesBefore n k past phase }
     {
-        let force = self.active_pattern.plan.force[phase as usize - 1];
-        force.saturating_sub(1).saturating_sub(self.frame.counter)
+        let force = self.context.active_pattern.plan.force[phase as usize - 1];
+        force
+            .saturating_sub(1)
+            .saturating_sub(self.context.frame.counter)
     }
 
     /// For how many ticks more there is no reason to end a Green phase, 1 to 16, where the pattern that is kept binds.
     fn bound_left(&self, phase: u8, active: bool) -> u32
         requires above { 0 < phase }
         requires within { phase ≤ 16 }
-        ensures left { (past : Past) (n k : ℕ) → ControllerKeeps self.now past → ActivePatternIs self.now.active_pattern past.tables n
+        ensures left { (past : Past) (n k : ℕ) → ControllerKeeps self.now past → ActivePatternIs self.now.context.active_pattern past.tables n
             → active ≡ not (is_in (quiet_with (Some n) past) phase) → 0 < k → k ≤ result → HasNoReason (Some n) k past phase }
     {
-        if self.active_pattern.options.coordinated.has(phase) {
+        if self.context.active_pattern.options.coordinated.has(phase) {
             self.force_left(phase)
-        } else if self.active_pattern.plan.floating {
+        } else if self.context.active_pattern.plan.floating {
             0
         } else {
             self.gap_left(phase, active)
@@ -143,12 +146,12 @@ impl Controller {
     fn reason_left(&self, phase: u8, active: bool, opposed: bool) -> u32
         requires above { 0 < phase }
         requires within { phase ≤ 16 }
-        ensures left { (past : Past) (k : ℕ) → ControllerKeeps self.now past → IsBound self.now.active_pattern past.tables self.now.frame.mode
-            → active ≡ not (is_in (quiet_with (bound self.now.frame.mode) past) phase)
-            → opposed ≡ is_in (opposed_with (bound self.now.frame.mode) past) phase → 0 < k → k ≤ result
-            → HasNoReason (bound self.now.frame.mode) k past phase }
+        ensures left { (past : Past) (k : ℕ) → ControllerKeeps self.now past → IsBound self.now.context.active_pattern past.tables self.now.context.frame.mode
+            → active ≡ not (is_in (quiet_with (bound self.now.context.frame.mode) past) phase)
+            → opposed ≡ is_in (opposed_with (bound self.now.context.frame.mode) past) phase → 0 < k → k ≤ result
+            → HasNoReason (bound self.now.context.frame.mode) k past phase }
     {
-        if is_coord(self.frame.mode) {
+        if is_coord(self.context.frame.mode) {
             self.bound_left(phase, active)
         } else {
             self.unbound_left(phase, active, opposed)
@@ -159,12 +162,12 @@ impl Controller {
     fn unforced_left(&self, phase: u8) -> u32
         requires above { 0 < phase }
         requires within { phase ≤ 16 }
-        ensures left { (past : Past) (k : ℕ) → ControllerKeeps self.now past → IsBound self.now.active_pattern past.tables self.now.frame.mode → 0 < k → k ≤ result
-            → StaysUnforced (bound self.now.frame.mode) k past phase }
+        ensures left { (past : Past) (k : ℕ) → ControllerKeeps self.now past → IsBound self.now.context.active_pattern past.tables self.now.context.frame.mode → 0 < k → k ≤ result
+            → StaysUnforced (bound self.now.context.frame.mode) k past phase }
     {
-        if !is_coord(self.frame.mode) {
+        if !is_coord(self.context.frame.mode) {
             u32::MAX
-        } else if self.active_pattern.options.coordinated.has(phase) {
+        } else if self.context.active_pattern.options.coordinated.has(phase) {
             u32::MAX
         } else {
             self.force_left(phase)
@@ -176,9 +179,9 @@ impl Controller {
         requires above { 0 < phase }
         requires within { phase ≤ 16 }
         requires few { tick_count self.now < 4294967295 }
-        ensures left { (past : Past) (k : ℕ) → ControllerKeeps self.now past → IsBound self.now.active_pattern past.tables self.now.frame.mode
-            → Looks (bound self.now.frame.mode) tick_inputs.now past → is_green (frame_seen past) phase ≡ true → 0 < k → k ≤ result
-            → StaysUnserved k past phase ⊎ HasNoReason (bound self.now.frame.mode) k past phase }
+        ensures left { (past : Past) (k : ℕ) → ControllerKeeps self.now past → IsBound self.now.context.active_pattern past.tables self.now.context.frame.mode
+            → Looks (bound self.now.context.frame.mode) tick_inputs.now past → is_green (frame_seen past) phase ≡ true → 0 < k → k ≤ result
+            → StaysUnserved k past phase ⊎ HasNoReason (bound self.now.context.frame.mode) k past phase }
     {
         let unserved = self.unserved_left(phase);
         let active = tick_inputs.active.has(phase);
@@ -192,14 +195,14 @@ impl Controller {
         requires above { 0 < phase }
         requires within { phase ≤ 16 }
         requires few { tick_count self.now < 4294967295 }
-        ensures unforced { (past : Past) (k : ℕ) → ControllerKeeps self.now past → IsBound self.now.active_pattern past.tables self.now.frame.mode
+        ensures unforced { (past : Past) (k : ℕ) → ControllerKeeps self.now past → IsBound self.now.context.active_pattern past.tables self.now.context.frame.mode
             → (is_enabled past.tables phase && is_green (frame_seen past) phase) ≡ true → 0 < k → k ≤ result
-            → StaysUnforced (bound self.now.frame.mode) k past phase }
-        ensures stays { (past : Past) (k : ℕ) → ControllerKeeps self.now past → IsBound self.now.active_pattern past.tables self.now.frame.mode
-            → Looks (bound self.now.frame.mode) tick_inputs.now past
+            → StaysUnforced (bound self.now.context.frame.mode) k past phase }
+        ensures stays { (past : Past) (k : ℕ) → ControllerKeeps self.now past → IsBound self.now.context.active_pattern past.tables self.now.context.frame.mode
+            → Looks (bound self.now.context.frame.mode) tick_inputs.now past
             → (is_enabled past.tables phase && is_green (frame_seen past) phase) ≡ true → 0 < k → k ≤ result
-            → (demand_with (bound self.now.frame.mode) past ≡ [])
-            ⊎ (StaysUnserved k past phase ⊎ HasNoReason (bound self.now.frame.mode) k past phase) }
+            → (demand_with (bound self.now.context.frame.mode) past ≡ [])
+            ⊎ (StaysUnserved k past phase ⊎ HasNoReason (bound self.now.context.frame.mode) k past phase) }
     {
         if !self.shown.green.has(phase) {
             return u32::MAX;
@@ -217,8 +220,8 @@ impl Controller {
         requires above { 0 < phase }
         requires within { phase ≤ 16 }
         requires few { tick_count self.now < 4294967295 }
-        ensures left { (past : Past) (k : ℕ) → ControllerKeeps self.now past → IsBound self.now.active_pattern past.tables self.now.frame.mode
-            → Looks (bound self.now.frame.mode) tick_inputs.now past → 0 < k → k ≤ result → PhaseLasts (bound self.now.frame.mode) k past phase }
+        ensures left { (past : Past) (k : ℕ) → ControllerKeeps self.now past → IsBound self.now.context.active_pattern past.tables self.now.context.frame.mode
+            → Looks (bound self.now.context.frame.mode) tick_inputs.now past → 0 < k → k ≤ result → PhaseLasts (bound self.now.context.frame.mode) k past phase }
     {
         let colour = self.colour_left(phase);
         let signal = self.signal_left(phase);
@@ -228,9 +231,9 @@ impl Controller {
     /// The same of what may be no phase: that goes on for ever.
     fn place_left(&self, tick_inputs: &TickInputs, phase: u8) -> u32
         requires few { tick_count self.now < 4294967295 }
-        ensures left { (past : Past) (k : ℕ) → ControllerKeeps self.now past → IsBound self.now.active_pattern past.tables self.now.frame.mode
-            → Looks (bound self.now.frame.mode) tick_inputs.now past → 0 < k → k ≤ result → is_phase phase ≡ true
-            → PhaseLasts (bound self.now.frame.mode) k past phase }
+        ensures left { (past : Past) (k : ℕ) → ControllerKeeps self.now past → IsBound self.now.context.active_pattern past.tables self.now.context.frame.mode
+            → Looks (bound self.now.context.frame.mode) tick_inputs.now past → 0 < k → k ≤ result → is_phase phase ≡ true
+            → PhaseLasts (bound self.now.context.frame.mode) k past phase }
     {
         if phase == 0 {
             u32::MAX
@@ -245,11 +248,11 @@ impl Controller {
     /// another is on, or shows Walk or Flash, this says none.
     pub(crate) fn phases_left(&self, tick_inputs: &TickInputs) -> u32
         requires few { tick_count self.now < 4294967295 }
-        ensures left { (past : Past) (k p : ℕ) → ControllerKeeps self.now past → IsBound self.now.active_pattern past.tables self.now.frame.mode
-            → Looks (bound self.now.frame.mode) tick_inputs.now past → 0 < k → k ≤ result → is_phase p ≡ true
-            → PhaseLasts (bound self.now.frame.mode) k past p }
+        ensures left { (past : Past) (k p : ℕ) → ControllerKeeps self.now past → IsBound self.now.context.active_pattern past.tables self.now.context.frame.mode
+            → Looks (bound self.now.context.frame.mode) tick_inputs.now past → 0 < k → k ≤ result → is_phase p ≡ true
+            → PhaseLasts (bound self.now.context.frame.mode) k past p }
     {
-        let [first, second] = self.frame.on;
+        let [first, second] = self.context.frame.on;
         let lit = self.shown.green.union(self.shown.clearing);
         let busy = lit.union(self.signalling);
         if busy.minus(lone(first)).minus(lone(second)).is_empty() {

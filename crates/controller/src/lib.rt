@@ -6,15 +6,13 @@
 
 ghost use Rattle.std.specs.Prelude.{◌≡◌, ◌<◌, ◌≤◌, ◌+◌};
 
-use call_store::Calls;
 use coord_count::Count;
 use ped_clock::PedClocks;
 use phase_clock::Clocks;
 use preempt_run::Preempts;
-use prio_queue::Queue;
-use sig_tables::{Layout, Shown, Tables};
+use sig_tables::{Shown, Tables};
 use sig_types::{Field, Frame, PhaseSet, Request};
-use tick_context::{ActivePattern, UnitCommands, first_frame, is_flash};
+use tick_context::{TickContext, first_frame, is_flash};
 
 mod at_rest;
 mod by_colour;
@@ -36,15 +34,11 @@ use by_colour::ByColour;
 /// What a controller keeps between ticks.
 #[derive(Drop)]
 pub struct Controller {
-    tables: Tables,
-    layout: Layout,
-    version: u32,
-    frame: Frame,
-    calls: Calls,
+    /// The tables in force, the last frame, and what was told.
+    context: TickContext,
     clocks: Clocks,
     signals: PedClocks,
     preempts: Preempts,
-    requests: Queue,
     /// The phases by the colour that the last frame shows.
     shown: ByColour,
     /// The phases on which the last frame shows Walk, and those on which it shows Walk or Flash.
@@ -56,14 +50,8 @@ pub struct Controller {
     latest: u8,
     /// For how many frames in a row the cabinet has been in Start.
     start_run: u32,
-    /// The pattern in command, the clock and its drift.
-    unit_commands: UnitCommands,
-    /// The pattern that was sought or in step last.
-    active_pattern: ActivePattern,
-    /// The counter of its cycle.
+    /// The counter of the cycle of the pattern that was sought or in step last.
     count: Count,
-    ghost adds: { 0 < tables.unit.add },
-    ghost subtracts: { 0 < tables.unit.subtract },
 }
 
 impl Controller {
@@ -85,25 +73,17 @@ impl Controller {
         ensures ticks { tick_count result ≡ 0 }
         ensures installs { install_count result ≡ 0 }
     {
-        let layout = Layout::of(&tables, 1);
         Controller {
-            layout,
-            active_pattern: ActivePattern::none(&tables, layout),
-            tables,
-            version: 0,
-            frame: first_frame(),
-            calls: Calls::new(),
+            context: TickContext::open(tables, command, clock),
             clocks: Clocks::new(),
             signals: PedClocks::new(),
             preempts: Preempts::new(),
-            requests: Queue::new(),
             shown: ByColour::of(&first_frame().veh),
             walking: PhaseSet::empty(),
             signalling: PhaseSet::empty(),
             last: [0; 2],
             latest: 0,
             start_run: 1,
-            unit_commands: UnitCommands::of(command, clock),
             count: Count::new(),
         }
     }
@@ -116,7 +96,7 @@ impl Controller {
         ensures counted { tick_count self.new ≡ tick_count self.old + 1 }
         ensures installs { install_count self.new ≡ install_count self.old }
     {
-        let command = self.commanded();
+        let command = self.context.command_now();
         if self.stays_free(command) {
             self.tick_free(command)
         } else {
@@ -132,7 +112,7 @@ impl Controller {
         ensures counted { tick_count self.new ≡ tick_count self.old }
         ensures installs { install_count self.new ≡ install_count self.old }
     {
-        self.calls.input(field, &self.layout, &self.frame);
+        self.context.input(field);
         match field {
             Field::Veh { .. } => {}
             Field::Ped { .. } => {}
@@ -149,10 +129,7 @@ impl Controller {
         ensures counted { tick_count self.new ≡ tick_count self.old }
         ensures installs { install_count self.new ≡ install_count self.old + 1 }
     {
-        self.layout = Layout::of(&tables, 1);
-        self.active_pattern = ActivePattern::none(&tables, self.layout);
-        self.tables = tables;
-        self.version += 1;
+        self.context.install(tables);
     }
 
     /// Commands a pattern, 0 to 255; it counts from the next tick on, and of several between two ticks the last one does.
@@ -161,7 +138,7 @@ impl Controller {
         ensures counted { tick_count self.new ≡ tick_count self.old }
         ensures installs { install_count self.new ≡ install_count self.old }
     {
-        self.unit_commands.pattern(command);
+        self.context.pattern(command);
     }
 
     /// Sets the clock, in ticks of the day.
@@ -171,7 +148,7 @@ impl Controller {
         ensures counted { tick_count self.new ≡ tick_count self.old }
         ensures installs { install_count self.new ≡ install_count self.old }
     {
-        self.unit_commands.set_clock(time);
+        self.context.set_clock(time);
     }
 
     /// Sets the drift of the clock: after how many ticks each time it gains one more, and after how many it loses one; 0
@@ -181,7 +158,7 @@ impl Controller {
         ensures counted { tick_count self.new ≡ tick_count self.old }
         ensures installs { install_count self.new ≡ install_count self.old }
     {
-        self.unit_commands.drift(gain, lose);
+        self.context.drift(gain, lose);
     }
 
     /// A priority request (NTCIP 1211), whose number is 1 to 10. It replaces the one of its number.
@@ -192,8 +169,7 @@ impl Controller {
         ensures counted { tick_count self.new ≡ tick_count self.old }
         ensures installs { install_count self.new ≡ install_count self.old }
     {
-        let ticks = self.unit_commands.ticks();
-        self.requests.request(request, ticks);
+        self.context.request(request);
     }
 
     /// Cancels the priority request of a number, 1 to 10.
@@ -204,43 +180,34 @@ impl Controller {
         ensures counted { tick_count self.new ≡ tick_count self.old }
         ensures installs { install_count self.new ≡ install_count self.old }
     {
-        let ticks = self.unit_commands.ticks();
-        self.requests.cancel(number, ticks);
+        self.context.cancel(number);
     }
 
     /// The tables in force.
     pub fn tables(&self) -> &Tables
         ensures tables { (h : History) → ControllerStands self.now h → result.now ≡ (past_at h).tables }
     {
-        &self.tables
+        &self.context.tables
     }
 
     /// The last frame; before any tick, that of Start.
     pub fn frame(&self) -> Frame
         ensures frame { (h : History) → ControllerStands self.now h → result ≡ last_frame_of h }
     {
-        self.frame
+        self.context.frame
     }
 
     /// Whether the cabinet flashes: its last frame is in Flash.
     pub fn flashing(&self) -> bool
         ensures flashing { (h : History) → ControllerStands self.now h → result ≡ is_flash (last_frame_of h).mode }
     {
-        is_flash(self.frame.mode)
+        is_flash(self.context.frame.mode)
     }
 
     /// What the cabinet shows to management software.
     pub fn shown(&self) -> Shown
         ensures shown { (h : History) → ControllerStands self.now h → ShownAfter result (past_at h) }
     {
-        Shown {
-            frame: self.frame,
-            command: self.unit_commands.command(),
-            clock: self.unit_commands.clock(),
-            veh_calls: self.calls.vehicle(),
-            ped_calls: self.calls.pedestrian(),
-            requests: self.requests.states(self.unit_commands.ticks()),
-            version: self.version,
-        }
+        self.context.shown()
     }
 }

@@ -22,7 +22,7 @@ impl Controller {
     ghost use Rattle.tick_context.specs.Modes.{is_coord};
     ghost use Rattle.sig_tables.specs.Past.{Past};
     ghost use Rattle.sig_tables.specs.Layout.{Has};
-    ghost use Rattle.preempt_run.specs.Stands.{preempts_seen};
+    ghost use Rattle.preempt_stages.specs.Inputs.{preempts_seen};
     ghost use Rattle.pattern_plan.specs.Options.{AreActivePattern};
     ghost use Rattle.tick_context.specs.Binds.{ActivePatternIs, IsBound};
     ghost use Rattle.tick_context.specs.Lasting.{IsFresh, Looks, StaysFree, StaysInStep, ModeLasts, Lasts, opposed_with};
@@ -31,15 +31,15 @@ impl Controller {
 
     /// Whether the pattern that the last frame is in step with, if it is with one, is the one that is kept.
     fn is_bound(&self) -> bool
-        ensures { (past : Past) → ControllerKeeps self.now past → IsTrue result → IsBound self.now.active_pattern past.tables self.now.frame.mode }
+        ensures { (past : Past) → ControllerKeeps self.now past → IsTrue result → IsBound self.now.context.active_pattern past.tables self.now.context.frame.mode }
     {
-        match self.frame.mode {
+        match self.context.frame.mode {
             Mode::Free => true,
             Mode::Coord(pattern) => {
                 if pattern == 0 {
                     false
                 } else {
-                    pattern == self.active_pattern.pattern
+                    pattern == self.context.active_pattern.pattern
                 }
             }
             _ => false,
@@ -48,11 +48,11 @@ impl Controller {
 
     /// What the split of the pattern asks that the last frame is in step with; none where it is with none.
     fn options_kept(&self) -> Option<&SplitOptions>
-        ensures options { (past : Past) → IsBound self.now.active_pattern past.tables self.now.frame.mode
-            → AreActivePattern result (bound self.now.frame.mode) past.tables }
+        ensures options { (past : Past) → IsBound self.now.context.active_pattern past.tables self.now.context.frame.mode
+            → AreActivePattern result (bound self.now.context.frame.mode) past.tables }
     {
-        if is_coord(self.frame.mode) {
-            Some(&self.active_pattern.options)
+        if is_coord(self.context.frame.mode) {
+            Some(&self.context.active_pattern.options)
         } else {
             None
         }
@@ -60,12 +60,15 @@ impl Controller {
 
     /// What is seen of the phases, where the mode goes on.
     fn tick_inputs_kept(&self) -> TickInputs
-        ensures looks { (past : Past) → ControllerKeeps self.now past → IsBound self.now.active_pattern past.tables self.now.frame.mode
-            → Looks (bound self.now.frame.mode) result past }
+        ensures looks { (past : Past) → ControllerKeeps self.now past → IsBound self.now.context.active_pattern past.tables self.now.context.frame.mode
+            → Looks (bound self.now.context.frame.mode) result past }
     {
         let options = self.options_kept();
-        let active = self.calls.active(&self.layout, options);
-        let demand = self.calls.demand(&self.layout, self.shown.red, options);
+        let active = self.context.calls.active(&self.context.layout, options);
+        let demand = self
+            .context
+            .calls
+            .demand(&self.context.layout, self.shown.red, options);
         TickInputs {
             demand,
             active,
@@ -75,12 +78,12 @@ impl Controller {
 
     /// Whether no register moves at ticks that see this and show what the last frame shows, beside those that count.
     fn is_ready(&self, tick_inputs: &TickInputs) -> bool
-        ensures ready { (past : Past) → IsBound self.now.active_pattern past.tables self.now.frame.mode
-            → Looks (bound self.now.frame.mode) tick_inputs.now past → IsTrue result → IsReady self.now self.now.frame.mode past }
+        ensures ready { (past : Past) → IsBound self.now.context.active_pattern past.tables self.now.context.frame.mode
+            → Looks (bound self.now.context.frame.mode) tick_inputs.now past → IsTrue result → IsReady self.now self.now.context.frame.mode past }
     {
         if !self.preempts.is_clear() {
             false
-        } else if !self.requests.is_idle() {
+        } else if !self.context.requests.is_idle() {
             false
         } else {
             self.clocks
@@ -93,14 +96,14 @@ impl Controller {
         ensures { (past : Past) → ControllerKeeps self.now past → IsFresh past → Has opposed (is_in (opposed_with None past)) → IsTrue result
             → StaysFree past }
     {
-        let command = self.unit_commands.command();
+        let command = self.context.unit_commands.command();
         if command == FLASH_COMMAND {
             false
-        } else if is_defined(&self.tables, command) {
+        } else if is_defined(&self.context.tables, command) {
             false
-        } else if self.frame.counter != 0 {
+        } else if self.context.frame.counter != 0 {
             false
-        } else if self.frame.target != 0 {
+        } else if self.context.frame.target != 0 {
             false
         } else {
             self.is_uncalled(opposed)
@@ -110,20 +113,25 @@ impl Controller {
     /// For how many ticks more the counter of the pattern that is kept goes on as time does, before the end of its cycle. While
     /// it is to be corrected this says none.
     fn counter_left(&self) -> u32
-        ensures cycle { (past : Past) (n k : ℕ) → ControllerKeeps self.now past → ActivePatternIs self.now.active_pattern past.tables n → 0 < k → k ≤ result
-            → self.now.frame.counter + k < cycle_time past.tables n }
-        ensures even { (past : Past) (n : ℕ) → ControllerKeeps self.now past → ActivePatternIs self.now.active_pattern past.tables n → IsFresh past → 0 < result
-            → (window past.tables n ≤ self.now.frame.counter)
-            ⊎ (target_at past.tables n (moment_seen past).clock ≡ self.now.frame.counter) }
+        ensures cycle { (past : Past) (n k : ℕ) → ControllerKeeps self.now past → ActivePatternIs self.now.context.active_pattern past.tables n → 0 < k → k ≤ result
+            → self.now.context.frame.counter + k < cycle_time past.tables n }
+        ensures even { (past : Past) (n : ℕ) → ControllerKeeps self.now past → ActivePatternIs self.now.context.active_pattern past.tables n → IsFresh past → 0 < result
+            → (window past.tables n ≤ self.now.context.frame.counter)
+            ⊎ (target_at past.tables n (moment_seen past).clock ≡ self.now.context.frame.counter) }
         ensures room { 0 < result → counter_of self.now.count + result ≤ 4294967295 }
     {
         let counter = self.count.counter();
-        let left = (self.active_pattern.plan.cycle - 1).saturating_sub(counter);
-        if self.frame.counter != counter {
+        let left = (self.context.active_pattern.plan.cycle - 1).saturating_sub(counter);
+        if self.context.frame.counter != counter {
             0
-        } else if self.active_pattern.plan.window <= counter {
+        } else if self.context.active_pattern.plan.window <= counter {
             left
-        } else if self.active_pattern.target(self.unit_commands.clock()) == counter {
+        } else if self
+            .context
+            .active_pattern
+            .target(self.context.unit_commands.clock())
+            == counter
+        {
             left
         } else {
             0
@@ -133,15 +141,19 @@ impl Controller {
     /// For how many ticks more the cabinet stays in step with this pattern, which is the one that is kept, and the counter goes
     /// on as time does.
     fn step_left(&self, pattern: u8) -> u32
-        ensures left { (past : Past) (k : ℕ) → ControllerKeeps self.now past → ActivePatternIs self.now.active_pattern past.tables pattern → IsFresh past
+        ensures left { (past : Past) (k : ℕ) → ControllerKeeps self.now past → ActivePatternIs self.now.context.active_pattern past.tables pattern → IsFresh past
             → GoesEvenly self.now k → 0 < k → k ≤ result → StaysInStep pattern k past }
         ensures room { 0 < result → counter_of self.now.count + result ≤ 4294967295 }
     {
-        if self.unit_commands.command() != pattern {
+        if self.context.unit_commands.command() != pattern {
             0
-        } else if !is_defined(&self.tables, pattern) {
+        } else if !is_defined(&self.context.tables, pattern) {
             0
-        } else if !self.requests.is_over(self.unit_commands.ticks()) {
+        } else if !self
+            .context
+            .requests
+            .is_over(self.context.unit_commands.ticks())
+        {
             0
         } else {
             self.counter_left()
@@ -150,12 +162,12 @@ impl Controller {
 
     /// For how many ticks more the mode goes on, where these phases are opposed.
     fn mode_left(&self, opposed: PhaseSet) -> u32
-        ensures left { (past : Past) (k : ℕ) → ControllerKeeps self.now past → IsBound self.now.active_pattern past.tables self.now.frame.mode → IsFresh past
-            → GoesEvenly self.now k → Has opposed (is_in (opposed_with (bound self.now.frame.mode) past)) → 0 < k → k ≤ result
-            → ModeLasts self.now.frame.mode k past }
-        ensures room { is_coord self.now.frame.mode ≡ true → 0 < result → counter_of self.now.count + result ≤ 4294967295 }
+        ensures left { (past : Past) (k : ℕ) → ControllerKeeps self.now past → IsBound self.now.context.active_pattern past.tables self.now.context.frame.mode → IsFresh past
+            → GoesEvenly self.now k → Has opposed (is_in (opposed_with (bound self.now.context.frame.mode) past)) → 0 < k → k ≤ result
+            → ModeLasts self.now.context.frame.mode k past }
+        ensures room { is_coord self.now.context.frame.mode ≡ true → 0 < result → counter_of self.now.count + result ≤ 4294967295 }
     {
-        match self.frame.mode {
+        match self.context.frame.mode {
             Mode::Free => {
                 if self.stays_at_free(opposed) {
                     u32::MAX
@@ -178,13 +190,13 @@ impl Controller {
     /// For how many ticks more the mode and all phases go on, where this is seen of them.
     fn all_left(&self, tick_inputs: &TickInputs) -> u32
         requires few { tick_count self.now < 4294967295 }
-        ensures lasts { (past : Past) (k : ℕ) → ControllerKeeps self.now past → IsBound self.now.active_pattern past.tables self.now.frame.mode → IsFresh past
-            → GoesEvenly self.now k → Looks (bound self.now.frame.mode) tick_inputs.now past → 0 < k → k ≤ result
-            → Lasts self.now.frame.mode k past }
-        ensures room { is_coord self.now.frame.mode ≡ true → 0 < result → counter_of self.now.count + result ≤ 4294967295 }
+        ensures lasts { (past : Past) (k : ℕ) → ControllerKeeps self.now past → IsBound self.now.context.active_pattern past.tables self.now.context.frame.mode → IsFresh past
+            → GoesEvenly self.now k → Looks (bound self.now.context.frame.mode) tick_inputs.now past → 0 < k → k ≤ result
+            → Lasts self.now.context.frame.mode k past }
+        ensures room { is_coord self.now.context.frame.mode ≡ true → 0 < result → counter_of self.now.count + result ≤ 4294967295 }
     {
-        shows_sixteen(self.frame);
-        if !are_both_on(self.frame.on) {
+        shows_sixteen(self.context.frame);
+        if !are_both_on(self.context.frame.on) {
             0
         } else if !self.is_laid_out() {
             0
@@ -202,9 +214,9 @@ impl Controller {
         requires few { tick_count self.now < 4294967295 }
         ensures within { result ≤ most }
         ensures even { 0 < result → GoesEvenly self.now result }
-        ensures lasts { (past : Past) → ControllerKeeps self.now past → IsFresh past → 0 < result → Lasts self.now.frame.mode result past }
-        ensures ready { (past : Past) → ControllerKeeps self.now past → 0 < result → IsReady self.now self.now.frame.mode past }
-        ensures room { is_coord self.now.frame.mode ≡ true → 0 < result → counter_of self.now.count + result ≤ 4294967295 }
+        ensures lasts { (past : Past) → ControllerKeeps self.now past → IsFresh past → 0 < result → Lasts self.now.context.frame.mode result past }
+        ensures ready { (past : Past) → ControllerKeeps self.now past → 0 < result → IsReady self.now self.now.context.frame.mode past }
+        ensures room { is_coord self.now.context.frame.mode ≡ true → 0 < result → counter_of self.now.count + result ≤ 4294967295 }
     {
         if !self.is_bound() {
             return 0;
@@ -214,14 +226,16 @@ impl Controller {
             return 0;
         }
         let left = self.all_left(&tick_inputs);
-        self.unit_commands.even(&self.tables, most.min(left))
+        self.context
+            .unit_commands
+            .even(&self.context.tables, most.min(left))
     }
 
     /// Passes over so many ticks.
     pub(crate) fn pass(&mut self, ticks: u32)
         requires few { tick_count self.old + ticks ≤ 4294967295 }
         requires even { GoesEvenly self.old ticks }
-        requires room { is_coord self.old.frame.mode ≡ true → counter_of self.old.count + ticks ≤ 4294967295 }
+        requires room { is_coord self.old.context.frame.mode ≡ true → counter_of self.old.count + ticks ≤ 4294967295 }
         ensures passed { HasPassed ticks self.old self.new }
         ensures unit_commands { HasUnitCommands ticks self.old self.new }
         ensures ticks { tick_count self.new ≡ tick_count self.old + ticks }
@@ -230,11 +244,14 @@ impl Controller {
         self.clocks.pass(ticks);
         self.signals.pass(ticks);
         self.preempts.pass(ticks);
-        self.unit_commands.pass(ticks, &self.tables);
-        if is_coord(self.frame.mode) {
+        let mut unit_commands = self.context.unit_commands;
+        unit_commands.pass(ticks, &self.context.tables);
+        self.context.unit_commands = unit_commands;
+        if is_coord(self.context.frame.mode) {
             self.count.pass(ticks);
-            self.frame.counter = self.count.counter();
-            self.frame.target = self.active_pattern.target(self.unit_commands.clock());
+            let target = self.context.active_pattern.target(unit_commands.clock());
+            self.context.frame.counter = self.count.counter();
+            self.context.frame.target = target;
         }
     }
 }

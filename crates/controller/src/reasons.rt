@@ -5,7 +5,7 @@ ghost use Rattle.std.specs.Prelude.{◌≡◌, ◌<◌, ◌≤◌, ◌==◌, ℕ
 
 use crate::Controller;
 use coord_gate::{filled, released};
-use preempt_run::lesser_green;
+use preempt_stages::lesser_green;
 use sig_types::{Ped, PhaseSet};
 use tick_context::{TickInputs, TickState, is_asked, is_coord};
 
@@ -33,7 +33,7 @@ impl Controller {
         requires within { phase ≤ 16 }
         ensures clearance { (past : Past) → ControllerKeeps self.now past → result ≡ clearance past.tables phase }
     {
-        let times = self.tables.phase(phase);
+        let times = self.context.tables.phase(phase);
         u32::from(times.yellow_change) + u32::from(times.red_clear)
     }
 
@@ -44,7 +44,7 @@ impl Controller {
         ensures gap { (past : Past) → ControllerKeeps self.now past → is_enabled past.tables phase ≡ true → is_in (quiet_seen past) phase ≡ true
             → result ≡ has_gap (view_seen past) phase }
     {
-        self.clocks.quiet(phase) >= u32::from(self.tables.phase(phase).passage.max(1)) - 1
+        self.clocks.quiet(phase) >= u32::from(self.context.tables.phase(phase).passage.max(1)) - 1
     }
 
     /// Whether a Green phase, 1 to 16, is at its maximum: it was opposed for that time, this tick included.
@@ -54,7 +54,7 @@ impl Controller {
         ensures maximum { (past : Past) → ControllerKeeps self.now past → opposed ≡ is_in (opposed_seen past) phase
             → result ≡ has_maximum (view_seen past) phase }
     {
-        let maximum = 10 * u32::from(self.tables.phase(phase).maximum);
+        let maximum = 10 * u32::from(self.context.tables.phase(phase).maximum);
         if maximum == 0 {
             true
         } else if opposed {
@@ -86,7 +86,7 @@ impl Controller {
         ensures extension { (past : Past) (n : ℕ) → ControllerKeeps self.now past → active ≡ some_number n → result ≡ extension_of past.tables n }
     {
         match active {
-            Some(_) => u32::from(self.tables.unit().extension),
+            Some(_) => u32::from(self.context.tables.unit().extension),
             None => 0,
         }
     }
@@ -101,8 +101,8 @@ impl Controller {
             → is_enabled past.tables phase ≡ true → is_green (frame_seen past) phase ≡ true
             → active ≡ not (is_in (quiet_seen past) phase) → result ≡ is_reasoned (Some n) (view_seen past) phase }
     {
-        let plan = &self.active_pattern.plan;
-        if self.active_pattern.options.coordinated.has(phase) {
+        let plan = &self.context.active_pattern.plan;
+        if self.context.active_pattern.options.coordinated.has(phase) {
             released(
                 plan,
                 tick_state.counter,
@@ -167,7 +167,7 @@ impl Controller {
         ensures done { (past : Past) → Runs self.now tick_state.now past → Sees tick_inputs.now past → Has result (is_done (view_seen past)) }
     {
         let mut done = PhaseSet::empty();
-        let mut rest = self.layout.enabled.meet(self.shown.green);
+        let mut rest = self.context.layout.enabled.meet(self.shown.green);
         for _ in 0u32..16 {
             let p = rest.first();
             if p == 0 {
@@ -197,7 +197,7 @@ impl Controller {
             → result ≡ is_cleared (mode_seen past) past.tables past.moments phase }
     {
         let least = lesser_green(
-            &self.tables,
+            &self.context.tables,
             tick_state.mode,
             self.clocks.latched_least(phase),
         );

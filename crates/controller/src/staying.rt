@@ -32,7 +32,7 @@ impl Controller {
         } else if phase > 16 {
             true
         } else {
-            self.signal_within(phase, None) == self.frame.ped[phase as usize - 1]
+            self.signal_within(phase, None) == self.context.frame.ped[phase as usize - 1]
         }
     }
 
@@ -45,7 +45,7 @@ impl Controller {
         if self.signalling.is_empty() {
             return true;
         }
-        let [first, second] = self.frame.on;
+        let [first, second] = self.context.frame.on;
         if self
             .signalling
             .minus(lone(first))
@@ -84,7 +84,13 @@ impl Controller {
             true
         } else if phase > 16 {
             true
-        } else if self.layout.enabled.meet(self.shown.green).has(phase) {
+        } else if self
+            .context
+            .layout
+            .enabled
+            .meet(self.shown.green)
+            .has(phase)
+        {
             let active = tick_inputs.active.has(phase);
             let opposed = tick_inputs.opposed.has(phase);
             !self.is_free_done(phase, active, opposed)
@@ -104,7 +110,7 @@ impl Controller {
         if tick_inputs.demand.is_empty() {
             return true;
         }
-        let [first, second] = self.frame.on;
+        let [first, second] = self.context.frame.on;
         let green = self.shown.green;
         if green.minus(lone(first)).minus(lone(second)).is_empty() {
             self.stays(tick_inputs, first) && self.stays(tick_inputs, second)

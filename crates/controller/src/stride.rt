@@ -64,7 +64,7 @@ impl Controller {
     {
         let mut done = 0;
         while done < n {
-            let last = self.frame;
+            let last = self.context.frame;
             let next = self.tick();
             done += 1;
             if has_line(&last, &next) {

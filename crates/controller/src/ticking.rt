@@ -40,7 +40,7 @@ impl Controller {
     ghost use Rattle.sig_tables.specs.Command.{command_now};
     ghost use Rattle.sig_tables.specs.Decide.{with_moment, next_moment};
     ghost use Rattle.sig_tables.specs.Seen.{frame_seen, mode_seen};
-    ghost use Rattle.preempt_run.specs.Stands.{preempts_seen};
+    ghost use Rattle.preempt_stages.specs.Inputs.{preempts_seen};
     ghost use Rattle.controller.specs.Runs.{Runs};
     ghost use Rattle.tick_context.specs.Sees.{Sees};
     ghost use Rattle.controller.specs.StandsFor.{ControllerKeeps, tick_count, install_count};
@@ -74,7 +74,7 @@ impl Controller {
             return self.rest(command);
         }
         let tick_inputs = self.free_tick_inputs(demand);
-        let clock = self.unit_commands.clock_now();
+        let clock = self.context.unit_commands.clock_now();
         if self.is_plain(&tick_inputs) {
             return self.repeat(command, clock, tick_inputs.active, tick_inputs.opposed);
         }
@@ -96,7 +96,7 @@ impl Controller {
     {
         let mode = self.mode(command);
         self.follow(mode);
-        let tick_state = self.tick_state(mode, command);
+        let tick_state = self.context.tick_state(mode, command, self.count);
         let tick_inputs = self.tick_inputs(&tick_state);
         self.go_on(&tick_state, &tick_inputs)
     }

@@ -4,19 +4,14 @@
 ghost use Rattle.std.specs.Prelude.{◌≡◌, ◌<◌, ◌≤◌, ℕ, Bool, if◌then◌else◌, List, map, IsTrue, true};
 
 use crate::Controller;
-use pattern_plan::SplitOptions;
-use ped_clock::{Crosswalks, walks};
+use call_store::{Crosswalks, walks};
 use ring_barrier::Changes;
 use sig_types::{Mode, Ped, PhaseSet};
-use tick_context::{TickInputs, TickState, greens, is_coord, is_coord_of, lone};
+use tick_context::{TickInputs, TickState, greens, lone};
 
 impl Controller {
     ghost use Rattle.sig_types.specs.declared.frame.Colour.{Colour};
     ghost use Rattle.sig_tables.specs.Choosing.{mode_reached};
-    ghost use Rattle.sig_tables.specs.TickState.{tick_state_of};
-    ghost use Rattle.sig_tables.specs.Walking.{is_local_zero};
-    ghost use Rattle.ped_clock.specs.Walks.{SaysInCoord};
-    ghost use Rattle.tick_context.specs.Binds.{IsBound};
     ghost use Rattle.sig_types.specs.declared.frame.Ped.TheVariants.{Walk};
     ghost use Rattle.sig_types.specs.Phases.{all_phases, is_phase};
     ghost use Rattle.sig_types.specs.Colour.{signal_of};
@@ -28,7 +23,7 @@ impl Controller {
     ghost use Rattle.sig_tables.specs.Decide.{colours_of};
     ghost use Rattle.sig_tables.specs.Layout.{Has};
     ghost use Rattle.sig_tables.specs.Seen.{frame_seen, mode_seen};
-    ghost use Rattle.ped_clock.specs.Signals.{lesser_of};
+    ghost use Rattle.call_store.specs.Signals.{lesser_of};
     ghost use Rattle.tick_context.specs.Walks.{walk_after, signal_seen};
     ghost use Rattle.controller.specs.Runs.{Runs};
     ghost use Rattle.tick_context.specs.Sees.{Sees};
@@ -64,37 +59,6 @@ impl Controller {
         }
     }
 
-    /// What the split asks of the pattern whose coordination a frame of this mode is in, which may be its pickup.
-    fn options_reached(&self, mode: Mode) -> Option<&SplitOptions>
-        ensures options { (past : Past) (veh : List Colour) → IsBound self.now.active_pattern past.tables (mode_seen past)
-            → mode ≡ mode_reached (mode_seen past) past.tables veh → SaysInCoord result mode past.tables }
-    {
-        if is_coord(mode) {
-            Some(&self.active_pattern.options)
-        } else {
-            None
-        }
-    }
-
-    /// Whether a frame of this mode, whose colours this tick gives, is a local zero.
-    fn is_zero(&self, tick_state: &TickState, mode: Mode) -> bool
-        ensures zero { (past : Past) → Runs self.now tick_state.now past
-            → result ≡ is_local_zero mode (tick_state_of past).counter (frame_seen past) }
-    {
-        match mode {
-            Mode::Coord(pattern) => {
-                if tick_state.counter != 0 {
-                    false
-                } else if self.frame.counter != 0 {
-                    true
-                } else {
-                    !is_coord_of(self.frame.mode, pattern)
-                }
-            }
-            _ => false,
-        }
-    }
-
     /// The phases on which Walk begins at this tick, after these moves, in a frame of this mode.
     pub(crate) fn walks(
         &self,
@@ -108,14 +72,18 @@ impl Controller {
     {
         let crosswalks = Crosswalks {
             mode,
-            is_zero: self.is_zero(tick_state, mode),
+            is_zero: self.context.is_zero(tick_state, mode),
             greens: greens(tick_state.ring_turn),
             begins: self.shown.red.meet(moves.begins),
             rests: self.shown.green.minus(moves.ends).minus(self.signalling),
-            called: self.calls.pedestrian(),
+            called: self.context.calls.pedestrian(),
             opposed: tick_inputs.opposed,
         };
-        walks(&self.layout, self.options_reached(mode), &crosswalks)
+        walks(
+            &self.context.layout,
+            self.context.options_reached(mode),
+            &crosswalks,
+        )
     }
 
     /// Whether every phase keeps the signal that it has in these of the last frame: no walk begins, and those that show Walk or
@@ -142,7 +110,7 @@ impl Controller {
         if self.signalling.is_empty() {
             return true;
         }
-        let [first, second] = self.frame.on;
+        let [first, second] = self.context.frame.on;
         if self
             .signalling
             .minus(lone(first))
@@ -167,7 +135,7 @@ impl Controller {
             true
         } else {
             let lesser = self.lesser_for(tick_state, phase);
-            self.signal_within(phase, lesser) == self.frame.ped[phase as usize - 1]
+            self.signal_within(phase, lesser) == self.context.frame.ped[phase as usize - 1]
         }
     }
 
@@ -179,13 +147,13 @@ impl Controller {
         kept: bool,
     ) -> [Ped; 16]
         requires few { tick_count self.now < 4294967295 }
-        ensures kept { IsTrue kept → result ≡ self.now.frame.ped }
+        ensures kept { IsTrue kept → result ≡ self.now.context.frame.ped }
         ensures signals { (past : Past) (begins : ℕ → Bool) → Runs self.now tick_state.now past → Has walks begins
-            → (IsTrue kept → self.now.frame.ped ≡ map (λ p. if begins p then Walk else signal_seen past p) all_phases)
+            → (IsTrue kept → self.now.context.frame.ped ≡ map (λ p. if begins p then Walk else signal_seen past p) all_phases)
             → result ≡ map (λ p. if begins p then Walk else signal_seen past p) all_phases }
     {
         if kept {
-            return self.frame.ped;
+            return self.context.frame.ped;
         }
         let mut ped = [Ped::Dont; 16];
         for p in 0..16 {

@@ -15,11 +15,11 @@ use Rattle.detector_bank.specs.Bank.{quiet, present, latest_edges, lately_past, 
 
 -- for how many rounds in a row the detector has been active in round j
 abbrev pub present_at : Watch → ℕ → ℕ
-present_at w j = if w.on || (w.lit == j) then j - w.idle else 0
+present_at w j = if w.on || (w.last_on == j) then j - w.last_inactive else 0
 
 -- it was past its delay in some of the rounds j - n to j
 abbrev pub lately_at : Watch → ℕ → ℕ → ℕ → Bool
-lately_at w delay n j = nat_lt delay (present_at w j) || (nat_lt 0 w.past && nat_le j (w.past + n))
+lately_at w delay n j = nat_lt delay (present_at w j) || (nat_lt 0 w.last_past_delay && nat_le j (w.last_past_delay + n))
 
 -- its edges in a round, one of the latest sixty
 abbrev pub edges_at : Watch → ℕ → ℕ
@@ -34,13 +34,13 @@ pub record Counts (w : Watch) (d : Detector) (ps : List Pulse) (j : ℕ) : Type 
 pub record Watches (w : Watch) (d : Detector) (ps : List Pulse) (j : ℕ) : Type 0 where
   pub few : length ps ≤ 1000000
   pub on : w.on ≡ state d ps j
-  pub pulsed : w.pulsed + quiet d ps j ≡ j
+  pub last_pulse : w.last_pulse + quiet d ps j ≡ j
   pub present : present d ps j ≡ present_at w j
-  pub lit : w.lit ≤ j
-  pub idle : w.idle ≤ j
-  pub past : w.past ≤ j
+  pub last_on : w.last_on ≤ j
+  pub last_inactive : w.last_inactive ≤ j
+  pub last_past_delay : w.last_past_delay ≤ j
   pub lately : (n : ℕ) → lately_past d ps n j ≡ lately_at w d.delay n j
-  pub ended : w.on ≡ false → nat_lt d.delay (present_at w j) ≡ true → w.past ≡ j
+  pub ended : w.on ≡ false → nat_lt d.delay (present_at w j) ≡ true → w.last_past_delay ≡ j
   pub most : latest_edges d ps 60 j ≤ w.most
   pub counts : Counts w d ps j
 

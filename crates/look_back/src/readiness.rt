@@ -17,7 +17,7 @@ ghost use Rattle.look_back.specs.Cuts.{lesser_of};
 
 use crate::cuts::Cut;
 use crate::frame_history::FrameHistory;
-use preempt_run::{lesser, lesser_green};
+use preempt_stages::{lesser, lesser_green};
 use sig_tables::Tables;
 use sig_types::{Colour, Frame, Mode, Ped, PhaseSet};
 

@@ -9,7 +9,7 @@ ghost use Rattle.sig_tables.specs.Looking.{last_frame};
 ghost use Rattle.sig_tables.specs.Preempts.{is_preempt_called, is_track_over, is_dwell_over, stage_after, stage_now};
 
 use crate::frame_history::FrameHistory;
-use preempt_run::{after_entry, after_exit, breaks_in, exit_from, row_of};
+use preempt_stages::{after_entry, after_exit, breaks_in, exit_from, row_of};
 use sig_tables::Tables;
 use sig_types::{Frame, Mode, PhaseSet};
 

@@ -1,15 +1,13 @@
 //! The master's commands to one cabinet: which command is open, which are to be sent, what was acknowledged and refused.
 
-ghost use Rattle.std.specs.Prelude.{ℕ, ◌≡◌, ◌<◌, ◌≤◌, ◌+◌, ◌++◌, ◌∷◌, ◌&&◌, ◌||◌, not, if◌then◌else◌, List, [], Option, Some, pos};
+ghost use Rattle.std.specs.Prelude.{ℕ, ◌≡◌, ◌<◌, ◌≤◌, ◌+◌, ◌&&◌, ◌||◌, not, if◌then◌else◌, List, [], Option, Some, pos};
 ghost use Rattle.snmp_msg.specs.declared.message.Message.{Message};
 ghost use Rattle.scenario_data.specs.Content.{LoadContent, master_content};
 ghost use Rattle.sig_types.specs.Items.{texts_of};
-ghost use Rattle.requests.specs.Requests.{is_good, messages, status_of};
+ghost use Rattle.requests.specs.Requests.{messages, status_of};
 ghost use Rattle.std.specs.Option.{ForSome};
-ghost use Rattle.master_plan.specs.Schedule.{or_else};
-ghost use Rattle.master_poll.specs.Commands.{IsTask, Turn, ending, ended_pattern, failed_by, is_some, is_tried, unless_ended, unless_tried, count_of, frames_sent, acknowledged_by, acknowledged, unless_same};
-ghost use Rattle.master_poll.specs.Turns.{begins, command_now, command_of, first_of, is_round, next_turn, wants_pattern};
-ghost use Rattle.master_poll.specs.Notes.{good_notes, pattern_notes, fail_notes, where_made, pattern_note};
+ghost use Rattle.master_poll.specs.Commands.{IsTask, Turn, ending, count_of, acknowledged};
+ghost use Rattle.master_poll.specs.Turns.{begins, command_now, command_of, first_of, is_round, wants_pattern};
 
 use crate::command::{Command, Kind, Now, Task, Turned};
 use requests::first_status;
@@ -53,7 +51,7 @@ fn wants_pattern(
 }
 
 impl CommandState {
-    ghost use Rattle.master_poll.specs.Stands.{CommandFollows, CommandStateStands, IsTurn, sent_by, plan_with};
+    ghost use Rattle.master_poll.specs.Stands.{CommandFollows, CommandStateStands, IsTurn, KeepsWaiting, Settles, sent_by, plan_with};
 
     /// Nothing was sent yet.
     pub fn new() -> CommandState
@@ -72,20 +70,11 @@ impl CommandState {
         }
     }
 
-    /// A Response to the open command ends it; one that was tried too often is given up. Gives the notes.
-    fn settle(&mut self, retries: u32, answered: Option<i32>) -> Turned
-        ensures command { (m : Option Message) → answered ≡ status_of m → self.new.command ≡ unless_tried retries (unless_ended m self.old.command) }
-        ensures acknowledged { (m : Option Message) → answered ≡ status_of m → self.new.acknowledged ≡ or_else (ended_pattern is_good self.old.command m) self.old.acknowledged }
-        ensures refused { (m : Option Message) → answered ≡ status_of m → self.new.refused ≡ or_else (ended_pattern (λ r. not (is_good r)) self.old.command m) self.old.refused }
-        ensures failed { (m : Option Message) → answered ≡ status_of m → self.new.failed ≡ failed_by (is_tried retries (unless_ended m self.old.command)) m self.old.failed }
+    /// The open command is given up where it was tried so many times without a Response. Gives what is to be noted of it.
+    fn give_up(&mut self, retries: u32) -> Turned
+        ensures settles { Settles self.old self.new result retries None }
         ensures tries { ForSome self.new.command (λ c. c.tries < retries) }
-        ensures sent { self.new.sent ≡ self.old.sent }
-        ensures pattern { self.new.pattern_waits ≡ self.old.pattern_waits }
-        ensures clock { self.new.clock_waits ≡ self.old.clock_waits }
-        ensures poll { self.new.poll_waits ≡ self.old.poll_waits }
-        ensures good { (m : Option Message) → answered ≡ status_of m → result.good ≡ (is_some m && self.old.failed) }
-        ensures gives_up { (m : Option Message) → answered ≡ status_of m → result.failed ≡ (is_tried retries (unless_ended m self.old.command) && not self.old.failed) }
-        ensures noted { (m : Option Message) → answered ≡ status_of m → result.acknowledged ≡ unless_same self.old.acknowledged (ended_pattern is_good self.old.command m) }
+        ensures kept { KeepsWaiting self.old self.new }
     {
         let mut turned = Turned {
             command: None,
@@ -93,38 +82,51 @@ impl CommandState {
             acknowledged: None,
             failed: false,
         };
-        match answered {
-            Some(status) => {
-                turned.good = self.failed;
-                self.failed = false;
-                if let Some(
-                    Command {
-                        task: Task::Pattern(pattern),
-                        ..
-                    },
-                ) = self.command
-                {
-                    if status != 0 {
-                        self.refused = Some(pattern);
-                    } else {
-                        if self.acknowledged != Some(pattern) {
-                            turned.acknowledged = Some(pattern);
-                        }
-                        self.acknowledged = Some(pattern);
-                    }
-                }
+        if let Some(command) = self.command {
+            if retries <= command.tries {
+                turned.failed = !self.failed;
+                self.failed = true;
                 self.command = None;
             }
-            None => {
-                if let Some(command) = self.command {
-                    if retries <= command.tries {
-                        turned.failed = !self.failed;
-                        self.failed = true;
-                        self.command = None;
-                    }
-                }
-            }
         }
+        turned
+    }
+
+    /// A Response to the open command ends it; one that was tried too often is given up. Gives what is to be noted.
+    fn settle(&mut self, retries: u32, answered: Option<i32>) -> Turned
+        ensures settles { (m : Option Message) → answered ≡ status_of m → Settles self.old self.new result retries m }
+        ensures tries { ForSome self.new.command (λ c. c.tries < retries) }
+        ensures kept { KeepsWaiting self.old self.new }
+    {
+        let Some(status) = answered else {
+            return self.give_up(retries);
+        };
+        let ended = self.command;
+        let mut turned = Turned {
+            command: None,
+            good: self.failed,
+            acknowledged: None,
+            failed: false,
+        };
+        self.command = None;
+        self.failed = false;
+        let Some(
+            Command {
+                task: Task::Pattern(pattern),
+                ..
+            },
+        ) = ended
+        else {
+            return turned;
+        };
+        if status != 0 {
+            self.refused = Some(pattern);
+            return turned;
+        }
+        if self.acknowledged != Some(pattern) {
+            turned.acknowledged = Some(pattern);
+        }
+        self.acknowledged = Some(pattern);
         turned
     }
 

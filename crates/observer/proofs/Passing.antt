@@ -7,12 +7,11 @@ use Rattle.sig_types.specs.declared.frame.Mode.{Mode}
 use Rattle.sig_types.specs.declared.frame.Mode.TheVariants.{Free, Coord}
 use Rattle.sig_types.specs.declared.phase_set.PhaseSet.{PhaseSet}
 use Rattle.sig_types.specs.Phases.{is_phase, is_in, some}
-use Rattle.sig_types.specs.Colour.{same_mode}
 use Rattle.sig_types.proofs.Sets.{in-phases}
 use Rattle.sig_tables.specs.declared.tables.Tables.{Tables}
 use Rattle.sig_tables.specs.Slots.{cycle_time}
 use Rattle.sig_tables.specs.Past.{Past, Moment}
-use Rattle.sig_tables.specs.Looking.{last_frame, start_run}
+use Rattle.sig_tables.specs.Looking.{last_frame}
 use Rattle.sig_tables.specs.Calls.{is_green, opposed_of}
 use Rattle.sig_tables.specs.Sides.{are_incompatible}
 use Rattle.sig_tables.specs.Choosing.{is_in_step}
@@ -20,26 +19,23 @@ use Rattle.sig_tables.specs.Clock.{clock_now, target_in}
 use Rattle.sig_tables.specs.Command.{is_commanded, command_now}
 use Rattle.sig_tables.specs.Counters.{counter_in}
 use Rattle.sig_tables.specs.TickState.{tick_state_of}
-use Rattle.sig_tables.specs.Layout.{LaidOut, Ordered}
 use Rattle.sig_tables.specs.Preempts.{preempts_on}
 use Rattle.sig_tables.specs.Decide.{with_moment, next_moment, colours_of}
 use Rattle.sig_tables.specs.Modes.{bound}
 use Rattle.sig_tables.specs.Seen.{frame_seen, moment_seen, moves_seen, demand_with, quiet_with}
-use Rattle.call_store.specs.Stands.{CallsStand}
 use Rattle.call_store.proofs.Again.{calls-on}
-use Rattle.preempt_run.specs.Dwelling.{NamesPhases}
-use Rattle.preempt_run.proofs.Called.{seen-is}
-use Rattle.preempt_run.proofs.OnPhases.{names-phases}
+use Rattle.preempt_stages.proofs.Inputs.{seen-is}
+use Rattle.preempt_stages.proofs.OnPhases.{names-phases}
 use Rattle.prio_queue.specs.Idle.{IsIdle}
-use Rattle.prio_queue.specs.Stands.{QueueStands}
 use Rattle.prio_queue.proofs.Idle.{queue-on}
 use Rattle.tick_context.specs.declared.seeing.TickInputs.{TickInputs}
 use Rattle.tick_context.specs.declared.unit_commands.UnitCommands.{UnitCommands}
-use Rattle.tick_context.specs.UnitCommands.{UnitCommandsStand, most}
-use Rattle.tick_context.specs.Binds.{ActivePatternStands}
+use Rattle.tick_context.specs.Context.{ContextStands}
 use Rattle.tick_context.specs.Even.{IsEven, UnitCommandsPassed}
 use Rattle.tick_context.specs.Lasting.{Lasts, Looks, opposed_with}
 use Rattle.tick_context.specs.Passed.{timed}
+use Rattle.tick_context.proofs.Again.{free-apart}
+use Rattle.tick_context.proofs.EvenRuns.{unit_commands-next, next-passed, first-even, rest-even, rest-by, timed-none}
 use Rattle.tick_context.proofs.GoesOn.{tick-goes, frame-goes, goes-alike}
 use Rattle.tick_context.proofs.OneLess.{lasts-less, seen-again, looks-on}
 use Rattle.tick_context.proofs.Passed.{unit_commands-on, after, lasts-after}
@@ -55,70 +51,17 @@ use Rattle.observer.proofs.Inputs.{AreOn, seen-on}
 
 -- what is remembered, but for what is looked over
 pub record ObserverTold (o : Observer) (past : Past) : Type 0 where
-  pub tables : o.tables ≡ past.tables
-  pub layout : LaidOut o.layout past.tables
-  pub ordered : Ordered o.layout past.tables 1
-  pub version : o.version ≡ past.version
-  pub frame : o.frame ≡ frame_seen past
-  pub calls : CallsStand o.calls past
+  pub context : ContextStands o.context past
   pub inputs : AreOn o.inputs past
-  pub requests : QueueStands o.requests past
-  pub unit_commands : UnitCommandsStand o.unit_commands past
   pub commanded : o.commanded ≡ is_commanded past.commanded
-  pub active_pattern : ActivePatternStands o.active_pattern past.tables
-  pub some : 0 < length past.moments
-  pub names : NamesPhases (frame_seen past)
   pub within : (n : ℕ) → is_in_step (frame_seen past) past.version n ≡ true → (frame_seen past).counter < cycle_time past.tables n
-  pub few_start : start_run past.moments ≤ 60
-  pub old_frame : (frame_seen past).version ≤ past.version
 
 pub told-of : (o : Observer) (past : Past) → Remembers o past → ObserverTold o past
-told-of o past k = record {
-  tables = k.tables;
-  layout = k.layout;
-  ordered = k.ordered;
-  version = k.version;
-  frame = k.frame;
-  calls = k.calls;
-  inputs = k.inputs;
-  requests = k.requests;
-  unit_commands = k.unit_commands;
-  commanded = k.commanded;
-  active_pattern = k.active_pattern;
-  some = k.some;
-  names = k.names;
-  within = k.within;
-  few_start = k.few_start;
-  old_frame = k.old_frame;
-}
+told-of o past k = record { context = k.context; inputs = k.inputs; commanded = k.commanded; within = k.within }
 
 pub remembers-of : (o : Observer) (past : Past) → ObserverTold o past → LooksOver o.frame_history past.moments → Remembers o past
-remembers-of o past k looks = record {
-  tables = k.tables;
-  layout = k.layout;
-  ordered = k.ordered;
-  version = k.version;
-  frame = k.frame;
-  calls = k.calls;
-  inputs = k.inputs;
-  requests = k.requests;
-  unit_commands = k.unit_commands;
-  commanded = k.commanded;
-  active_pattern = k.active_pattern;
-  frame_history = looks;
-  some = k.some;
-  names = k.names;
-  within = k.within;
-  few_start = k.few_start;
-  old_frame = k.old_frame;
-}
-
--- a frame of Free is in step with no pattern
-free-apart : (f : Frame) (version n : ℕ) → f.mode ≡ Free → is_in_step f version n ≡ false
-free-apart f version n e = ap (λ (m : Mode). same_mode m (Coord n) && f.version == version) e
-
-timed-none : (f : Frame) (counter target : ℕ) → counter ≡ f.counter → target ≡ f.target → timed true counter target f ≡ f
-timed-none f counter target c t = rw (c, t) refl
+remembers-of o past k looks =
+    record { context = k.context; inputs = k.inputs; commanded = k.commanded; frame_history = looks; within = k.within }
 
 -- the tick of a cabinet that rests gives the last frame again
 pub frame-rests : (j : ℕ) (past : Past) → Lasts Free (suc j) past → (next_moment past).frame ≡ frame_seen past
@@ -130,107 +73,57 @@ frame-rests j past l =
     frame-goes Free j past l ∙ timed-none (frame_seen past) _ _ (counter ∙ sym l.goes.counter) (target ∙ sym l.goes.target)
 
 -- one tick
-told-on : (j : ℕ) (o : Observer) (new : UnitCommands) (look : FrameHistory) (past : Past) → UnitCommandsPassed 1 o.unit_commands new → ObserverTold o past → Lasts Free (suc j) past
-    → IsIdle o.requests → IsEven o.unit_commands past.tables 1 → past.tables.unit.backup ≤ 65535
-    → ObserverTold (record o { unit_commands = new; frame_history = look }) (with_moment past (next_moment past))
+told-on : (j : ℕ) (o : Observer) (new : UnitCommands) (look : FrameHistory) (past : Past) → UnitCommandsPassed 1 o.context.unit_commands new → ObserverTold o past → Lasts Free (suc j) past
+    → IsIdle o.context.requests → IsEven o.context.unit_commands past.tables 1 → past.tables.unit.backup ≤ 65535
+    → ObserverTold (record o { context = record o.context { unit_commands = new }; frame_history = look }) (with_moment past (next_moment past))
 told-on j o new look past by k l idle even few =
     let m : Moment = next_moment past in
     let g = tick-goes Free j past l in
     let a = goes-alike Free j past l in
     record {
-      tables = k.tables;
-      layout = k.layout;
-      ordered = k.ordered;
-      version = k.version;
-      frame = k.frame ∙ sym (frame-rests j past l);
-      calls = calls-on o.calls past m k.calls l.fresh.heard a.veh a.ped refl refl refl;
+      context = record {
+        tables = k.context.tables;
+        layout = k.context.layout;
+        ordered = k.context.ordered;
+        version = k.context.version;
+        frame = k.context.frame ∙ sym (frame-rests j past l);
+        calls = calls-on o.context.calls past m k.context.calls l.fresh.heard a.veh a.ped refl refl refl;
+        requests = queue-on o.context.requests past m k.context.requests idle (one-more (moment_seen past).number) g.active;
+        unit_commands = unit_commands-on o.context.unit_commands new past m by k.context.unit_commands (record { number = refl; command = refl; is_commanded = refl; clock = refl }) l.fresh even few;
+        active_pattern = k.context.active_pattern;
+        some = omega arith;
+        names = names-phases m.frame past.tables (colours_of past (moves_seen past)) refl;
+        few_start = few-next m past.moments
+            (λ now last. start-again past.tables past.version (command_now past) (preempts_on past.heard (moment_seen past)) past.moments
+            (colours_of past (moves_seen past)) last now);
+        old_frame = same-most past.version;
+      };
       inputs = seen-on o.inputs past m (sym (seen-is past)) k.inputs;
-      requests = queue-on o.requests past m k.requests idle (one-more (moment_seen past).number) g.active;
-      unit_commands = unit_commands-on o.unit_commands new past m by k.unit_commands (record { number = refl; command = refl; is_commanded = refl; clock = refl }) l.fresh even few;
       commanded = k.commanded ∙ ap is_commanded l.fresh.commanded;
-      active_pattern = k.active_pattern;
-      some = omega arith;
-      names = names-phases m.frame past.tables (colours_of past (moves_seen past)) refl;
       within = λ n step. absurd (false≢true (sym (free-apart m.frame past.version n (a.mode ∙ l.was)) ∙ step));
-      few_start = few-next m past.moments
-          (λ now last. start-again past.tables past.version (command_now past) (preempts_on past.heard (moment_seen past)) past.moments
-          (colours_of past (moves_seen past)) last now);
-      old_frame = same-most past.version;
     }
 
--- the orders on the way
-abbrev unit_commands-next : (o : UnitCommands) → o.clock + 1 < 864000 → UnitCommands
-unit_commands-next o h = record {
-  command = o.command;
-  since = min (o.since + 1) most;
-  clock = o.clock + 1;
-  ticks = o.ticks + 1;
-  gain = o.gain;
-  lose = o.lose;
-  of_day = h;
-}
-
-next-passed : (o : UnitCommands) (h : o.clock + 1 < 864000) → UnitCommandsPassed 1 o (unit_commands-next o h)
-next-passed o h = record { command = refl; since = refl; clock = refl; ticks = refl; gain = refl; lose = refl }
-
--- of an even run the first tick is even, and what comes after it
-first-even : (j : ℕ) (o : UnitCommands) (t : Tables) → IsEven o t (suc j) → IsEven o t 1
-first-even j o t even = record {
-  clock = omega (arith, even.clock);
-  gain = even.gain;
-  lose = even.lose;
-  few = even.few;
-  command = elim even.command [
-    | inl none ↦ inl none
-    | inr (inl never) ↦ inr (inl never)
-    | inr (inr short) ↦ inr (inr (omega (arith, short)))
-  ];
-}
-
-rest-even : (j : ℕ) (o : UnitCommands) (t : Tables) (h : o.clock + 1 < 864000) → IsEven o t (suc j) → IsEven (unit_commands-next o h) t j
-rest-even j o t h even = record {
-  clock = omega (arith, even.clock);
-  gain = even.gain;
-  lose = even.lose;
-  few = even.few;
-  command = elim even.command [
-    | inl none ↦ inl none
-    | inr (inl never) ↦ inr (inl never)
-    | inr (inr short) ↦ inr (inr (omega (arith, short)))
-  ];
-}
-
-rest-by : (j : ℕ) (o new : UnitCommands) (h : o.clock + 1 < 864000) → UnitCommandsPassed (suc j) o new → UnitCommandsPassed j (unit_commands-next o h) new
-rest-by j o new h by = record {
-  command = by.command;
-  since = omega (arith, by.since);
-  clock = omega (arith, by.clock);
-  ticks = omega (arith, by.ticks);
-  gain = by.gain;
-  lose = by.lose;
-}
-
 -- and what was told stands after all of them
-told-after : (n : ℕ) (o : Observer) (new : UnitCommands) (look : FrameHistory) (past : Past) → 0 < n → UnitCommandsPassed n o.unit_commands new → ObserverTold o past
-    → Lasts Free n past → IsIdle o.requests → IsEven o.unit_commands past.tables n → past.tables.unit.backup ≤ 65535
-    → ObserverTold (record o { unit_commands = new; frame_history = look }) (after n past)
+told-after : (n : ℕ) (o : Observer) (new : UnitCommands) (look : FrameHistory) (past : Past) → 0 < n → UnitCommandsPassed n o.context.unit_commands new → ObserverTold o past
+    → Lasts Free n past → IsIdle o.context.requests → IsEven o.context.unit_commands past.tables n → past.tables.unit.backup ≤ 65535
+    → ObserverTold (record o { context = record o.context { unit_commands = new }; frame_history = look }) (after n past)
 told-after zero o new look past some by k l idle even few = absurd (omega (arith, some))
 told-after (suc zero) o new look past some by k l idle even few = told-on zero o new look past by k l idle even few
 told-after (suc (suc j)) o new look past some by k l idle even few =
-    let day : o.unit_commands.clock + 1 < 864000 = omega (arith, even.clock) in
-    let mid : UnitCommands = unit_commands-next o.unit_commands day in
+    let day : o.context.unit_commands.clock + 1 < 864000 = omega (arith, even.clock) in
+    let mid : UnitCommands = unit_commands-next o.context.unit_commands day in
     let more : 0 < suc j = omega arith in
-    let first = told-on (suc j) o mid look past (next-passed o.unit_commands day) k l idle (first-even (suc j) o.unit_commands past.tables even) few in
-    told-after (suc j) (record o { unit_commands = mid; frame_history = look }) new look (with_moment past (next_moment past)) more
-    (rest-by (suc j) o.unit_commands new day by) first
-    (lasts-less Free (suc j) past l) idle (rest-even (suc j) o.unit_commands past.tables day even) few
+    let first = told-on (suc j) o mid look past (next-passed o.context.unit_commands day) k l idle (first-even (suc j) o.context.unit_commands past.tables even) few in
+    told-after (suc j) (record o { context = record o.context { unit_commands = mid }; frame_history = look }) new look (with_moment past (next_moment past)) more
+    (rest-by (suc j) o.context.unit_commands new day by) first
+    (lasts-less Free (suc j) past l) idle (rest-even (suc j) o.context.unit_commands past.tables day even) few
 
 -- so does all that is remembered, where what is looked over does
-pub remembers-after : (n : ℕ) (o : Observer) (new : UnitCommands) (look : FrameHistory) (past : Past) → 0 < n → UnitCommandsPassed n o.unit_commands new → Remembers o past
-    → Lasts Free n past → IsIdle o.requests → IsEven o.unit_commands past.tables n → past.tables.unit.backup ≤ 65535
-    → LooksOver look (after n past).moments → Remembers (record o { unit_commands = new; frame_history = look }) (after n past)
+pub remembers-after : (n : ℕ) (o : Observer) (new : UnitCommands) (look : FrameHistory) (past : Past) → 0 < n → UnitCommandsPassed n o.context.unit_commands new → Remembers o past
+    → Lasts Free n past → IsIdle o.context.requests → IsEven o.context.unit_commands past.tables n → past.tables.unit.backup ≤ 65535
+    → LooksOver look (after n past).moments → Remembers (record o { context = record o.context { unit_commands = new }; frame_history = look }) (after n past)
 remembers-after n o new look past some by k l idle even few looks =
-    remembers-of (record o { unit_commands = new; frame_history = look }) (after n past)
+    remembers-of (record o { context = record o.context { unit_commands = new }; frame_history = look }) (after n past)
     (told-after n o new look past some by (told-of o past k) l idle even few) looks
 
 -- the moments of so many ticks that come, the newest first

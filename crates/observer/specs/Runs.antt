@@ -11,4 +11,4 @@ use Rattle.observer.specs.Remembers.{Remembers}
 pub record Runs (o : Observer) (k : TickState) (past : Past) : Type 0 where
   pub keeps : Remembers o past
   pub tick_state : TickStateIs k past
-  pub bound : IsBound o.active_pattern past.tables (mode_seen past)
+  pub bound : IsBound o.context.active_pattern past.tables (mode_seen past)

@@ -30,15 +30,16 @@ impl Observer {
             opposed: tick_inputs.opposed,
         };
         self.frame_history
-            .push(&seen, &self.tables, self.inputs, self.commanded);
-        self.calls.step(
+            .push(&seen, &self.context.tables, self.inputs, self.commanded);
+        self.context.calls.step(
             showing(&frame.veh, Colour::Green),
             signalling(&frame.ped, Ped::Walk),
         );
-        self.requests.step(tick_state.active);
-        self.unit_commands
+        self.context.requests.step(tick_state.active);
+        self.context
+            .unit_commands
             .step(tick_state.command, tick_state.clock);
         self.commanded = false;
-        self.frame = *frame;
+        self.context.frame = *frame;
     }
 }

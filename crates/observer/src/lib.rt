@@ -8,13 +8,11 @@ ghost use Rattle.sig_tables.specs.declared.tables.Tables.{Tables};
 ghost use Rattle.sig_tables.specs.Past.{first_moment};
 ghost use Rattle.look_back.specs.FrameHistories.{LooksOver};
 
-use call_store::Calls;
 use look_back::{FrameHistory, Seen};
-use prio_queue::Queue;
-use sig_tables::{Layout, Shown, Tables};
+use sig_tables::{Shown, Tables};
 use sig_types::{Field, Frame, NoMemory, PhaseSet, Request};
 use std::alloc::Global;
-use tick_context::{ActivePattern, UnitCommands, first_frame, is_flash};
+use tick_context::{TickContext, first_frame, is_flash};
 
 mod framing;
 mod keeping;
@@ -29,24 +27,14 @@ mod walking;
 /// What was told to a cabinet, and what was seen of it.
 #[derive(Drop)]
 pub struct Observer {
-    tables: Tables,
-    layout: Layout,
-    version: u32,
-    /// The last frame.
-    frame: Frame,
-    calls: Calls,
+    /// The tables in force, the last frame, and what was told.
+    context: TickContext,
     /// The preempts, 1 to 8 in a set as phases are, whose input is on.
     inputs: PhaseSet,
-    requests: Queue,
-    /// The pattern in command, the clock and its drift; and whether the pattern was commanded since the last frame.
-    unit_commands: UnitCommands,
+    /// Whether a pattern was commanded since the last frame.
     commanded: bool,
-    /// The pattern that was sought or in step last.
-    active_pattern: ActivePattern,
     /// All that was seen.
     frame_history: FrameHistory,
-    ghost adds: { 0 < tables.unit.add },
-    ghost subtracts: { 0 < tables.unit.subtract },
 }
 
 /// The frame history of the moment before any tick.
@@ -122,17 +110,9 @@ impl Observer {
         ensures ticks { tick_count result ≡ 0 }
         ensures installs { install_count result ≡ 0 }
     {
-        let layout = Layout::of(&tables, 1);
         Observer {
-            layout,
-            active_pattern: ActivePattern::none(&tables, layout),
-            tables,
-            version: 0,
-            frame: first_frame(),
-            calls: Calls::new(),
+            context: TickContext::open(tables, command, clock),
             inputs: PhaseSet::empty(),
-            requests: Queue::new(),
-            unit_commands: UnitCommands::of(command, clock),
             commanded: true,
             frame_history,
         }
@@ -146,7 +126,7 @@ impl Observer {
         ensures counted { tick_count self.new ≡ tick_count self.old }
         ensures installs { install_count self.new ≡ install_count self.old }
     {
-        self.calls.input(field, &self.layout, &self.frame);
+        self.context.input(field);
         match field {
             Field::Veh { .. } => {}
             Field::Ped { .. } => {}
@@ -163,10 +143,7 @@ impl Observer {
         ensures counted { tick_count self.new ≡ tick_count self.old }
         ensures installs { install_count self.new ≡ install_count self.old + 1 }
     {
-        self.layout = Layout::of(&tables, 1);
-        self.active_pattern = ActivePattern::none(&tables, self.layout);
-        self.tables = tables;
-        self.version += 1;
+        self.context.install(tables);
     }
 
     /// Commands a pattern, 0 to 255; it counts from the next tick on, and of several between two ticks the last one does.
@@ -175,7 +152,7 @@ impl Observer {
         ensures counted { tick_count self.new ≡ tick_count self.old }
         ensures installs { install_count self.new ≡ install_count self.old }
     {
-        self.unit_commands.pattern(command);
+        self.context.pattern(command);
         self.commanded = true;
     }
 
@@ -186,7 +163,7 @@ impl Observer {
         ensures counted { tick_count self.new ≡ tick_count self.old }
         ensures installs { install_count self.new ≡ install_count self.old }
     {
-        self.unit_commands.set_clock(time);
+        self.context.set_clock(time);
     }
 
     /// Sets the drift of the clock: after how many ticks each time it gains one more, and after how many it loses one; 0
@@ -196,7 +173,7 @@ impl Observer {
         ensures counted { tick_count self.new ≡ tick_count self.old }
         ensures installs { install_count self.new ≡ install_count self.old }
     {
-        self.unit_commands.drift(gain, lose);
+        self.context.drift(gain, lose);
     }
 
     /// A priority request (NTCIP 1211), whose number is 1 to 10. It replaces the one of its number.
@@ -207,8 +184,7 @@ impl Observer {
         ensures counted { tick_count self.new ≡ tick_count self.old }
         ensures installs { install_count self.new ≡ install_count self.old }
     {
-        let ticks = self.unit_commands.ticks();
-        self.requests.request(request, ticks);
+        self.context.request(request);
     }
 
     /// Cancels the priority request of a number, 1 to 10.
@@ -219,43 +195,34 @@ impl Observer {
         ensures counted { tick_count self.new ≡ tick_count self.old }
         ensures installs { install_count self.new ≡ install_count self.old }
     {
-        let ticks = self.unit_commands.ticks();
-        self.requests.cancel(number, ticks);
+        self.context.cancel(number);
     }
 
     /// The tables in force.
     pub fn tables(&self) -> &Tables
         ensures tables { (h : History) → ObserverStands self.now h → result.now ≡ (past_at h).tables }
     {
-        &self.tables
+        &self.context.tables
     }
 
     /// The last frame; before any tick, that of Start.
     pub fn frame(&self) -> Frame
         ensures frame { (h : History) → ObserverStands self.now h → result ≡ last_frame_of h }
     {
-        self.frame
+        self.context.frame
     }
 
     /// Whether the cabinet flashes: its last frame is in Flash.
     pub fn flashing(&self) -> bool
         ensures flashing { (h : History) → ObserverStands self.now h → result ≡ is_flash (last_frame_of h).mode }
     {
-        is_flash(self.frame.mode)
+        is_flash(self.context.frame.mode)
     }
 
     /// What the cabinet shows to management software.
     pub fn shown(&self) -> Shown
         ensures shown { (h : History) → ObserverStands self.now h → ShownAfter result (past_at h) }
     {
-        Shown {
-            frame: self.frame,
-            command: self.unit_commands.command(),
-            clock: self.unit_commands.clock(),
-            veh_calls: self.calls.vehicle(),
-            ped_calls: self.calls.pedestrian(),
-            requests: self.requests.states(self.unit_commands.ticks()),
-            version: self.version,
-        }
+        self.context.shown()
     }
 }

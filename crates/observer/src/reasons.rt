@@ -32,10 +32,10 @@ impl Observer {
         requires within { phase ≤ 16 }
         ensures keeps { (past : Past) → Runs self.now tick_state.now past → result ≡ keeps_maximum (bound (mode_seen past)) past.tables phase }
     {
-        if self.layout.maximum_recall.has(phase) {
+        if self.context.layout.maximum_recall.has(phase) {
             true
         } else if is_coord(tick_state.mode) {
-            self.active_pattern.options.maximum.has(phase)
+            self.context.active_pattern.options.maximum.has(phase)
         } else {
             false
         }
@@ -51,7 +51,7 @@ impl Observer {
         let held = self.keeps_maximum(tick_state, phase);
         self.frame_history
             .window()
-            .has_gap(&self.tables, phase, held, !active)
+            .has_gap(&self.context.tables, phase, held, !active)
     }
 
     /// Whether a green phase, 1 to 16, which is opposed at this tick or is not, is at its maximum: it was so for that time.
@@ -63,7 +63,7 @@ impl Observer {
     {
         self.frame_history
             .window()
-            .has_maximum(&self.tables, phase, opposed)
+            .has_maximum(&self.context.tables, phase, opposed)
     }
 
     /// Whether there is a reason to end a green phase, 1 to 16, where no pattern binds: gap or maximum.
@@ -86,7 +86,7 @@ impl Observer {
             → result ≡ extension_of past.tables n }
     {
         match active {
-            Some(_) => u32::from(self.tables.unit().extension),
+            Some(_) => u32::from(self.context.tables.unit().extension),
             None => 0,
         }
     }
@@ -98,11 +98,11 @@ impl Observer {
         requires within { phase ≤ 16 }
         ensures filled { (past : Past) → Remembers self.now past → result ≡ has_filled_split (view_seen past) pattern phase }
     {
-        if self.tables.unit().force_mode != 2 {
+        if self.context.tables.unit().force_mode != 2 {
             return false;
         }
-        let split = time_of(self.tables.entries(pattern), phase);
-        let least = split.saturating_sub(self.tables.clearance(phase));
+        let split = time_of(self.context.tables.entries(pattern), phase);
+        let least = split.saturating_sub(self.context.tables.clearance(phase));
         self.frame_history.window().run(phase, Colour::Green, least) >= least
     }
 
@@ -114,9 +114,14 @@ impl Observer {
         ensures reason { (past : Past) → Runs self.now tick_state.now past → mode_seen past ≡ Coord pattern
             → active ≡ not (is_in (quiet_seen past) phase) → result ≡ is_reasoned (Some pattern) (view_seen past) phase }
     {
-        if self.active_pattern.options.coordinated.has(phase) {
+        if self.context.active_pattern.options.coordinated.has(phase) {
             let held = self.extension(tick_state.active);
-            released(&self.active_pattern.plan, tick_state.counter, held, phase)
+            released(
+                &self.context.active_pattern.plan,
+                tick_state.counter,
+                held,
+                phase,
+            )
         } else if is_asked(tick_state.active) {
             true
         } else if self.has_gap(tick_state, phase, active) {
@@ -146,8 +151,8 @@ impl Observer {
         ensures service { (past : Past) → Remembers self.now past
             → result ≡ (is_enabled past.tables phase && is_green (frame_seen past) phase) }
     {
-        if self.layout.enabled.has(phase) {
-            self.frame.veh[phase as usize - 1] == Colour::Green
+        if self.context.layout.enabled.has(phase) {
+            self.context.frame.veh[phase as usize - 1] == Colour::Green
         } else {
             false
         }
@@ -168,9 +173,13 @@ impl Observer {
             return false;
         }
         let place = phase as usize - 1;
-        let signal = self.frame.ped[place];
-        self.frame_history
-            .is_served(&self.tables, phase, self.frame.veh[place], signal)
+        let signal = self.context.frame.ped[place];
+        self.frame_history.is_served(
+            &self.context.tables,
+            phase,
+            self.context.frame.veh[place],
+            signal,
+        )
     }
 
     /// The green phases that are done.

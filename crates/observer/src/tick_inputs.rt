@@ -3,9 +3,8 @@
 ghost use Rattle.std.specs.Prelude.{◌≡◌, ◌<◌, ◌≤◌, ℕ, List};
 
 use crate::Observer;
-use pattern_plan::SplitOptions;
 use sig_types::{Colour, PhaseSet};
-use tick_context::{TickInputs, TickState, is_coord};
+use tick_context::{TickInputs, TickState};
 
 impl Observer {
     ghost use Rattle.sig_types.specs.declared.frame.Colour.TheVariants.{Red};
@@ -14,10 +13,8 @@ impl Observer {
     ghost use Rattle.sig_types.specs.Colour.{same_colour, colour_of};
     ghost use Rattle.sig_tables.specs.Past.{Past};
     ghost use Rattle.sig_tables.specs.Calls.{is_green, opposed_of};
-    ghost use Rattle.sig_tables.specs.Modes.{bound};
     ghost use Rattle.sig_tables.specs.Layout.{Has};
-    ghost use Rattle.sig_tables.specs.Seen.{frame_seen, mode_seen};
-    ghost use Rattle.pattern_plan.specs.Options.{AreActivePattern};
+    ghost use Rattle.sig_tables.specs.Seen.{frame_seen};
     ghost use Rattle.tick_context.specs.Sees.{Sees};
     ghost use Rattle.observer.specs.Remembers.{Remembers};
     ghost use Rattle.observer.specs.Runs.{Runs};
@@ -36,24 +33,16 @@ impl Observer {
         self.frame_history.shown().in_colour(Colour::Red)
     }
 
-    /// What the split of the pattern that binds asks; none where no pattern does.
-    fn options(&self, tick_state: &TickState) -> Option<&SplitOptions>
-        ensures options { (past : Past) → Runs self.now tick_state.now past → AreActivePattern result (bound (mode_seen past)) past.tables }
-    {
-        if is_coord(tick_state.mode) {
-            Some(&self.active_pattern.options)
-        } else {
-            None
-        }
-    }
-
     /// What this tick sees of the phases.
     pub(crate) fn tick_inputs(&self, tick_state: &TickState) -> TickInputs
         ensures sees { (past : Past) → Runs self.now tick_state.now past → Sees result past }
     {
-        let options = self.options(tick_state);
-        let active = self.calls.active(&self.layout, options);
-        let demand = self.calls.demand(&self.layout, self.red(), options);
+        let options = self.context.options(tick_state);
+        let active = self.context.calls.active(&self.context.layout, options);
+        let demand = self
+            .context
+            .calls
+            .demand(&self.context.layout, self.red(), options);
         let opposed = self.opposed(demand);
         TickInputs {
             demand,
@@ -82,8 +71,10 @@ impl Observer {
             → result ≡ is_in (opposed_of past.tables (frame_seen past) phases) phase }
     {
         let place = phase as usize - 1;
-        if self.frame.veh[place] == Colour::Green {
-            !self.layout.incompatible[place].meet(demand).is_empty()
+        if self.context.frame.veh[place] == Colour::Green {
+            !self.context.layout.incompatible[place]
+                .meet(demand)
+                .is_empty()
         } else {
             false
         }

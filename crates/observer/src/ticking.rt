@@ -44,7 +44,7 @@ impl Observer {
     {
         let mut done = 0;
         while done < n {
-            let last = self.frame;
+            let last = self.context.frame;
             let next = self.tick();
             done += 1;
             if has_line(&last, &next) {

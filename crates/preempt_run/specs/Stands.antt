@@ -6,19 +6,16 @@ use Rattle.sig_tables.specs.declared.tables.Tables.{Tables}
 use Rattle.sig_tables.specs.Modes.{same_mode, stage_of}
 use Rattle.sig_tables.specs.Past.{Heard, Moment, Past}
 use Rattle.sig_tables.specs.Looking.{in_a_row, last_frame, last_moment}
-use Rattle.sig_tables.specs.Preempts.{preempt_on, preempts_on}
-use Rattle.sig_tables.specs.Seen.{moment_seen, frame_seen}
+use Rattle.sig_tables.specs.Preempts.{preempt_on}
+use Rattle.sig_tables.specs.Seen.{frame_seen}
 use Rattle.preempt_run.specs.declared.Preempts.{Preempts}
-use Rattle.preempt_run.specs.Tally.{TallyStands}
-use Rattle.preempt_run.specs.Dwelling.{dwells_green, dwells_off, is_dwell, NamesPhases, EachFits}
+use Rattle.phase_clock.specs.Tally.{TallyStands}
+use Rattle.preempt_stages.specs.Inputs.{preempts_seen}
+use Rattle.preempt_stages.specs.Dwelling.{dwells_green, dwells_off, is_dwell, NamesPhases, EachFits}
 
 -- how many frames have come
 abbrev pub step_count : Preempts → ℕ
 step_count c = c.steps
-
--- the preempts whose input is on
-unfoldable pub preempts_seen : Past → List ℕ
-preempts_seen past = preempts_on past.heard (moment_seen past)
 
 -- what is kept is what these inputs since the last frame, and these moments, give: the inputs that are on and for how many ticks
 -- each has been; the mode of the last frame, when it began, and when the stages of its preempt began; and for each phase

@@ -34,8 +34,8 @@ ghost use Rattle.rule_facts.specs.Forces.{AreEnough, force_with, first_turn_out}
 ghost use Rattle.rule_facts.specs.Needed.{BreaksOnly, slow_clearance, long_slots, slots_past, crossed_sides, half_named, both_streets};
 
 pub use broken_plans::{
-    keeps_the_standard_plan, needs_rule_11_on_the_ring_layout, needs_rule_18_on_the_ring_layout,
-    needs_rule_19_on_the_ring_layout,
+    keeps_the_standard_plan, local_zero_needs_least_service, local_zero_needs_red_revert,
+    offset_needs_correction_window,
 };
 use rule_book::standard_consistent;
 
@@ -127,7 +127,7 @@ pub fn standard_force_points()
     ensures coordinated { (force_point std8 1 2 ≡ 245) × (force_point std8 1 6 ≡ 245) }
     ensures window { window std8 1 ≡ 245 }
     ensures side_turns { (force_point std8 1 3 ≡ 405) × (force_point std8 1 7 ≡ 405) }
-    ensures side_ring_layout { (force_point std8 1 4 ≡ 695) × (force_point std8 1 8 ≡ 695) }
+    ensures side_street { (force_point std8 1 4 ≡ 695) × (force_point std8 1 8 ≡ 695) }
     ensures first_turns { (force_point std8 1 1 ≡ 855) × (force_point std8 1 5 ≡ 855) }
     ensures disabled { force_point std8 1 9 ≡ 0 }
     ensures permissive { (permissive_end std8 1 2 ≡ 0) × (permissive_end std8 1 3 ≡ 355) × (permissive_end std8 1 4 ≡ 505) }
@@ -141,16 +141,17 @@ pub fn omitted_force_point()
     ensures permissive { permissive_end first_turn_out 1 1 ≡ 0 }
 {}
 
-/// Without rule 18 a phase may be forced off too late to clear within the cycle.
-pub fn needs_rule_18()
+/// Without the rule on the least service (18) a phase may be forced off too late to clear within the cycle.
+pub fn needs_least_service()
     ensures broken { BreaksOnly slow_clearance (OnPattern LeastService) (1 ∷ []) }
     ensures cycle { cycle_time slow_clearance 1 ≡ 900 }
     ensures forced { force_point slow_clearance 1 3 ≡ 840 }
     ensures clears { force_point slow_clearance 1 3 + clearance slow_clearance 3 ≡ 1350 }
 {}
 
-/// Without rule 17 a slot may end past the cycle, and its phase be forced off before it is served.
-pub fn needs_rule_17()
+/// Without the rule on the sum of the splits (17) a slot may end past the cycle, and its phase be forced off before
+/// it is served.
+pub fn needs_split_sum()
     ensures broken { BreaksOnly long_slots (OnPattern SplitSum) (1 ∷ []) }
     ensures cycle { cycle_time long_slots 1 ≡ 900 }
     ensures past { slot_end long_slots 1 4 ≡ 1200 }
@@ -158,31 +159,32 @@ pub fn needs_rule_17()
     ensures served { least_service long_slots 4 ≡ 190 }
 {}
 
-/// Without rule 19 local zero may come after the end of a coordinated slot.
-pub fn needs_rule_19()
+/// Without the rule on the window of the correction (19) local zero may come after the end of a coordinated slot.
+pub fn needs_correction_window()
     ensures broken { BreaksOnly slots_past (OnPattern CorrectionWindow) (1 ∷ []) }
     ensures zero { zero_point slots_past 1 ≡ 200 }
     ensures end { slot_end slots_past 1 6 ≡ 150 }
 {}
 
-/// Without rule 9 a side that comes before another in one ring may come after it in the other.
-pub fn needs_rule_9()
+/// Without the rule on the order of the sides (9) a side that comes before another in one ring may come after it in
+/// the other.
+pub fn needs_side_order()
     ensures broken { BreaksOnly crossed_sides (OnSequence SideOrder) (1 ∷ []) }
     ensures first { comes_after crossed_sides 1 1 3 ≡ true }
     ensures second { comes_after crossed_sides 1 7 5 ≡ true }
     ensures sides { (are_of_one_side crossed_sides 1 5 ≡ true) × (are_of_one_side crossed_sides 3 7 ≡ true) }
 {}
 
-/// Without rule 6 two phases of the side of a third, in different rings, may not be concurrent.
-pub fn needs_rule_6()
+/// Without the rule on shared lists (6) two phases of the side of a third, in different rings, may not be concurrent.
+pub fn needs_shared_list()
     ensures broken { BreaksOnly half_named (OnPhase SharedList) (1 ∷ 2 ∷ 5 ∷ 6 ∷ []) }
     ensures sides { (are_of_one_side half_named 1 2 ≡ true) × (are_of_one_side half_named 1 5 ≡ true) }
     ensures rings { (ring_of half_named 2 ≡ 1) × (ring_of half_named 5 ≡ 2) }
     ensures apart { are_concurrent half_named 2 5 ≡ false }
 {}
 
-/// Without rule 12 start-up phases may be incompatible.
-pub fn needs_rule_12()
+/// Without the rule on start-up (12) start-up phases may be incompatible.
+pub fn needs_start_up()
     ensures broken { BreaksOnly both_streets (OnPhase StartUp) (2 ∷ 4 ∷ 6 ∷ []) }
     ensures up { (starts_up both_streets 4 ≡ true) × (starts_up both_streets 6 ≡ true) }
     ensures apart { are_concurrent both_streets 4 6 ≡ false }

@@ -20,15 +20,15 @@ use Rattle.sig_tables.specs.Splits.{coordinated_phases}
 use Rattle.sig_tables.specs.Layout.{Has}
 use Rattle.sig_types.specs.Phases.{is_in}
 use Rattle.sig_types.specs.declared.phase_set.PhaseSet.{PhaseSet}
-use Rattle.ped_clock.specs.Signals.{lesser_of}
+use Rattle.call_store.specs.Signals.{lesser_of}
 use Rattle.prio_queue.specs.Places.{some_number}
 use Rattle.flash_mode.specs.OwnMode.{AreSought as Listed}
-use Rattle.preempt_run.specs.Goals.{AreSought, ticks_of}
+use Rattle.preempt_stages.specs.Goals.{AreSought, ticks_of}
 use Rattle.std.proofs.lemmas.Bool.Decides.{Decides-eqb}
 use Rattle.sig_types.specs.declared.frame.Colour.{Colour}
 use Rattle.sig_types.specs.Colour.{same_mode}
 use Rattle.sig_tables.specs.Choosing.{mode_reached}
-use Rattle.ped_clock.specs.Walks.{SaysInCoord}
+use Rattle.call_store.specs.Walks.{SaysInCoord}
 use Rattle.tick_context.proofs.Sought.{reached-from}
 use Rattle.sig_tables.specs.TickState.{StartUp, Rings, Goal, startup_phases, first_ring_turn, ring_turn_of}
 use Rattle.pattern_plan.specs.declared.split_options.SplitOptions.{SplitOptions}

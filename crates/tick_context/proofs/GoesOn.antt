@@ -22,9 +22,9 @@ use Rattle.sig_tables.specs.Walking.{has_walk}
 use Rattle.sig_tables.specs.Ticking.{moves_of}
 use Rattle.sig_tables.specs.Decide.{next_moment}
 use Rattle.sig_tables.specs.Seen.{frame_seen, moment_seen, mode_seen, ring_turn_seen, view_seen, moves_seen, pedestrian_seen}
-use Rattle.preempt_run.specs.Dwelling.{is_dwell}
-use Rattle.preempt_run.specs.Stands.{preempts_seen}
-use Rattle.preempt_run.proofs.Called.{seen-is}
+use Rattle.preempt_stages.specs.Dwelling.{is_dwell}
+use Rattle.preempt_stages.specs.Inputs.{preempts_seen}
+use Rattle.preempt_stages.proofs.Inputs.{seen-is}
 use Rattle.tick_context.specs.Shows.{is_clearing, is_signalling}
 use Rattle.tick_context.specs.Walks.{crossing_seen, walk_after}
 use Rattle.tick_context.specs.Lasting.{IsFresh, StaysFree, StaysInStep, Lasts, opposed_with}

@@ -27,8 +27,8 @@ use Rattle.sig_tables.specs.Preempts.{preempts_on, stage_after, stage_now}
 use Rattle.sig_tables.specs.Choosing.{is_in_step, mode_after, mode_running, mode_staged, mode_sought}
 use Rattle.sig_tables.specs.Seen.{frame_seen, moment_seen, mode_seen}
 use Rattle.sig_tables.proofs.Lasting.{lasts_now-counted}
-use Rattle.preempt_run.specs.Stands.{preempts_seen}
-use Rattle.preempt_run.proofs.Called.{seen-is}
+use Rattle.preempt_stages.specs.Inputs.{preempts_seen}
+use Rattle.preempt_stages.proofs.Inputs.{seen-is}
 use Rattle.tick_context.specs.declared.unit_commands.UnitCommands.{UnitCommands}
 use Rattle.tick_context.specs.UnitCommands.{UnitCommandsStand, most}
 use Rattle.tick_context.specs.Even.{IsEven}

@@ -15,7 +15,7 @@ use Rattle.sig_tables.specs.Past.{Past, Moment}
 use Rattle.sig_tables.specs.Looking.{run, latched}
 use Rattle.sig_tables.specs.Calls.{is_green}
 use Rattle.sig_tables.specs.Seen.{frame_seen}
-use Rattle.ped_clock.specs.Passed.{SignalLasts}
+use Rattle.call_store.specs.Signals.{SignalLasts}
 use Rattle.tick_context.specs.declared.active_pattern.ActivePattern.{ActivePattern}
 use Rattle.sig_tables.specs.declared.plan.Plan.{Plan}
 use Rattle.tick_context.specs.Binds.{ActivePatternIs}

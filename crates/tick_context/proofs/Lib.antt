@@ -26,3 +26,5 @@ pub mod OneLess
 pub mod Left
 pub mod Passed
 pub mod Striding
+pub mod Running
+pub mod EvenRuns

@@ -30,8 +30,8 @@ use Rattle.sig_tables.specs.Ticking.{on_of}
 use Rattle.sig_tables.specs.Decide.{with_moment, next_moment}
 use Rattle.sig_tables.specs.Seen.{frame_seen, moment_seen, vehicle_seen, pedestrian_seen, detectors_seen, demand_with, quiet_with}
 use Rattle.call_store.proofs.Again.{vehicle-again, pedestrian-again, detectors-again}
-use Rattle.ped_clock.specs.Passed.{SignalLasts}
-use Rattle.preempt_run.proofs.Called.{seen-is}
+use Rattle.call_store.specs.Signals.{SignalLasts}
+use Rattle.preempt_stages.proofs.Inputs.{seen-is}
 use Rattle.tick_context.specs.declared.seeing.TickInputs.{TickInputs}
 use Rattle.tick_context.specs.Shows.{is_signalling}
 use Rattle.tick_context.specs.Lasting.{IsFresh, Looks, ColourLasts, StaysUnserved, HasNoGap, HasNoMaximum, HasNoReason, StaysUnforced, PhaseLasts, StaysFree, StaysInStep, ModeLasts, Lasts, opposed_with}

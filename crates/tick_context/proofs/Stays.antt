@@ -22,7 +22,7 @@ use Rattle.sig_tables.specs.View.{is_served, is_done, is_forced, has_reason, is_
 use Rattle.sig_tables.specs.Moves.{ring_moves}
 use Rattle.sig_tables.specs.Seen.{frame_seen, mode_seen, quiet_seen, quiet_with, demand_with, opposed_seen, view_seen}
 use Rattle.sig_tables.proofs.Lasting.{lasts_now-counted}
-use Rattle.ped_clock.specs.Passed.{SignalLasts}
+use Rattle.call_store.specs.Signals.{SignalLasts}
 use Rattle.ring_barrier.proofs.Entering.{idle-moves}
 use Rattle.tick_context.specs.Lasting.{ColourLasts, StaysUnserved, HasNoGap, HasNoMaximum, HasNoReason, StaysUnforced, PhaseLasts, opposed_with}
 use Rattle.tick_context.proofs.Causes.{held-reason, fill-reason}

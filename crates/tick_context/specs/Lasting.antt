@@ -21,8 +21,8 @@ use Rattle.sig_tables.specs.Walking.{has_walk}
 use Rattle.sig_tables.specs.Ticking.{on_of}
 use Rattle.sig_tables.specs.Layout.{Has}
 use Rattle.sig_tables.specs.Seen.{frame_seen, moment_seen, pedestrian_seen, demand_with, quiet_with}
-use Rattle.ped_clock.specs.Passed.{SignalLasts}
-use Rattle.preempt_run.specs.Stands.{preempts_seen}
+use Rattle.call_store.specs.Signals.{SignalLasts}
+use Rattle.preempt_stages.specs.Inputs.{preempts_seen}
 use Rattle.tick_context.specs.declared.seeing.TickInputs.{TickInputs}
 use Rattle.tick_context.specs.Shows.{is_signalling}
 

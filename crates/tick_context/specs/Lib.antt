@@ -1,4 +1,7 @@
 pub mod Told
+pub mod Context
+pub mod Runs
+pub mod Rings
 pub mod Shows
 pub mod UnitCommands
 pub mod Modes

@@ -9,7 +9,7 @@ use Rattle.sig_tables.specs.Goals.{goal_in, lesser_times}
 use Rattle.sig_tables.specs.TickState.{tick_state_of}
 use Rattle.sig_tables.specs.Layout.{Has}
 use Rattle.sig_tables.specs.Seen.{mode_seen, ring_turn_seen}
-use Rattle.ped_clock.specs.Signals.{lesser_of}
+use Rattle.call_store.specs.Signals.{lesser_of}
 use Rattle.flash_mode.specs.RingTurns.{ring_turn_meant}
 use Rattle.prio_queue.specs.Places.{some_number}
 use Rattle.tick_context.specs.declared.tick_state.TickState.{TickState}

@@ -4,6 +4,11 @@
 
 mod active_pattern;
 mod at_rest;
+mod context;
+mod context_frame;
+mod context_moves;
+mod context_rings;
+mod context_state;
 mod modes;
 mod opening;
 mod seeing;
@@ -13,6 +18,8 @@ mod unit_commands;
 
 pub use active_pattern::{ActivePattern, is_defined, lone};
 pub use at_rest::{are_both_on, is_resting, no_changes, shows_sixteen};
+pub use context::TickContext;
+pub use context_rings::RingState;
 pub use modes::{has_pattern, is_coord, is_coord_of, is_flash, is_free};
 pub use opening::first_frame;
 pub use seeing::TickInputs;

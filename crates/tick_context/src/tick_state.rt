@@ -2,8 +2,8 @@
 
 ghost use Rattle.std.specs.Prelude.{◌≡◌, ◌==◌, ℕ, not};
 
+use call_store::Greens;
 use flash_mode::RingTurn;
-use ped_clock::Greens;
 use sig_types::{Mode, PhaseSet};
 
 /// What a tick is about.
@@ -50,4 +50,4 @@ pub fn is_asked(active: Option<u8>) -> bool
 
 ghost use Rattle.prio_queue.specs.Places.{some_number};
 ghost use Rattle.flash_mode.specs.RingTurns.{ring_turn_meant};
-ghost use Rattle.ped_clock.specs.Walks.{greens_of};
+ghost use Rattle.call_store.specs.Walks.{greens_of};

@@ -24,10 +24,10 @@ use crate::watching::bring_round;
 use cab_book::{Answered, Book};
 use cabinet_history::{Load, Reply};
 use round_run::books_follow_runs;
-use sig_types::{Frame, Octets};
+use sig_types::Frame;
 use std::alloc::Global;
 use trace_laws::Seen;
-use trace_text::Line;
+use trace_text::{Line, same_octets};
 
 /// The line of what a cabinet shows after so many ticks.
 pub fn expect_frame<'a>(
@@ -89,21 +89,6 @@ fn expect_load<'a>(
                 result: load.result,
             };
             expect(alloc, at, &end)
-        }
-    }
-}
-
-/// The same octets.
-fn same_octets(octets: &Option<Octets>) -> Option<Octets>
-    ensures { result ≡ octets.now }
-{
-    match octets {
-        None => None,
-        Some(octets) => {
-            let mut same = Octets::new();
-            // There is room for them, as there was for those.
-            let _ = same.try_extend_from_slice(octets.as_slice());
-            Some(same)
         }
     }
 }

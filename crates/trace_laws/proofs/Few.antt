@@ -1,6 +1,6 @@
 -- Versions are few: each download that is put in force has a greater id than the one before it, and ids are numbers that an INTEGER
 -- holds. The end of a load has such numbers.
-use Rattle.std.proofs.Common.{◌≡◌, ◌≤◌, ◌<◌, ◌^◌, ◌==◌, ◌||◌, ◌&&◌, nat_le, ◌++◌, ◌∷◌, [], ℕ, Bool, true, false, if◌then◌else◌, List, Option, Some, None, Result, Ok, Err, refl, sym, subst, arith}
+use Rattle.std.proofs.Common.{◌≡◌, ◌≤◌, ◌<◌, ◌^◌, ◌==◌, ◌||◌, ◌&&◌, nat_le, ◌++◌, ◌∷◌, [], map, ℕ, Bool, true, false, if◌then◌else◌, List, Option, Some, None, Result, Ok, Err, refl, sym, subst, arith}
 use Rattle.std.specs.Prelude.{IfSome}
 use Rattle.std.specs.List.{AllByRecursion}
 use Rattle.std.proofs.lemmas.Bool.{and_parts, leb-true}
@@ -14,7 +14,10 @@ use Rattle.sig_tables.specs.Cells.{Content}
 use Rattle.sig_tables.specs.Past.{Event, Tick, Input, Install, SetPattern, SetClock, SetDrift, Ask as GivePriority, Cancel, History}
 use Rattle.sig_tables.specs.Decide.{past_at, with_one}
 use Rattle.trace_text.specs.IsLine.{FitsLoad}
-use Rattle.rule_book.specs.Rules.{all_rules, all_patterns, all_preempts, rows_of, breaks, at_rows, broken_of, broken, first_of}
+use Rattle.rule_book.specs.declared.rules.Rule.{Rule}
+use Rattle.rule_book.specs.declared.rules.Rule.TheVariants.{OnPhase, OnSequence, OnPattern, TwoSides, Correction, PreemptPhases, LayoutInForce}
+use Rattle.rule_book.specs.Named.{number_of, all_rules}
+use Rattle.rule_book.specs.Rules.{all_patterns, all_preempts, rows_of, breaks, at_rows, broken_of, broken, first_of}
 use Rattle.stage_txn.specs.Calls.{Call, Begin as BeginCall, Part as PartCall, Verify as VerifyCall, Finish as FinishCall, Deed, begin_deed, part_deed, verify_deed, finish_deed, deeds, kept_by}
 use Rattle.stage_txn.specs.Answers.{answer_to, answered, kept, staged, stage_state, first_broken}
 use Rattle.agent.specs.declared.ask.Wish.{Wish}
@@ -169,18 +172,17 @@ within-to most (n ∷ ns) e =
     let parts = and_parts (nat_le n most) (within most ns) e in
     (leb-true n most parts.0, within-to most ns parts.1)
 
-either-to : (b : Bool) (most : ℕ) (xs ys : List ℕ) → AllTo most xs → AllTo most ys → AllTo most (if b then xs else ys)
-either-to true most xs ys p q = p
-either-to false most xs ys p q = q
-
-rows-to : (rule : ℕ) → AllTo 48 (rows_of rule)
+rows-to : (rule : Rule) → AllTo 48 (rows_of rule)
 unfolding within
-rows-to rule =
-    either-to (rule == 7 || rule == 13) 48 (0 ∷ []) _ (omega arith, tt)
-    (either-to (rule == 14 || rule == 15 || rule == 16 || rule == 17 || rule == 18 || rule == 19) 48 all_patterns _ (within-to 48 all_patterns refl)
-    (either-to (rule == 20) 48 all_preempts all_phases (within-to 48 all_preempts refl) (within-to 48 all_phases refl)))
+rows-to (OnPhase rule) = within-to 48 all_phases refl
+rows-to (OnSequence rule) = within-to 48 all_phases refl
+rows-to (OnPattern rule) = within-to 48 all_patterns refl
+rows-to TwoSides = (omega arith, tt)
+rows-to Correction = (omega arith, tt)
+rows-to PreemptPhases = within-to 48 all_preempts refl
+rows-to LayoutInForce = within-to 48 all_phases refl
 
-at-small : (rule : ℕ) (rows : List ℕ) → rule ≤ 22 → AllTo 48 rows → AllByRecursion IsSmall (at_rows rule rows)
+at-small : (rule : Rule) (rows : List ℕ) → number_of rule ≤ 22 → AllTo 48 rows → AllByRecursion IsSmall (at_rows rule rows)
 at-small rule [] low all = tt
 at-small rule (row ∷ rows) low all = (record { rule = low; row = all.0 }, at-small rule rows low all.1)
 
@@ -188,7 +190,7 @@ both-small : (xs ys : List Broken) → AllByRecursion IsSmall xs → AllByRecurs
 both-small [] ys a b = b
 both-small (x ∷ xs) ys a b = (a.0, both-small xs ys a.1 b)
 
-broken-small : (t now : Tables) (flashing : Bool) (rules : List ℕ) → AllTo 22 rules → AllByRecursion IsSmall (broken_of t now flashing rules)
+broken-small : (t now : Tables) (flashing : Bool) (rules : List Rule) → AllTo 22 (map number_of rules) → AllByRecursion IsSmall (broken_of t now flashing rules)
 broken-small t now flashing [] all = tt
 broken-small t now flashing (rule ∷ rules) all =
     let rows : List ℕ = those (breaks t now flashing rule) (rows_of rule) in
@@ -204,7 +206,7 @@ verdict-small : (c : Coming) (b : Broken) → verdict c ≡ Err b → IsSmall b
 unfolding first_broken within
 verdict-small c b e =
     first-small (broken (staged (answered c.calls)) (in_force c) (is_flashing (past_of c))) b
-    (broken-small (staged (answered c.calls)) (in_force c) (is_flashing (past_of c)) all_rules (within-to 22 all_rules refl)) e
+    (broken-small (staged (answered c.calls)) (in_force c) (is_flashing (past_of c)) all_rules (within-to 22 (map number_of all_rules) refl)) e
 
 -- ---- the end of a load
 

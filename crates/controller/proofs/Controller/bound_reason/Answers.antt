@@ -7,7 +7,8 @@ use Rattle.sig_tables.specs.Looking.{run}
 use Rattle.sig_tables.specs.TickState.{tick_state_of}
 use Rattle.sig_tables.specs.Seen.{frame_seen}
 use Rattle.sig_tables.proofs.Below.{phase-is}
-use Rattle.controller.proofs.Running.{active_pattern-in}
+use Rattle.tick_context.proofs.Running.{active_pattern-in}
+use Rattle.controller.proofs.Running.{runs-context}
 use Rattle.tick_context.proofs.Seen.{green-is}
 use Rattle.tick_context.proofs.Causes.{held-reason, asked-reason, gap-reason, fill-reason}
 use Rattle.controller.proofs.Controller.bound_reason.Goals as goal
@@ -15,7 +16,7 @@ use Rattle.controller.proofs.Controller.bound_reason.Goals as goal
 pub returns-then-has : goal.returns-then-has
 returns-then-has c = record {
   reason = λ past n r e on green a.
-      let b = active_pattern-in c.args.self.now c.args.tick_state.now past n r e in
+      let b = active_pattern-in c.args.self.now.context c.args.tick_state.now past n (runs-context _ _ past r) e in
       let h = phase-is c.args.phase c.requires.above c.requires.within in
       held-reason past n c.args.phase c.released.result (sym (b.options.coordinated c.args.phase h) ∙ sym c.has.ensures.has ∙ c.if-has.true)
       (c.released.ensures.released past.tables n (tick_state_of past).active b.plan (c.extension.ensures.extension past
@@ -26,7 +27,7 @@ returns-then-has c = record {
 pub returns-then-is_asked : goal.returns-then-is_asked
 returns-then-is_asked c = record {
   reason = λ past n r e on green a.
-      let b = active_pattern-in c.args.self.now c.args.tick_state.now past n r e in
+      let b = active_pattern-in c.args.self.now.context c.args.tick_state.now past n (runs-context _ _ past r) e in
       let h = phase-is c.args.phase c.requires.above c.requires.within in
       asked-reason past n c.args.phase (sym (b.options.coordinated c.args.phase h) ∙ sym c.has.ensures.has ∙ c.if-has.false)
       (sym (c.is_asked.ensures (tick_state_of past).active r.tick_state.active) ∙ c.if-is_asked.true);
@@ -35,7 +36,7 @@ returns-then-is_asked c = record {
 pub returns-then-gaps : goal.returns-then-gaps
 returns-then-gaps c = record {
   reason = λ past n r e on green a.
-      let b = active_pattern-in c.args.self.now c.args.tick_state.now past n r e in
+      let b = active_pattern-in c.args.self.now.context c.args.tick_state.now past n (runs-context _ _ past r) e in
       let h = phase-is c.args.phase c.requires.above c.requires.within in
       gap-reason past n c.args.phase (sym (b.options.coordinated c.args.phase h) ∙ sym c.has.ensures.has ∙ c.if-has.false)
       (sym (c.gaps.ensures.gap past r.keeps on a) ∙ c.if-gaps.true);
@@ -44,7 +45,7 @@ returns-then-gaps c = record {
 pub returns-else-gaps : goal.returns-else-gaps
 returns-else-gaps c = record {
   reason = λ past n r e on green a.
-      let b = active_pattern-in c.args.self.now c.args.tick_state.now past n r e in
+      let b = active_pattern-in c.args.self.now.context c.args.tick_state.now past n (runs-context _ _ past r) e in
       let h = phase-is c.args.phase c.requires.above c.requires.within in
       let shown : colour_of (frame_seen past) c.args.phase ≡ Green = green-is _ green in
       fill-reason past n c.args.phase c.run.result c.filled.result (sym (b.options.coordinated c.args.phase h) ∙ sym c.has.ensures.has ∙ c.if-has.false)

@@ -13,7 +13,8 @@ use Rattle.sig_tables.specs.Decide.{next_moment, colours_of}
 use Rattle.sig_tables.specs.Seen.{mode_seen, moves_seen}
 use Rattle.coord_count.specs.Stands.{CountStands}
 use Rattle.tick_context.specs.Modes.{is_coord}
-use Rattle.controller.proofs.Running.{coord-of}
+use Rattle.tick_context.proofs.Running.{coord-of}
+use Rattle.controller.proofs.Running.{runs-context}
 use Rattle.tick_context.proofs.Sought.{reached-from}
 use Rattle.tick_context.proofs.Counted.{counters-head, counters-none, some-cycle}
 use Rattle.tick_context.proofs.Steps.{coord-step, seek-step, seek-defined}
@@ -23,7 +24,7 @@ use Rattle.controller.proofs.Controller.count_after.Goals as goal
 pub returns-then-is_coord : goal.returns-then-is_coord
 returns-then-is_coord c = record {
   counts = λ past r f n st.
-      let coord : is_coord (mode_seen past) ≡ true = coord-of c.args.self.now c.args.tick_state.now past _ _ r c.is_coord.ensures c.if-is_coord.true in
+      let coord : is_coord (mode_seen past) ≡ true = coord-of c.args.self.now.context c.args.tick_state.now past _ _ (runs-context _ _ past r) c.is_coord.ensures c.if-is_coord.true in
       let reached : same_mode (next_moment past).frame.mode (Coord n) ≡ true =
       ap (λ (x : Frame). same_mode x.mode (Coord n)) (sym f) ∙ (and_parts (same_mode c.args.frame.now.mode (Coord n))
       (c.args.frame.now.version == past.version) st).0 in
@@ -45,7 +46,7 @@ returns-then-is_coord c = record {
 pub returns-else-is_coord : goal.returns-else-is_coord
 returns-else-is_coord c = record {
   counts = λ past r f n st.
-      let coord : is_coord (mode_seen past) ≡ false = coord-of c.args.self.now c.args.tick_state.now past _ _ r c.is_coord.ensures c.if-is_coord.false in
+      let coord : is_coord (mode_seen past) ≡ false = coord-of c.args.self.now.context c.args.tick_state.now past _ _ (runs-context _ _ past r) c.is_coord.ensures c.if-is_coord.false in
       let reached : same_mode (next_moment past).frame.mode (Coord n) ≡ true =
       ap (λ (x : Frame). same_mode x.mode (Coord n)) (sym f) ∙ (and_parts (same_mode c.args.frame.now.mode (Coord n))
       (c.args.frame.now.version == past.version) st).0 in

@@ -12,7 +12,7 @@ returns c = record {
       let demand : phases_of c.args.demand ≡ demand_seen past = d ∙ sym (ap (λ (m : Mode). demand_with (bound m) past) mode) in
       record {
         demand = demand;
-        quiet = λ p h. ap (λ (m : Mode). is_in (quiet_with (bound m) past) p) mode ∙ c.active.ensures.quiet None past k.calls k.layout tt p h;
+        quiet = λ p h. ap (λ (m : Mode). is_in (quiet_with (bound m) past) p) mode ∙ c.active.ensures.quiet None past k.context.calls k.context.layout tt p h;
         opposed = c.opposed.ensures.opposed past (demand_seen past) k demand;
       };
 }

@@ -20,7 +20,7 @@ returns-then-run-least c = record {
       cleared-early past c.args.phase c.run.result c.lesser_green-least.result
       (c.run.ensures.run past.moments r.keeps.clocks ∙ ap (λ (x : Colour). run c.args.phase x past.moments) shown)
       (c.lesser_green-least.ensures
-      ∙ ap (λ (t : Tables). lesser_green t (stage_of c.args.tick_state.now.mode) c.latched_least.result) r.keeps.tables
+      ∙ ap (λ (t : Tables). lesser_green t (stage_of c.args.tick_state.now.mode) c.latched_least.result) r.keeps.context.tables
       ∙ ap (λ (m : Mode). lesser_green past.tables (stage_of m) c.latched_least.result) r.tick_state.mode
       ∙ ap (lesser_green past.tables (stage_of (mode_seen past))) (c.latched_least.ensures.latched past.moments past.tables r.keeps.clocks shown))
       c.if-run-least.true;
@@ -34,7 +34,7 @@ returns-else-run-least c = record {
       ∙ cleared-signal past c.args.phase c.run.result c.lesser_green-least.result c.signal_within.result
       (c.run.ensures.run past.moments r.keeps.clocks ∙ ap (λ (x : Colour). run c.args.phase x past.moments) shown)
       (c.lesser_green-least.ensures
-      ∙ ap (λ (t : Tables). lesser_green t (stage_of c.args.tick_state.now.mode) c.latched_least.result) r.keeps.tables
+      ∙ ap (λ (t : Tables). lesser_green t (stage_of c.args.tick_state.now.mode) c.latched_least.result) r.keeps.context.tables
       ∙ ap (λ (m : Mode). lesser_green past.tables (stage_of m) c.latched_least.result) r.tick_state.mode
       ∙ ap (lesser_green past.tables (stage_of (mode_seen past))) (c.latched_least.ensures.latched past.moments past.tables r.keeps.clocks shown))
       c.if-run-least.false

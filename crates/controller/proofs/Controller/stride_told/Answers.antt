@@ -35,7 +35,7 @@ loop-done-preserved c =
       plain = λ h k s few.
           let before = i.stands h s in
           let now : is_told h (suc done) ≡ false =
-          told-by _ _ (last_frame_of (ticks_more done h)) (decide (ticks_more done h)) _ c.has_line.ensures before.frame
+          told-by _ _ (last_frame_of (ticks_more done h)) (decide (ticks_more done h)) _ c.has_line.ensures before.context.frame
           (c.tick-next.ensures.decided (ticks_more done h) before)
           ∙ c.if-has_line.false in
           plain-on h done more (λ j less. i.plain h j s less) now
@@ -57,7 +57,7 @@ returns-then-has_line-clause-least c = λ h s.
       plain = λ k less. let few : k ≤ done = omega arith in i.plain h k s few;
       told = λ less.
           ap (is_told h) next
-          ∙ told-by _ _ (last_frame_of (ticks_more done h)) (decide (ticks_more done h)) _ c.has_line.ensures before.frame
+          ∙ told-by _ _ (last_frame_of (ticks_more done h)) (decide (ticks_more done h)) _ c.has_line.ensures before.context.frame
           (c.tick-next.ensures.decided (ticks_more done h) before)
           ∙ c.if-has_line.true;
     }
@@ -88,7 +88,7 @@ returns-then-has_line-clause-told c = λ h s.
     let next : done + 1 ≡ suc done = omega arith in
     let before = c.loop-done.invariant.stands h s in
     sym (ap (is_told h) next
-    ∙ told-by _ _ (last_frame_of (ticks_more done h)) (decide (ticks_more done h)) _ c.has_line.ensures before.frame
+    ∙ told-by _ _ (last_frame_of (ticks_more done h)) (decide (ticks_more done h)) _ c.has_line.ensures before.context.frame
     (c.tick-next.ensures.decided (ticks_more done h) before)
     ∙ c.if-has_line.true)
 

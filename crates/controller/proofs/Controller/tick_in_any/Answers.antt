@@ -11,8 +11,8 @@ returns-clause-given c = λ past k command.
     let bound = c.follow.ensures.bound past k mode in
     let runs : Runs c.follow.new.self c.tick_state-tick_state.result past = record {
       keeps = kept;
-      tick_state = c.tick_state-tick_state.ensures.tick_state past kept bound mode command;
-      bound = subst (λ (m : Mode). IsBound c.follow.new.self.active_pattern past.tables m) mode bound;
+      tick_state = c.tick_state-tick_state.ensures.tick_state past kept.context kept.counts bound mode command;
+      bound = subst (λ (m : Mode). IsBound c.follow.new.self.context.active_pattern past.tables m) mode bound;
     } in
     c.go_on.ensures.given past runs (c.tick_inputs-tick_inputs.ensures.sees past runs)
 
@@ -23,7 +23,7 @@ returns-clause-keeps c = λ past k command.
     let bound = c.follow.ensures.bound past k mode in
     let runs : Runs c.follow.new.self c.tick_state-tick_state.result past = record {
       keeps = kept;
-      tick_state = c.tick_state-tick_state.ensures.tick_state past kept bound mode command;
-      bound = subst (λ (m : Mode). IsBound c.follow.new.self.active_pattern past.tables m) mode bound;
+      tick_state = c.tick_state-tick_state.ensures.tick_state past kept.context kept.counts bound mode command;
+      bound = subst (λ (m : Mode). IsBound c.follow.new.self.context.active_pattern past.tables m) mode bound;
     } in
     c.go_on.ensures.keeps past runs (c.tick_inputs-tick_inputs.ensures.sees past runs)

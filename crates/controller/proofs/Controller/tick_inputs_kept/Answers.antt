@@ -7,10 +7,10 @@ returns c = record {
   looks = λ past k b.
       let options = c.options_kept-options.ensures.options past b in
       let demand =
-      c.demand-demand.ensures.demand (bound c.args.self.now.frame.mode) past k.calls k.layout options k.shown.red in
+      c.demand-demand.ensures.demand (bound c.args.self.now.context.frame.mode) past k.context.calls k.context.layout options k.shown.red in
       record {
         demand = demand;
-        quiet = c.active-active.ensures.quiet (bound c.args.self.now.frame.mode) past k.calls k.layout options;
-        opposed = c.opposed.ensures.opposed past (demand_with (bound c.args.self.now.frame.mode) past) k demand;
+        quiet = c.active-active.ensures.quiet (bound c.args.self.now.context.frame.mode) past k.context.calls k.context.layout options;
+        opposed = c.opposed.ensures.opposed past (demand_with (bound c.args.self.now.context.frame.mode) past) k demand;
       };
 }

@@ -11,14 +11,14 @@ pub returns-then-not-is_coord : goal.returns-then-not-is_coord
 returns-then-not-is_coord c = record {
   left = λ past k keeps b some within.
       subst (λ (x : Option ℕ). StaysUnforced x k past c.args.phase)
-      (sym (unbound c.args.self.now.frame.mode (sym c.is_coord.ensures ∙ c.if-not-is_coord.true))) tt;
+      (sym (unbound c.args.self.now.context.frame.mode (sym c.is_coord.ensures ∙ c.if-not-is_coord.true))) tt;
 }
 
 pub returns-then-has : goal.returns-then-has
 returns-then-has c = record {
   left = λ past k keeps b some within.
-      let (n, e) = in-coord c.args.self.now.frame.mode (sym c.is_coord.ensures ∙ c.if-not-is_coord.false) in
-      let is : ActivePatternIs c.args.self.now.active_pattern past.tables n = subst (λ (m : Mode). IsBound c.args.self.now.active_pattern past.tables m) e b in
+      let (n, e) = in-coord c.args.self.now.context.frame.mode (sym c.is_coord.ensures ∙ c.if-not-is_coord.false) in
+      let is : ActivePatternIs c.args.self.now.context.active_pattern past.tables n = subst (λ (m : Mode). IsBound c.args.self.now.context.active_pattern past.tables m) e b in
       let h = phase-is c.args.phase c.requires.above c.requires.within in
       subst (λ (x : Option ℕ). StaysUnforced x k past c.args.phase) (sym (ap bound e))
       (inl (sym (is.options.coordinated c.args.phase h) ∙ sym c.has.ensures.has ∙ c.if-has.true));
@@ -27,8 +27,8 @@ returns-then-has c = record {
 pub returns-else-has : goal.returns-else-has
 returns-else-has c = record {
   left = λ past k keeps b some within.
-      let (n, e) = in-coord c.args.self.now.frame.mode (sym c.is_coord.ensures ∙ c.if-not-is_coord.false) in
-      let is : ActivePatternIs c.args.self.now.active_pattern past.tables n = subst (λ (m : Mode). IsBound c.args.self.now.active_pattern past.tables m) e b in
+      let (n, e) = in-coord c.args.self.now.context.frame.mode (sym c.is_coord.ensures ∙ c.if-not-is_coord.false) in
+      let is : ActivePatternIs c.args.self.now.context.active_pattern past.tables n = subst (λ (m : Mode). IsBound c.args.self.now.context.active_pattern past.tables m) e b in
       subst (λ (x : Option ℕ). StaysUnforced x k past c.args.phase) (sym (ap bound e))
       (inr (c.force_left.ensures.left past n k keeps is some within));
 }

@@ -5,14 +5,15 @@ use Rattle.sig_tables.specs.Looking.{run}
 use Rattle.sig_tables.specs.TickState.{tick_state_of}
 use Rattle.sig_tables.proofs.Below.{phase-is}
 use Rattle.tick_context.proofs.Causes.{held-reason, asked-reason, gap-reason, fill-reason}
-use Rattle.observer.proofs.Bound.{active_pattern-in}
+use Rattle.tick_context.proofs.Running.{active_pattern-in}
+use Rattle.observer.proofs.Bound.{runs-context}
 use Rattle.observer.proofs.Observer.bound_reason.Goals as goal
 
 pub returns-then-has : goal.returns-then-has
 returns-then-has c = record {
   reason = λ past r e a.
       let n = c.args.pattern in
-      let b = active_pattern-in c.args.self.now c.args.tick_state.now past n r e in
+      let b = active_pattern-in c.args.self.now.context c.args.tick_state.now past n (runs-context _ _ past r) e in
       let h = phase-is c.args.phase c.requires.above c.requires.within in
       held-reason past n c.args.phase c.released.result (sym (b.options.coordinated c.args.phase h) ∙ sym c.has.ensures.has ∙ c.if-has.true)
       (c.released.ensures.released past.tables n (tick_state_of past).active b.plan
@@ -24,7 +25,7 @@ pub returns-then-is_asked : goal.returns-then-is_asked
 returns-then-is_asked c = record {
   reason = λ past r e a.
       let n = c.args.pattern in
-      let b = active_pattern-in c.args.self.now c.args.tick_state.now past n r e in
+      let b = active_pattern-in c.args.self.now.context c.args.tick_state.now past n (runs-context _ _ past r) e in
       let h = phase-is c.args.phase c.requires.above c.requires.within in
       asked-reason past n c.args.phase (sym (b.options.coordinated c.args.phase h) ∙ sym c.has.ensures.has ∙ c.if-has.false)
       (sym (c.is_asked.ensures (tick_state_of past).active r.tick_state.active) ∙ c.if-is_asked.true);
@@ -34,7 +35,7 @@ pub returns-then-has_gap : goal.returns-then-has_gap
 returns-then-has_gap c = record {
   reason = λ past r e a.
       let n = c.args.pattern in
-      let b = active_pattern-in c.args.self.now c.args.tick_state.now past n r e in
+      let b = active_pattern-in c.args.self.now.context c.args.tick_state.now past n (runs-context _ _ past r) e in
       let h = phase-is c.args.phase c.requires.above c.requires.within in
       gap-reason past n c.args.phase (sym (b.options.coordinated c.args.phase h) ∙ sym c.has.ensures.has ∙ c.if-has.false)
       (sym (c.has_gap.ensures.gap past r a) ∙ c.if-has_gap.true);
@@ -44,7 +45,7 @@ pub returns-else-has_gap : goal.returns-else-has_gap
 returns-else-has_gap c = record {
   reason = λ past r e a.
       let n = c.args.pattern in
-      let b = active_pattern-in c.args.self.now c.args.tick_state.now past n r e in
+      let b = active_pattern-in c.args.self.now.context c.args.tick_state.now past n (runs-context _ _ past r) e in
       let h = phase-is c.args.phase c.requires.above c.requires.within in
       fill-reason past n c.args.phase (run c.args.phase Green past.moments) c.has_filled_split.result
       (sym (b.options.coordinated c.args.phase h) ∙ sym c.has.ensures.has ∙ c.if-has.false)

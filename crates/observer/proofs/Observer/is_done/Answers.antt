@@ -42,6 +42,6 @@ returns c = record {
       (c.has-opposed.ensures.has ∙ s.opposed c.args.phase h)) ∙ c.if-not-has_reason.false)
       parts.0 parts.1
       (c.is_served.ensures past.moments r.keeps.frame_history
-      (ap (λ (f : Frame). colour_of f c.args.phase) r.keeps.frame) (ap (λ (f : Frame). signal_of f c.args.phase) r.keeps.frame)
-      ∙ ap (λ (t : Tables). is_served t past.moments c.args.phase) r.keeps.tables);
+      (ap (λ (f : Frame). colour_of f c.args.phase) r.keeps.context.frame) (ap (λ (f : Frame). signal_of f c.args.phase) r.keeps.context.frame)
+      ∙ ap (λ (t : Tables). is_served t past.moments c.args.phase) r.keeps.context.tables);
 }

@@ -13,7 +13,7 @@ returns-in-Rest c = record {
 pub returns-in-StartUp : goal.returns-in-StartUp
 returns-in-StartUp c = record {
   moves = λ past r s.
-      up-moves (ring_turn_seen past) (view_seen past) _ (sym (ap ring_turn_meant c.in-StartUp.is) ∙ r.tick_state.ring_turn) c.empty.ensures.has r.keeps.layout.starts_up;
+      up-moves (ring_turn_seen past) (view_seen past) _ (sym (ap ring_turn_meant c.in-StartUp.is) ∙ r.tick_state.ring_turn) c.empty.ensures.has r.keeps.context.layout.starts_up;
 }
 
 pub returns-in-Rings : goal.returns-in-Rings

@@ -2,7 +2,7 @@ use Rattle.std.proofs.Common.{◌≡◌, ◌<◌, inl, inr, sym, ◌∙◌, arit
 use Rattle.std.proofs.lemmas.Bool.Decides.{eqb_tells}
 use Rattle.sig_types.specs.Phases.{is_in}
 use Rattle.sig_tables.specs.Preempts.{is_preempt_called}
-use Rattle.preempt_run.proofs.Least.{least-at, least-none}
+use Rattle.preempt_stages.proofs.Least.{least-at, least-none}
 use Rattle.look_back.proofs.Stages.{none-on}
 use Rattle.look_back.proofs.long_counts.LongCounts.called.Goals as goal
 

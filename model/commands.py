@@ -1,0 +1,109 @@
+"""What each command of the program's words reads and writes, and its exit status.
+
+docs/arterial.1; docs/SCENARIO.md, "What is refused, and how"; docs/TRACE.md, "Checking a trace".
+"""
+
+import sys
+from collections.abc import Iterator
+from dataclasses import dataclass
+from enum import IntEnum
+
+from model import words_given as given
+from model.band import bands
+from model.check import Fault, check
+from model.field_file import respond
+from model.generator import generated
+from model.overlaps import OverlapFault, overlap_lines
+from model.run import trace_lines
+from model.scenario_read import read_scenario
+from model.shapes import Refused
+from model.survey import survey_lines
+
+
+class Status(IntEnum):
+    """The exit statuses."""
+
+    DONE = 0
+    USAGE = 1
+    SCENARIO = 2
+    READ_FAULT = 3
+    WRITE_FAULT = 4
+    NOT_A_TRACE = 5
+    OVERLAP = 7
+
+
+USAGE = "usage: arterial run [--workers N] | check | generate | survey"
+
+
+def lines_of(command: given.Command, data: bytes) -> Iterator[bytes]:
+    """Yields the lines that a command writes."""
+    if isinstance(command, given.Run):
+        yield from trace_lines(read_scenario(data))
+    elif isinstance(command, given.Check):
+        check(data)
+    elif isinstance(command, given.Generate):
+        yield generated(command).compact
+    elif isinstance(command, given.Survey):
+        yield from survey_lines(generated(command))
+    elif isinstance(command, given.Overlaps):
+        yield from overlap_lines(data, command)
+    elif isinstance(command, given.Respond):
+        yield respond(data)
+    else:
+        yield from bands(data)
+
+
+@dataclass(frozen=True)
+class Answer:
+    """What the words are answered: the exit status, what is written, and the line on standard error."""
+
+    status: Status
+    output: bytes = b""
+    said: bytes = b""
+
+
+def refused(status: Status, line: str) -> Answer:
+    """Returns the answer that says a line on standard error and writes nothing."""
+    return Answer(status, said=line.encode(errors="surrogateescape") + b"\n")
+
+
+def reads(words: list[str]) -> bool:
+    """Tells whether the words are a command that reads standard input."""
+    command = given.command_of(words)
+    return command is not None and not isinstance(command, (given.Generate, given.Survey))
+
+
+def answer(words: list[str], data: bytes) -> Answer:
+    """Returns what the words are answered where standard input has these bytes."""
+    command = given.command_of(words)
+    if command is None:
+        return refused(Status.USAGE, USAGE)
+    try:
+        return Answer(Status.DONE, b"".join(line + b"\n" for line in lines_of(command, data)))
+    except Refused as fault:
+        return refused(Status.SCENARIO, f"scenario: {fault}")
+    except Fault as fault:
+        return refused(Status.NOT_A_TRACE, f"trace: {fault}")
+    except OverlapFault as fault:
+        return refused(Status.OVERLAP, f"overlap: {fault}")
+
+
+def read_all(words: list[str]) -> bytes | None:
+    """Returns standard input where the words read it; None where a read failed."""
+    try:
+        return sys.stdin.buffer.read() if reads(words) else b""
+    except OSError:
+        return None
+
+
+def main(words: list[str]) -> int:
+    """Does what the words say; returns the exit status."""
+    data = read_all(words)
+    told = refused(Status.READ_FAULT, "read fault") if data is None else answer(words, data)
+    try:
+        sys.stdout.buffer.write(told.output)
+        sys.stdout.buffer.flush()
+    except OSError:
+        told = refused(Status.WRITE_FAULT, "write fault")
+    sys.stderr.buffer.write(told.said)
+    return told.status

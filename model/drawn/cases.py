@@ -1,0 +1,141 @@
+"""Cases of each kind: words of the program, and what stands on its standard input."""
+
+import json
+import sys
+from collections.abc import Callable
+from dataclasses import dataclass
+from enum import Enum
+from pathlib import Path
+from random import Random
+
+sys.path.append(str(Path(__file__).resolve().parents[2] / "vectors"))
+
+from damage import damaged  # noqa: E402
+
+from model.drawn import reports  # noqa: E402
+from model.drawn.hostile import hostile, text_of  # noqa: E402
+from model.drawn.orders import trace_in_order, with_damage  # noqa: E402
+from model.drawn.scenarios import scenario  # noqa: E402
+from model.scenario_read import read_scenario  # noqa: E402
+from model.shapes import Refused  # noqa: E402
+
+
+TRIES = 4
+"""How often a scenario is drawn anew that is refused, where a trace is asked for."""
+
+
+class CaseKind(Enum):
+    """The kinds of cases."""
+
+    RUN = "run"
+    HOSTILE = "hostile"
+    DAMAGED = "damaged"
+    CHECK = "check"
+    OVERLAPS = "overlaps"
+    RESPOND = "respond"
+    BAND = "band"
+    WORDS = "words"
+
+
+@dataclass(frozen=True)
+class Case:
+    """The words of the program, and standard input."""
+
+    words: list[str]
+    data: bytes
+
+
+def run_case(draw: Random) -> Case:
+    """Draws a scenario that is run."""
+    return Case(["run"], text_of(draw, scenario(draw)))
+
+
+def hostile_case(draw: Random) -> Case:
+    """Draws a scenario that has hostile values."""
+    return Case(["run"], text_of(draw, hostile(draw, scenario(draw, most_ticks=300))))
+
+
+def damaged_case(draw: Random) -> Case:
+    """Draws a damaged text of a scenario."""
+    return Case(["run"], damaged(draw, text_of(draw, scenario(draw, most_ticks=200))))
+
+
+def drawn_trace(draw: Random) -> bytes:
+    """Draws a trace in some order; the empty text where each scenario of a few is refused."""
+    for _ in range(TRIES):
+        text = json.dumps(scenario(draw, most_ticks=400)).encode()
+        try:
+            return trace_in_order(draw, read_scenario(text))
+        except Refused:
+            continue
+    return b""
+
+
+def check_case(draw: Random) -> Case:
+    """Draws a trace in some order, mostly with damage."""
+    trace = drawn_trace(draw)
+    for _ in range(draw.choice([0, 1, 1, 1, 2])):
+        trace = with_damage(draw, trace) if trace else trace
+    return Case(["check"], trace)
+
+
+def overlap_case(draw: Random) -> Case:
+    """Draws an overlap over a trace."""
+    trace = drawn_trace(draw)
+    return Case(reports.overlap_words(draw), with_damage(draw, trace) if trace and draw.random() < 0.1 else trace)
+
+
+def respond_case(draw: Random) -> Case:
+    """Draws a field file, at times with hostile values or damage."""
+    value = reports.field_file(draw)
+    return Case(["respond"], perhaps_damaged(draw, value))
+
+
+def band_case(draw: Random) -> Case:
+    """Draws what is asked of through bands, at times with hostile values or damage."""
+    return Case(["band"], perhaps_damaged(draw, reports.street(draw)))
+
+
+def perhaps_damaged(draw: Random, value: dict) -> bytes:
+    """Returns a text of a value, at times with hostile values or damage."""
+    kind = draw.random()
+    text = text_of(draw, hostile(draw, value) if kind < 0.3 else value)
+    return damaged(draw, text) if kind > 0.93 else text
+
+
+def word_case(draw: Random) -> Case:
+    """Draws words, with a small scenario on standard input."""
+    words = reports.made_words(draw) if draw.random() < 0.5 else reports.odd_words(draw)
+    return Case(words, b'{"cabinets":[{"base":"max8"}],"rounds":1,"ticks":60,"version":1}')
+
+
+DRAWS: dict[CaseKind, Callable[[Random], Case]] = {
+    CaseKind.RUN: run_case,
+    CaseKind.HOSTILE: hostile_case,
+    CaseKind.DAMAGED: damaged_case,
+    CaseKind.CHECK: check_case,
+    CaseKind.OVERLAPS: overlap_case,
+    CaseKind.RESPOND: respond_case,
+    CaseKind.BAND: band_case,
+    CaseKind.WORDS: word_case,
+}
+OFTEN = {
+    CaseKind.RUN: 46,
+    CaseKind.HOSTILE: 16,
+    CaseKind.DAMAGED: 6,
+    CaseKind.CHECK: 14,
+    CaseKind.OVERLAPS: 4,
+    CaseKind.RESPOND: 5,
+    CaseKind.BAND: 5,
+    CaseKind.WORDS: 4,
+}
+
+
+def kind_of(seed: int, number: int, kinds: list[CaseKind]) -> CaseKind:
+    """Draws the kind of the case of a number."""
+    return Random(f"{seed} {number} kind").choices(kinds, [OFTEN[kind] for kind in kinds])[0]
+
+
+def case_of(seed: int, number: int, kind: CaseKind) -> Case:
+    """Draws the case of a number; the same for the same seed."""
+    return DRAWS[kind](Random(f"{seed} {number} {kind.value}"))

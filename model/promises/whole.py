@@ -1,0 +1,46 @@
+"""All of a download comes into force between two ticks, or nothing of it: the version on each frame is the number of
+downloads accepted before it, and a download is accepted exactly where its tables keep all rules beside those in
+force."""
+
+from collections.abc import Iterator
+
+from model.promises.told import Street
+from model.rules import first_broken
+
+
+def versions(street: Street) -> Iterator[str]:
+    """Tells of frames with another version than the number of downloads that were accepted before their tick."""
+    accepted = [end.tick for end in street.ends if end.version is not None]
+    for seen in street.seen:
+        due = sum(tick < seen.tick for tick in accepted)
+        if seen.version != due:
+            yield f"tick {seen.tick}: version {seen.version}, after {due} downloads"
+
+
+def ends(street: Street) -> Iterator[str]:
+    """Tells of downloads whose end isn't what the rules of tables say, or has another number."""
+    count = 0
+    for end in street.ends:
+        broken = first_broken(end.staged, end.in_force, end.is_flashing)
+        count += end.version is not None
+        if end.version is not None and end.version != count:
+            yield f"behind tick {end.tick}: version {end.version} is the download of number {count}"
+        if broken != end.broken:
+            yield f"behind tick {end.tick}: a download told {end.broken}, {broken} is due"
+
+
+def changes(street: Street) -> Iterator[str]:
+    """Tells of downloads that were accepted and of which no frame at the next tick tells."""
+    seen = {(it.tick, it.version) for it in street.seen}
+    for number, end in enumerate((it for it in street.ends if it.version is not None), 1):
+        later = [it for it in street.ends if it.version is not None and it.tick == end.tick]
+        version = number if later[-1] is end else None
+        if version is not None and end.tick < street.ticks and (end.tick + 1, version) not in seen:
+            yield f"tick {end.tick + 1}: no frame of version {version}"
+
+
+def whole(street: Street) -> Iterator[str]:
+    """Tells what a street shows against this promise."""
+    yield from versions(street)
+    yield from ends(street)
+    yield from changes(street)

@@ -1,0 +1,110 @@
+"""The words that are commands.
+
+docs/arterial.1. They stand exactly in this order; numbers are decimal digits without a sign and without a leading zero.
+"""
+
+import re
+from dataclasses import dataclass
+
+MOST_ROUNDS_OF_ALL = 100_000
+
+
+@dataclass(frozen=True)
+class Run:
+    """Run a scenario."""
+
+
+@dataclass(frozen=True)
+class Check:
+    """Check a trace."""
+
+
+@dataclass(frozen=True)
+class Respond:
+    """Make a scenario of a field file."""
+
+
+@dataclass(frozen=True)
+class Band:
+    """Tell the through bands of a street."""
+
+
+@dataclass(frozen=True)
+class Seed:
+    """What a generated scenario is drawn from."""
+
+    seed: int
+    cabinets: int
+    rounds: int
+
+
+class Generate(Seed):
+    """Generate a scenario."""
+
+
+class Survey(Seed):
+    """Say what a run of a generated scenario comes to."""
+
+
+@dataclass(frozen=True)
+class Overlaps:
+    """Time an overlap over a trace."""
+
+    cabinet: int
+    parents: bytes
+    trail: int
+    yellow: int
+    red: int
+
+
+Command = Run | Check | Respond | Band | Generate | Survey | Overlaps
+ALONE: dict[str, Command] = {"run": Run(), "check": Check(), "respond": Respond(), "band": Band()}
+
+
+def number(word: str, low: int, high: int) -> int | None:
+    """Returns the number of a word in a range, None where it is none."""
+    if not re.fullmatch(r"0|[1-9][0-9]{0,9}", word) or not low <= int(word) <= high:
+        return None
+    return int(word)
+
+
+def pairs(words: list[str], names: list[str]) -> list[str] | None:
+    """Returns the words behind some names, None where the words aren't these names each with a word."""
+    return words[1::2] if len(words) == 2 * len(names) and words[::2] == names else None
+
+
+def generate(words: list[str], kind: type[Generate] | type[Survey]) -> Command | None:
+    """Returns what is to be generated."""
+    told = pairs(words, ["--seed", "--cabinets", "--rounds"])
+    if told is None:
+        return None
+    seed, cabinets, rounds = number(told[0], 0, 2**32 - 1), number(told[1], 1, 64), number(told[2], 1, 86_400)
+    if seed is None or cabinets is None or rounds is None or cabinets * rounds > MOST_ROUNDS_OF_ALL:
+        return None
+    return kind(seed, cabinets, rounds)
+
+
+def overlaps(words: list[str]) -> Command | None:
+    """Returns what is asked of an overlap."""
+    told = pairs(words, ["--cabinet", "--parents", "--trail", "--yellow", "--red"])
+    if told is None or not re.fullmatch(r"(?:[0-9A-Fa-f]{2}){1,16}", told[1]):
+        return None
+    numbers = [number(told[0], 1, 64), *(number(word, 0, 255) for word in told[2:])]
+    if None in numbers:
+        return None
+    return Overlaps(numbers[0], bytes.fromhex(told[1]), *numbers[1:])
+
+
+def command_of(words: list[str]) -> Command | None:
+    """Returns the command that the words are; None where they are none."""
+    if not words:
+        return None
+    first, rest = words[0], words[1:]
+    if first in ("generate", "survey"):
+        return generate(rest, Generate if first == "generate" else Survey)
+    if first == "overlaps":
+        return overlaps(rest)
+    if first == "run" and rest:
+        told = pairs(rest, ["--workers"])
+        return None if told is None or number(told[0], 0, 8) is None else Run()
+    return ALONE.get(first) if not rest else None
