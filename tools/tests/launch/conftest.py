@@ -21,7 +21,7 @@ CRATES = {
 """Crates and what they stand on; the program does not stand on the laws."""
 
 PROVED = ["sig_types", "io_edge", "station", "arterial"]
-SECONDS = 30
+SECONDS = 60
 
 BUILT = (7, "words run --workers 2\none\ntwo\n")
 """The status and the output of the program that the stand-in builds."""
