@@ -12,11 +12,11 @@ import tempfile
 
 TOP = pathlib.Path(__file__).resolve().parent.parent
 CABINET = (
-    *("sig_types", "ber_code", "snmp_msg", "sig_tables", "oid_map", "agent", "split_options", "call_store", "phase_clock", "ped_clock", "ring_barrier"),
-    *("pattern_plan", "coord_gate", "coord_count", "preempt_run", "flash_mode", "prio_queue", "tick_sight", "controller", "rule_book", "stage_txn"),
-    *("round_streams", "cabinet_story", "cab_book"),
+    *("sig_types", "ber_code", "snmp_msg", "sig_tables", "oid_map", "agent", "pattern_plan", "call_store", "phase_clock", "ped_clock", "ring_barrier"),
+    *("coord_gate", "coord_count", "preempt_stages", "preempt_run", "flash_mode", "prio_queue", "tick_context", "controller", "rule_book", "stage_txn"),
+    *("cabinet_history", "look_back", "observer", "cab_book"),
 )
-DESK = ("scenario_data", "requests", "master_plan", "master_load", "master_poll", "link_sim", "desk")
+MASTER = ("scenario_data", "requests", "master_plan", "master_load", "master_poll", "link_sim", "master_rounds")
 HEAD = "#[allow(unused_imports)]\nuse crate::plain_std::*;\n"
 
 

@@ -2,11 +2,11 @@
 mod measured {
     use crate::agent::{answer, decode};
     use crate::arrayvec::ArrayVec;
-    use crate::cab_book::{Book, Cabinet};
+    use crate::cab_book::{Book, Cabinet, Control};
     use crate::controller::Controller;
     use crate::master_poll::{Task, task_octets};
     use crate::plain_std::{Global, Vec};
-    use crate::round_streams::Streams;
+    use crate::sig_types::Streams;
     use crate::sig_tables::Tables;
     use crate::sig_types::Octets;
     use crate::stage_txn::Stage;
@@ -82,7 +82,7 @@ mod measured {
     }
 
     fn book_of(tables: &str, command: u8) -> Book {
-        match Book::new(Global, Cabinet::new(opened(tables, command), community())) {
+        match Book::new(Global, Cabinet::new(Control::Registers(opened(tables, command)), community())) {
             Ok(book) => book,
             Err(_) => panic!("no memory"),
         }

@@ -1,11 +1,11 @@
-/// What bench/master measures: the beginnings and the ends of rounds at the desk, the master's turns and the line.
+/// What bench/master measures: the beginnings and the ends of rounds of the master, the master's turns and the line.
 mod measured {
     use crate::agent::{answer, decode};
     use crate::arrayvec::ArrayVec;
     use crate::controller::Controller;
-    use crate::desk::{Begun, Desk};
+    use crate::master_rounds::{Begun, MasterRounds};
     use crate::plain_std::{Global, Vec};
-    use crate::round_streams::{Answers, Streams};
+    use crate::sig_types::{Answers, Streams};
     use crate::scenario_data::{Base, Cabinet, Direction, Fault, FaultKind, MasterSetup, Scenario};
     use crate::sig_tables::Tables;
     use crate::sig_types::{Octets, Way};
@@ -74,16 +74,16 @@ mod measured {
     }
 
     #[inline(never)]
-    fn counted_begin(desk: &mut Desk, round: u32, s: &Scenario) -> Begun {
-        match desk.begin(Global, round, s) {
+    fn counted_begin(master: &mut MasterRounds, round: u32, s: &Scenario) -> Begun {
+        match master.begin(Global, round, s) {
             Ok(begun) => begun,
             Err(_) => panic!("no memory"),
         }
     }
 
     #[inline(never)]
-    fn counted_end(desk: &mut Desk, round: u32, s: &Scenario, answers: &Vec<Answers>) {
-        if desk.end(Global, round, s, answers.as_slice()).is_err() {
+    fn counted_end(master: &mut MasterRounds, round: u32, s: &Scenario, answers: &Vec<Answers>) {
+        if master.end(Global, round, s, answers.as_slice()).is_err() {
             panic!("no memory");
         }
     }
@@ -97,16 +97,16 @@ mod measured {
         };
         let s = scenario(missing(faults));
         let controller = Controller::open(Tables::std8(), 1, 0);
-        let Ok(mut desk) = Desk::open(Global, &s) else { panic!("no memory") };
+        let Ok(mut master) = MasterRounds::open(Global, &s) else { panic!("no memory") };
         let (mut took, mut polled) = (Duration::ZERO, 0);
         for round in 1..=ROUNDS {
             let begin = Instant::now();
-            let begun = counted_begin(&mut desk, round, &s);
+            let begun = counted_begin(&mut master, round, &s);
             took += begin.elapsed();
             polled += begun.streams.iter().filter(|streams| streams.polls.len() == 1).count();
             let answers = answered(&controller, &s, &begun.streams);
             let begin = Instant::now();
-            counted_end(&mut desk, round, &s, &answers);
+            counted_end(&mut master, round, &s, &answers);
             took += begin.elapsed();
         }
         assert_eq!(polled, (CABINETS * ROUNDS) as usize);

@@ -1,36 +1,7 @@
-
-/// The kit's buffer, as the benches need it.
-pub mod circular_buffer {
-    use crate::plain_std::{AllocError, Global};
-    use std::collections::VecDeque;
-
-    pub struct HeapCircularBuffer<T> {
-        items: VecDeque<T>,
-        most: usize,
-    }
-
-    impl<T> HeapCircularBuffer<T> {
-        pub fn with_capacity(_: Global, most: usize) -> Result<Self, AllocError> {
-            Ok(HeapCircularBuffer { items: VecDeque::with_capacity(most), most })
-        }
-
-        pub fn push_front(&mut self, item: T) {
-            if self.items.len() == self.most {
-                self.items.pop_back();
-            }
-            self.items.push_front(item);
-        }
-
-        pub fn iter(&self) -> std::collections::vec_deque::Iter<'_, T> {
-            self.items.iter()
-        }
-    }
-}
-
 /// What bench/observer measures: the strides of a controller and of an observer, and that both tell the same frames.
 mod measured {
     use crate::controller::Controller;
-    use crate::frame_due::Observer;
+    use crate::observer::Observer;
     use crate::plain_std::Global;
     use crate::sig_tables::Tables;
     use crate::sig_types::{Field, Frame};

@@ -260,3 +260,31 @@ pub mod arrayvec {
         }
     }
 }
+
+/// The kit's buffer, as the benches need it.
+pub mod circular_buffer {
+    use crate::plain_std::{AllocError, Global};
+    use std::collections::VecDeque;
+
+    pub struct HeapCircularBuffer<T> {
+        items: VecDeque<T>,
+        most: usize,
+    }
+
+    impl<T> HeapCircularBuffer<T> {
+        pub fn with_capacity(_: Global, most: usize) -> Result<Self, AllocError> {
+            Ok(HeapCircularBuffer { items: VecDeque::with_capacity(most), most })
+        }
+
+        pub fn push_front(&mut self, item: T) {
+            if self.items.len() == self.most {
+                self.items.pop_back();
+            }
+            self.items.push_front(item);
+        }
+
+        pub fn iter(&self) -> std::collections::vec_deque::Iter<'_, T> {
+            self.items.iter()
+        }
+    }
+}

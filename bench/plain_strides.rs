@@ -3,7 +3,7 @@ mod measured {
     use crate::controller::Controller;
     use crate::sig_tables::Tables;
     use crate::sig_types::{Colour, Field, Frame};
-    use crate::tick_sight::has_line;
+    use crate::tick_context::has_line;
     use std::hint::black_box;
     use std::time::Instant;
 

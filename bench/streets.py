@@ -67,12 +67,13 @@ def quiet(rounds):
 
 
 def program_of(words):
-    """Returns the program that the words name, or the one that the launcher runs, once it is up to date."""
+    """Returns the program that the words name, or the one that was proved in this checkout."""
     if words:
         return pathlib.Path(words[0]).resolve()
-    if subprocess.run([TOP / "arterial", "--version"], stdout=subprocess.DEVNULL).returncode:
+    ran = subprocess.run([TOP / "tools/proved"], stdout=subprocess.PIPE, text=True)
+    if ran.returncode:
         sys.exit(1)
-    return TOP / "crates/arterial/out/arterial"
+    return pathlib.Path(ran.stdout.rstrip("\n"))
 
 
 def measured(program, command, source, sink):

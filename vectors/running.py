@@ -17,7 +17,7 @@ sys.dont_write_bytecode = True
 
 
 def program_of(words):
-    """Returns the program that the words name; where they name none, the one that the launcher runs, once it is up to date."""
+    """Returns the program that the words name; where they name none, the one that was proved in this checkout."""
     program = pathlib.Path(words[0]).resolve() if words else built()
     if not (program.is_file() and os.access(program, os.X_OK)):
         sys.exit(f"{sys.argv[0]}: no program at {program}")
@@ -25,12 +25,11 @@ def program_of(words):
 
 
 def built():
-    """Returns the program that the launcher runs, once the launcher has brought it up to date."""
-    launcher = HERE.parent / "arterial"
-    ran = subprocess.run([launcher, "run"], stdin=subprocess.DEVNULL, capture_output=True)
-    if ran.returncode == 125:
-        sys.exit(ran.stderr.decode(errors="replace"))
-    return HERE.parent / "crates/arterial/out/arterial"
+    """Returns the program that was proved in this checkout."""
+    ran = subprocess.run([HERE.parent / "tools/proved"], capture_output=True, text=True)
+    if ran.returncode:
+        sys.exit(f"{sys.argv[0]}: {ran.stderr.strip()}")
+    return pathlib.Path(ran.stdout.rstrip("\n"))
 
 
 def library(folder, name):

@@ -13,7 +13,7 @@ use sig_types::Request;
 use snmp_msg::{Message, Pdu, read_into};
 
 /// What a Set orders of the cabinet.
-#[derive(Clone, Copy, Debug, PartialEq, Eq)]
+#[derive(Clone, Copy, PartialEq, Eq)]
 pub enum Order {
     /// Run the pattern of this number, which the tables define; 0 and 254 are free operation, 255 is flash.
     Pattern(u8),
@@ -34,7 +34,7 @@ impl Default for Order {
 }
 
 /// What a message wishes.
-#[derive(Clone, Debug, PartialEq, Eq, Drop)]
+#[derive(Clone, PartialEq, Eq, Drop)]
 pub enum Wish {
     /// The values of instances.
     Get,
@@ -55,7 +55,7 @@ pub enum Wish {
 }
 
 /// A message and what it wishes.
-#[derive(Clone, Debug, PartialEq, Eq, Drop)]
+#[derive(Clone, PartialEq, Eq, Drop)]
 pub struct Ask {
     pub message: Message,
     pub wish: Wish,

@@ -1,7 +1,7 @@
 //! Why the bindings of a request aren't answered.
 
 /// The status (RFC 1157, 4.1.1) and the place, from 1, of the first binding with a fault.
-#[derive(Clone, Copy, Debug, PartialEq, Eq)]
+#[derive(Clone, Copy, PartialEq, Eq)]
 pub struct Fault {
     pub status: u8,
     pub index: u8,

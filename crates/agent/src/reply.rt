@@ -21,7 +21,7 @@ use sig_types::{Octets, StageAnswer};
 use snmp_msg::{Bind, Message, Parts, Pdu, TooLong, Value, write_around, write_bind, write_parts};
 
 /// Which instances a request is about.
-#[derive(Clone, Copy, Debug, PartialEq, Eq)]
+#[derive(Clone, Copy, PartialEq, Eq)]
 pub enum Reach {
     /// Those that it names.
     Named,

@@ -6,7 +6,7 @@ use Rattle.sig_tables.specs.Slots.{is_defined, coordinated_phase, force_point, c
 use Rattle.sig_tables.specs.Clock.{offset_time, shift_time}
 use Rattle.band_report.specs.declared.arcs.Arc.{Arc}
 use Rattle.band_report.specs.declared.band.Band.{Band}
-use Rattle.band_report.specs.declared.band.Stretch.{Stretch}
+use Rattle.band_report.specs.declared.band.Span.{Span}
 use Rattle.band_report.specs.declared.signals.Signal.{Signal}
 use Rattle.band_report.specs.declared.misfit.Misfit.{Misfit}
 use Rattle.band_report.specs.declared.misfit.Misfit.TheVariants.{NoCabinet, Undefined, Cycles, Legs}
@@ -76,8 +76,8 @@ pub record FitCycle (cycle : ℕ) (arcs : List Arc) : Type 0 where
   pub leads : (j : ℕ) → j < length arcs → (get_or arcs j no_arc).lead < cycle
   pub greens : (j : ℕ) → j < length arcs → (get_or arcs j no_arc).green < cycle
 
--- the better of two stretches: the wider, and of two as wide the earlier
-abbrev pub better : Stretch → Stretch → Stretch
+-- the better of two spans: the wider, and of two as wide the earlier
+abbrev pub better : Span → Span → Span
 better best found =
     if nat_lt best.width found.width || (best.width == found.width && nat_lt found.start best.start) then found else best
 

@@ -14,7 +14,7 @@ use std::alloc::Global;
 
 /// A band: when it starts, in ticks of the cycle as the first cabinet passed counts them, and how many ticks wide it is; and
 /// the numbers of the first cabinets of the scenario that stand in its way before its start and behind its end.
-#[derive(Clone, Copy, Debug, PartialEq, Eq)]
+#[derive(Clone, Copy, PartialEq, Eq)]
 pub struct Band {
     pub start: u32,
     pub width: u32,
@@ -24,13 +24,13 @@ pub struct Band {
 
 /// A time from which so much is left of all windows.
 #[derive(Clone, Copy)]
-pub struct Stretch {
+pub struct Span {
     pub start: u32,
     pub width: u32,
 }
 
 /// The better of two: the wider, and of two as wide the earlier.
-fn better(best: Stretch, found: Stretch) -> Stretch
+fn better(best: Span, found: Span) -> Span
     ensures { result ≡ better best found }
 {
     if best.width < found.width || best.width == found.width && found.start < best.start {
@@ -41,18 +41,18 @@ fn better(best: Stretch, found: Stretch) -> Stretch
 }
 
 /// Where the most is left of all windows, of time 0 and the starts of all windows: the earliest of these.
-fn best_of(arcs: &Vec<Arc>, cycle: u32) -> Stretch
+fn best_of(arcs: &Vec<Arc>, cycle: u32) -> Span
     requires fit { FitCycle cycle arcs.now.items }
     ensures { BestOf cycle arcs.now.items (length arcs.now.items) result.start result.width }
 {
-    let mut best = Stretch {
+    let mut best = Span {
         start: 0,
         width: left_of_all(arcs, 0, cycle),
     };
     for place in 0..arcs.len() {
         let start = start_of(&arcs[place], cycle);
         let width = left_of_all(arcs, start, cycle);
-        best = better(best, Stretch { start, width });
+        best = better(best, Span { start, width });
     }
     best
 }

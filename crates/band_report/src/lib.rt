@@ -1,6 +1,6 @@
-//! Through bands of a section: the widest stretch of the cycle in which a vehicle meets green at each cabinet, both ways
-//! along the street (FHWA Signal Timing Manual: bandwidth). Bands are found from the windows of the cabinets, each an arc of
-//! the cycle; no time of the cycle is tried one by one.
+//! Through bands of a section: the widest span of the cycle in which a vehicle meets green at each cabinet, both ways along the
+//! street (FHWA Signal Timing Manual: bandwidth); what is asked of them as a JSON object (RFC 8259), and the two lines that
+//! answer. Bands are found from the windows of the cabinets, each an arc of the cycle; no time of the cycle is tried one by one.
 #![tactic(auto)]
 
 mod arcs;

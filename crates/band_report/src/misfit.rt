@@ -11,7 +11,7 @@ use sig_types::NoMemory;
 use std::alloc::Global;
 
 /// Why there can be no band along a section.
-#[derive(Clone, Copy, Debug, PartialEq, Eq)]
+#[derive(Clone, Copy, PartialEq, Eq)]
 pub enum Misfit {
     /// The section has no cabinet.
     NoCabinet,

@@ -7,7 +7,7 @@ ghost use Rattle.arrayvec.specs.ArrayVec.{array_vec_len};
 use sig_types::Octets;
 
 /// The text is longer than the room that the frame has left.
-#[derive(Clone, Copy, Debug, PartialEq, Eq)]
+#[derive(Clone, Copy, PartialEq, Eq)]
 pub struct Full;
 
 /// How many octets the frame still takes.

@@ -1,4 +1,4 @@
--- What a cabinet shows is what its history gives, so its answer is the one that the story gives.
+-- What a cabinet shows is what its history gives, so its answer is the one that the cabinet history gives.
 use Rattle.std.proofs.Common.{◌≡◌, ◌≤◌, ◌<◌, ℕ, zero, suc, ◌+◌, ◌/◌, ◌%◌, ◌==◌, ◌∙◌, Bool, true, inl, inr, if◌then◌else◌, nat_le, List, sym, ap, subst, arith, Option, Some}
 use Rattle.std.specs.Int.{bit_at}
 use Rattle.std.proofs.lemmas.Bool.{and_from, le-leb}
@@ -16,7 +16,7 @@ use Rattle.sig_tables.specs.Layout.{Has}
 use Rattle.sig_tables.specs.Past.{Past}
 use Rattle.sig_tables.specs.Showing.{ShownAfter, command_shown, clock_shown, states_shown}
 use Rattle.sig_tables.specs.Seen.{frame_seen, vehicle_seen, pedestrian_seen}
-use Rattle.stage_txn.specs.Answers.{answered, kept, standing, state_code, last_answer}
+use Rattle.stage_txn.specs.Answers.{answered, kept, stage_state, state_code, last_answer}
 use Rattle.snmp_msg.specs.Shortest.{shortest}
 use Rattle.agent.specs.declared.ask.Ask.{Ask}
 use Rattle.agent.specs.Groups.{bits}
@@ -75,12 +75,12 @@ abbrev pub seen_of : Tables → Shown → ℕ → Option StageAnswer → Seen
 seen_of t s state last = record { tables = t; shown = s; state = state; last = last }
 
 pub seen-is : (has : Coming) (t : Tables) (s : Shown) (state : ℕ) (last : Option StageAnswer) → t ≡ in_force has → s ≡ shown_at (past_of has)
-    → state ≡ state_code (standing (answered has.calls)) → last ≡ last_answer (answered has.calls) → seen_of t s state last ≡ seen_in has
+    → state ≡ state_code (stage_state (answered has.calls)) → last ≡ last_answer (answered has.calls) → seen_of t s state last ≡ seen_in has
 seen-is has t s state last a b d e =
     ap (λ (x : Tables). seen_of x s state last) a
     ∙ ap (λ (x : Shown). seen_of (in_force has) x state last) b
     ∙ ap (λ (x : ℕ). seen_of (in_force has) (shown_at (past_of has)) x last) d
-    ∙ ap (λ (x : Option StageAnswer). seen_of (in_force has) (shown_at (past_of has)) (state_code (standing (answered has.calls))) x) e
+    ∙ ap (λ (x : Option StageAnswer). seen_of (in_force has) (shown_at (past_of has)) (state_code (stage_state (answered has.calls))) x) e
 
 pub text-is : (has : Coming) (ask : Ask) (seen : Seen) (o : Option StageAnswer) (text : ArrayVec ℕ) → seen ≡ seen_in has → o ≡ outcome has ask.wish
     → text.items ≡ shortest (reply seen ask.message ask.wish o) → Some text ≡ in_frame (replied has (Some ask))
@@ -93,7 +93,7 @@ text-is has ask seen o text a b e =
 pub shown-within : (n : ℕ) (has : Coming) (s : Shown) → IsSound n has → ShownAfter s (past_of has) → IsWithin s
 shown-within n has s is shown = record {
   clock = omega (arith, shown.clock, is.shows.clock);
-  version = omega (arith, shown.version, few-within (past_of has).version (kept (answered has.calls)) (standing (answered has.calls)) is.few, is.ids);
+  version = omega (arith, shown.version, few-within (past_of has).version (kept (answered has.calls)) (stage_state (answered has.calls)) is.few, is.ids);
   counter = subst (λ (f : Frame). f.counter ≤ 2147483647) (sym shown.frame) is.shows.counter;
   target = subst (λ (f : Frame). f.target ≤ 2147483647) (sym shown.frame) is.shows.target;
 }

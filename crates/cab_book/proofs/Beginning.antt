@@ -4,7 +4,7 @@ use Rattle.std.proofs.lemmas.List.{length-map, length-replicate}
 use Rattle.sig_types.specs.declared.frame.Frame.{Frame}
 use Rattle.sig_types.specs.declared.streams.Streams.{Streams}
 use Rattle.sig_types.specs.Items.{Item, Told, Ticked, items_of}
-use Rattle.cabinet_history.specs.Story.{Story, after}
+use Rattle.cabinet_history.specs.CabinetHistory.{CabinetHistory, after}
 use Rattle.cabinet_history.specs.Journals.{Act, times, acts_of, items_in}
 use Rattle.cab_book.specs.declared.cabinet.Cabinet.{Cabinet}
 use Rattle.cab_book.specs.declared.happened.Answered.{Answered}
@@ -16,14 +16,14 @@ use Rattle.cab_book.proofs.Coming.{frames-many}
 use Rattle.cab_book.proofs.Parts.{past_end}
 use Rattle.cab_book.specs.Rounds.{CanBeTaken, ArePlaced, AreShort, AreTallied, acts_so_far, RoundStands}
 
--- the round begins at the story that the cabinet stands for
-pub round-begins : (c : Cabinet) (streams : Streams) (h : Happened) (story : Story) → journal_in h ≡ [] → written_of h ≡ [] → answered_of h ≡ []
-    → CabinetStands c story → RoundStands c streams h story
-round-begins c streams h story journal written answered is =
+-- the round begins at the cabinet history that the cabinet stands for
+pub round-begins : (c : Cabinet) (streams : Streams) (h : Happened) (cabinet_history : CabinetHistory) → journal_in h ≡ [] → written_of h ≡ [] → answered_of h ≡ []
+    → CabinetStands c cabinet_history → RoundStands c streams h cabinet_history
+round-begins c streams h cabinet_history journal written answered is =
     let acts : acts_so_far streams h ≡ [] = ap (acts_of (items_of streams)) journal in
     record {
-      cabinet = subst (λ (x : List Act). CabinetStands c (after story (items_in x))) (sym acts) is;
-      written = subst (IsWritten h story) (sym acts) (record {
+      cabinet = subst (λ (x : List Act). CabinetStands c (after cabinet_history (items_in x))) (sym acts) is;
+      written = subst (IsWritten h cabinet_history) (sym acts) (record {
         frames = written;
         replies = ap replies_in answered;
         order = ap (λ (x : List (ℕ × Frame)). interleaved 0 x (answered_of h)) written ∙ ap (interleaved 0 []) answered;

@@ -1,24 +1,24 @@
--- A pass brings the next item of its stream: what is left, what the journal tells, the room, and the story.
+-- A pass brings the next item of its stream: what is left, what the journal tells, the room, and the cabinet history.
 use Rattle.std.proofs.Common.{◌≡◌, ◌≢◌, ◌≤◌, ◌<◌, ℕ, zero, suc, ◌+◌, ◌∙◌, inl, inr, append_assoc, append-nil, List, [], ◌∷◌, ◌++◌, length, replicate, get_or, slice_set, refl, sym, ap, subst, arith}
 use Rattle.std.proofs.lemmas.List.{get_or-set_same, get_or-set_other}
 use Rattle.std.proofs.lemmas.Bool.{cases_lt}
 use Rattle.std.proofs.lemmas.Bool.Decides.{eqb_tells}
 use Rattle.sig_types.specs.declared.streams.Streams.{Streams}
 use Rattle.sig_types.specs.Items.{Item, Ticked, items_of}
-use Rattle.cabinet_history.specs.Story.{Story, with_item, after}
+use Rattle.cabinet_history.specs.CabinetHistory.{CabinetHistory, with_item, after}
 use Rattle.cabinet_history.specs.Journals.{Act, times, acts_of, items_in}
 use Rattle.cabinet_history.specs.Told.{item_replies, item_written}
-use Rattle.cabinet_history.proofs.Growing.{act_at, acts-more, story-more}
+use Rattle.cabinet_history.proofs.Growing.{act_at, acts-more, cabinet_history-more}
 use Rattle.cab_book.specs.declared.cabinet.Cabinet.{Cabinet}
 use Rattle.cab_book.specs.declared.happened.Happened.{Happened}
 use Rattle.cab_book.specs.Stands.{CabinetStands}
-use Rattle.cab_book.specs.Happened.{HasRoom, IsWritten, GoesOn, TicksOn, journal_in}
+use Rattle.cab_book.specs.Happened.{HasRoom, IsWritten, HappenedGoesOn, TicksOn, journal_in}
 use Rattle.cab_book.specs.Ticks.{ticks_on, ticks_written}
 use Rattle.cab_book.specs.Shares.{read_journal, ticks_left, ticks_brought}
-use Rattle.cab_book.specs.Rounds.{AreShort, AreTallied, frames_left, items_left, acts_so_far, story_after, RoundStands}
+use Rattle.cab_book.specs.Rounds.{AreShort, AreTallied, frames_left, items_left, acts_so_far, cabinet_history_after, RoundStands}
 use Rattle.cab_book.proofs.Parts.{joined_left, shared_left, joined-low, joined-high, shared-low, past_end, read-ticks, read-none, read-others}
 use Rattle.cab_book.proofs.Runs.{times_both, times_run, times_other, last-more}
-use Rattle.cab_book.proofs.Keeping.{kept-more, tick_acts, tick_act, story-ticks, kept-ticks}
+use Rattle.cab_book.proofs.Keeping.{kept-more, tick_acts, tick_act, cabinet_history-ticks, kept-ticks}
 
 -- so many items of a pass were taken
 pub record Taken (old new : List ℕ) (pass many : ℕ) : Type 0 where
@@ -228,23 +228,23 @@ frame-taken left rest pass above within o =
     one-of-three left rest (suc (suc (suc (suc pass)))) above within o = absurd (omega (arith, within))
 
 -- a cabinet to which the next item has come, and what is kept of it, stand for the round with one pass more
-pub round-more : (cabinet next : Cabinet) (streams : Streams) (old new : Happened) (story : Story) (pass : ℕ) (item : Item)
+pub round-more : (cabinet next : Cabinet) (streams : Streams) (old new : Happened) (cabinet_history : CabinetHistory) (pass : ℕ) (item : Item)
     → item ≡ get_or (get_or (items_of streams) pass []) (times pass (journal_in old)) Ticked
-    → RoundStands cabinet streams old story → CabinetStands next (with_item (story_after streams old story) item)
-    → GoesOn old new pass (item_written (story_after streams old story) item) (item_replies (story_after streams old story) pass item)
-    → RoundStands next streams new story
-round-more cabinet next streams old new story pass item e is stands goes =
+    → RoundStands cabinet streams old cabinet_history → CabinetStands next (with_item (cabinet_history_after streams old cabinet_history) item)
+    → HappenedGoesOn old new pass (item_written (cabinet_history_after streams old cabinet_history) item) (item_replies (cabinet_history_after streams old cabinet_history) pass item)
+    → RoundStands next streams new cabinet_history
+round-more cabinet next streams old new cabinet_history pass item e is stands goes =
     let acts = acts_so_far streams old in
-    let now = story_after streams old story in
+    let now = cabinet_history_after streams old cabinet_history in
     let act = act_at (items_of streams) pass (times pass (journal_in old)) in
     let more : acts_so_far streams new ≡ acts ++ act ∷ [] =
     ap (acts_of (items_of streams)) goes.journal ∙ acts-more (items_of streams) (journal_in old) pass (times pass (journal_in old)) refl in
     let come : CabinetStands next (with_item now act.item) = subst (λ (i : Item). CabinetStands next (with_item now i)) e stands in
-    let gone : GoesOn old new act.pass (item_written now act.item) (item_replies now act.pass act.item) =
-    subst (λ (i : Item). GoesOn old new pass (item_written now i) (item_replies now pass i)) e goes in
+    let gone : HappenedGoesOn old new act.pass (item_written now act.item) (item_replies now act.pass act.item) =
+    subst (λ (i : Item). HappenedGoesOn old new pass (item_written now i) (item_replies now pass i)) e goes in
     record {
-      cabinet = subst (CabinetStands next) (sym (ap (λ (x : List Act). after story (items_in x)) more ∙ story-more story acts act)) come;
-      written = subst (IsWritten new story) (sym more) (kept-more old new story acts act is.written gone);
+      cabinet = subst (CabinetStands next) (sym (ap (λ (x : List Act). after cabinet_history (items_in x)) more ∙ cabinet_history-more cabinet_history acts act)) come;
+      written = subst (IsWritten new cabinet_history) (sym more) (kept-more old new cabinet_history acts act is.written gone);
     }
 
 -- a pass whose stream has ticks alone brings ticks
@@ -262,15 +262,15 @@ acts-ticks streams journal pass (suc many) ticks =
     ∙ append_assoc (acts_of streams journal) (tick_acts pass many) (tick_act pass ∷ [])
 
 -- so does the round of a cabinet to which so many ticks have come
-pub round-ticks : (cabinet next : Cabinet) (streams : Streams) (old new : Happened) (story : Story) (pass many : ℕ)
+pub round-ticks : (cabinet next : Cabinet) (streams : Streams) (old new : Happened) (cabinet_history : CabinetHistory) (pass many : ℕ)
     → ((place : ℕ) → get_or (get_or (items_of streams) pass []) place Ticked ≡ Ticked)
-    → RoundStands cabinet streams old story → CabinetStands next (ticks_on many (story_after streams old story))
-    → TicksOn old new pass many (ticks_written many (story_after streams old story)) → RoundStands next streams new story
-round-ticks cabinet next streams old new story pass many ticks is stands goes =
+    → RoundStands cabinet streams old cabinet_history → CabinetStands next (ticks_on many (cabinet_history_after streams old cabinet_history))
+    → TicksOn old new pass many (ticks_written many (cabinet_history_after streams old cabinet_history)) → RoundStands next streams new cabinet_history
+round-ticks cabinet next streams old new cabinet_history pass many ticks is stands goes =
     let acts = acts_so_far streams old in
     let more : acts_so_far streams new ≡ acts ++ tick_acts pass many =
     ap (acts_of (items_of streams)) goes.journal ∙ acts-ticks (items_of streams) (journal_in old) pass many ticks in
     record {
-      cabinet = subst (CabinetStands next) (sym (ap (λ (x : List Act). after story (items_in x)) more ∙ story-ticks story acts pass many)) stands;
-      written = subst (IsWritten new story) (sym more) (kept-ticks old new story acts pass many is.written goes);
+      cabinet = subst (CabinetStands next) (sym (ap (λ (x : List Act). after cabinet_history (items_in x)) more ∙ cabinet_history-ticks cabinet_history acts pass many)) stands;
+      written = subst (IsWritten new cabinet_history) (sym more) (kept-ticks old new cabinet_history acts pass many is.written goes);
     }

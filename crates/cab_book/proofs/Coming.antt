@@ -11,15 +11,15 @@ use Rattle.sig_types.specs.declared.streams.Streams.{Streams}
 use Rattle.sig_types.specs.Items.{Item, Told, Came, Ticked, items_of, texts_of}
 use Rattle.cabinet_history.specs.declared.Load.{Load}
 use Rattle.cabinet_history.specs.declared.Reply.{Reply}
-use Rattle.cabinet_history.specs.Story.{Story, with_item}
+use Rattle.cabinet_history.specs.CabinetHistory.{CabinetHistory, with_item}
 use Rattle.cabinet_history.specs.Journals.{times}
 use Rattle.cabinet_history.specs.Told.{item_replies, in_frame, reply_to, load_end}
 use Rattle.cab_book.specs.declared.cabinet.Cabinet.{Cabinet}
 use Rattle.cab_book.specs.declared.happened.Happened.{Happened}
 use Rattle.cab_book.specs.Stands.{CabinetStands}
-use Rattle.cab_book.specs.Happened.{GoesOn, TicksOn, journal_in}
+use Rattle.cab_book.specs.Happened.{HappenedGoesOn, TicksOn, journal_in}
 use Rattle.cab_book.specs.Ticks.{ticks_on, ticks_written}
-use Rattle.cab_book.specs.Rounds.{AreTallied, RoundStands, story_after}
+use Rattle.cab_book.specs.Rounds.{AreTallied, RoundStands, cabinet_history_after}
 use Rattle.cab_book.proofs.Bringing.{round-more, round-ticks}
 
 pub NamesPlace-prop : (field : Field) → IsProp (NamesPlace field)
@@ -36,16 +36,16 @@ left-of-fields streams left h tallied =
 -- an input was heard
 pub heard : (c next : Cabinet) (streams : Streams) (left : List ℕ) (old new : Happened) (field : Field) (place : ℕ) → AreTallied streams left old
     → place + get_or left 0 0 ≡ length streams.fields.items → 0 < get_or left 0 0 → field ≡ get_or streams.fields.items place field
-    → ((story : Story) → CabinetStands c story → CabinetStands next (with_item story (Told field))) → GoesOn old new 0 [] [] → (story : Story)
-    → RoundStands c streams old story → RoundStands next streams new story
-heard c next streams left old new field place tallied e some is stands goes story so =
+    → ((cabinet_history : CabinetHistory) → CabinetStands c cabinet_history → CabinetStands next (with_item cabinet_history (Told field))) → HappenedGoesOn old new 0 [] [] → (cabinet_history : CabinetHistory)
+    → RoundStands c streams old cabinet_history → RoundStands next streams new cabinet_history
+heard c next streams left old new field place tallied e some is stands goes cabinet_history so =
     let many : length (map Told streams.fields.items) ≡ length streams.fields.items = length-map streams.fields.items Told in
     let at : place ≡ times 0 (journal_in old) = omega (arith, tallied.each 0 (omega arith), e, many) in
     let less : place < length streams.fields.items = omega (arith, e, some) in
     let item : Told field ≡ get_or (map Told streams.fields.items) (times 0 (journal_in old)) Ticked =
     ap Told is ∙ sym (get_or-map Told streams.fields.items place field Ticked less)
     ∙ ap (λ (n : ℕ). get_or (map Told streams.fields.items) n Ticked) at in
-    round-more c next streams old new story 0 (Told field) item so (stands (story_after streams old story) so.cabinet) goes
+    round-more c next streams old new cabinet_history 0 (Told field) item so (stands (cabinet_history_after streams old cabinet_history) so.cabinet) goes
 
 ticked_at : (many k : ℕ) → get_or (replicate many Ticked) k Ticked ≡ Ticked
 ticked_at zero k = refl
@@ -63,12 +63,12 @@ tick_item streams (suc (suc (suc (suc (suc pass))))) place above = refl
 
 -- so many ticks came, and what they gave is kept
 pub strode : (c next : Cabinet) (streams : Streams) (old new : Happened) (pass many : ℕ) (frames : List (ℕ × Frame)) → 4 ≤ pass
-    → ((story : Story) → CabinetStands c story → frames ≡ ticks_written many story)
-    → ((story : Story) → CabinetStands c story → CabinetStands next (ticks_on many story)) → TicksOn old new pass many frames → (story : Story)
-    → RoundStands c streams old story → RoundStands next streams new story
-strode c next streams old new pass many frames above gives stands goes story so =
-    let now = story_after streams old story in
-    round-ticks c next streams old new story pass many (λ place. tick_item streams pass place above) so (stands now so.cabinet)
+    → ((cabinet_history : CabinetHistory) → CabinetStands c cabinet_history → frames ≡ ticks_written many cabinet_history)
+    → ((cabinet_history : CabinetHistory) → CabinetStands c cabinet_history → CabinetStands next (ticks_on many cabinet_history)) → TicksOn old new pass many frames → (cabinet_history : CabinetHistory)
+    → RoundStands c streams old cabinet_history → RoundStands next streams new cabinet_history
+strode c next streams old new pass many frames above gives stands goes cabinet_history so =
+    let now = cabinet_history_after streams old cabinet_history in
+    round-ticks c next streams old new cabinet_history pass many (λ place. tick_item streams pass place above) so (stands now so.cabinet)
     (subst (λ (x : List (ℕ × Frame)). TicksOn old new pass many x) (gives now so.cabinet) goes)
 
 pub frames-many : (frames : List (ArrayVec ℕ)) → length (map Came (texts_of frames)) ≡ length frames
@@ -89,12 +89,12 @@ pub replied : (c next : Cabinet) (streams : Streams) (left : List ℕ) (old new 
     (text : Option (ArrayVec ℕ)) (load : Option Load) → pass < 4 → AreTallied streams left old
     → map Came (texts_of frames) ≡ get_or (items_of streams) pass [] → place + get_or left pass 0 ≡ length frames → 0 < get_or left pass 0
     → octets ≡ get_or (texts_of frames) place []
-    → ((story : Story) → CabinetStands c story → text ≡ in_frame (reply_to story octets))
-    → ((story : Story) → CabinetStands c story → load ≡ load_end story octets)
-    → ((story : Story) → CabinetStands c story → CabinetStands next (with_item story (Came octets)))
-    → GoesOn old new pass [] (reply_of pass text load ∷ []) → (story : Story) → RoundStands c streams old story → RoundStands next streams new story
-replied c next streams left old new pass place frames octets text load low tallied own e some is texts loads stands goes story so =
-    let now = story_after streams old story in
+    → ((cabinet_history : CabinetHistory) → CabinetStands c cabinet_history → text ≡ in_frame (reply_to cabinet_history octets))
+    → ((cabinet_history : CabinetHistory) → CabinetStands c cabinet_history → load ≡ load_end cabinet_history octets)
+    → ((cabinet_history : CabinetHistory) → CabinetStands c cabinet_history → CabinetStands next (with_item cabinet_history (Came octets)))
+    → HappenedGoesOn old new pass [] (reply_of pass text load ∷ []) → (cabinet_history : CabinetHistory) → RoundStands c streams old cabinet_history → RoundStands next streams new cabinet_history
+replied c next streams left old new pass place frames octets text load low tallied own e some is texts loads stands goes cabinet_history so =
+    let now = cabinet_history_after streams old cabinet_history in
     let items : length (get_or (items_of streams) pass []) ≡ length frames = ap (λ (x : List Item). length x) (sym own) ∙ frames-many frames in
     let at : place ≡ times pass (journal_in old) = omega (arith, tallied.each pass low, e, items) in
     let less : place < length frames = omega (arith, e, some) in
@@ -107,4 +107,4 @@ replied c next streams left old new pass place frames octets text load low talli
     let told : (reply_of pass text load ∷ []) ≡ item_replies now pass (Came octets) =
     ap (λ (x : Option (ArrayVec ℕ)). reply_of pass x load ∷ []) (texts now so.cabinet)
     ∙ ap (λ (x : Option Load). reply_of pass (in_frame (reply_to now octets)) x ∷ []) (loads now so.cabinet) in
-    round-more c next streams old new story pass (Came octets) item so (stands now so.cabinet) (subst (λ (x : List Reply). GoesOn old new pass [] x) told goes)
+    round-more c next streams old new cabinet_history pass (Came octets) item so (stands now so.cabinet) (subst (λ (x : List Reply). HappenedGoesOn old new pass [] x) told goes)

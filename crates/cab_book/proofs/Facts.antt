@@ -12,18 +12,18 @@ use Rattle.sig_tables.specs.Decide.{past_at}
 use Rattle.sig_tables.specs.Looking.{last_frame}
 use Rattle.sig_tables.specs.Seen.{frame_seen, moment_seen}
 use Rattle.controller.specs.declared.Controller.{Controller}
-use Rattle.controller.specs.StandsFor.{Keeps as Keeps_kept}
+use Rattle.controller.specs.StandsFor.{ControllerKeeps as Keeps_kept}
 use Rattle.cab_book.specs.declared.control.Control.{Control}
 use Rattle.cab_book.specs.declared.control.Control.TheVariants.{Registers, LookingBack}
-use Rattle.cab_book.specs.Controls.{Keeps, StandsFor, tick_count, install_count}
+use Rattle.cab_book.specs.Controls.{ControlKeeps, ControlStands, tick_count, install_count}
 
 -- as many tables were put in force as the version says
-pub installs-are : (c : Control) (h : History) → StandsFor c h → install_count c ≡ (past_at h).version
+pub installs-are : (c : Control) (h : History) → ControlStands c h → install_count c ≡ (past_at h).version
 installs-are (Registers c) h k = k.version
 installs-are (LookingBack o) h k = k.version
 
 -- before any tick none is counted
-pub first-ticks : (c : Control) (h : History) → StandsFor c h → length (past_at h).moments ≡ 1 → (moment_seen (past_at h)).number ≡ 0 → tick_count c ≡ 0
+pub first-ticks : (c : Control) (h : History) → ControlStands c h → length (past_at h).moments ≡ 1 → (moment_seen (past_at h)).number ≡ 0 → tick_count c ≡ 0
 first-ticks (Registers c) h k one number = omega (arith, one, number, k.clocks.steps, k.signals.steps, k.preempts.steps, k.orders.ticks)
 first-ticks (LookingBack o) h k one number = omega (arith, number, k.orders.ticks)
 
@@ -47,7 +47,7 @@ kept-within c past n k on =
     omega (arith, counts.within, counts.stands.counter, last-is past.moments past.version n on)
 
 -- in step with a pattern the counter is within its cycle
-pub within-cycle : (c : Control) (past : Past) (n : ℕ) → Keeps c past → is_in_step (frame_seen past) past.version n ≡ true
+pub within-cycle : (c : Control) (past : Past) (n : ℕ) → ControlKeeps c past → is_in_step (frame_seen past) past.version n ≡ true
     → (frame_seen past).counter < cycle_time past.tables n
 within-cycle (Registers c) past n k on = kept-within c past n k on
 within-cycle (LookingBack o) past n k on = k.within n on

@@ -4,9 +4,9 @@ use Rattle.sig_types.specs.declared.frame.Field.{Field}
 use Rattle.sig_tables.specs.Past.{Input}
 use Rattle.sig_tables.specs.Decide.{with_one}
 use Rattle.cab_book.specs.declared.control.Control.{Control}
-use Rattle.cab_book.specs.Controls.{StandsFor, tick_count}
+use Rattle.cab_book.specs.Controls.{ControlStands, tick_count}
 use Rattle.sig_types.specs.Items.{Told}
-use Rattle.cabinet_history.specs.Story.{Story, with_item}
+use Rattle.cabinet_history.specs.CabinetHistory.{CabinetHistory, with_item}
 use Rattle.cabinet_history.specs.Coming.{Coming, coming, history_of}
 use Rattle.cab_book.specs.declared.cabinet.Cabinet.{Cabinet}
 use Rattle.cab_book.specs.Stands.{IsSound, CabinetStands}
@@ -24,14 +24,14 @@ heard-sound n has field is = record {
 abbrev pub with_control : Cabinet → Control → Cabinet
 with_control c k = record { control = k; stage = c.stage; community = c.community; ticks = c.ticks }
 
-pub hear-stands : (c : Cabinet) (k : Control) (story : Story) (field : Field) → CabinetStands c story → StandsFor k (with_one (history_of story) (Input field))
-    → tick_count k ≡ tick_count c.control → CabinetStands (with_control c k) (with_item story (Told field))
-hear-stands c k story field is stands counted = record {
+pub hear-stands : (c : Cabinet) (k : Control) (cabinet_history : CabinetHistory) (field : Field) → CabinetStands c cabinet_history → ControlStands k (with_one (history_of cabinet_history) (Input field))
+    → tick_count k ≡ tick_count c.control → CabinetStands (with_control c k) (with_item cabinet_history (Told field))
+hear-stands c k cabinet_history field is stands counted = record {
   community = is.community;
   keeps = record {
     control = stands;
     stage = is.keeps.stage;
     counted = omega (arith, counted, is.keeps.counted);
-    sound = heard-sound c.ticks (coming story) field is.keeps.sound;
+    sound = heard-sound c.ticks (coming cabinet_history) field is.keeps.sound;
   };
 }

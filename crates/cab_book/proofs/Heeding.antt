@@ -11,7 +11,7 @@ use Rattle.sig_tables.specs.Looking.{last_moment}
 use Rattle.sig_tables.specs.Clock.{clock_told}
 use Rattle.sig_tables.specs.Decide.{past_at, frames}
 use Rattle.stage_txn.specs.Calls.{Begin as BeginCall, Part as PartCall, Verify as VerifyCall, Finish as FinishCall, Deed, begin_deed, part_deed, verify_deed, finish_deed, kept_by, deeds}
-use Rattle.stage_txn.specs.Answers.{answered, answer_to, staged, standing, kept}
+use Rattle.stage_txn.specs.Answers.{answered, answer_to, staged, stage_state, kept}
 use Rattle.stage_txn.proofs.InRange.{staged-fits}
 use Rattle.agent.specs.declared.ask.Wish.{Wish}
 use Rattle.agent.specs.declared.ask.Wish.TheVariants.{Get, Next, Direct, Begin, Part, Verify, Finish, Bad}
@@ -107,7 +107,7 @@ carried-sound n has (Direct orders) can is =
       shows = a.shows;
       fits = subst EachFits (sym a.tables) is.fits;
       begins = is.begins;
-      few = subst (λ (v : ℕ). FewInstalls v (kept (answered has.calls)) (standing (answered has.calls))) (sym a.version) is.few;
+      few = subst (λ (v : ℕ). FewInstalls v (kept (answered has.calls)) (stage_state (answered has.calls))) (sym a.version) is.few;
       ids = is.ids;
     }
 carried-sound n has (Begin id) can is = record {
@@ -143,7 +143,7 @@ carried-sound n has (Finish id) can is =
       shows = i.shows;
       fits = i.fits;
       begins = is.begins;
-      few = subst (λ (v : ℕ). FewInstalls v (kept (answered (call ∷ has.calls))) (standing (answered (call ∷ has.calls)))) (sym i.version)
+      few = subst (λ (v : ℕ). FewInstalls v (kept (answered (call ∷ has.calls))) (stage_state (answered (call ∷ has.calls)))) (sym i.version)
           (few-finish (past_of has).version id (in_force has) (is_flashing (past_of has)) (answered has.calls) is.few);
       ids = finish-kept a (deeds (answered has.calls)) is.ids;
     }

@@ -7,7 +7,7 @@ use Rattle.rule_book.specs.Rules.{broken, first_of}
 use Rattle.rule_facts.proofs.Facts.{accepted-consistent, times-hold}
 use Rattle.tick_context.specs.Told.{CanRun}
 use Rattle.stage_txn.specs.Calls.{Answered, Finish}
-use Rattle.stage_txn.specs.Answers.{kept, staged, standing, finish_answer, judged, first_broken, unless_broken, answer_to}
+use Rattle.stage_txn.specs.Answers.{kept, staged, stage_state, finish_answer, judged, first_broken, unless_broken, answer_to}
 use Rattle.cabinet_history.proofs.Installing.{accepted-checked}
 
 unbroken : (r : Result (Unit {0}) Broken) → unless_broken r Accepted ≡ Accepted → r ≡ Ok tt
@@ -28,8 +28,8 @@ runs-them t in_force flashing e =
 pub accepted-runs : (id : ℕ) (t : Tables) (flashing : Bool) (past : List Answered) → answer_to past (Finish id t flashing) ≡ Accepted → CanRun (staged past)
 accepted-runs id t flashing past e = own (id == kept past) e
   where
-    own : (same : Bool) → (if same then finish_answer (standing past) (judged (staged past) t flashing Accepted) else WrongToken) ≡ Accepted → CanRun (staged past)
+    own : (same : Bool) → (if same then finish_answer (stage_state past) (judged (staged past) t flashing Accepted) else WrongToken) ≡ Accepted → CanRun (staged past)
     own true a =
-        let by_rules = (accepted-checked (standing past) (judged (staged past) t flashing Accepted) Accepted a (λ e. cc) (λ e. cc)).1 in
+        let by_rules = (accepted-checked (stage_state past) (judged (staged past) t flashing Accepted) Accepted a (λ e. cc) (λ e. cc)).1 in
         runs-them (staged past) t flashing (unbroken (first_broken (staged past) t flashing) by_rules)
     own false a = absurd cc

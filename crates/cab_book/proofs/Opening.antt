@@ -4,10 +4,10 @@ use Rattle.sig_tables.specs.declared.tables.Tables.{Tables}
 use Rattle.sig_tables.specs.Past.{Past, History, Event, Tick, Input, Install, SetPattern, SetClock, Ask, Cancel, SetDrift, Moment, first_moment}
 use Rattle.sig_tables.specs.Looking.{last_moment, last_frame}
 use Rattle.sig_tables.specs.Clock.{clock_told}
-use Rattle.sig_tables.specs.Decide.{past_of, past_at, frames_in, opening_orders}
+use Rattle.sig_tables.specs.Decide.{past_of, past_at, frames_in, opening_commands}
 use Rattle.sig_tables.specs.Putting.{EachFits}
 use Rattle.cab_book.specs.declared.control.Control.{Control}
-use Rattle.cab_book.specs.Controls.{StandsFor, tick_count}
+use Rattle.cab_book.specs.Controls.{ControlStands, tick_count}
 use Rattle.cab_book.proofs.Facts.{first-ticks}
 use Rattle.cab_book.specs.Stands.{OnlyDrifts, IsNew, IsSound}
 
@@ -18,7 +18,7 @@ record NewPast (t : Tables) (clock : ℕ) (past : Past) : Type 0 where
   clock_set : past.clock_set ≡ Some clock
   moments : past.moments ≡ first_moment t ∷ []
 
-new-past : (t : Tables) (command clock : ℕ) (events : List Event) → OnlyDrifts events → NewPast t clock (past_of t (events ++ opening_orders command clock))
+new-past : (t : Tables) (command clock : ℕ) (events : List Event) → OnlyDrifts events → NewPast t clock (past_of t (events ++ opening_commands command clock))
 new-past t command clock [] only = record { tables = refl; version = refl; clock_set = refl; moments = refl }
 new-past t command clock (SetDrift gain lose ∷ events) only =
     let before = new-past t command clock events only in
@@ -51,7 +51,7 @@ new-sound h new =
       ids = omega arith;
     }
 
-pub new-ticks : (c : Control) (h : History) → StandsFor c h → IsNew h → tick_count c ≡ 0
+pub new-ticks : (c : Control) (h : History) → ControlStands c h → IsNew h → tick_count c ≡ 0
 new-ticks c h k new =
     let p = past-is h new in
     let one : length (past_at h).moments ≡ 1 = ap (λ (ms : List Moment). length ms) p.moments in

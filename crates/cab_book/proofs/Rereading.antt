@@ -6,7 +6,7 @@ use Rattle.sig_types.specs.declared.frame.Frame.{Frame}
 use Rattle.sig_types.specs.declared.streams.Streams.{Streams}
 use Rattle.sig_types.specs.Items.{Item, Ticked, items_of}
 use Rattle.cabinet_history.specs.declared.Reply.{Reply}
-use Rattle.cabinet_history.specs.Story.{Story, with_item, after}
+use Rattle.cabinet_history.specs.CabinetHistory.{CabinetHistory, with_item, after}
 use Rattle.cabinet_history.specs.Journals.{Act, act_of, acts_from, acts_of, items_in, times}
 use Rattle.cabinet_history.specs.Told.{item_replies, item_written, acts_replies, acts_written}
 use Rattle.cab_book.specs.declared.cabinet.Cabinet.{Cabinet}
@@ -31,39 +31,39 @@ AreAlike (a ∷ acts) (b ∷ others) = Alike a b × AreAlike acts others
 AreAlike _ _ = ⊥
 
 -- then they tell the same
-module _ {A : Type 0} (tells : Story → ℕ → Item → List A) (plain : (story : Story) (p q : ℕ) → tells story p Ticked ≡ tells story q Ticked) where
-  one-same : (story : Story) (a b : Act) → Alike a b → tells story a.pass a.item ≡ tells story b.pass b.item
-  one-same story a b like = elim like.pass [
-    | inl same ↦ ap (λ (i : Item). tells story a.pass i) like.item ∙ ap (λ (p : ℕ). tells story p b.item) same
+module _ {A : Type 0} (tells : CabinetHistory → ℕ → Item → List A) (plain : (cabinet_history : CabinetHistory) (p q : ℕ) → tells cabinet_history p Ticked ≡ tells cabinet_history q Ticked) where
+  one-same : (cabinet_history : CabinetHistory) (a b : Act) → Alike a b → tells cabinet_history a.pass a.item ≡ tells cabinet_history b.pass b.item
+  one-same cabinet_history a b like = elim like.pass [
+    | inl same ↦ ap (λ (i : Item). tells cabinet_history a.pass i) like.item ∙ ap (λ (p : ℕ). tells cabinet_history p b.item) same
     | inr tick ↦
-        ap (λ (i : Item). tells story a.pass i) (like.item ∙ tick) ∙ plain story a.pass b.pass ∙ ap (λ (i : Item). tells story b.pass i) (sym tick)
+        ap (λ (i : Item). tells cabinet_history a.pass i) (like.item ∙ tick) ∙ plain cabinet_history a.pass b.pass ∙ ap (λ (i : Item). tells cabinet_history b.pass i) (sym tick)
   ]
 
-written-alike : (story : Story) (acts others : List Act) → AreAlike acts others → acts_written story acts ≡ acts_written story others
-written-alike story [] [] like = refl
-written-alike story [] (b ∷ others) like = absurd like
-written-alike story (a ∷ acts) [] like = absurd like
-written-alike story (a ∷ acts) (b ∷ others) like =
-    ap (λ (i : Item). item_written story i ++ acts_written (with_item story i) acts) like.0.item
-    ∙ ap (λ (x : List (ℕ × Frame)). item_written story b.item ++ x) (written-alike (with_item story b.item) acts others like.1)
+written-alike : (cabinet_history : CabinetHistory) (acts others : List Act) → AreAlike acts others → acts_written cabinet_history acts ≡ acts_written cabinet_history others
+written-alike cabinet_history [] [] like = refl
+written-alike cabinet_history [] (b ∷ others) like = absurd like
+written-alike cabinet_history (a ∷ acts) [] like = absurd like
+written-alike cabinet_history (a ∷ acts) (b ∷ others) like =
+    ap (λ (i : Item). item_written cabinet_history i ++ acts_written (with_item cabinet_history i) acts) like.0.item
+    ∙ ap (λ (x : List (ℕ × Frame)). item_written cabinet_history b.item ++ x) (written-alike (with_item cabinet_history b.item) acts others like.1)
 
-replies-alike : (story : Story) (acts others : List Act) → AreAlike acts others → acts_replies story acts ≡ acts_replies story others
-replies-alike story [] [] like = refl
-replies-alike story [] (b ∷ others) like = absurd like
-replies-alike story (a ∷ acts) [] like = absurd like
-replies-alike story (a ∷ acts) (b ∷ others) like =
-    ap (λ (x : List Reply). x ++ acts_replies (with_item story a.item) acts) (one-same item_replies (λ s p q. refl) story a b like.0)
-    ∙ ap (λ (i : Item). item_replies story b.pass b.item ++ acts_replies (with_item story i) acts) like.0.item
-    ∙ ap (λ (x : List Reply). item_replies story b.pass b.item ++ x) (replies-alike (with_item story b.item) acts others like.1)
+replies-alike : (cabinet_history : CabinetHistory) (acts others : List Act) → AreAlike acts others → acts_replies cabinet_history acts ≡ acts_replies cabinet_history others
+replies-alike cabinet_history [] [] like = refl
+replies-alike cabinet_history [] (b ∷ others) like = absurd like
+replies-alike cabinet_history (a ∷ acts) [] like = absurd like
+replies-alike cabinet_history (a ∷ acts) (b ∷ others) like =
+    ap (λ (x : List Reply). x ++ acts_replies (with_item cabinet_history a.item) acts) (one-same item_replies (λ s p q. refl) cabinet_history a b like.0)
+    ∙ ap (λ (i : Item). item_replies cabinet_history b.pass b.item ++ acts_replies (with_item cabinet_history i) acts) like.0.item
+    ∙ ap (λ (x : List Reply). item_replies cabinet_history b.pass b.item ++ x) (replies-alike (with_item cabinet_history b.item) acts others like.1)
 
-happenings-alike : (story : Story) (acts others : List Act) → AreAlike acts others → acts_happenings story acts ≡ acts_happenings story others
-happenings-alike story [] [] like = refl
-happenings-alike story [] (b ∷ others) like = absurd like
-happenings-alike story (a ∷ acts) [] like = absurd like
-happenings-alike story (a ∷ acts) (b ∷ others) like =
-    ap (λ (x : List Happening). x ++ acts_happenings (with_item story a.item) acts) (one-same item_happenings (λ s p q. refl) story a b like.0)
-    ∙ ap (λ (i : Item). item_happenings story b.pass b.item ++ acts_happenings (with_item story i) acts) like.0.item
-    ∙ ap (λ (x : List Happening). item_happenings story b.pass b.item ++ x) (happenings-alike (with_item story b.item) acts others like.1)
+happenings-alike : (cabinet_history : CabinetHistory) (acts others : List Act) → AreAlike acts others → acts_happenings cabinet_history acts ≡ acts_happenings cabinet_history others
+happenings-alike cabinet_history [] [] like = refl
+happenings-alike cabinet_history [] (b ∷ others) like = absurd like
+happenings-alike cabinet_history (a ∷ acts) [] like = absurd like
+happenings-alike cabinet_history (a ∷ acts) (b ∷ others) like =
+    ap (λ (x : List Happening). x ++ acts_happenings (with_item cabinet_history a.item) acts) (one-same item_happenings (λ s p q. refl) cabinet_history a b like.0)
+    ∙ ap (λ (i : Item). item_happenings cabinet_history b.pass b.item ++ acts_happenings (with_item cabinet_history i) acts) like.0.item
+    ∙ ap (λ (x : List Happening). item_happenings cabinet_history b.pass b.item ++ x) (happenings-alike (with_item cabinet_history b.item) acts others like.1)
 
 items-alike : (acts others : List Act) → AreAlike acts others → items_in acts ≡ items_in others
 items-alike [] [] like = refl
@@ -119,23 +119,23 @@ alike-from streams read before (q ∷ journal) so = (
 )
 
 -- the round of a cabinet is as before
-pub round-reread : (c : Cabinet) (streams : Streams) (old new : Happened) (story : Story) → journal_in new ≡ read_journal (journal_in old)
-    → written_of new ≡ written_of old → answered_of new ≡ answered_of old → RoundStands c streams old story → RoundStands c streams new story
-round-reread c streams old new story journal written replies so =
+pub round-reread : (c : Cabinet) (streams : Streams) (old new : Happened) (cabinet_history : CabinetHistory) → journal_in new ≡ read_journal (journal_in old)
+    → written_of new ≡ written_of old → answered_of new ≡ answered_of old → RoundStands c streams old cabinet_history → RoundStands c streams new cabinet_history
+round-reread c streams old new cabinet_history journal written replies so =
     let acts = acts_so_far streams old in
     let read : List Act = acts_of (items_of streams) (read_journal (journal_in old)) in
     let same : acts_so_far streams new ≡ read = ap (acts_of (items_of streams)) journal in
     let alike : AreAlike read acts = alike-from streams [] [] (journal_in old) (λ p less. refl) in
     record {
-      cabinet = subst (λ (x : List Act). CabinetStands c (after story (items_in x))) (sym same)
-          (subst (λ (x : List Item). CabinetStands c (after story x)) (sym (items-alike read acts alike)) so.cabinet);
-      written = subst (IsWritten new story) (sym same) (record {
-        frames = written ∙ so.written.frames ∙ sym (written-alike story read acts alike);
-        replies = ap replies_in replies ∙ so.written.replies ∙ sym (replies-alike story read acts alike);
+      cabinet = subst (λ (x : List Act). CabinetStands c (after cabinet_history (items_in x))) (sym same)
+          (subst (λ (x : List Item). CabinetStands c (after cabinet_history x)) (sym (items-alike read acts alike)) so.cabinet);
+      written = subst (IsWritten new cabinet_history) (sym same) (record {
+        frames = written ∙ so.written.frames ∙ sym (written-alike cabinet_history read acts alike);
+        replies = ap replies_in replies ∙ so.written.replies ∙ sym (replies-alike cabinet_history read acts alike);
         order = ap (λ (x : List (ℕ × Frame)). interleaved 0 x (answered_of new)) written
             ∙ ap (interleaved 0 (written_of old)) replies
             ∙ so.written.order
-            ∙ sym (happenings-alike story read acts alike);
+            ∙ sym (happenings-alike cabinet_history read acts alike);
         counts = subst (λ (x : List (ℕ × Frame)). AreInOrder 0 (answered_of new) (length x)) (sym written)
             (subst (λ (x : List Answered). AreInOrder 0 x (length (written_of old))) (sym replies) so.written.counts);
       });

@@ -3,7 +3,7 @@ use Rattle.std.proofs.Common.{◌≡◌, ◌≤◌, ◌+◌, ◌∙◌, ℕ, Lis
 use Rattle.std.specs.Global.{Box}
 use Rattle.std.proofs.Props.{props}
 use Rattle.sig_types.specs.declared.streams.Streams.{Streams}
-use Rattle.cabinet_history.specs.Story.{Story}
+use Rattle.cabinet_history.specs.CabinetHistory.{CabinetHistory}
 use Rattle.cab_book.specs.declared.cabinet.Cabinet.{Cabinet}
 use Rattle.cab_book.specs.declared.happened.Happened.{Happened}
 use Rattle.cab_book.specs.declared.book.Book.{Book}
@@ -20,7 +20,7 @@ record Holds (k : Kept) : Type 0 where
   room : HasRoomFor k.2 k.3
   tallied : AreTallied k.1 k.2 k.3
   short : AreShort k.1
-  some : ∥ ((story : Story) × RoundStands k.0.value k.1 k.3 story) ∥₁
+  some : ∥ ((cabinet_history : CabinetHistory) × RoundStands k.0.value k.1 k.3 cabinet_history) ∥₁
 
 holds-one : (k : Kept) → IsProp (Holds k)
 holds-one k = hlevel props

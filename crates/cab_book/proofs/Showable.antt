@@ -19,7 +19,7 @@ use Rattle.sig_tables.specs.Seen.{mode_seen}
 use Rattle.sig_tables.specs.Decide.{next_moment, with_moment}
 use Rattle.sig_tables.proofs.Ranges.{in-range}
 use Rattle.cab_book.specs.declared.control.Control.{Control}
-use Rattle.cab_book.specs.Controls.{Keeps}
+use Rattle.cab_book.specs.Controls.{ControlKeeps}
 use Rattle.cab_book.proofs.Facts.{within-cycle}
 use Rattle.tick_context.proofs.Steps.{coord-defined, seek-defined}
 use Rattle.tick_context.proofs.Counted.{some-cycle}
@@ -36,7 +36,7 @@ cycle-few t n fits d =
     omega (arith, few)
 
 -- in step the counter is within the cycle
-in-step-few : (c : Control) (past : Past) (n : ℕ) → Keeps c (with_moment past (next_moment past)) → EachFits past.tables
+in-step-few : (c : Control) (past : Past) (n : ℕ) → ControlKeeps c (with_moment past (next_moment past)) → EachFits past.tables
     → mode_seen past ≡ Coord n → (next_moment past).frame.counter ≤ 2147483647
 in-step-few c past n k fits e =
     let f = (next_moment past).frame in
@@ -55,7 +55,7 @@ none past mode e zero =
     ap (λ (x : Mode). counter_in past.tables x (target_in past.tables (mode_seen past) (clock_now past)) past.moments) e ∙ zero in
     omega (arith, given)
 
-counter-few : (c : Control) (past : Past) → Keeps c (with_moment past (next_moment past)) → EachFits past.tables
+counter-few : (c : Control) (past : Past) → ControlKeeps c (with_moment past (next_moment past)) → EachFits past.tables
     → (mode : Mode) → mode_seen past ≡ mode → (next_moment past).frame.counter ≤ 2147483647
 counter-few c past k fits (Coord n) e = in-step-few c past n k fits e
 counter-few c past k fits Start e = none past Start e refl
@@ -86,7 +86,7 @@ target-few past fits (Track i) e = omega arith
 target-few past fits (Dwell i) e = omega arith
 target-few past fits (Exit i) e = omega arith
 
-pub ticked-shows : (c : Control) (past : Past) → Keeps c (with_moment past (next_moment past)) → EachFits past.tables
+pub ticked-shows : (c : Control) (past : Past) → ControlKeeps c (with_moment past (next_moment past)) → EachFits past.tables
     → IsShowable (with_moment past (next_moment past))
 ticked-shows c past k fits = record {
   clock = mod_below _ 864000 (omega arith);

@@ -4,21 +4,21 @@ use Rattle.sig_types.specs.declared.frame.Frame.{Frame}
 use Rattle.sig_tables.specs.Past.{History}
 use Rattle.sig_tables.specs.Decide.{decide, ticked, past_at, frames, last_frame_of}
 use Rattle.cab_book.specs.declared.control.Control.{Control}
-use Rattle.cab_book.specs.Controls.{StandsFor, tick_count}
+use Rattle.cab_book.specs.Controls.{ControlStands, tick_count}
 use Rattle.sig_types.specs.Items.{Ticked}
-use Rattle.cabinet_history.specs.Story.{Story, with_item}
+use Rattle.cabinet_history.specs.CabinetHistory.{CabinetHistory, with_item}
 use Rattle.cabinet_history.specs.Coming.{Coming, coming, history_of}
 use Rattle.cabinet_history.specs.Frames.{has_line, tick_written}
 use Rattle.cab_book.specs.declared.cabinet.Cabinet.{Cabinet}
-use Rattle.cab_book.specs.Stands.{Keeps, CabinetStands}
+use Rattle.cab_book.specs.Stands.{CabinetKeeps, CabinetStands}
 use Rattle.cab_book.proofs.Showable.{ticked-shows}
 
 -- the cabinet with what its controller has become
 abbrev pub with_tick : Cabinet → Control → Cabinet
 with_tick c k = record { control = k; stage = c.stage; community = c.community; ticks = c.ticks + 1 }
 
-pub tick-keeps : (c : Cabinet) (k : Control) (has : Coming) → Keeps c has → StandsFor k (ticked has.history) → tick_count k ≡ tick_count c.control + 1
-    → Keeps (with_tick c k) (record { history = ticked has.history; calls = has.calls })
+pub tick-keeps : (c : Cabinet) (k : Control) (has : Coming) → CabinetKeeps c has → ControlStands k (ticked has.history) → tick_count k ≡ tick_count c.control + 1
+    → CabinetKeeps (with_tick c k) (record { history = ticked has.history; calls = has.calls })
 tick-keeps c k has is stands counted = record {
   control = stands;
   stage = is.stage;
@@ -33,9 +33,9 @@ tick-keeps c k has is stands counted = record {
   };
 }
 
-pub tick-stands : (c : Cabinet) (k : Control) (story : Story) → CabinetStands c story → StandsFor k (ticked (history_of story))
-    → tick_count k ≡ tick_count c.control + 1 → CabinetStands (with_tick c k) (with_item story Ticked)
-tick-stands c k story is stands counted = record { community = is.community; keeps = tick-keeps c k (coming story) is.keeps stands counted }
+pub tick-stands : (c : Cabinet) (k : Control) (cabinet_history : CabinetHistory) → CabinetStands c cabinet_history → ControlStands k (ticked (history_of cabinet_history))
+    → tick_count k ≡ tick_count c.control + 1 → CabinetStands (with_tick c k) (with_item cabinet_history Ticked)
+tick-stands c k cabinet_history is stands counted = record { community = is.community; keeps = tick-keeps c k (coming cabinet_history) is.keeps stands counted }
 
 -- the frame is written where it has a line
 pub line-written : (c : Cabinet) (last next : Frame) (told : Bool) (h : History) → last ≡ last_frame_of h → next ≡ decide h → told ≡ has_line last next

@@ -1,13 +1,13 @@
--- What a book stands for: the story at which its round began, the streams of the round, and the journal of what was taken from them.
+-- What a book stands for: the cabinet history at which its round began, the streams of the round, and the journal of what was taken from them.
 use Rattle.std.specs.Prelude.{ℕ, ◌+◌, ◌≡◌, ◌≢◌, ◌<◌, ◌≤◌, List, [], ◌∷◌, ◌++◌, length, get_or}
 use Rattle.sig_types.specs.declared.frame.Frame.{Frame}
 use Rattle.sig_types.specs.Items.{Item, items_of}
-use Rattle.cabinet_history.specs.Story.{Story}
+use Rattle.cabinet_history.specs.CabinetHistory.{CabinetHistory}
 use Rattle.cabinet_history.specs.Journals.{Act, times}
 use Rattle.cab_book.specs.declared.book.Book.{Book}
 use Rattle.cab_book.specs.declared.happened.Answered.{Answered}
 use Rattle.cab_book.specs.Happened.{journal_in, written_of, answered_of}
-use Rattle.cab_book.specs.Rounds.{RoundStands, acts_so_far, story_after}
+use Rattle.cab_book.specs.Rounds.{RoundStands, acts_so_far, cabinet_history_after}
 use Rattle.cab_book.specs.Shares.{ticks_left}
 pub use Rattle.cab_book.specs.Rounds.{CanBeTaken}
 
@@ -34,17 +34,17 @@ left_of b pass = get_or b.left pass 0
 abbrev pub acts_in : Book → List Act
 acts_in b = acts_so_far b.streams b.happened
 
--- the story by now, where the round began at this one
-abbrev pub story_now : Book → Story → Story
-story_now b story = story_after b.streams b.happened story
+-- the cabinet history by now, where the round began at this one
+abbrev pub cabinet_history_now : Book → CabinetHistory → CabinetHistory
+cabinet_history_now b cabinet_history = cabinet_history_after b.streams b.happened cabinet_history
 
 -- how many ticks the cabinet will have had by the end of the round
 abbrev pub ticks_by_end : Book → ℕ
 ticks_by_end b = b.cabinet.value.ticks + ticks_left b.left
 
--- the book's round began at this story, and what it has written and replied since is what the journal has brought
-abbrev pub BookStands : Book → Story → Type 0
-BookStands b story = RoundStands b.cabinet.value b.streams b.happened story
+-- the book's round began at this cabinet history, and what it has written and replied since is what the journal has brought
+abbrev pub BookStands : Book → CabinetHistory → Type 0
+BookStands b cabinet_history = RoundStands b.cabinet.value b.streams b.happened cabinet_history
 
 -- all ticks of the round are those of pass 4: no pass above it has brought any, or has any left
 abbrev pub IsOnePart : Book → Type 0
@@ -61,7 +61,7 @@ pub record Shares (old new : Book) : Type 0 where
 
 -- a pass has brought the next item of its stream
 pub record IsBrought (old new : Book) (pass : ℕ) : Type 0 where
-  pub stands : (story : Story) → BookStands old story → BookStands new story
+  pub stands : (cabinet_history : CabinetHistory) → BookStands old cabinet_history → BookStands new cabinet_history
   pub streams : streams_in new ≡ streams_in old
   pub journal : journal_of new ≡ journal_of old ++ pass ∷ []
   pub own : left_of new pass + 1 ≡ left_of old pass
@@ -69,8 +69,8 @@ pub record IsBrought (old new : Book) (pass : ℕ) : Type 0 where
   pub ticks : ticks_by_end new ≡ ticks_by_end old
 
 -- the book now is what the first has come to by passes that brought items of the same round: it has the same streams, the round of
--- each began at the same stories, and the cabinet will have had as many ticks by its end
+-- each began at the same cabinet histories, and the cabinet will have had as many ticks by its end
 pub record Replays (first now : Book) : Type 0 where
   pub streams : streams_in now ≡ streams_in first
-  pub stories : (story : Story) → BookStands first story → BookStands now story
+  pub cabinet_histories : (cabinet_history : CabinetHistory) → BookStands first cabinet_history → BookStands now cabinet_history
   pub ticks : ticks_by_end now ≡ ticks_by_end first

@@ -2,19 +2,19 @@
 use Rattle.std.specs.Prelude.{ℕ}
 use Rattle.sig_tables.specs.Past.{Past, History}
 use Rattle.sig_tables.specs.Decide.{past_at}
-use Rattle.controller.specs.StandsFor.{Keeps as Keeps_kept, tick_count as ticks_kept, install_count as installs_kept}
+use Rattle.controller.specs.StandsFor.{ControllerKeeps as Keeps_kept, tick_count as ticks_kept, install_count as installs_kept}
 use Rattle.observer.specs.Remembers.{Remembers, tick_count as ticks_looked, install_count as installs_looked}
 use Rattle.cab_book.specs.declared.control.Control.{Control}
 use Rattle.cab_book.specs.declared.control.Control.TheVariants.{Registers, LookingBack}
 
 -- what it keeps is what the past gives
-abbrev pub Keeps : Control → Past → Type 0
-Keeps (Registers c) past = Keeps_kept c past
-Keeps (LookingBack o) past = Remembers o past
+abbrev pub ControlKeeps : Control → Past → Type 0
+ControlKeeps (Registers c) past = Keeps_kept c past
+ControlKeeps (LookingBack o) past = Remembers o past
 
 -- it stands for a history
-abbrev pub StandsFor : Control → History → Type 0
-StandsFor c h = Keeps c (past_at h)
+abbrev pub ControlStands : Control → History → Type 0
+ControlStands c h = ControlKeeps c (past_at h)
 
 -- the number of ticks so far
 abbrev pub tick_count : Control → ℕ

@@ -2,7 +2,7 @@
 use Rattle.std.specs.Prelude.{ℕ, ◌≡◌, ◌≤◌, ◌+◌, List, [], ◌∷◌, ◌++◌, length, replicate, map, vec_len, vec_capacity}
 use Rattle.sig_types.specs.declared.frame.Frame.{Frame}
 use Rattle.cabinet_history.specs.declared.Reply.{Reply}
-use Rattle.cabinet_history.specs.Story.{Story}
+use Rattle.cabinet_history.specs.CabinetHistory.{CabinetHistory}
 use Rattle.cabinet_history.specs.Journals.{Act, passes_of}
 use Rattle.cabinet_history.specs.Told.{acts_replies, acts_written}
 use Rattle.cab_book.specs.declared.happened.Answered.{Answered}
@@ -27,11 +27,11 @@ pub record HasRoom (h : Happened) (ticks frames items : ℕ) : Type 0 where
   pub replies : vec_len h.replies + frames ≤ vec_capacity h.replies
   pub journal : vec_len h.journal.runs + items ≤ vec_capacity h.journal.runs
 
--- what is kept is what these acts give after a story: the frames, the replies, and their order
-pub record IsWritten (h : Happened) (story : Story) (acts : List Act) : Type 0 where
-  pub frames : written_of h ≡ acts_written story acts
-  pub replies : replies_in (answered_of h) ≡ acts_replies story acts
-  pub order : interleaved 0 (written_of h) (answered_of h) ≡ acts_happenings story acts
+-- what is kept is what these acts give after a cabinet history: the frames, the replies, and their order
+pub record IsWritten (h : Happened) (cabinet_history : CabinetHistory) (acts : List Act) : Type 0 where
+  pub frames : written_of h ≡ acts_written cabinet_history acts
+  pub replies : replies_in (answered_of h) ≡ acts_replies cabinet_history acts
+  pub order : interleaved 0 (written_of h) (answered_of h) ≡ acts_happenings cabinet_history acts
   pub counts : AreInOrder 0 (answered_of h) (length (written_of h))
 
 -- replies that came behind so many of the frames
@@ -39,7 +39,7 @@ abbrev pub behind : ℕ → List Reply → List Answered
 behind many replies = map (λ r. record { reply = r; behind = many }) replies
 
 -- one pass more, which has brought these frames and these replies
-pub record GoesOn (old new : Happened) (pass : ℕ) (frames : List (ℕ × Frame)) (told : List Reply) : Type 0 where
+pub record HappenedGoesOn (old new : Happened) (pass : ℕ) (frames : List (ℕ × Frame)) (told : List Reply) : Type 0 where
   pub journal : journal_in new ≡ journal_in old ++ pass ∷ []
   pub written : written_of new ≡ written_of old ++ frames
   pub replies : answered_of new ≡ answered_of old ++ behind (length (written_of old)) told

@@ -4,7 +4,7 @@ use Rattle.std.specs.Prelude.{ℕ, ◌-◌, ◌≤◌, List, [], ◌∷◌, ◌+
 use Rattle.sig_types.specs.declared.frame.Frame.{Frame}
 use Rattle.sig_types.specs.Items.{Item}
 use Rattle.cabinet_history.specs.declared.Reply.{Reply}
-use Rattle.cabinet_history.specs.Story.{Story, with_item}
+use Rattle.cabinet_history.specs.CabinetHistory.{CabinetHistory, with_item}
 use Rattle.cabinet_history.specs.Journals.{Act}
 use Rattle.cabinet_history.specs.Told.{item_replies, item_written}
 use Rattle.cab_book.specs.declared.happened.Answered.{Answered}
@@ -13,14 +13,14 @@ pub data Happening : Type 0 where
   Wrote : (written : ℕ × Frame) → Happening
   Replied : (reply : Reply) → Happening
 
--- what an item that a pass brings after a story gives
-abbrev pub item_happenings : Story → ℕ → Item → List Happening
-item_happenings story pass item = map Wrote (item_written story item) ++ map Replied (item_replies story pass item)
+-- what an item that a pass brings after a cabinet history gives
+abbrev pub item_happenings : CabinetHistory → ℕ → Item → List Happening
+item_happenings cabinet_history pass item = map Wrote (item_written cabinet_history item) ++ map Replied (item_replies cabinet_history pass item)
 
 -- what these acts give, in order
-abbrev pub acts_happenings : Story → List Act → List Happening
-acts_happenings story [] = []
-acts_happenings story (act ∷ acts) = item_happenings story act.pass act.item ++ acts_happenings (with_item story act.item) acts
+abbrev pub acts_happenings : CabinetHistory → List Act → List Happening
+acts_happenings cabinet_history [] = []
+acts_happenings cabinet_history (act ∷ acts) = item_happenings cabinet_history act.pass act.item ++ acts_happenings (with_item cabinet_history act.item) acts
 
 -- frames and replies in the order in which they came, after so many frames: each reply stands behind as many as it says
 abbrev pub interleaved : ℕ → List (ℕ × Frame) → List Answered → List Happening

@@ -4,4 +4,4 @@ use Rattle.cab_book.specs.declared.book.Book.{Book}
 use Rattle.cab_book.specs.Books.{Replays, journal_of}
 
 pub replays_itself : (b : Book) → journal_of b ≡ [] → Replays b b
-replays_itself b none = record { streams = refl; stories = λ story stands. stands; ticks = refl }
+replays_itself b none = record { streams = refl; cabinet_histories = λ cabinet_history stands. stands; ticks = refl }

@@ -1,10 +1,10 @@
--- A round of a cabinet, part by part: which streams it can take, what of them is left, and the story of what was brought.
+-- A round of a cabinet, part by part: which streams it can take, what of them is left, and the cabinet history of what was brought.
 use Rattle.std.specs.Prelude.{ℕ, ◌+◌, ◌≡◌, ◌≤◌, ◌<◌, List, [], length, get_or}
 use Rattle.sig_types.specs.declared.frame.Field.{Field}
 use Rattle.tick_context.specs.Told.{NamesPlace}
 use Rattle.sig_types.specs.declared.streams.Streams.{Streams}
 use Rattle.sig_types.specs.Items.{items_of}
-use Rattle.cabinet_history.specs.Story.{Story, after}
+use Rattle.cabinet_history.specs.CabinetHistory.{CabinetHistory, after}
 use Rattle.cabinet_history.specs.Journals.{Act, times, acts_of, items_in}
 use Rattle.cab_book.specs.declared.cabinet.Cabinet.{Cabinet}
 use Rattle.cab_book.specs.declared.happened.Happened.{Happened}
@@ -49,11 +49,11 @@ HasRoomFor left h = HasRoom h (ticks_left left) (frames_left left) (items_left l
 abbrev pub acts_so_far : Streams → Happened → List Act
 acts_so_far streams h = acts_of (items_of streams) (journal_in h)
 
--- the story by now, where the round began at this one
-abbrev pub story_after : Streams → Happened → Story → Story
-story_after streams h story = after story (items_in (acts_so_far streams h))
+-- the cabinet history by now, where the round began at this one
+abbrev pub cabinet_history_after : Streams → Happened → CabinetHistory → CabinetHistory
+cabinet_history_after streams h cabinet_history = after cabinet_history (items_in (acts_so_far streams h))
 
--- the round began at this story, and the cabinet and what it has written and replied since are what the journal has brought
-pub record RoundStands (c : Cabinet) (streams : Streams) (h : Happened) (story : Story) : Type 0 where
-  pub cabinet : CabinetStands c (story_after streams h story)
-  pub written : IsWritten h story (acts_so_far streams h)
+-- the round began at this cabinet history, and the cabinet and what it has written and replied since are what the journal has brought
+pub record RoundStands (c : Cabinet) (streams : Streams) (h : Happened) (cabinet_history : CabinetHistory) : Type 0 where
+  pub cabinet : CabinetStands c (cabinet_history_after streams h cabinet_history)
+  pub written : IsWritten h cabinet_history (acts_so_far streams h)

@@ -1,20 +1,20 @@
--- What a cabinet of a book stands for: a story.
+-- What a cabinet of a book stands for: a cabinet history.
 use Rattle.std.specs.Prelude.{ℕ, ◌+◌, ◌≡◌, ◌≤◌, ◌<◌, List, [], ◌∷◌, length, Option}
 use Rattle.sig_tables.specs.Past.{Past, History, Event, SetDrift}
 use Rattle.sig_tables.specs.Seen.{frame_seen}
 use Rattle.sig_tables.specs.Showing.{clock_shown}
 use Rattle.sig_tables.specs.Decide.{frames}
-use Rattle.cab_book.specs.Controls.{StandsFor, tick_count}
+use Rattle.cab_book.specs.Controls.{ControlStands, tick_count}
 use Rattle.cab_book.specs.declared.control.Control.{Control}
 use Rattle.stage_txn.specs.declared.Stage.{Stage}
 use Rattle.sig_types.specs.declared.notes.StageAnswer.{StageAnswer}
 use Rattle.agent.specs.declared.ask.Wish.{Wish}
-use Rattle.stage_txn.specs.Answers.{answered, kept, standing}
+use Rattle.stage_txn.specs.Answers.{answered, kept, stage_state}
 use Rattle.sig_tables.specs.Putting.{EachFits}
 use Rattle.stage_txn.specs.Laws.{BeginInRange}
-use Rattle.stage_txn.specs.Stands.{StandsFor as StageStands}
+use Rattle.stage_txn.specs.Stands.{StageStands}
 use Rattle.cabinet_history.specs.Installs.{FewInstalls}
-use Rattle.cabinet_history.specs.Story.{Story}
+use Rattle.cabinet_history.specs.CabinetHistory.{CabinetHistory}
 use Rattle.cabinet_history.specs.Coming.{Coming, past_of, in_force, coming, call_of, outcome, with_call}
 use Rattle.cab_book.specs.declared.cabinet.Cabinet.{Cabinet}
 
@@ -24,33 +24,33 @@ pub record IsShowable (past : Past) : Type 0 where
   pub counter : (frame_seen past).counter ≤ 2147483647
   pub target : (frame_seen past).target ≤ 2147483647
 
--- what a story has come to can be gone on with, after so many ticks
+-- what a cabinet history has come to can be gone on with, after so many ticks
 pub record IsSound (n : ℕ) (has : Coming) : Type 0 where
   pub ticks : n + 1 ≡ length (frames has.history)
   pub shows : IsShowable (past_of has)
   pub fits : EachFits (in_force has)
   pub begins : BeginInRange has.calls
-  pub few : FewInstalls (past_of has).version (kept (answered has.calls)) (standing (answered has.calls))
+  pub few : FewInstalls (past_of has).version (kept (answered has.calls)) (stage_state (answered has.calls))
   pub ids : kept (answered has.calls) ≤ 2147483647
 
--- a control and a stage stand for what a story has come to
-pub record Keeps (c : Cabinet) (has : Coming) : Type 0 where
-  pub control : StandsFor c.control has.history
+-- a control and a stage stand for what a cabinet history has come to
+pub record CabinetKeeps (c : Cabinet) (has : Coming) : Type 0 where
+  pub control : ControlStands c.control has.history
   pub stage : StageStands c.stage has.calls
   pub counted : tick_count c.control ≡ c.ticks
   pub sound : IsSound c.ticks has
 
--- and the cabinet is that of the story
-pub record CabinetStands (c : Cabinet) (story : Story) : Type 0 where
-  pub community : c.community.items ≡ story.community
-  pub keeps : Keeps c (coming story)
+-- and the cabinet is that of the cabinet history
+pub record CabinetStands (c : Cabinet) (cabinet_history : CabinetHistory) : Type 0 where
+  pub community : c.community.items ≡ cabinet_history.community
+  pub keeps : CabinetKeeps c (coming cabinet_history)
 
 -- the stage has answered a wish, and the control has not yet carried it out
 pub record IsAnswered (control : Control) (stage : Stage) (has : Coming) (wish : Wish) (answer : Option StageAnswer) : Type 0 where
-  pub controller_stands : StandsFor control has.history
+  pub controller_stands : ControlStands control has.history
   pub stage_stands : StageStands stage (with_call has.calls (call_of has wish))
   pub answer_is : answer ≡ outcome has wish
-  pub few : FewInstalls (past_of has).version (kept (answered has.calls)) (standing (answered has.calls))
+  pub few : FewInstalls (past_of has).version (kept (answered has.calls)) (stage_state (answered has.calls))
   pub ids : kept (answered has.calls) ≤ 2147483647
 
 -- nothing but a drift of the clock has been set

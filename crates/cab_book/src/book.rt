@@ -5,7 +5,7 @@ ghost use Rattle.std.specs.Prelude.{◌≡◌, ◌≢◌, ◌<◌, ◌≤◌, �
 ghost use Rattle.sig_tables.specs.Decide.{last_frame_of, past_at};
 ghost use Rattle.sig_types.specs.Items.{Came, items_of, texts_of};
 ghost use Rattle.tick_context.specs.Strides.{IsStride};
-ghost use Rattle.cabinet_history.specs.Story.{Story};
+ghost use Rattle.cabinet_history.specs.CabinetHistory.{CabinetHistory};
 ghost use Rattle.cabinet_history.specs.Coming.{history_of};
 ghost use Rattle.cabinet_history.specs.Journals.{runs_of};
 ghost use Rattle.cab_book.specs.Stands.{CabinetStands};
@@ -72,18 +72,18 @@ pub struct Book {
     // what is left and what was brought are all items, and the streams are short
     ghost tallied: { AreTallied streams left happened },
     ghost short: { AreShort streams },
-    // the round began at some story that the cabinet stood for
-    ghost some: { ∥ ((story : Story) × RoundStands cabinet.value streams happened story) ∥₁ },
+    // the round began at some cabinet history that the cabinet stood for
+    ghost some: { ∥ ((cabinet_history : CabinetHistory) × RoundStands cabinet.value streams happened cabinet_history) ∥₁ },
 }
 
 impl Book {
-    ghost use Rattle.cab_book.specs.Books.{BookStands, CanBeTaken, IsBrought, IsOnePart, Replays, Shares, streams_in, journal_of, left_of, story_now, ticks_by_end, written_in, answered_in};
+    ghost use Rattle.cab_book.specs.Books.{BookStands, CanBeTaken, IsBrought, IsOnePart, Replays, Shares, streams_in, journal_of, left_of, cabinet_history_now, ticks_by_end, written_in, answered_in};
 
     /// The book of a cabinet before its first round.
     pub fn new(alloc: Global, cabinet: Cabinet) -> Result<Book, NoMemory>
-        requires some { (story : Story) × CabinetStands cabinet story }
+        requires some { (cabinet_history : CabinetHistory) × CabinetStands cabinet cabinet_history }
         requires few { cabinet.ticks ≤ 4294967294 }
-        ensures stands { IfOk result (λ book. (story : Story) → CabinetStands cabinet story → BookStands book story) }
+        ensures stands { IfOk result (λ book. (cabinet_history : CabinetHistory) → CabinetStands cabinet cabinet_history → BookStands book cabinet_history) }
         ensures streams { IfOk result (λ book. streams_in book ≡ replicate 5 []) }
         ensures journal { IfOk result (λ book. journal_of book ≡ []) }
         ensures ticks { IfOk result (λ book. ticks_by_end book ≡ cabinet.ticks) }
@@ -104,7 +104,7 @@ impl Book {
     pub fn open_round(&mut self, alloc: Global, streams: Streams) -> Result<(), (Streams, NoMemory)>
         requires can { CanBeTaken streams }
         requires few { ticks_by_end self.old + streams.ticks ≤ 4294967294 }
-        ensures stands { OnOk result ((story : Story) → BookStands self.old story → BookStands self.new (story_now self.old story)) }
+        ensures stands { OnOk result ((cabinet_history : CabinetHistory) → BookStands self.old cabinet_history → BookStands self.new (cabinet_history_now self.old cabinet_history)) }
         ensures streams { OnOk result (streams_in self.new ≡ items_of streams) }
         ensures journal { OnOk result (journal_of self.new ≡ []) }
         ensures one { OnOk result (IsOnePart self.new) }
@@ -151,7 +151,7 @@ impl Book {
     /// A pass brings the next item of its stream. It takes no memory.
     pub fn apply(&mut self, pass: u32)
         requires { 0 < left_of self.old pass }
-        ensures stands { (story : Story) → BookStands self.old story → BookStands self.new story }
+        ensures stands { (cabinet_history : CabinetHistory) → BookStands self.old cabinet_history → BookStands self.new cabinet_history }
         ensures streams { streams_in self.new ≡ streams_in self.old }
         ensures journal { journal_of self.new ≡ journal_of self.old ++ pass ∷ [] }
         ensures own { left_of self.new pass + 1 ≡ left_of self.old pass }
@@ -198,7 +198,7 @@ impl Book {
     /// All ticks of the round are those of pass 4 again: passes 5 to 7 are read as 4, in the journal too, which is told in its longest
     /// runs. It takes no memory.
     pub fn join_ticks(&mut self)
-        ensures stands { (story : Story) → BookStands self.old story → BookStands self.new story }
+        ensures stands { (cabinet_history : CabinetHistory) → BookStands self.old cabinet_history → BookStands self.new cabinet_history }
         ensures streams { streams_in self.new ≡ streams_in self.old }
         ensures journal { journal_of self.new ≡ read_journal (journal_of self.old) }
         ensures one { IsOnePart self.new }
@@ -228,8 +228,8 @@ impl Book {
         requires below { pass ≤ 7 }
         requires some { 1 ≤ n }
         requires within { n ≤ left_of self.old pass }
-        ensures least { (story : Story) → BookStands self.old story → IsStride (history_of (story_now self.old story)) n result }
-        ensures stands { (story : Story) → BookStands self.old story → BookStands self.new story }
+        ensures least { (cabinet_history : CabinetHistory) → BookStands self.old cabinet_history → IsStride (history_of (cabinet_history_now self.old cabinet_history)) n result }
+        ensures stands { (cabinet_history : CabinetHistory) → BookStands self.old cabinet_history → BookStands self.new cabinet_history }
         ensures streams { streams_in self.new ≡ streams_in self.old }
         ensures journal { journal_of self.new ≡ journal_of self.old ++ replicate result pass }
         ensures own { left_of self.new pass + result ≡ left_of self.old pass }
@@ -284,14 +284,14 @@ impl Book {
 
     /// The cabinet's last frame.
     pub fn frame(&self) -> Frame
-        ensures { (story : Story) → BookStands self.now story → result ≡ last_frame_of (history_of (story_now self.now story)) }
+        ensures { (cabinet_history : CabinetHistory) → BookStands self.now cabinet_history → result ≡ last_frame_of (history_of (cabinet_history_now self.now cabinet_history)) }
     {
         self.cabinet.frame()
     }
 
     /// The cabinet's tables in force.
     pub fn tables(&self) -> &Tables
-        ensures { (story : Story) → BookStands self.now story → result.now ≡ (past_at (history_of (story_now self.now story))).tables }
+        ensures { (cabinet_history : CabinetHistory) → BookStands self.now cabinet_history → result.now ≡ (past_at (history_of (cabinet_history_now self.now cabinet_history))).tables }
     {
         self.cabinet.tables()
     }

@@ -4,11 +4,11 @@ ghost use Rattle.std.specs.Prelude.{◌≡◌, ◌<◌, ◌≤◌, ◌+◌, opti
 ghost use Rattle.sig_tables.specs.Past.{History};
 ghost use Rattle.sig_tables.specs.Decide.{last_frame_of, past_at};
 ghost use Rattle.tick_context.specs.Told.{NamesPlace};
-ghost use Rattle.cab_book.specs.Controls.{StandsFor};
+ghost use Rattle.cab_book.specs.Controls.{ControlStands};
 ghost use Rattle.tick_context.specs.Strides.{IsStride};
 ghost use Rattle.agent.specs.Asks.{IsAsked, CanBeCarriedOut};
 ghost use Rattle.sig_types.specs.Items.{Told as ToldItem, Came, Ticked};
-ghost use Rattle.cabinet_history.specs.Story.{Story, opened, with_item};
+ghost use Rattle.cabinet_history.specs.CabinetHistory.{CabinetHistory, opened, with_item};
 ghost use Rattle.cabinet_history.specs.Coming.{Coming, history_of, ask_after, carried_out};
 ghost use Rattle.cabinet_history.specs.Frames.{tick_written};
 ghost use Rattle.cabinet_history.specs.Told.{reply_to, load_end, in_frame, replied, ask_end};
@@ -40,13 +40,13 @@ pub struct Told {
 }
 
 impl Cabinet {
-    ghost use Rattle.cab_book.specs.Stands.{IsNew, Keeps, CabinetStands};
+    ghost use Rattle.cab_book.specs.Stands.{IsNew, CabinetKeeps, CabinetStands};
     ghost use Rattle.cab_book.specs.Ticks.{ticks_on, ticks_written};
 
     /// A cabinet whose control has just been opened, with the community of those who may ask it. Nothing was sent to its stage.
     pub fn new(control: Control, community: ArrayVec<u8, 32>) -> Cabinet
-        requires new { (h : History) × StandsFor control h × IsNew h }
-        ensures stands { (h : History) → StandsFor control h → IsNew h → CabinetStands result (opened community.items h) }
+        requires new { (h : History) × ControlStands control h × IsNew h }
+        ensures stands { (h : History) → ControlStands control h → IsNew h → CabinetStands result (opened community.items h) }
     {
         Cabinet {
             control,
@@ -58,14 +58,14 @@ impl Cabinet {
 
     /// Its last frame.
     pub fn frame(&self) -> Frame
-        ensures { (story : Story) → CabinetStands self.now story → result ≡ last_frame_of (history_of story) }
+        ensures { (cabinet_history : CabinetHistory) → CabinetStands self.now cabinet_history → result ≡ last_frame_of (history_of cabinet_history) }
     {
         self.control.frame()
     }
 
     /// The tables in force.
     pub fn tables(&self) -> &Tables
-        ensures { (story : Story) → CabinetStands self.now story → result.now ≡ (past_at (history_of story)).tables }
+        ensures { (cabinet_history : CabinetHistory) → CabinetStands self.now cabinet_history → result.now ≡ (past_at (history_of cabinet_history)).tables }
     {
         self.control.tables()
     }
@@ -73,7 +73,7 @@ impl Cabinet {
     /// It hears an input from the street.
     pub fn hear(&mut self, field: Field)
         requires place { NamesPlace field }
-        ensures stands { (story : Story) → CabinetStands self.old story → CabinetStands self.new (with_item story (ToldItem field)) }
+        ensures stands { (cabinet_history : CabinetHistory) → CabinetStands self.old cabinet_history → CabinetStands self.new (with_item cabinet_history (ToldItem field)) }
         ensures ticks { self.new.ticks ≡ self.old.ticks }
     {
         self.control.input(field);
@@ -82,9 +82,9 @@ impl Cabinet {
     /// A tick of 0.1 s: its frame with its number, where that has a line.
     pub fn tick(&mut self) -> Option<(u32, Frame)>
         requires few { self.old.ticks < 4294967294 }
-        requires some { ∥ ((story : Story) × CabinetStands self.old story) ∥₁ }
-        ensures gives { (story : Story) → CabinetStands self.old story → option_to_list result ≡ tick_written (history_of story) }
-        ensures stands { (story : Story) → CabinetStands self.old story → CabinetStands self.new (with_item story Ticked) }
+        requires some { ∥ ((cabinet_history : CabinetHistory) × CabinetStands self.old cabinet_history) ∥₁ }
+        ensures gives { (cabinet_history : CabinetHistory) → CabinetStands self.old cabinet_history → option_to_list result ≡ tick_written (history_of cabinet_history) }
+        ensures stands { (cabinet_history : CabinetHistory) → CabinetStands self.old cabinet_history → CabinetStands self.new (with_item cabinet_history Ticked) }
         ensures ticks { self.new.ticks ≡ self.old.ticks + 1 }
     {
         let last = self.control.frame();
@@ -102,10 +102,10 @@ impl Cabinet {
     pub fn stride(&mut self, n: u32) -> (u32, Option<(u32, Frame)>)
         requires some { 1 ≤ n }
         requires few { self.old.ticks + n ≤ 4294967294 }
-        requires stood { ∥ ((story : Story) × CabinetStands self.old story) ∥₁ }
-        ensures least { (story : Story) → CabinetStands self.old story → IsStride (history_of story) n result.0 }
-        ensures gives { (story : Story) → CabinetStands self.old story → option_to_list result.1 ≡ ticks_written result.0 story }
-        ensures stands { (story : Story) → CabinetStands self.old story → CabinetStands self.new (ticks_on result.0 story) }
+        requires stood { ∥ ((cabinet_history : CabinetHistory) × CabinetStands self.old cabinet_history) ∥₁ }
+        ensures least { (cabinet_history : CabinetHistory) → CabinetStands self.old cabinet_history → IsStride (history_of cabinet_history) n result.0 }
+        ensures gives { (cabinet_history : CabinetHistory) → CabinetStands self.old cabinet_history → option_to_list result.1 ≡ ticks_written result.0 cabinet_history }
+        ensures stands { (cabinet_history : CabinetHistory) → CabinetStands self.old cabinet_history → CabinetStands self.new (ticks_on result.0 cabinet_history) }
         ensures ticks { self.new.ticks ≡ self.old.ticks + result.0 }
         ensures some { 1 ≤ result.0 }
         ensures within { result.0 ≤ n }
@@ -122,12 +122,12 @@ impl Cabinet {
     /// A frame comes to it. One that asks nothing of it, as it is no message, of another community, or a Response, is met with silence
     /// and changes nothing.
     pub fn receive(&mut self, octets: &[u8]) -> Told
-        requires some { ∥ ((story : Story) × CabinetStands self.old story) ∥₁ }
-        ensures text { (story : Story) → CabinetStands self.old story → result.text ≡ in_frame (reply_to story octets.now) }
-        ensures load { (story : Story) → CabinetStands self.old story → result.load ≡ load_end story octets.now }
-        ensures stands { (story : Story) → CabinetStands self.old story → CabinetStands self.new (with_item story (Came octets.now)) }
+        requires some { ∥ ((cabinet_history : CabinetHistory) × CabinetStands self.old cabinet_history) ∥₁ }
+        ensures text { (cabinet_history : CabinetHistory) → CabinetStands self.old cabinet_history → result.text ≡ in_frame (reply_to cabinet_history octets.now) }
+        ensures load { (cabinet_history : CabinetHistory) → CabinetStands self.old cabinet_history → result.load ≡ load_end cabinet_history octets.now }
+        ensures stands { (cabinet_history : CabinetHistory) → CabinetStands self.old cabinet_history → CabinetStands self.new (with_item cabinet_history (Came octets.now)) }
         ensures ticks { self.new.ticks ≡ self.old.ticks }
-        ensures nothing { (story : Story) → CabinetStands self.old story → ask_after story octets.now ≡ None
+        ensures nothing { (cabinet_history : CabinetHistory) → CabinetStands self.old cabinet_history → ask_after cabinet_history octets.now ≡ None
             → (self.new ≡ self.old) × (result ≡ record { text = None; load = None }) }
     {
         let mut ask = Ask::blank();
@@ -143,12 +143,12 @@ impl Cabinet {
 
     /// What is asked is answered, by what was before, and carried out.
     fn heed(&mut self, ask: &Ask) -> Told
-        requires some { ∥ ((has : Coming) × Keeps self.old has) ∥₁ }
+        requires some { ∥ ((has : Coming) × CabinetKeeps self.old has) ∥₁ }
         requires asked { IsAsked ask.now }
         requires can { CanBeCarriedOut ask.now.wish }
-        ensures text { (has : Coming) → Keeps self.old has → result.text ≡ in_frame (replied has (Some ask.now)) }
-        ensures load { (has : Coming) → Keeps self.old has → result.load ≡ ask_end has (Some ask.now) }
-        ensures keeps { (has : Coming) → Keeps self.old has → Keeps self.new (carried_out has ask.now.wish) }
+        ensures text { (has : Coming) → CabinetKeeps self.old has → result.text ≡ in_frame (replied has (Some ask.now)) }
+        ensures load { (has : Coming) → CabinetKeeps self.old has → result.load ≡ ask_end has (Some ask.now) }
+        ensures keeps { (has : Coming) → CabinetKeeps self.old has → CabinetKeeps self.new (carried_out has ask.now.wish) }
         ensures community { self.new.community ≡ self.old.community }
         ensures ticks { self.new.ticks ≡ self.old.ticks }
     {

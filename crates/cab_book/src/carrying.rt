@@ -3,8 +3,8 @@
 ghost use Rattle.std.specs.Prelude.{◌≡◌, ◌<◌, ◌≤◌, ◌+◌, All, map};
 ghost use Rattle.sig_tables.specs.Past.{History};
 ghost use Rattle.sig_tables.specs.Decide.{with_one};
-ghost use Rattle.cab_book.specs.Controls.{StandsFor, tick_count};
-ghost use Rattle.stage_txn.specs.Stands.{StandsFor as StageStands};
+ghost use Rattle.cab_book.specs.Controls.{ControlStands, tick_count};
+ghost use Rattle.stage_txn.specs.Stands.{StageStands};
 ghost use Rattle.agent.specs.Asks.{CanBeCarriedOut};
 ghost use Rattle.agent.specs.Orders.{IsFit};
 ghost use Rattle.cabinet_history.specs.Coming.{Coming, call_of, outcome as outcome_of, order_event, events_of, with_events, with_call};
@@ -21,9 +21,9 @@ use stage_txn::Stage;
 /// The stage is called, where a wish is one for it.
 pub fn call_stage(stage: &mut Stage, control: &Control, wish: &Wish) -> Option<StageAnswer>
     requires can { CanBeCarriedOut wish.now }
-    ensures outcome { (has : Coming) → StandsFor control.now has.history → StageStands stage.old has.calls
+    ensures outcome { (has : Coming) → ControlStands control.now has.history → StageStands stage.old has.calls
         → result ≡ outcome_of has wish.now }
-    ensures stands { (has : Coming) → StandsFor control.now has.history → StageStands stage.old has.calls
+    ensures stands { (has : Coming) → ControlStands control.now has.history → StageStands stage.old has.calls
         → StageStands stage.new (with_call has.calls (call_of has wish.now)) }
 {
     match wish {
@@ -72,7 +72,7 @@ pub fn end_of(version: u32, wish: &Wish, outcome: Option<StageAnswer>) -> Option
 /// The controller carries out an order.
 fn give_one(control: &mut Control, order: Order)
     requires fit { IsFit order }
-    ensures stands { (h : History) → StandsFor control.old h → StandsFor control.new (with_one h (order_event order)) }
+    ensures stands { (h : History) → ControlStands control.old h → ControlStands control.new (with_one h (order_event order)) }
     ensures counted { tick_count control.new ≡ tick_count control.old }
 {
     match order {
@@ -86,7 +86,7 @@ fn give_one(control: &mut Control, order: Order)
 /// The controller carries out orders, one after another.
 fn give(control: &mut Control, orders: &[Order])
     requires fit { All IsFit orders.now }
-    ensures stands { (h : History) → StandsFor control.old h → StandsFor control.new (with_events h (map order_event orders.now)) }
+    ensures stands { (h : History) → ControlStands control.old h → ControlStands control.new (with_events h (map order_event orders.now)) }
     ensures counted { tick_count control.new ≡ tick_count control.old }
 {
     for order in orders {
@@ -122,7 +122,7 @@ pub fn carry_out(control: &mut Control, stage: &Stage, wish: &Wish, outcome: Opt
     requires can { CanBeCarriedOut wish.now }
     requires answered { ∥ ((has : Coming) × IsAnswered control.old stage.now has wish.now outcome) ∥₁ }
     ensures stands { (has : Coming) → IsAnswered control.old stage.now has wish.now outcome
-        → StandsFor control.new (with_events has.history (events_of has wish.now)) }
+        → ControlStands control.new (with_events has.history (events_of has wish.now)) }
     ensures counted { tick_count control.new ≡ tick_count control.old }
 {
     give(control, orders_of(wish));

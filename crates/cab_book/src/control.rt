@@ -10,7 +10,7 @@ use std::alloc::Global;
 
 /// How the frames of a cabinet come about: by what a controller keeps from tick to tick, or by looking back over all that was
 /// seen.
-#[derive(Clone, Copy, Debug, PartialEq, Eq)]
+#[derive(Clone, Copy, PartialEq, Eq)]
 pub enum Way {
     Registers,
     LookingBack,
@@ -31,7 +31,7 @@ impl Control {
     ghost use Rattle.tick_context.specs.Told.{CanRun, NamesPlace};
     ghost use Rattle.tick_context.specs.Strides.{IsStride, is_told, ticks_more};
     ghost use Rattle.cab_book.specs.declared.control.Way.{Way};
-    ghost use Rattle.cab_book.specs.Controls.{StandsFor, tick_count};
+    ghost use Rattle.cab_book.specs.Controls.{ControlStands, tick_count};
 
     /// A cabinet that is opened with these tables, in Start, with a pattern in command, 0 to 255, and a clock in ticks of the
     /// day. Only an observer takes memory.
@@ -44,7 +44,7 @@ impl Control {
     ) -> Result<Control, NoMemory>
         requires tables { CanRun tables }
         requires of_day { clock < 864000 }
-        ensures stands { IfOk result (λ control. StandsFor control (opening tables command clock)) }
+        ensures stands { IfOk result (λ control. ControlStands control (opening tables command clock)) }
         ensures memory { IfErr result (λ _. way ≡ Way.LookingBack) }
     {
         match way {
@@ -59,8 +59,8 @@ impl Control {
     /// The frame of the next tick.
     pub fn tick(&mut self) -> Frame
         requires few { tick_count self.old < 4294967295 }
-        ensures decided { (h : History) → StandsFor self.old h → result ≡ decide h }
-        ensures stands { (h : History) → StandsFor self.old h → StandsFor self.new (ticked h) }
+        ensures decided { (h : History) → ControlStands self.old h → result ≡ decide h }
+        ensures stands { (h : History) → ControlStands self.old h → ControlStands self.new (ticked h) }
         ensures counted { tick_count self.new ≡ tick_count self.old + 1 }
     {
         match self {
@@ -74,9 +74,9 @@ impl Control {
     pub fn stride_told(&mut self, n: u32) -> (u32, bool)
         requires some { 1 ≤ n }
         requires few { tick_count self.old + n ≤ 4294967295 }
-        ensures least { (h : History) → StandsFor self.old h → IsStride h n result.0 }
-        ensures told { (h : History) → StandsFor self.old h → result.1 ≡ is_told h result.0 }
-        ensures stands { (h : History) → StandsFor self.old h → StandsFor self.new (ticks_more result.0 h) }
+        ensures least { (h : History) → ControlStands self.old h → IsStride h n result.0 }
+        ensures told { (h : History) → ControlStands self.old h → result.1 ≡ is_told h result.0 }
+        ensures stands { (h : History) → ControlStands self.old h → ControlStands self.new (ticks_more result.0 h) }
         ensures some { 1 ≤ result.0 }
         ensures within { result.0 ≤ n }
         ensures counted { tick_count self.new ≡ tick_count self.old + result.0 }
@@ -90,7 +90,7 @@ impl Control {
     /// An input from the street: a detector or a push button of a phase, 1 to 16, or the input of a preempt, 1 to 8.
     pub fn input(&mut self, field: Field)
         requires place { NamesPlace field }
-        ensures stands { (h : History) → StandsFor self.old h → StandsFor self.new (with_one h (Input field)) }
+        ensures stands { (h : History) → ControlStands self.old h → ControlStands self.new (with_one h (Input field)) }
         ensures counted { tick_count self.new ≡ tick_count self.old }
     {
         match self {
@@ -104,7 +104,7 @@ impl Control {
     pub fn install(&mut self, tables: Tables)
         requires tables { CanRun tables }
         requires few { install_count self.old < 4294967295 }
-        ensures stands { (h : History) → StandsFor self.old h → StandsFor self.new (with_one h (Install tables)) }
+        ensures stands { (h : History) → ControlStands self.old h → ControlStands self.new (with_one h (Install tables)) }
         ensures counted { tick_count self.new ≡ tick_count self.old }
     {
         match self {
@@ -115,7 +115,7 @@ impl Control {
 
     /// Commands a pattern, 0 to 255.
     pub fn pattern(&mut self, command: u8)
-        ensures stands { (h : History) → StandsFor self.old h → StandsFor self.new (with_one h (SetPattern command)) }
+        ensures stands { (h : History) → ControlStands self.old h → ControlStands self.new (with_one h (SetPattern command)) }
         ensures counted { tick_count self.new ≡ tick_count self.old }
     {
         match self {
@@ -127,7 +127,7 @@ impl Control {
     /// Sets the clock, in ticks of the day.
     pub fn clock(&mut self, time: u32)
         requires of_day { time < 864000 }
-        ensures stands { (h : History) → StandsFor self.old h → StandsFor self.new (with_one h (SetClock time)) }
+        ensures stands { (h : History) → ControlStands self.old h → ControlStands self.new (with_one h (SetClock time)) }
         ensures counted { tick_count self.new ≡ tick_count self.old }
     {
         match self {
@@ -139,7 +139,7 @@ impl Control {
     /// Sets the drift of the clock: after how many ticks each time it gains one more, and after how many it loses one; 0
     /// for never.
     pub fn drift(&mut self, gain: u32, lose: u32)
-        ensures stands { (h : History) → StandsFor self.old h → StandsFor self.new (with_one h (SetDrift gain lose)) }
+        ensures stands { (h : History) → ControlStands self.old h → ControlStands self.new (with_one h (SetDrift gain lose)) }
         ensures counted { tick_count self.new ≡ tick_count self.old }
     {
         match self {
@@ -152,7 +152,7 @@ impl Control {
     pub fn request(&mut self, request: Request)
         requires above { 0 < request.number }
         requires within { request.number ≤ 10 }
-        ensures stands { (h : History) → StandsFor self.old h → StandsFor self.new (with_one h (Ask request)) }
+        ensures stands { (h : History) → ControlStands self.old h → ControlStands self.new (with_one h (Ask request)) }
         ensures counted { tick_count self.new ≡ tick_count self.old }
     {
         match self {
@@ -165,7 +165,7 @@ impl Control {
     pub fn cancel(&mut self, number: u8)
         requires above { 0 < number }
         requires within { number ≤ 10 }
-        ensures stands { (h : History) → StandsFor self.old h → StandsFor self.new (with_one h (Cancel number)) }
+        ensures stands { (h : History) → ControlStands self.old h → ControlStands self.new (with_one h (Cancel number)) }
         ensures counted { tick_count self.new ≡ tick_count self.old }
     {
         match self {
@@ -176,7 +176,7 @@ impl Control {
 
     /// The tables in force.
     pub fn tables(&self) -> &Tables
-        ensures tables { (h : History) → StandsFor self.now h → result.now ≡ (past_at h).tables }
+        ensures tables { (h : History) → ControlStands self.now h → result.now ≡ (past_at h).tables }
     {
         match self {
             Control::Registers(controller) => controller.tables(),
@@ -186,7 +186,7 @@ impl Control {
 
     /// The last frame; before any tick, that of Start.
     pub fn frame(&self) -> Frame
-        ensures frame { (h : History) → StandsFor self.now h → result ≡ last_frame_of h }
+        ensures frame { (h : History) → ControlStands self.now h → result ≡ last_frame_of h }
     {
         match self {
             Control::Registers(controller) => controller.frame(),
@@ -196,7 +196,7 @@ impl Control {
 
     /// Whether the cabinet flashes: its last frame is in Flash.
     pub fn flashing(&self) -> bool
-        ensures flashing { (h : History) → StandsFor self.now h → result ≡ is_flash (last_frame_of h).mode }
+        ensures flashing { (h : History) → ControlStands self.now h → result ≡ is_flash (last_frame_of h).mode }
     {
         match self {
             Control::Registers(controller) => controller.flashing(),
@@ -206,7 +206,7 @@ impl Control {
 
     /// What the cabinet shows to management software.
     pub fn shown(&self) -> Shown
-        ensures shown { (h : History) → StandsFor self.now h → ShownAfter result (past_at h) }
+        ensures shown { (h : History) → ControlStands self.now h → ShownAfter result (past_at h) }
     {
         match self {
             Control::Registers(controller) => controller.shown(),

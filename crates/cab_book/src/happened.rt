@@ -11,7 +11,7 @@ use sig_types::{Frame, NoMemory};
 use std::alloc::{AllocError, Global};
 
 /// A reply, and behind how many of the frames of its round that have a line it came.
-#[derive(Debug, Drop)]
+#[derive(Drop)]
 pub struct Answered {
     pub reply: Reply,
     pub behind: u32,
@@ -27,7 +27,7 @@ pub struct Happened {
 }
 
 impl Happened {
-    ghost use Rattle.cab_book.specs.Happened.{journal_in, written_of, answered_of, HasRoom, GoesOn, TicksOn};
+    ghost use Rattle.cab_book.specs.Happened.{journal_in, written_of, answered_of, HasRoom, HappenedGoesOn, TicksOn};
 
     /// No round: there is room for nothing.
     pub fn none(alloc: Global) -> Happened
@@ -79,7 +79,7 @@ impl Happened {
     pub fn add_input(&mut self)
         requires room { HasRoom self.old 0 0 1 }
         requires few { times 0 (journal_in self.old) < 4294967295 }
-        ensures goes { GoesOn self.old self.new 0 [] [] }
+        ensures goes { HappenedGoesOn self.old self.new 0 [] [] }
         ensures room { (ticks frames items : ℕ) → HasRoom self.old ticks frames (items + 1) → HasRoom self.new ticks frames items }
     {
         self.journal.add(0);
@@ -103,7 +103,7 @@ impl Happened {
     pub fn add_reply(&mut self, reply: Reply)
         requires room { HasRoom self.old 0 1 1 }
         requires few { times reply.pass (journal_in self.old) < 4294967295 }
-        ensures goes { GoesOn self.old self.new reply.pass [] (reply ∷ []) }
+        ensures goes { HappenedGoesOn self.old self.new reply.pass [] (reply ∷ []) }
         ensures room { (ticks frames items : ℕ) → HasRoom self.old ticks (frames + 1) (items + 1) → HasRoom self.new ticks frames items }
     {
         let pass = reply.pass;

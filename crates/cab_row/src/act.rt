@@ -16,7 +16,7 @@ use atomic_table::{Badge, Seat};
 use std::mem::replace;
 
 /// What came of one call: an item was applied, or another pass was met, and this is the word that showed it.
-#[derive(Clone, Copy, Debug, PartialEq, Eq)]
+#[derive(Clone, Copy, PartialEq, Eq)]
 pub enum Act {
     Done,
     Busy(u64),

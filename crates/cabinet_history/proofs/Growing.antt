@@ -1,7 +1,7 @@
 -- A journal that grows by one pass.
 use Rattle.std.proofs.Common.{◌≡◌, ℕ, ◌+◌, ◌==◌, ◌∙◌, Bool, true, false, if◌then◌else◌, List, [], ◌∷◌, ◌++◌, get_or, refl, sym, ap, append_assoc, append-nil, arith}
 use Rattle.sig_types.specs.Items.{Item, Ticked}
-use Rattle.cabinet_history.specs.Story.{Story, with_item, after}
+use Rattle.cabinet_history.specs.CabinetHistory.{CabinetHistory, with_item, after}
 use Rattle.cabinet_history.specs.Journals.{times, Act, act_of, acts_from, acts_of, items_in}
 
 one_seen : (b : Bool) (x y n : ℕ) → n ≡ x + (if b then y + 1 else y) → n ≡ (if b then x + 1 else x) + y
@@ -29,21 +29,21 @@ pub items-more : (acts more : List Act) → items_in (acts ++ more) ≡ items_in
 items-more [] more = refl
 items-more (act ∷ acts) more = ap (λ (items : List Item). act.item ∷ items) (items-more acts more)
 
-pub after-more : (story : Story) (items more : List Item) → after story (items ++ more) ≡ after (after story items) more
-after-more story [] more = refl
-after-more story (item ∷ items) more = after-more (with_item story item) items more
+pub after-more : (cabinet_history : CabinetHistory) (items more : List Item) → after cabinet_history (items ++ more) ≡ after (after cabinet_history items) more
+after-more cabinet_history [] more = refl
+after-more cabinet_history (item ∷ items) more = after-more (with_item cabinet_history item) items more
 
-pub story-more : (story : Story) (acts : List Act) (act : Act) → after story (items_in (acts ++ act ∷ [])) ≡ with_item (after story (items_in acts)) act.item
-story-more story acts act = ap (after story) (items-more acts (act ∷ [])) ∙ after-more story (items_in acts) (act.item ∷ [])
+pub cabinet_history-more : (cabinet_history : CabinetHistory) (acts : List Act) (act : Act) → after cabinet_history (items_in (acts ++ act ∷ [])) ≡ with_item (after cabinet_history (items_in acts)) act.item
+cabinet_history-more cabinet_history acts act = ap (after cabinet_history) (items-more acts (act ∷ [])) ∙ after-more cabinet_history (items_in acts) (act.item ∷ [])
 
 -- what each act tells, one after another
-pub told-more : {A : Type 0} (tells : Story → Act → List A) (all : Story → List Act → List A)
-    → ((story : Story) → all story [] ≡ [])
-    → ((story : Story) (act : Act) (acts : List Act) → all story (act ∷ acts) ≡ tells story act ++ all (with_item story act.item) acts)
-    → (story : Story) (acts : List Act) (act : Act) → all story (acts ++ act ∷ []) ≡ all story acts ++ tells (after story (items_in acts)) act
-told-more {A = A} tells all none one story [] act = one story act [] ∙ ap (λ (x : List A). tells story act ++ x) (none (with_item story act.item)) ∙ append-nil (tells story act) ∙ sym (ap (λ (x : List A). x ++ tells story act) (none story))
-told-more {A = A} tells all none one story (b ∷ acts) act =
-    one story b (acts ++ act ∷ [])
-    ∙ ap (λ (x : List A). tells story b ++ x) (told-more tells all none one (with_item story b.item) acts act)
-    ∙ sym (append_assoc (tells story b) (all (with_item story b.item) acts) (tells (after (with_item story b.item) (items_in acts)) act))
-    ∙ sym (ap (λ (x : List A). x ++ tells (after (with_item story b.item) (items_in acts)) act) (one story b acts))
+pub told-more : {A : Type 0} (tells : CabinetHistory → Act → List A) (all : CabinetHistory → List Act → List A)
+    → ((cabinet_history : CabinetHistory) → all cabinet_history [] ≡ [])
+    → ((cabinet_history : CabinetHistory) (act : Act) (acts : List Act) → all cabinet_history (act ∷ acts) ≡ tells cabinet_history act ++ all (with_item cabinet_history act.item) acts)
+    → (cabinet_history : CabinetHistory) (acts : List Act) (act : Act) → all cabinet_history (acts ++ act ∷ []) ≡ all cabinet_history acts ++ tells (after cabinet_history (items_in acts)) act
+told-more {A = A} tells all none one cabinet_history [] act = one cabinet_history act [] ∙ ap (λ (x : List A). tells cabinet_history act ++ x) (none (with_item cabinet_history act.item)) ∙ append-nil (tells cabinet_history act) ∙ sym (ap (λ (x : List A). x ++ tells cabinet_history act) (none cabinet_history))
+told-more {A = A} tells all none one cabinet_history (b ∷ acts) act =
+    one cabinet_history b (acts ++ act ∷ [])
+    ∙ ap (λ (x : List A). tells cabinet_history b ++ x) (told-more tells all none one (with_item cabinet_history b.item) acts act)
+    ∙ sym (append_assoc (tells cabinet_history b) (all (with_item cabinet_history b.item) acts) (tells (after (with_item cabinet_history b.item) (items_in acts)) act))
+    ∙ sym (ap (λ (x : List A). x ++ tells (after (with_item cabinet_history b.item) (items_in acts)) act) (one cabinet_history b acts))

@@ -7,14 +7,14 @@ use Rattle.sig_types.specs.declared.notes.StageAnswer.TheVariants.{Staged, Repea
 use Rattle.sig_tables.specs.declared.tables.Tables.{Tables}
 use Rattle.sig_tables.specs.declared.cells.Cell.{Cell}
 use Rattle.sig_tables.specs.Cells.{Content}
-use Rattle.stage_txn.specs.declared.Standing.{Standing}
-use Rattle.stage_txn.specs.declared.Standing.TheVariants.{Rest, Open, Checked, Done}
+use Rattle.stage_txn.specs.declared.StageState.{StageState}
+use Rattle.stage_txn.specs.declared.StageState.TheVariants.{Rest, Open, Checked, Done}
 use Rattle.stage_txn.specs.Calls.{Answered, Deed, begin_deed, part_deed, verify_deed, finish_deed, kept_by, deeds}
 use Rattle.stage_txn.specs.Calls.{Begin, Part, Verify, Finish}
-use Rattle.stage_txn.specs.Answers.{standing_by, kept, taken, staged, standing, verify_answer, finish_answer, judged, answer_to, with_answer}
+use Rattle.stage_txn.specs.Answers.{stage_state_by, kept, taken, staged, stage_state, verify_answer, finish_answer, judged, answer_to, with_answer}
 use Rattle.cabinet_history.specs.Installs.{FewInstalls}
 
-pub few-within : (v k : ℕ) (s : Standing) → FewInstalls v k s → v ≤ k
+pub few-within : (v k : ℕ) (s : StageState) → FewInstalls v k s → v ≤ k
 few-within v k Rest few = omega (arith, few.0)
 few-within v k Open few = omega (arith, few)
 few-within v k Checked few = omega (arith, few)
@@ -22,7 +22,7 @@ few-within v k Done few = few
 
 -- by the deeds
 abbrev pub Few : ℕ → List Deed → Type 0
-Few v past = FewInstalls v (kept_by past) (standing_by past)
+Few v past = FewInstalls v (kept_by past) (stage_state_by past)
 
 pub few-begin : (v id : ℕ) (t : Tables) (past : List Answered) → Few v (deeds past) → Few v (deeds (with_answer (Begin id t) past))
 few-begin v id t past few = split (id == kept past) (nat_lt id (kept past)) refl refl
@@ -33,7 +33,7 @@ few-begin v id t past few = split (id == kept past) (nat_lt id (kept past)) refl
     split false true e f = few
     split false false e f = elim (eqb_tells id (kept past)) [
       | inl (u, same) ↦ absurd (false≢true (sym e ∙ u))
-      | inr (u, ne) ↦ omega (arith, few-within v (kept past) (standing past) few, ne, ltb-false id (kept past) f)
+      | inr (u, ne) ↦ omega (arith, few-within v (kept past) (stage_state past) few, ne, ltb-false id (kept past) f)
     ]
 
 pub few-part : (v id number : ℕ) (cells : List (Cell × Content)) (past : List Answered) → Few v (deeds past)
@@ -50,7 +50,7 @@ few-part v id number cells past few = cases (answer_to past (Part id number cell
     cases NotVerified = few
     cases (Refused b) = few
 
-verified-open : (v k due : ℕ) (s : Standing) (all : Bool) (by_rules : StageAnswer) → 1 ≤ k → FewInstalls v k s
+verified-open : (v k due : ℕ) (s : StageState) (all : Bool) (by_rules : StageAnswer) → 1 ≤ k → FewInstalls v k s
     → verify_answer s all due by_rules ≡ Verified → v < k
 verified-open v k due Rest all by_rules some few e = absurd (omega (arith, some, few.1))
 verified-open v k due Open all by_rules some few e = few
@@ -62,11 +62,11 @@ pub few-verify : (v id total : ℕ) (t : Tables) (flashing : Bool) (past : List 
 few-verify v id total t flashing past some few = cases (answer_to past (Verify id total t flashing)) (own (id == kept past) refl)
   where
     stage : StageAnswer
-    stage = verify_answer (standing past) (total == taken past) (taken past + 1) (judged (staged past) t flashing Verified)
+    stage = verify_answer (stage_state past) (total == taken past) (taken past + 1) (judged (staged past) t flashing Verified)
 
     own : (same : Bool) → (id == kept past) ≡ same → (if same then stage else WrongToken) ≡ Verified → v < kept past
     own true e a = elim (eqb_tells id (kept past)) [
-      | inl (u, same) ↦ verified-open v (kept past) (taken past + 1) (standing past) (total == taken past) _ (omega (arith, some, same)) few a
+      | inl (u, same) ↦ verified-open v (kept past) (taken past + 1) (stage_state past) (total == taken past) _ (omega (arith, some, same)) few a
       | inr (u, ne) ↦ absurd (false≢true (sym u ∙ e))
     ]
     own false e a = absurd cc
@@ -81,7 +81,7 @@ few-verify v id total t flashing past some few = cases (answer_to past (Verify i
     cases NotVerified less = few
     cases (Refused b) less = few
 
-pub accepted-checked : (s : Standing) (by_rules a : StageAnswer) → finish_answer s by_rules ≡ a → (a ≡ Repeated → ⊥) → (a ≡ NotVerified → ⊥)
+pub accepted-checked : (s : StageState) (by_rules a : StageAnswer) → finish_answer s by_rules ≡ a → (a ≡ Repeated → ⊥) → (a ≡ NotVerified → ⊥)
     → (s ≡ Checked) × (by_rules ≡ a)
 accepted-checked Rest by_rules a e again early = absurd (early (sym e))
 accepted-checked Open by_rules a e again early = absurd (early (sym e))
@@ -98,16 +98,16 @@ pub few-finish : (v id : ℕ) (t : Tables) (flashing : Bool) (past : List Answer
 few-finish v id t flashing past few = cases (answer_to past (Finish id t flashing)) (own (id == kept past))
   where
     stage : StageAnswer
-    stage = finish_answer (standing past) (judged (staged past) t flashing Accepted)
+    stage = finish_answer (stage_state past) (judged (staged past) t flashing Accepted)
 
-    checked : (s : Standing) → s ≡ Checked → FewInstalls v (kept past) s → v < kept past
+    checked : (s : StageState) → s ≡ Checked → FewInstalls v (kept past) s → v < kept past
     checked Checked e few = few
     checked Rest e few = absurd cc
     checked Open e few = absurd cc
     checked Done e few = absurd cc
 
     own : (same : Bool) (a : StageAnswer) → (if same then stage else WrongToken) ≡ a → (a ≡ Repeated → ⊥) → (a ≡ NotVerified → ⊥) → (a ≡ WrongToken → ⊥) → v < kept past
-    own true a e again early other = checked (standing past) (accepted-checked (standing past) _ a e again early).0 few
+    own true a e again early other = checked (stage_state past) (accepted-checked (stage_state past) _ a e again early).0 few
     own false a e again early other = absurd (other (sym e))
 
     cases : (a : StageAnswer) → ((b : StageAnswer) → a ≡ b → (b ≡ Repeated → ⊥) → (b ≡ NotVerified → ⊥) → (b ≡ WrongToken → ⊥) → v < kept past)

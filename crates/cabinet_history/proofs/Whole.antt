@@ -1,4 +1,4 @@
--- The tables in force are whole accepted downloads: by one induction over the items of a story.
+-- The tables in force are whole accepted downloads: by one induction over the items of a cabinet history.
 use Rattle.std.proofs.Common.{◌≡◌, ◌⊎◌, ◌≤◌, ℕ, ◌+◌, ◌==◌, ◌∙◌, Bool, true, false, inl, inr, if◌then◌else◌, List, [], ◌∷◌, ◌++◌, length, map, refl, sym, ap, arith, Option, Some, None}
 use Rattle.std.proofs.lemmas.Bool.{false≢true}
 use Rattle.std.proofs.lemmas.Bool.Decides.{eqb_tells}
@@ -10,11 +10,11 @@ use Rattle.sig_tables.specs.Cells.{Content}
 use Rattle.sig_tables.specs.Putting.{with_cells, with_put}
 use Rattle.sig_tables.specs.Past.{History}
 use Rattle.sig_tables.specs.Decide.{past_at, with_one}
-use Rattle.stage_txn.specs.declared.Standing.{Standing}
-use Rattle.stage_txn.specs.declared.Standing.TheVariants.{Rest, Open, Checked, Done}
+use Rattle.stage_txn.specs.declared.StageState.{StageState}
+use Rattle.stage_txn.specs.declared.StageState.TheVariants.{Rest, Open, Checked, Done}
 use Rattle.stage_txn.specs.Calls.{Call, Answered, Begin as BeginCall, Part as PartCall, Verify as VerifyCall, Finish as FinishCall}
 use Rattle.stage_txn.specs.Calls.{Deed, Began, Took, Closed, Installed, Reopened, Idle, begin_deed, part_deed, verify_deed, finish_deed, deeds, kept_by, staged_by}
-use Rattle.stage_txn.specs.Answers.{standing_by, kept, taken, staged, standing, verify_answer, finish_answer, judged, answer_to, answered}
+use Rattle.stage_txn.specs.Answers.{stage_state_by, kept, taken, staged, stage_state, verify_answer, finish_answer, judged, answer_to, answered}
 use Rattle.agent.specs.declared.ask.Order.{Order}
 use Rattle.agent.specs.declared.ask.Order.TheVariants.{Pattern, Clock, Request, Cancel}
 use Rattle.agent.specs.declared.ask.Wish.{Wish}
@@ -41,14 +41,14 @@ staged-is (Idle ∷ past) = staged-is past
 
 -- ---- a download that can be put in force is under way
 
-abbrev InOrder : ℕ → Standing → Bool → Type 0
+abbrev InOrder : ℕ → StageState → Bool → Type 0
 InOrder kept Rest way = kept ≡ 0
 InOrder kept Open way = way ≡ true
 InOrder kept Checked way = way ≡ true
 InOrder kept Done way = Unit {0}
 
 abbrev Orderly : List Deed → Type 0
-Orderly past = InOrder (kept_by past) (standing_by past) (is_under_way past)
+Orderly past = InOrder (kept_by past) (stage_state_by past) (is_under_way past)
 
 after-begin : (id : ℕ) (t : Tables) (a : StageAnswer) (past : List Deed) → Orderly past → Orderly (begin_deed id t a ∷ past)
 after-begin id t Staged past o = refl
@@ -91,13 +91,13 @@ after-finish (WrongPart n) past way o = o
 after-finish NotVerified past way o = o
 after-finish (Refused b) past way o = way (Refused b) refl (λ e. cc) (λ e. cc) (λ e. cc)
 
-verified-way : (k due : ℕ) (s : Standing) (way all : Bool) (by_rules : StageAnswer) → 1 ≤ k → InOrder k s way → verify_answer s all due by_rules ≡ Verified → way ≡ true
+verified-way : (k due : ℕ) (s : StageState) (way all : Bool) (by_rules : StageAnswer) → 1 ≤ k → InOrder k s way → verify_answer s all due by_rules ≡ Verified → way ≡ true
 verified-way k due Rest way all by_rules some o e = absurd (omega (arith, some, o))
 verified-way k due Open way all by_rules some o e = o
 verified-way k due Checked way all by_rules some o e = o
 verified-way k due Done way all by_rules some o e = absurd cc
 
-finished-way : (k : ℕ) (s : Standing) (way : Bool) (by_rules b : StageAnswer) → InOrder k s way → finish_answer s by_rules ≡ b → (b ≡ Repeated → ⊥) → (b ≡ NotVerified → ⊥) → way ≡ true
+finished-way : (k : ℕ) (s : StageState) (way : Bool) (by_rules b : StageAnswer) → InOrder k s way → finish_answer s by_rules ≡ b → (b ≡ Repeated → ⊥) → (b ≡ NotVerified → ⊥) → way ≡ true
 finished-way k Rest way by_rules b o e again early = absurd (early (sym e))
 finished-way k Open way by_rules b o e again early = o
 finished-way k Checked way by_rules b o e again early = o
@@ -109,10 +109,10 @@ verify-way : (id total : ℕ) (t : Tables) (f : Bool) (past : List Answered) →
 verify-way id total t f past some o e = own (id == kept past) refl e
   where
     own : (same : Bool) → (id == kept past) ≡ same
-        → (if same then verify_answer (standing past) (total == taken past) (taken past + 1) (judged (staged past) t f Verified) else WrongToken) ≡ Verified
+        → (if same then verify_answer (stage_state past) (total == taken past) (taken past + 1) (judged (staged past) t f Verified) else WrongToken) ≡ Verified
         → is_under_way (deeds past) ≡ true
     own true u a = elim (eqb_tells id (kept past)) [
-      | inl (w, same) ↦ verified-way (kept past) (taken past + 1) (standing past) (is_under_way (deeds past)) (total == taken past) _ (omega (arith, some, same)) o a
+      | inl (w, same) ↦ verified-way (kept past) (taken past + 1) (stage_state past) (is_under_way (deeds past)) (total == taken past) _ (omega (arith, some, same)) o a
       | inr (w, ne) ↦ absurd (false≢true (sym w ∙ u))
     ]
     own false u a = absurd cc
@@ -121,8 +121,8 @@ finish-way : (id : ℕ) (t : Tables) (f : Bool) (past : List Answered) → Order
     → (b ≡ Repeated → ⊥) → (b ≡ NotVerified → ⊥) → (b ≡ WrongToken → ⊥) → is_under_way (deeds past) ≡ true
 finish-way id t f past o b e again early other = own (id == kept past) e
   where
-    own : (same : Bool) → (if same then finish_answer (standing past) (judged (staged past) t f Accepted) else WrongToken) ≡ b → is_under_way (deeds past) ≡ true
-    own true a = finished-way (kept past) (standing past) (is_under_way (deeds past)) _ b o a again early
+    own : (same : Bool) → (if same then finish_answer (stage_state past) (judged (staged past) t f Accepted) else WrongToken) ≡ b → is_under_way (deeds past) ≡ true
+    own true a = finished-way (kept past) (stage_state past) (is_under_way (deeds past)) _ b o a again early
     own false a = absurd (other (sym a))
 
 orderly : (calls : List Call) → HaveIds calls → Orderly (deeds (answered calls))

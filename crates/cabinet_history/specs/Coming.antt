@@ -1,4 +1,4 @@
--- What a story comes to: the history of the cabinet's controller, and the calls of its download stage, the newest first. A frame
+-- What a cabinet history comes to: the history of the cabinet's controller, and the calls of its download stage, the newest first. A frame
 -- stands for the calls that it asks for.
 use Rattle.std.specs.Prelude.{ℕ, Bool, List, [], ◌∷◌, map, Option, Some, None}
 use Rattle.sig_types.specs.declared.frame.Mode.TheVariants.{Flash}
@@ -19,7 +19,7 @@ use Rattle.agent.specs.declared.ask.Wish.TheVariants.{Direct, Begin, Part, Verif
 use Rattle.agent.specs.declared.ask.Ask.{Ask}
 use Rattle.agent.specs.Asks.{ask_of}
 use Rattle.sig_types.specs.Items.{Item, Told, Came, Ticked}
-use Rattle.cabinet_history.specs.Story.{Story}
+use Rattle.cabinet_history.specs.CabinetHistory.{CabinetHistory}
 
 pub record Coming : Type 0 where
   pub history : History
@@ -105,14 +105,14 @@ abbrev pub coming_from : List ℕ → History → List Item → Coming
 coming_from community opening [] = record { history = opening; calls = [] }
 coming_from community opening (item ∷ items) = with_item community item (coming_from community opening items)
 
--- what a story comes to
-abbrev pub coming : Story → Coming
-coming story = coming_from story.community story.opening story.items
+-- what a cabinet history comes to
+abbrev pub coming : CabinetHistory → Coming
+coming cabinet_history = coming_from cabinet_history.community cabinet_history.opening cabinet_history.items
 
 -- the history of the controller
-abbrev pub history_of : Story → History
-history_of story = (coming story).history
+abbrev pub history_of : CabinetHistory → History
+history_of cabinet_history = (coming cabinet_history).history
 
--- what a frame asks after a story
-abbrev pub ask_after : Story → List ℕ → Option Ask
-ask_after story octets = ask_of octets story.community (in_force (coming story))
+-- what a frame asks after a cabinet history
+abbrev pub ask_after : CabinetHistory → List ℕ → Option Ask
+ask_after cabinet_history octets = ask_of octets cabinet_history.community (in_force (coming cabinet_history))

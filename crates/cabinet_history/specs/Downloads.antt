@@ -9,7 +9,7 @@ use Rattle.sig_tables.specs.Standard.{std8}
 use Rattle.sig_tables.specs.Decide.{past_at}
 use Rattle.stage_txn.specs.Calls.{Call, Begin, Part, Verify, Finish, Deed, Began, Took, Closed, Installed, Reopened, Idle, deeds}
 use Rattle.stage_txn.specs.Answers.{answered}
-use Rattle.cabinet_history.specs.Story.{Story}
+use Rattle.cabinet_history.specs.CabinetHistory.{CabinetHistory}
 use Rattle.cabinet_history.specs.Coming.{Coming, past_of, in_force, coming}
 
 -- the cells of the parts that were taken since the last download began
@@ -70,15 +70,15 @@ HaveIds (Verify id total in_force flashing ∷ calls) = (1 ≤ id) × HaveIds ca
 HaveIds (Finish id in_force flashing ∷ calls) = (1 ≤ id) × HaveIds calls
 
 -- the version is the number of downloads that were put in force
-abbrev pub VersionCounts : Story → Type 0
-VersionCounts story =
-    (past_of (coming story)).version ≡ (past_at story.opening).version + length (accepted_by (deeds_of (coming story)))
+abbrev pub VersionCounts : CabinetHistory → Type 0
+VersionCounts cabinet_history =
+    (past_of (coming cabinet_history)).version ≡ (past_at cabinet_history.opening).version + length (accepted_by (deeds_of (coming cabinet_history)))
 
 -- while a download is under way, the tables in force are those over which it began
-abbrev pub NothingElseInstalled : Story → Type 0
-NothingElseInstalled story = is_under_way (deeds_of (coming story)) ≡ true → base_by (deeds_of (coming story)) ≡ in_force (coming story)
+abbrev pub NothingElseInstalled : CabinetHistory → Type 0
+NothingElseInstalled cabinet_history = is_under_way (deeds_of (coming cabinet_history)) ≡ true → base_by (deeds_of (coming cabinet_history)) ≡ in_force (coming cabinet_history)
 
 -- the tables in force are the opening ones with the whole content of each accepted download put in order
-abbrev pub TablesAreWhole : Story → Type 0
-TablesAreWhole story =
-    HaveIds (coming story).calls → in_force (coming story) ≡ with_downloads (past_at story.opening).tables (accepted_by (deeds_of (coming story)))
+abbrev pub TablesAreWhole : CabinetHistory → Type 0
+TablesAreWhole cabinet_history =
+    HaveIds (coming cabinet_history).calls → in_force (coming cabinet_history) ≡ with_downloads (past_at cabinet_history.opening).tables (accepted_by (deeds_of (coming cabinet_history)))

@@ -1,4 +1,4 @@
-pub mod Story
+pub mod CabinetHistory
 pub mod Journals
 pub mod Coming
 pub mod Frames

@@ -10,7 +10,7 @@ use Rattle.sig_tables.specs.Seen.{frame_seen, vehicle_seen, pedestrian_seen}
 use Rattle.sig_tables.specs.Showing.{command_shown, clock_shown, states_shown}
 use Rattle.sig_types.specs.declared.phase_set.PhaseSet.{PhaseSet}
 use Rattle.sig_types.specs.Phases.{is_in}
-use Rattle.stage_txn.specs.Answers.{answered, standing, state_code, last_answer}
+use Rattle.stage_txn.specs.Answers.{answered, stage_state, state_code, last_answer}
 use Rattle.snmp_msg.specs.Shortest.{shortest}
 use Rattle.agent.specs.declared.ask.Wish.{Wish}
 use Rattle.agent.specs.declared.ask.Wish.TheVariants.{Verify, Finish}
@@ -21,7 +21,7 @@ use Rattle.agent.specs.Replies.{reply}
 use Rattle.sig_types.specs.Items.{Item, Told, Came, Ticked}
 use Rattle.cabinet_history.specs.declared.Load.{Load}
 use Rattle.cabinet_history.specs.declared.Reply.{Reply}
-use Rattle.cabinet_history.specs.Story.{Story, with_item}
+use Rattle.cabinet_history.specs.CabinetHistory.{CabinetHistory, with_item}
 use Rattle.cabinet_history.specs.Journals.{Act}
 use Rattle.cabinet_history.specs.Coming.{Coming, past_of, in_force, coming, history_of, ask_after, outcome}
 use Rattle.cabinet_history.specs.Frames.{tick_written}
@@ -47,7 +47,7 @@ abbrev pub seen_in : Coming → Seen
 seen_in c = record {
   tables = in_force c;
   shown = shown_at (past_of c);
-  state = state_code (standing (answered c.calls));
+  state = state_code (stage_state (answered c.calls));
   last = last_answer (answered c.calls);
 }
 
@@ -56,9 +56,9 @@ abbrev pub replied : Coming → Option Ask → Option (List ℕ)
 replied c None = None
 replied c (Some ask) = Some (shortest (reply (seen_in c) ask.message ask.wish (outcome c ask.wish)))
 
--- the reply to a frame after a story
-abbrev pub reply_to : Story → List ℕ → Option (List ℕ)
-reply_to story octets = replied (coming story) (ask_after story octets)
+-- the reply to a frame after a cabinet history
+abbrev pub reply_to : CabinetHistory → List ℕ → Option (List ℕ)
+reply_to cabinet_history octets = replied (coming cabinet_history) (ask_after cabinet_history octets)
 
 -- a verify that a rule refused ends a load
 abbrev pub verify_end : ℕ → Option StageAnswer → Option Load
@@ -81,33 +81,33 @@ abbrev pub ask_end : Coming → Option Ask → Option Load
 ask_end c None = None
 ask_end c (Some ask) = wish_end (past_of c).version ask.wish (outcome c ask.wish)
 
--- the end of a load that a frame brings after a story, if it brings one
-abbrev pub load_end : Story → List ℕ → Option Load
-load_end story octets = ask_end (coming story) (ask_after story octets)
+-- the end of a load that a frame brings after a cabinet history, if it brings one
+abbrev pub load_end : CabinetHistory → List ℕ → Option Load
+load_end cabinet_history octets = ask_end (coming cabinet_history) (ask_after cabinet_history octets)
 
 -- octets in a frame
 abbrev pub in_frame : Option (List ℕ) → Option (ArrayVec ℕ)
 in_frame None = None
 in_frame (Some octets) = Some (record { items = octets })
 
--- what is told of an item that a pass brings after a story: of a frame the reply, which may be silence, and the end of a load
-abbrev pub item_replies : Story → ℕ → Item → List Reply
-item_replies story pass (Told field) = []
-item_replies story pass (Came octets) = record { pass = pass; text = in_frame (reply_to story octets); load = load_end story octets } ∷ []
-item_replies story pass Ticked = []
+-- what is told of an item that a pass brings after a cabinet history: of a frame the reply, which may be silence, and the end of a load
+abbrev pub item_replies : CabinetHistory → ℕ → Item → List Reply
+item_replies cabinet_history pass (Told field) = []
+item_replies cabinet_history pass (Came octets) = record { pass = pass; text = in_frame (reply_to cabinet_history octets); load = load_end cabinet_history octets } ∷ []
+item_replies cabinet_history pass Ticked = []
 
 -- the frame that an item gives, where it has a line
-abbrev pub item_written : Story → Item → List (ℕ × Frame)
-item_written story (Told field) = []
-item_written story (Came octets) = []
-item_written story Ticked = tick_written (history_of story)
+abbrev pub item_written : CabinetHistory → Item → List (ℕ × Frame)
+item_written cabinet_history (Told field) = []
+item_written cabinet_history (Came octets) = []
+item_written cabinet_history Ticked = tick_written (history_of cabinet_history)
 
 -- what is told of these acts, in order
-abbrev pub acts_replies : Story → List Act → List Reply
-acts_replies story [] = []
-acts_replies story (act ∷ acts) = item_replies story act.pass act.item ++ acts_replies (with_item story act.item) acts
+abbrev pub acts_replies : CabinetHistory → List Act → List Reply
+acts_replies cabinet_history [] = []
+acts_replies cabinet_history (act ∷ acts) = item_replies cabinet_history act.pass act.item ++ acts_replies (with_item cabinet_history act.item) acts
 
 -- the frames with a line that these acts give, in order
-abbrev pub acts_written : Story → List Act → List (ℕ × Frame)
-acts_written story [] = []
-acts_written story (act ∷ acts) = item_written story act.item ++ acts_written (with_item story act.item) acts
+abbrev pub acts_written : CabinetHistory → List Act → List (ℕ × Frame)
+acts_written cabinet_history [] = []
+acts_written cabinet_history (act ∷ acts) = item_written cabinet_history act.item ++ acts_written (with_item cabinet_history act.item) acts

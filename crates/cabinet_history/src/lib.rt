@@ -1,4 +1,4 @@
-//! What a cabinet is told and what it tells, as definitions: its story item by item, the journal of a round, what that comes to at
+//! What a cabinet is told and what it tells, as definitions: its cabinet history item by item, the journal of a round, what that comes to at
 //! its controller and its download stage, what is replied, and which frames have a line. The code that does it stands above.
 #![tactic(auto)]
 
@@ -10,7 +10,7 @@ pub use laws::whole_downloads;
 
 /// The end of a load, by the id of its download: the version that an accepted finish made, or the rule that refused a verify or
 /// a finish, with its row.
-#[derive(Clone, Debug, PartialEq, Drop)]
+#[derive(Clone, PartialEq, Drop)]
 pub struct Load {
     pub id: u32,
     pub result: Result<u32, Broken>,
@@ -18,7 +18,7 @@ pub struct Load {
 
 /// What a cabinet tells of a frame: the pass that brought it, the octets of the answer, or silence, and the end of a load where
 /// the frame brought one.
-#[derive(Debug, PartialEq, Drop)]
+#[derive(PartialEq, Drop)]
 pub struct Reply {
     pub pass: u32,
     pub text: Option<Octets>,

@@ -1,4 +1,4 @@
--- A story keeps the opening tables and drift of its history, and each event that it brings may come: tables are put in force only where they break no rule beside those then in force.
+-- A cabinet history keeps the opening tables and drift of its history, and each event that it brings may come: tables are put in force only where they break no rule beside those then in force.
 use Rattle.std.proofs.Common.{◌≡◌, List, [], ◌∷◌, Ok, Err, refl, sym, subst, inl, inr}
 use Rattle.std.specs.Prelude.{Bool}
 use Rattle.sig_types.specs.declared.notes.Broken.{Broken}
@@ -13,10 +13,10 @@ use Rattle.stage_txn.specs.Calls.{Call, Answered, Begin, Part, Verify, Finish}
 use Rattle.stage_txn.specs.Answers.{answered, staged, first_broken}
 use Rattle.stage_txn.specs.Laws.{InstallsWhatKeepsRules}
 use Rattle.plan_facts.specs.Disturbances.{Drift, drift_of}
-use Rattle.cabinet_history.specs.Story.{Story}
+use Rattle.cabinet_history.specs.CabinetHistory.{CabinetHistory}
 use Rattle.cabinet_history.specs.Coming.{Coming, past_of, in_force, is_flashing, answer_in, installs, with_events, coming, coming_from, history_of}
 use Rattle.cabinet_laws.specs.Openings.{IsOpening}
-use Rattle.cabinet_laws.proofs.Steps.{IsPlain, IsMadeAt, called, happened, Any, any, story-keeps}
+use Rattle.cabinet_laws.proofs.Steps.{IsPlain, IsMadeAt, called, happened, Any, any, cabinet_history-keeps}
 
 -- ---- the opening tables and the drift stay
 
@@ -59,17 +59,17 @@ opens-begun t d h (command, clock, inl (e, even)) =
 opens-begun t d h (command, clock, inr e) =
     subst (λ (x : History). Begun t d (record { history = x; calls = [] })) (sym e) (record { tables = refl; drift = refl })
 
-story-begun : (story : Story) (t : Tables) (d : Drift) → IsOpening t d story.opening → Begun t d (coming story)
-story-begun story t d opens =
-    story-keeps Any (Begun t d) (record { event = plain-begun t d; call = λ c call is before after b. call-begun t d c call b })
-    story.community story.opening (λ items. any (coming_from story.community story.opening items))
-    (opens-begun t d story.opening opens) story.items
+cabinet_history-begun : (cabinet_history : CabinetHistory) (t : Tables) (d : Drift) → IsOpening t d cabinet_history.opening → Begun t d (coming cabinet_history)
+cabinet_history-begun cabinet_history t d opens =
+    cabinet_history-keeps Any (Begun t d) (record { event = plain-begun t d; call = λ c call is before after b. call-begun t d c call b })
+    cabinet_history.community cabinet_history.opening (λ items. any (coming_from cabinet_history.community cabinet_history.opening items))
+    (opens-begun t d cabinet_history.opening opens) cabinet_history.items
 
-pub same-tables : (story : Story) (t : Tables) (d : Drift) → IsOpening t d story.opening → (history_of story).tables ≡ t
-same-tables story t d opens = (story-begun story t d opens).tables
+pub same-tables : (cabinet_history : CabinetHistory) (t : Tables) (d : Drift) → IsOpening t d cabinet_history.opening → (history_of cabinet_history).tables ≡ t
+same-tables cabinet_history t d opens = (cabinet_history-begun cabinet_history t d opens).tables
 
-pub same-drift : (story : Story) (t : Tables) (d : Drift) → IsOpening t d story.opening → drift_of (past_at (history_of story)) ≡ d
-same-drift story t d opens = (story-begun story t d opens).drift
+pub same-drift : (cabinet_history : CabinetHistory) (t : Tables) (d : Drift) → IsOpening t d cabinet_history.opening → drift_of (past_at (history_of cabinet_history)) ≡ d
+same-drift cabinet_history t d opens = (cabinet_history-begun cabinet_history t d opens).drift
 
 -- ---- each event may come
 
@@ -129,9 +129,9 @@ opens-lawful t d h (command, clock, inl (e, even)) fits =
 opens-lawful t d h (command, clock, inr e) fits =
     subst (λ (x : History). IsLawful (record { history = x; calls = [] })) (sym e) (fits, (tt, (tt, (tt, tt))))
 
-pub story-lawful : ((past : List Answered) → InstallsWhatKeepsRules past) → (story : Story) (t : Tables) (d : Drift)
-    → IsOpening t d story.opening → Consistent t → Admitted (history_of story).tables (since_opening (history_of story))
-story-lawful fit story t d opens fits =
-    story-keeps Any IsLawful (record { event = plain-lawful; call = λ c call is before after l. call-lawful fit c call is l })
-    story.community story.opening (λ items. any (coming_from story.community story.opening items))
-    (opens-lawful t d story.opening opens fits) story.items
+pub cabinet_history-lawful : ((past : List Answered) → InstallsWhatKeepsRules past) → (cabinet_history : CabinetHistory) (t : Tables) (d : Drift)
+    → IsOpening t d cabinet_history.opening → Consistent t → Admitted (history_of cabinet_history).tables (since_opening (history_of cabinet_history))
+cabinet_history-lawful fit cabinet_history t d opens fits =
+    cabinet_history-keeps Any IsLawful (record { event = plain-lawful; call = λ c call is before after l. call-lawful fit c call is l })
+    cabinet_history.community cabinet_history.opening (λ items. any (coming_from cabinet_history.community cabinet_history.opening items))
+    (opens-lawful t d cabinet_history.opening opens fits) cabinet_history.items

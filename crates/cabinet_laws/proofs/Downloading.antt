@@ -1,4 +1,4 @@
--- The tables in force are whole downloads, since each call that a story brings has an id; and a download that is under way has them
+-- The tables in force are whole downloads, since each call that a cabinet history brings has an id; and a download that is under way has them
 -- with its own content.
 use Rattle.std.proofs.Common.{◌≡◌, ◌∙◌, ℕ, List, [], ◌∷◌, ◌++◌, true, refl, sym, ap}
 use Rattle.sig_tables.specs.declared.tables.Tables.{Tables}
@@ -10,11 +10,11 @@ use Rattle.sig_tables.specs.Decide.{past_at}
 use Rattle.stage_txn.specs.Calls.{Call, Begin, Part, Verify, Finish, Deed, Began, Took, Closed, Installed, Reopened, Idle, staged_by}
 use Rattle.stage_txn.specs.Answers.{answered, staged}
 use Rattle.sig_types.specs.Items.{Item}
-use Rattle.cabinet_history.specs.Story.{Story}
+use Rattle.cabinet_history.specs.CabinetHistory.{CabinetHistory}
 use Rattle.cabinet_history.specs.Coming.{Coming, in_force, coming, coming_from}
 use Rattle.cabinet_history.specs.Downloads.{content_by, accepted_by, is_under_way, base_by, with_downloads, deeds_of, HaveIds}
 use Rattle.cabinet_history.proofs.Whole.{whole}
-use Rattle.cabinet_laws.proofs.Steps.{IsMadeAt, Any, any, story-keeps}
+use Rattle.cabinet_laws.proofs.Steps.{IsMadeAt, Any, any, cabinet_history-keeps}
 
 call-ids : (c : Coming) (call : Call) → IsMadeAt c call → HaveIds c.calls → HaveIds (call ∷ c.calls)
 call-ids c (Begin id now) is h = (is.0.0, h)
@@ -24,7 +24,7 @@ call-ids c (Finish id now flashing) is h = (is.0.0, h)
 
 have-ids : (opening : History) (community : List ℕ) (items : List Item) → HaveIds (coming_from community opening items).calls
 have-ids opening community items =
-    story-keeps Any (λ c. HaveIds c.calls)
+    cabinet_history-keeps Any (λ c. HaveIds c.calls)
     (record { event = λ c e is h. h; call = λ c call is before after h. call-ids c call is h })
     community opening (λ items. any (coming_from community opening items)) tt items
 
@@ -47,8 +47,8 @@ staged-is (Installed ∷ past) = staged-is past
 staged-is (Reopened ∷ past) = staged-is past
 staged-is (Idle ∷ past) = staged-is past
 
-pub staged-over : (story : Story) → is_under_way (deeds_of (coming story)) ≡ true
-    → staged (answered (coming story).calls) ≡ with_cells (in_force (coming story)) (content_by (deeds_of (coming story)))
-staged-over story way =
-    staged-is (deeds_of (coming story))
-    ∙ ap (λ (t : Tables). with_cells t (content_by (deeds_of (coming story)))) ((whole story.community story.opening story.items).base way)
+pub staged-over : (cabinet_history : CabinetHistory) → is_under_way (deeds_of (coming cabinet_history)) ≡ true
+    → staged (answered (coming cabinet_history).calls) ≡ with_cells (in_force (coming cabinet_history)) (content_by (deeds_of (coming cabinet_history)))
+staged-over cabinet_history way =
+    staged-is (deeds_of (coming cabinet_history))
+    ∙ ap (λ (t : Tables). with_cells t (content_by (deeds_of (coming cabinet_history)))) ((whole cabinet_history.community cabinet_history.opening cabinet_history.items).base way)

@@ -5,17 +5,17 @@ use Rattle.sig_types.specs.declared.notes.Broken.{Broken}
 use Rattle.sig_types.specs.declared.notes.StageAnswer.{StageAnswer}
 use Rattle.sig_types.specs.declared.notes.StageAnswer.TheVariants.{Staged, Repeated, Verified, Accepted, WrongToken, WrongPart, NotVerified, Refused}
 use Rattle.sig_tables.specs.declared.tables.Tables.{Tables}
-use Rattle.stage_txn.specs.declared.Standing.{Standing}
-use Rattle.stage_txn.specs.declared.Standing.TheVariants.{Rest, Open, Checked, Done}
+use Rattle.stage_txn.specs.declared.StageState.{StageState}
+use Rattle.stage_txn.specs.declared.StageState.TheVariants.{Rest, Open, Checked, Done}
 use Rattle.stage_txn.specs.Calls.{Answered, Verify as VerifyCall, Finish as FinishCall}
-use Rattle.stage_txn.specs.Answers.{answered, answer_to, kept, taken, staged, standing, first_broken, unless_broken, judged, verify_answer, finish_answer}
+use Rattle.stage_txn.specs.Answers.{answered, answer_to, kept, taken, staged, stage_state, first_broken, unless_broken, judged, verify_answer, finish_answer}
 use Rattle.stage_txn.specs.Laws.{InstallsWhatKeepsRules}
 use Rattle.agent.specs.declared.ask.Wish.{Wish}
 use Rattle.agent.specs.declared.ask.Wish.TheVariants.{Get, Next, Direct, Begin, Part, Verify, Finish, Bad}
 use Rattle.agent.specs.declared.ask.Ask.{Ask}
 use Rattle.sig_types.specs.Items.{Came}
 use Rattle.cabinet_history.specs.declared.Load.{Load}
-use Rattle.cabinet_history.specs.Story.{Story, with_item}
+use Rattle.cabinet_history.specs.CabinetHistory.{CabinetHistory, with_item}
 use Rattle.cabinet_history.specs.Coming.{Coming, in_force, past_of, is_flashing, answer_in, outcome, installs, with_events, carried_out, heeded, coming, ask_after}
 use Rattle.cabinet_history.specs.Told.{verify_end, finish_end, wish_end, ask_end, load_end}
 use Rattle.cabinet_laws.specs.Judging.{IsVerdict}
@@ -26,7 +26,7 @@ by-rules : (r : Result (Unit {0}) Broken) (answer : StageAnswer) (b : Broken) �
 by-rules (Ok fit) answer b other e = absurd (other e)
 by-rules (Err broken) answer b other e = ap Err (let same : Refused broken ≡ Refused b = e in cc)
 
-verify-rules : (s : Standing) (complete : Bool) (due : ℕ) (by_rules : StageAnswer) (b : Broken)
+verify-rules : (s : StageState) (complete : Bool) (due : ℕ) (by_rules : StageAnswer) (b : Broken)
     → verify_answer s complete due by_rules ≡ Refused b → by_rules ≡ Refused b
 verify-rules Rest true due by_rules b e = e
 verify-rules Rest false due by_rules b e = absurd (let bad : WrongPart due ≡ Refused b = e in cc)
@@ -35,7 +35,7 @@ verify-rules Open false due by_rules b e = absurd (let bad : WrongPart due ≡ R
 verify-rules Checked complete due by_rules b e = absurd (let bad : Repeated ≡ Refused b = e in cc)
 verify-rules Done complete due by_rules b e = absurd (let bad : Repeated ≡ Refused b = e in cc)
 
-finish-rules : (s : Standing) (by_rules : StageAnswer) (b : Broken) → finish_answer s by_rules ≡ Refused b → by_rules ≡ Refused b
+finish-rules : (s : StageState) (by_rules : StageAnswer) (b : Broken) → finish_answer s by_rules ≡ Refused b → by_rules ≡ Refused b
 finish-rules Rest by_rules b e = absurd (let bad : NotVerified ≡ Refused b = e in cc)
 finish-rules Open by_rules b e = absurd (let bad : NotVerified ≡ Refused b = e in cc)
 finish-rules Checked by_rules b e = e
@@ -49,15 +49,15 @@ verify-refused : (past : List Answered) (id total : ℕ) (now : Tables) (flashin
     → answer_to past (VerifyCall id total now flashing) ≡ Refused b → first_broken (staged past) now flashing ≡ Err b
 verify-refused past id total now flashing b e =
     by-rules (first_broken (staged past) now flashing) Verified b (λ f. cc)
-    (verify-rules (standing past) (total == taken past) (taken past + 1) (judged (staged past) now flashing Verified) b
-    (of-token (id == kept past) (verify_answer (standing past) (total == taken past) (taken past + 1) (judged (staged past) now flashing Verified)) b e))
+    (verify-rules (stage_state past) (total == taken past) (taken past + 1) (judged (staged past) now flashing Verified) b
+    (of-token (id == kept past) (verify_answer (stage_state past) (total == taken past) (taken past + 1) (judged (staged past) now flashing Verified)) b e))
 
 finish-refused : (past : List Answered) (id : ℕ) (now : Tables) (flashing : Bool) (b : Broken)
     → answer_to past (FinishCall id now flashing) ≡ Refused b → first_broken (staged past) now flashing ≡ Err b
 finish-refused past id now flashing b e =
     by-rules (first_broken (staged past) now flashing) Accepted b (λ f. cc)
-    (finish-rules (standing past) (judged (staged past) now flashing Accepted) b
-    (of-token (id == kept past) (finish_answer (standing past) (judged (staged past) now flashing Accepted)) b e))
+    (finish-rules (stage_state past) (judged (staged past) now flashing Accepted) b
+    (of-token (id == kept past) (finish_answer (stage_state past) (judged (staged past) now flashing Accepted)) b e))
 
 -- ---- the end of a load
 
@@ -106,6 +106,6 @@ ask-says : ((past : List Answered) → InstallsWhatKeepsRules past) → (c : Com
 ask-says fit c (Some ask) = wish-says fit c ask.wish
 ask-says fit c None = tt
 
-pub load-says : ((past : List Answered) → InstallsWhatKeepsRules past) → (story : Story) (octets : List ℕ)
-    → IfSome (load_end story octets) (λ load. IsVerdict (coming story) (coming (with_item story (Came octets))) load.result)
-load-says fit story octets = ask-says fit (coming story) (ask_after story octets)
+pub load-says : ((past : List Answered) → InstallsWhatKeepsRules past) → (cabinet_history : CabinetHistory) (octets : List ℕ)
+    → IfSome (load_end cabinet_history octets) (λ load. IsVerdict (coming cabinet_history) (coming (with_item cabinet_history (Came octets))) load.result)
+load-says fit cabinet_history octets = ask-says fit (coming cabinet_history) (ask_after cabinet_history octets)

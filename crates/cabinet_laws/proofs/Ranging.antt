@@ -1,4 +1,4 @@
--- Where each cell of the opening tables holds what may stand in it, so does each cell of all tables that a story puts in force.
+-- Where each cell of the opening tables holds what may stand in it, so does each cell of all tables that a cabinet history puts in force.
 use Rattle.std.proofs.Common.{[], ◌∷◌, sym, subst, inl, inr}
 use Rattle.sig_types.specs.declared.notes.StageAnswer.{StageAnswer}
 use Rattle.sig_types.specs.declared.notes.StageAnswer.TheVariants.{Staged, Repeated, Verified, Accepted, WrongToken, WrongPart, NotVerified, Refused}
@@ -14,10 +14,10 @@ use Rattle.stage_txn.specs.Laws.{BeginInRange}
 use Rattle.stage_txn.proofs.InRange.{staged-fits}
 use Rattle.plan_facts.specs.Disturbances.{Drift}
 use Rattle.coordination_laws.specs.Ranged.{PutsInRange, EachInRange}
-use Rattle.cabinet_history.specs.Story.{Story}
+use Rattle.cabinet_history.specs.CabinetHistory.{CabinetHistory}
 use Rattle.cabinet_history.specs.Coming.{Coming, in_force, answer_in, installs, with_events, coming, coming_from, history_of}
 use Rattle.cabinet_laws.specs.Openings.{IsOpening}
-use Rattle.cabinet_laws.proofs.Steps.{IsPlain, IsMadeAt, called, happened, Any, any, story-keeps}
+use Rattle.cabinet_laws.proofs.Steps.{IsPlain, IsMadeAt, called, happened, Any, any, cabinet_history-keeps}
 
 -- each cell of the opening tables, of those in force now and at each begin, and of each download put in force is in its range
 pub record Ranged (c : Coming) : Type 0 where
@@ -64,17 +64,17 @@ opens-ranged t d h (command, clock, inr e) fits =
     subst (λ (x : History). Ranged (record { history = x; calls = [] })) (sym e)
     (record { opening = fits; now = fits; begins = tt; puts = (tt, (tt, (tt, tt))) })
 
-story-ranged : (story : Story) (t : Tables) (d : Drift) → IsOpening t d story.opening → EachFits t → Ranged (coming story)
-story-ranged story t d opens fits =
-    story-keeps Any Ranged (record { event = plain-ranged; call = λ c call is before after r. call-ranged c call is r })
-    story.community story.opening (λ items. any (coming_from story.community story.opening items))
-    (opens-ranged t d story.opening opens fits) story.items
+cabinet_history-ranged : (cabinet_history : CabinetHistory) (t : Tables) (d : Drift) → IsOpening t d cabinet_history.opening → EachFits t → Ranged (coming cabinet_history)
+cabinet_history-ranged cabinet_history t d opens fits =
+    cabinet_history-keeps Any Ranged (record { event = plain-ranged; call = λ c call is before after r. call-ranged c call is r })
+    cabinet_history.community cabinet_history.opening (λ items. any (coming_from cabinet_history.community cabinet_history.opening items))
+    (opens-ranged t d cabinet_history.opening opens fits) cabinet_history.items
 
-pub now-fits : (story : Story) (t : Tables) (d : Drift) → IsOpening t d story.opening → EachFits t → EachFits (in_force (coming story))
-now-fits story t d opens fits = (story-ranged story t d opens fits).now
+pub now-fits : (cabinet_history : CabinetHistory) (t : Tables) (d : Drift) → IsOpening t d cabinet_history.opening → EachFits t → EachFits (in_force (coming cabinet_history))
+now-fits cabinet_history t d opens fits = (cabinet_history-ranged cabinet_history t d opens fits).now
 
-pub all-ranged : (story : Story) (t : Tables) (d : Drift) → IsOpening t d story.opening → EachFits t
-    → EachInRange (history_of story).tables (since_opening (history_of story))
-all-ranged story t d opens fits =
-    let r : Ranged (coming story) = story-ranged story t d opens fits in
-    (in-range (history_of story).tables r.opening, r.puts)
+pub all-ranged : (cabinet_history : CabinetHistory) (t : Tables) (d : Drift) → IsOpening t d cabinet_history.opening → EachFits t
+    → EachInRange (history_of cabinet_history).tables (since_opening (history_of cabinet_history))
+all-ranged cabinet_history t d opens fits =
+    let r : Ranged (coming cabinet_history) = cabinet_history-ranged cabinet_history t d opens fits in
+    (in-range (history_of cabinet_history).tables r.opening, r.puts)

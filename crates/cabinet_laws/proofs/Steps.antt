@@ -50,7 +50,7 @@ pub any : (c : Coming) → Any c
 any c = tt
 
 -- what each plain event and each call keeps, given what is known of all that a cabinet comes to
-pub record Keeps (Known P : Coming → Type 0) : Type 0 where
+pub record StepKeeps (Known P : Coming → Type 0) : Type 0 where
   pub event : (c : Coming) (e : Event) → IsPlain e → P c → P (happened c e)
   pub call : (c : Coming) (call : Call) → IsMadeAt c call → Known c → Known (called c call) → P c → P (called c call)
 
@@ -64,12 +64,12 @@ plain-order (CancelOrder number) = tt
 abbrev after_events : Coming → List Event → Coming
 after_events c events = record { history = with_events c.history events; calls = c.calls }
 
-orders-keep : (Known P : Coming → Type 0) → Keeps Known P → (orders : List Order) (c : Coming) → P c → P (after_events c (map order_event orders))
+orders-keep : (Known P : Coming → Type 0) → StepKeeps Known P → (orders : List Order) (c : Coming) → P c → P (after_events c (map order_event orders))
 orders-keep Known P k [] c h = h
 orders-keep Known P k (o ∷ orders) c h =
     orders-keep Known P k orders (happened c (order_event o)) (k.event c (order_event o) (plain-order o) h)
 
-wish-keeps : (Known P : Coming → Type 0) → Keeps Known P → (c : Coming) (wish : Wish) → HasId wish → Known c → Known (carried_out c wish) → P c
+wish-keeps : (Known P : Coming → Type 0) → StepKeeps Known P → (c : Coming) (wish : Wish) → HasId wish → Known c → Known (carried_out c wish) → P c
     → P (carried_out c wish)
 wish-keeps Known P k c (Direct orders) is before after h = orders-keep Known P k orders.items c h
 wish-keeps Known P k c (Begin id) is before after h = k.call c (BeginCall id (in_force c)) (is, refl) before after h
@@ -82,12 +82,12 @@ wish-keeps Known P k c Get is before after h = h
 wish-keeps Known P k c Next is before after h = h
 wish-keeps Known P k c (Bad status index) is before after h = h
 
-ask-keeps : (Known P : Coming → Type 0) → Keeps Known P → (c : Coming) (ask : Option Ask) → IfSome ask (λ a. HasId a.wish) → Known c
+ask-keeps : (Known P : Coming → Type 0) → StepKeeps Known P → (c : Coming) (ask : Option Ask) → IfSome ask (λ a. HasId a.wish) → Known c
     → Known (heeded c ask) → P c → P (heeded c ask)
 ask-keeps Known P k c (Some ask) is before after h = wish-keeps Known P k c ask.wish is before after h
 ask-keeps Known P k c None is before after h = h
 
-item-keeps : (Known P : Coming → Type 0) → Keeps Known P → (community : List ℕ) (item : Item) (c : Coming) → Known c
+item-keeps : (Known P : Coming → Type 0) → StepKeeps Known P → (community : List ℕ) (item : Item) (c : Coming) → Known c
     → Known (with_item community item c) → P c → P (with_item community item c)
 item-keeps Known P k community (Told field) c before after h = k.event c (Input field) tt h
 item-keeps Known P k community (Came octets) c before after h =
@@ -95,10 +95,10 @@ item-keeps Known P k community (Came octets) c before after h =
 item-keeps Known P k community Ticked c before after h = k.event c Tick tt h
 
 -- what holds of the opening, and is kept, holds of all that comes after
-pub story-keeps : (Known P : Coming → Type 0) → Keeps Known P → (community : List ℕ) (opening : History)
+pub cabinet_history-keeps : (Known P : Coming → Type 0) → StepKeeps Known P → (community : List ℕ) (opening : History)
     → ((items : List Item) → Known (coming_from community opening items)) → P (record { history = opening; calls = [] }) → (items : List Item)
     → P (coming_from community opening items)
-story-keeps Known P k community opening known h [] = h
-story-keeps Known P k community opening known h (item ∷ items) =
+cabinet_history-keeps Known P k community opening known h [] = h
+cabinet_history-keeps Known P k community opening known h (item ∷ items) =
     item-keeps Known P k community item (coming_from community opening items) (known items) (known (item ∷ items))
-    (story-keeps Known P k community opening known h items)
+    (cabinet_history-keeps Known P k community opening known h items)

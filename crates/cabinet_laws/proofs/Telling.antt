@@ -1,4 +1,4 @@
--- What the items of a story tell is what is to be told of its history.
+-- What the items of a cabinet history tell is what is to be told of its history.
 use Rattle.std.proofs.Common.{◌≡◌, ℕ, ◌∙◌, List, [], ◌∷◌, ◌++◌, map, length, Option, Some, None, refl, sym, ap, inl, inr, Bool, true, false, append-nil, append_assoc}
 use Rattle.std.specs.Prelude.{if◌then◌else◌}
 use Rattle.sig_types.specs.declared.notes.StageAnswer.{StageAnswer}
@@ -18,13 +18,13 @@ use Rattle.sig_types.specs.Items.{Item, Told as Input, Came, Ticked}
 use Rattle.stage_txn.specs.Calls.{Verify as VerifyCall, Finish as FinishCall}
 use Rattle.stage_txn.specs.Answers.{answered, staged}
 use Rattle.plan_facts.specs.Disturbances.{Drift}
-use Rattle.cabinet_history.specs.Story.{Story, with_item as with_one_item, after}
+use Rattle.cabinet_history.specs.CabinetHistory.{CabinetHistory, with_item as with_one_item, after}
 use Rattle.cabinet_history.specs.Journals.{Act, items_in}
 use Rattle.cabinet_history.specs.Coming.{Coming, in_force, past_of, is_flashing, answer_in, outcome, order_event, installs, with_events, carried_out, heeded, with_item, coming_from, history_of}
 use Rattle.cabinet_history.specs.Frames.{has_line, tick_written}
 use Rattle.cabinet_history.specs.Told.{verify_end, finish_end, wish_end, ask_end}
 use Rattle.cabinet_laws.specs.Openings.{IsOpening}
-use Rattle.cabinet_laws.specs.Telling.{load_told, frames_told, item_told, items_told, story_told, acts_told}
+use Rattle.cabinet_laws.specs.Telling.{load_told, frames_told, item_told, items_told, cabinet_history_told, acts_told}
 
 -- what is to be told of a history
 abbrev due : History → List Told
@@ -112,11 +112,11 @@ opening-tells : (t : Tables) (d : Drift) (h : History) → IsOpening t d h → d
 opening-tells t d h (command, clock, inl (e, even)) = ap due e
 opening-tells t d h (command, clock, inr e) = ap due e
 
-pub story-tells : (story : Story) (t : Tables) (d : Drift) → IsOpening t d story.opening → story_told story ≡ history_told has_line (history_of story)
-story-tells story t d opens = items-tell story.community story.opening (opening-tells t d story.opening opens) story.items
+pub cabinet_history-tells : (cabinet_history : CabinetHistory) (t : Tables) (d : Drift) → IsOpening t d cabinet_history.opening → cabinet_history_told cabinet_history ≡ history_told has_line (history_of cabinet_history)
+cabinet_history-tells cabinet_history t d opens = items-tell cabinet_history.community cabinet_history.opening (opening-tells t d cabinet_history.opening opens) cabinet_history.items
 
-pub acts-tell : (story : Story) (acts : List Act) → story_told (after story (items_in acts)) ≡ story_told story ++ acts_told story acts
-acts-tell story [] = sym (append-nil (story_told story))
-acts-tell story (act ∷ acts) =
-    acts-tell (with_one_item story act.item) acts
-    ∙ append_assoc (story_told story) (item_told story act.item) (acts_told (with_one_item story act.item) acts)
+pub acts-tell : (cabinet_history : CabinetHistory) (acts : List Act) → cabinet_history_told (after cabinet_history (items_in acts)) ≡ cabinet_history_told cabinet_history ++ acts_told cabinet_history acts
+acts-tell cabinet_history [] = sym (append-nil (cabinet_history_told cabinet_history))
+acts-tell cabinet_history (act ∷ acts) =
+    acts-tell (with_one_item cabinet_history act.item) acts
+    ∙ append_assoc (cabinet_history_told cabinet_history) (item_told cabinet_history act.item) (acts_told (with_one_item cabinet_history act.item) acts)

@@ -13,12 +13,12 @@ use Rattle.stage_txn.specs.Calls.{Call, Begin, Part, Verify, Finish, Deed, begin
 use Rattle.stage_txn.specs.Answers.{answered, staged}
 use Rattle.sig_types.specs.Items.{Item}
 use Rattle.plan_facts.specs.Disturbances.{Drift}
-use Rattle.cabinet_history.specs.Story.{Story}
+use Rattle.cabinet_history.specs.CabinetHistory.{CabinetHistory}
 use Rattle.cabinet_history.specs.Coming.{Coming, past_of, in_force, answer_in, installs, with_events, coming, coming_from, history_of}
 use Rattle.cabinet_laws.specs.Openings.{IsOpening}
 use Rattle.cabinet_history.specs.Downloads.{content_by, accepted_by, with_downloads, deeds_of}
 use Rattle.cabinet_history.proofs.Whole.{whole}
-use Rattle.cabinet_laws.proofs.Steps.{IsPlain, called, story-keeps}
+use Rattle.cabinet_laws.proofs.Steps.{IsPlain, called, cabinet_history-keeps}
 use Rattle.cabinet_laws.proofs.Downloading.{items-whole}
 
 -- the tables of each version of a history, from these opening tables and these downloads
@@ -26,7 +26,7 @@ abbrev Versions : Tables → History → List (List (Cell × Content)) → Type 
 Versions t h accepted =
     (version later : ℕ) → version + later ≡ length accepted → tables_of h version ≡ with_downloads t (drop later accepted)
 
--- what is known of all that a story comes to
+-- what is known of all that a cabinet history comes to
 record Counted (t : Tables) (c : Coming) : Type 0 where
   tables : in_force c ≡ with_downloads t (accepted_by (deeds_of c))
   number : (past_of c).version ≡ length (accepted_by (deeds_of c))
@@ -142,27 +142,27 @@ items-counted t first community same none items = record {
       omega (arith, e, none);
 }
 
-pub version-whole : (story : Story) (t : Tables) (d : Drift) (version later : ℕ) → IsOpening t d story.opening
-    → version + later ≡ length (accepted_by (deeds_of (coming story)))
-    → tables_of (history_of story) version ≡ with_downloads t (drop later (accepted_by (deeds_of (coming story))))
-version-whole story t d version later opens sum =
-    let even : ((past_at story.opening).tables ≡ t) × ((past_at story.opening).version ≡ 0) = opens-even t d story.opening opens in
-    story-keeps (Counted t) (Versioned t)
+pub version-whole : (cabinet_history : CabinetHistory) (t : Tables) (d : Drift) (version later : ℕ) → IsOpening t d cabinet_history.opening
+    → version + later ≡ length (accepted_by (deeds_of (coming cabinet_history)))
+    → tables_of (history_of cabinet_history) version ≡ with_downloads t (drop later (accepted_by (deeds_of (coming cabinet_history))))
+version-whole cabinet_history t d version later opens sum =
+    let even : ((past_at cabinet_history.opening).tables ≡ t) × ((past_at cabinet_history.opening).version ≡ 0) = opens-even t d cabinet_history.opening opens in
+    cabinet_history-keeps (Counted t) (Versioned t)
     (record {
       event = λ c e is v. λ version later sum. plain-same c.history e is version ∙ v version later sum;
       call = λ c call is before after v. call-versioned t c call before after v;
     })
-    story.community story.opening (items-counted t story.opening story.community even.0 even.1) (opens-versions t d story.opening opens) story.items
+    cabinet_history.community cabinet_history.opening (items-counted t cabinet_history.opening cabinet_history.community even.0 even.1) (opens-versions t d cabinet_history.opening opens) cabinet_history.items
     version later sum
 
-pub in-force-whole : (story : Story) (t : Tables) (d : Drift) → IsOpening t d story.opening
-    → in_force (coming story) ≡ with_downloads t (accepted_by (deeds_of (coming story)))
-in-force-whole story t d opens =
-    let even : ((past_at story.opening).tables ≡ t) × ((past_at story.opening).version ≡ 0) = opens-even t d story.opening opens in
-    (items-counted t story.opening story.community even.0 even.1 story.items).tables
+pub in-force-whole : (cabinet_history : CabinetHistory) (t : Tables) (d : Drift) → IsOpening t d cabinet_history.opening
+    → in_force (coming cabinet_history) ≡ with_downloads t (accepted_by (deeds_of (coming cabinet_history)))
+in-force-whole cabinet_history t d opens =
+    let even : ((past_at cabinet_history.opening).tables ≡ t) × ((past_at cabinet_history.opening).version ≡ 0) = opens-even t d cabinet_history.opening opens in
+    (items-counted t cabinet_history.opening cabinet_history.community even.0 even.1 cabinet_history.items).tables
 
-pub version-counts : (story : Story) (t : Tables) (d : Drift) → IsOpening t d story.opening
-    → (past_at (history_of story)).version ≡ length (accepted_by (deeds_of (coming story)))
-version-counts story t d opens =
-    let even : ((past_at story.opening).tables ≡ t) × ((past_at story.opening).version ≡ 0) = opens-even t d story.opening opens in
-    (items-counted t story.opening story.community even.0 even.1 story.items).number
+pub version-counts : (cabinet_history : CabinetHistory) (t : Tables) (d : Drift) → IsOpening t d cabinet_history.opening
+    → (past_at (history_of cabinet_history)).version ≡ length (accepted_by (deeds_of (coming cabinet_history)))
+version-counts cabinet_history t d opens =
+    let even : ((past_at cabinet_history.opening).tables ≡ t) × ((past_at cabinet_history.opening).version ≡ 0) = opens-even t d cabinet_history.opening opens in
+    (items-counted t cabinet_history.opening cabinet_history.community even.0 even.1 cabinet_history.items).number

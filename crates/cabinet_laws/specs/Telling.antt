@@ -8,7 +8,7 @@ use Rattle.safety_laws.specs.Written.{shown_by}
 use Rattle.safety_laws.specs.Told.{Told, Shows, Loads}
 use Rattle.sig_types.specs.Items.{Item, Told as Input, Came, Ticked}
 use Rattle.cabinet_history.specs.declared.Load.{Load}
-use Rattle.cabinet_history.specs.Story.{Story, with_item}
+use Rattle.cabinet_history.specs.CabinetHistory.{CabinetHistory, with_item}
 use Rattle.cabinet_history.specs.Journals.{Act}
 use Rattle.cabinet_history.specs.Told.{load_end, item_written}
 
@@ -27,11 +27,11 @@ abbrev pub frames_told : List (ℕ × Frame) → List Told
 frames_told [] = []
 frames_told (f ∷ frames) = Shows f.0 (shown_by f.1) ∷ frames_told frames
 
--- what an item tells after a story
-abbrev pub item_told : Story → Item → List Told
-item_told story (Input field) = []
-item_told story (Came octets) = load_told (load_end story octets)
-item_told story Ticked = frames_told (item_written story Ticked)
+-- what an item tells after a cabinet history
+abbrev pub item_told : CabinetHistory → Item → List Told
+item_told cabinet_history (Input field) = []
+item_told cabinet_history (Came octets) = load_told (load_end cabinet_history octets)
+item_told cabinet_history Ticked = frames_told (item_written cabinet_history Ticked)
 
 -- what items tell, of which the newest stands first, in the order in which they came
 abbrev pub items_told : List ℕ → History → List Item → List Told
@@ -39,11 +39,11 @@ items_told community opening [] = Shows 0 (shown_by first_frame) ∷ []
 items_told community opening (item ∷ items) =
     items_told community opening items ++ item_told (record { community = community; opening = opening; items = items }) item
 
--- what a story tells
-abbrev pub story_told : Story → List Told
-story_told story = items_told story.community story.opening story.items
+-- what a cabinet history tells
+abbrev pub cabinet_history_told : CabinetHistory → List Told
+cabinet_history_told cabinet_history = items_told cabinet_history.community cabinet_history.opening cabinet_history.items
 
--- what these acts tell after a story, in order
-abbrev pub acts_told : Story → List Act → List Told
-acts_told story [] = []
-acts_told story (act ∷ acts) = item_told story act.item ++ acts_told (with_item story act.item) acts
+-- what these acts tell after a cabinet history, in order
+abbrev pub acts_told : CabinetHistory → List Act → List Told
+acts_told cabinet_history [] = []
+acts_told cabinet_history (act ∷ acts) = item_told cabinet_history act.item ++ acts_told (with_item cabinet_history act.item) acts

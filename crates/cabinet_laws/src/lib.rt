@@ -1,4 +1,4 @@
-//! What every story of a cabinet is worth: whatever frames, inputs and ticks come to it, in any order, its history is one of which the
+//! What every history of a cabinet is worth: whatever frames, inputs and ticks come to it, in any order, its history is one of which the
 //! laws of the street and of coordination speak, its tables are those of whole downloads, and its lines tell what happened. The
 //! functions do nothing but cite: each stands for the laws of its contract.
 #![tactic(auto)]
@@ -22,7 +22,7 @@ ghost use Rattle.coordination_laws.specs.Ranged.{EachInRange};
 ghost use Rattle.agent.specs.Asks.{AsksNothing};
 ghost use Rattle.stage_txn.specs.Answers.{answered, staged, taken};
 ghost use Rattle.sig_types.specs.Items.{Came};
-ghost use Rattle.cabinet_history.specs.Story.{Story, after, with_item};
+ghost use Rattle.cabinet_history.specs.CabinetHistory.{CabinetHistory, after, with_item};
 ghost use Rattle.cabinet_history.specs.Journals.{Act, items_in};
 ghost use Rattle.cabinet_history.specs.Coming.{coming, history_of, in_force};
 ghost use Rattle.cabinet_history.specs.Downloads.{accepted_by, content_by, deeds_of, is_under_way, with_downloads};
@@ -31,7 +31,7 @@ ghost use Rattle.cabinet_history.specs.Told.{reply_to, load_end};
 ghost use Rattle.cabinet_laws.specs.Openings.{IsOpening};
 ghost use Rattle.cabinet_laws.specs.Parts.{numbers, up_to};
 ghost use Rattle.cabinet_laws.specs.Judging.{IsVerdict};
-ghost use Rattle.cabinet_laws.specs.Telling.{acts_told, story_told};
+ghost use Rattle.cabinet_laws.specs.Telling.{acts_told, cabinet_history_told};
 
 use agent::other_frames_ask_nothing;
 use coordination_laws::coordination_is_met;
@@ -42,49 +42,49 @@ use tick_laws::keeps_to_plan;
 
 /// Whatever comes to a cabinet that opened with consistent tables, each download that is put in force broke no rule beside the tables
 /// that it replaces. The clock keeps the drift that it opened with: no frame changes it.
-pub fn stories_are_admitted()
-    ensures admitted { (story : Story) (t : Tables) (d : Drift) → IsOpening t d story.opening → Consistent t
-        → Admitted (history_of story).tables (since_opening (history_of story)) }
-    ensures tables { (story : Story) (t : Tables) (d : Drift) → IsOpening t d story.opening → (history_of story).tables ≡ t }
-    ensures drift { (story : Story) (t : Tables) (d : Drift) → IsOpening t d story.opening → drift_of (past_at (history_of story)) ≡ d }
+pub fn cabinet_histories_are_admitted()
+    ensures admitted { (cabinet_history : CabinetHistory) (t : Tables) (d : Drift) → IsOpening t d cabinet_history.opening → Consistent t
+        → Admitted (history_of cabinet_history).tables (since_opening (history_of cabinet_history)) }
+    ensures tables { (cabinet_history : CabinetHistory) (t : Tables) (d : Drift) → IsOpening t d cabinet_history.opening → (history_of cabinet_history).tables ≡ t }
+    ensures drift { (cabinet_history : CabinetHistory) (t : Tables) (d : Drift) → IsOpening t d cabinet_history.opening → drift_of (past_at (history_of cabinet_history)) ≡ d }
 {
     installs_what_keeps_the_rules();
 }
 
-/// Where each cell of the opening tables holds what may stand in it, so does each cell of the tables in force after any story, and the
+/// Where each cell of the opening tables holds what may stand in it, so does each cell of the tables in force after any cabinet history, and the
 /// rows of all tables that were ever put in force are in range.
 pub fn tables_stay_in_range()
-    ensures now { (story : Story) (t : Tables) (d : Drift) → IsOpening t d story.opening → EachFits t → EachFits (in_force (coming story)) }
-    ensures each { (story : Story) (t : Tables) (d : Drift) → IsOpening t d story.opening → EachFits t
-        → EachInRange (history_of story).tables (since_opening (history_of story)) }
+    ensures now { (cabinet_history : CabinetHistory) (t : Tables) (d : Drift) → IsOpening t d cabinet_history.opening → EachFits t → EachFits (in_force (coming cabinet_history)) }
+    ensures each { (cabinet_history : CabinetHistory) (t : Tables) (d : Drift) → IsOpening t d cabinet_history.opening → EachFits t
+        → EachInRange (history_of cabinet_history).tables (since_opening (history_of cabinet_history)) }
 {}
 
-/// Coordination is met in every story: of a cabinet whose clock keeps time, and of one whose clock drifts as slowly as clocks may.
-pub fn stories_meet_coordination()
-    ensures even { (story : Story) (t : Tables) → IsOpening t no_drift story.opening → Consistent t → Meets (history_of story) }
-    ensures drifting { (story : Story) (t : Tables) (d : Drift) → IsOpening t d story.opening → Consistent t → EachFits t → IsSlow d
-        → Meets (history_of story) }
+/// Coordination is met in every cabinet history: of a cabinet whose clock keeps time, and of one whose clock drifts as slowly as clocks may.
+pub fn cabinet_histories_meet_coordination()
+    ensures even { (cabinet_history : CabinetHistory) (t : Tables) → IsOpening t no_drift cabinet_history.opening → Consistent t → Meets (history_of cabinet_history) }
+    ensures drifting { (cabinet_history : CabinetHistory) (t : Tables) (d : Drift) → IsOpening t d cabinet_history.opening → Consistent t → EachFits t → IsSlow d
+        → Meets (history_of cabinet_history) }
 {
     installs_what_keeps_the_rules();
     coordination_is_met();
 }
 
-/// In every story each frame of a pattern keeps to its plan, by the tables in force at its tick: before its force point a coordinated phase is
+/// In every cabinet history each frame of a pattern keeps to its plan, by the tables in force at its tick: before its force point a coordinated phase is
 /// green, so a vehicle that comes while the counter is there meets green; at each local zero both are.
-pub fn stories_keep_to_plan()
-    ensures { (story : Story) (t : Tables) (d : Drift) → IsOpening t d story.opening → Consistent t → EachCoordinated (past_at (history_of story)).moments }
+pub fn cabinet_histories_keep_to_plan()
+    ensures { (cabinet_history : CabinetHistory) (t : Tables) (d : Drift) → IsOpening t d cabinet_history.opening → Consistent t → EachCoordinated (past_at (history_of cabinet_history)).moments }
 {
     installs_what_keeps_the_rules();
     keeps_to_plan();
 }
 
-/// The premises can be met: coordination is met in every story of a cabinet that opens with the standard tables, whose clock drifts slowly
+/// The premises can be met: coordination is met in every history of a cabinet that opens with the standard tables, whose clock drifts slowly
 /// or not at all.
-pub fn standard_stories_meet_coordination()
-    ensures { (story : Story) (d : Drift) → IsOpening std8 d story.opening → IsSlow d → Meets (history_of story) }
+pub fn standard_cabinet_histories_meet_coordination()
+    ensures { (cabinet_history : CabinetHistory) (d : Drift) → IsOpening std8 d cabinet_history.opening → IsSlow d → Meets (history_of cabinet_history) }
 {
     standard_consistent();
-    stories_meet_coordination();
+    cabinet_histories_meet_coordination();
 }
 
 /// Downloads are whole: the tables in force are the opening ones with the whole content of each download whose finish was accepted, put
@@ -92,17 +92,17 @@ pub fn standard_stories_meet_coordination()
 /// the street is judged, are made by all but the later ones. For while a download is under way nothing else is put in force: the staged
 /// tables are those in force with the cells of its parts so far, which are the parts from 1 to the number taken, in order.
 pub fn downloads_are_whole()
-    ensures in_force { (story : Story) (t : Tables) (d : Drift) → IsOpening t d story.opening
-        → in_force (coming story) ≡ with_downloads t (accepted_by (deeds_of (coming story))) }
-    ensures version { (story : Story) (t : Tables) (d : Drift) → IsOpening t d story.opening
-        → (past_at (history_of story)).version ≡ length (accepted_by (deeds_of (coming story))) }
-    ensures versions { (story : Story) (t : Tables) (d : Drift) (version later : ℕ) → IsOpening t d story.opening
-        → version + later ≡ length (accepted_by (deeds_of (coming story)))
-        → tables_of (history_of story) version ≡ with_downloads t (drop later (accepted_by (deeds_of (coming story)))) }
-    ensures staged { (story : Story) → is_under_way (deeds_of (coming story)) ≡ true
-        → staged (answered (coming story).calls) ≡ with_cells (in_force (coming story)) (content_by (deeds_of (coming story))) }
-    ensures parts { (story : Story)
-        → numbers (answered (coming story).calls) ≡ up_to (taken (answered (coming story).calls)) }
+    ensures in_force { (cabinet_history : CabinetHistory) (t : Tables) (d : Drift) → IsOpening t d cabinet_history.opening
+        → in_force (coming cabinet_history) ≡ with_downloads t (accepted_by (deeds_of (coming cabinet_history))) }
+    ensures version { (cabinet_history : CabinetHistory) (t : Tables) (d : Drift) → IsOpening t d cabinet_history.opening
+        → (past_at (history_of cabinet_history)).version ≡ length (accepted_by (deeds_of (coming cabinet_history))) }
+    ensures versions { (cabinet_history : CabinetHistory) (t : Tables) (d : Drift) (version later : ℕ) → IsOpening t d cabinet_history.opening
+        → version + later ≡ length (accepted_by (deeds_of (coming cabinet_history)))
+        → tables_of (history_of cabinet_history) version ≡ with_downloads t (drop later (accepted_by (deeds_of (coming cabinet_history)))) }
+    ensures staged { (cabinet_history : CabinetHistory) → is_under_way (deeds_of (coming cabinet_history)) ≡ true
+        → staged (answered (coming cabinet_history).calls) ≡ with_cells (in_force (coming cabinet_history)) (content_by (deeds_of (coming cabinet_history))) }
+    ensures parts { (cabinet_history : CabinetHistory)
+        → numbers (answered (coming cabinet_history).calls) ≡ up_to (taken (answered (coming cabinet_history).calls)) }
 {
     parts_come_in_order();
 }
@@ -111,24 +111,24 @@ pub fn downloads_are_whole()
 /// and the version that is told is the cabinet's from then on; where a verify or a finish is refused, the rule that is told, with its
 /// row, is the first that they broke.
 pub fn downloads_end_as_judged()
-    ensures { (story : Story) (octets : List ℕ)
-        → IfSome (load_end story octets) (λ load. IsVerdict (coming story) (coming (with_item story (Came octets))) load.result) }
+    ensures { (cabinet_history : CabinetHistory) (octets : List ℕ)
+        → IfSome (load_end cabinet_history octets) (λ load. IsVerdict (coming cabinet_history) (coming (with_item cabinet_history (Came octets))) load.result) }
 {
     installs_what_keeps_the_rules();
 }
 
-/// What the items of a story tell one after another is what is to be told of its history. So whoever writes the lines of each item as it
+/// What the items of a cabinet history tell one after another is what is to be told of its history. So whoever writes the lines of each item as it
 /// comes has a street that is safe at every tick, and versions that are whole.
-pub fn stories_are_safe()
-    ensures told { (story : Story) (t : Tables) (d : Drift) → IsOpening t d story.opening
-        → story_told story ≡ history_told has_line (history_of story) }
-    ensures acts { (story : Story) (acts : List Act)
-        → story_told (after story (items_in acts)) ≡ story_told story ++ acts_told story acts }
-    ensures safe { (story : Story) (t : Tables) (d : Drift) (cab : ℕ) (lines : List Line)
-        → IsOpening t d story.opening → Consistent t → told_in cab lines ≡ story_told story
-        → Safe (intersection_of cab (tables_of (history_of story)) lines) }
-    ensures whole { (story : Story) (t : Tables) (d : Drift) (cab : ℕ) (lines : List Line)
-        → IsOpening t d story.opening → told_in cab lines ≡ story_told story
+pub fn cabinet_histories_are_safe()
+    ensures told { (cabinet_history : CabinetHistory) (t : Tables) (d : Drift) → IsOpening t d cabinet_history.opening
+        → cabinet_history_told cabinet_history ≡ history_told has_line (history_of cabinet_history) }
+    ensures acts { (cabinet_history : CabinetHistory) (acts : List Act)
+        → cabinet_history_told (after cabinet_history (items_in acts)) ≡ cabinet_history_told cabinet_history ++ acts_told cabinet_history acts }
+    ensures safe { (cabinet_history : CabinetHistory) (t : Tables) (d : Drift) (cab : ℕ) (lines : List Line)
+        → IsOpening t d cabinet_history.opening → Consistent t → told_in cab lines ≡ cabinet_history_told cabinet_history
+        → Safe (intersection_of cab (tables_of (history_of cabinet_history)) lines) }
+    ensures whole { (cabinet_history : CabinetHistory) (t : Tables) (d : Drift) (cab : ℕ) (lines : List Line)
+        → IsOpening t d cabinet_history.opening → told_in cab lines ≡ cabinet_history_told cabinet_history
         → Whole cab lines }
 {
     installs_what_keeps_the_rules();
@@ -138,10 +138,10 @@ pub fn stories_are_safe()
 /// A frame that asks nothing, because it is no message, of another community, or a Response, changes nothing at the cabinet, is
 /// answered by silence and ends no download (RFC 1157, 4.1).
 pub fn other_frames_change_nothing()
-    ensures nothing { (story : Story) (octets : List ℕ) → AsksNothing octets story.community
-        → coming (with_item story (Came octets)) ≡ coming story }
-    ensures silence { (story : Story) (octets : List ℕ) → AsksNothing octets story.community → reply_to story octets ≡ None }
-    ensures no_end { (story : Story) (octets : List ℕ) → AsksNothing octets story.community → load_end story octets ≡ None }
+    ensures nothing { (cabinet_history : CabinetHistory) (octets : List ℕ) → AsksNothing octets cabinet_history.community
+        → coming (with_item cabinet_history (Came octets)) ≡ coming cabinet_history }
+    ensures silence { (cabinet_history : CabinetHistory) (octets : List ℕ) → AsksNothing octets cabinet_history.community → reply_to cabinet_history octets ≡ None }
+    ensures no_end { (cabinet_history : CabinetHistory) (octets : List ℕ) → AsksNothing octets cabinet_history.community → load_end cabinet_history octets ≡ None }
 {
     other_frames_ask_nothing();
 }

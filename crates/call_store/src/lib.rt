@@ -1,6 +1,6 @@
 //! The calls of a cabinet: what detectors and push buttons have asked for and no frame has served yet (FHWA Signal Timing
-//! Manual, detection and recall; NEMA TS 2, locking and non-lock memory). All is kept as sets of phases, so that an input
-//! and a tick look at sixteen phases in one step.
+//! Manual, detection and recall; NEMA TS 2, locking and non-lock memory); and where walk begins. All is kept as sets of
+//! phases, so that an input and a tick look at sixteen phases in one step.
 #![tactic(auto)]
 
 ghost use Rattle.std.specs.Prelude.{◌≡◌, ◌<◌, ◌≤◌, ◌&&◌, ◌||◌, ◌==◌, not, nat_le, ℕ, Bool, true, Option};
@@ -9,8 +9,10 @@ use pattern_plan::SplitOptions;
 use sig_tables::Layout;
 use sig_types::{Colour, Field, Frame, Ped, PhaseSet};
 
+mod crossing;
 mod served;
 
+pub use crossing::{Crosswalks, Greens, walks};
 pub use served::signalling;
 
 /// The locked calls of vehicles and of pedestrians, the detectors that are on, and those that were turned on since the
@@ -34,7 +36,7 @@ impl Calls {
     ghost use Rattle.sig_tables.specs.Decide.{opened, with_event, with_moment};
     ghost use Rattle.sig_tables.specs.Layout.{LaidOut, Has};
     ghost use Rattle.sig_tables.specs.Seen.{frame_seen, vehicle_seen, pedestrian_seen, detectors_seen, demand_with, quiet_with};
-    ghost use Rattle.pattern_plan.specs.Options.{AreBinding};
+    ghost use Rattle.pattern_plan.specs.Options.{AreActivePattern};
     ghost use Rattle.call_store.specs.Stands.{CallsStand, NamesPhase, is_active_with, is_walking};
 
     /// No call, and no detector on.
@@ -86,9 +88,9 @@ impl Calls {
     /// maximum.
     pub fn active(&self, layout: &Layout, options: Option<&SplitOptions>) -> PhaseSet
         ensures active { (pattern : Option ℕ) (past : Past) → CallsStand self.now past → LaidOut layout.now past.tables
-            → AreBinding options.entry pattern past.tables → Has result (is_active_with pattern past) }
+            → AreActivePattern options.entry pattern past.tables → Has result (is_active_with pattern past) }
         ensures quiet { (pattern : Option ℕ) (past : Past) → CallsStand self.now past → LaidOut layout.now past.tables
-            → AreBinding options.entry pattern past.tables → (p : ℕ) → is_phase p ≡ true
+            → AreActivePattern options.entry pattern past.tables → (p : ℕ) → is_phase p ≡ true
             → is_in (quiet_with pattern past) p ≡ (is_green (frame_seen past) p && not (has result p)) }
     {
         let active = self.active_alone(layout);
@@ -115,7 +117,7 @@ impl Calls {
     /// that it calls, and none that it omits.
     pub fn demand(&self, layout: &Layout, red: PhaseSet, options: Option<&SplitOptions>) -> PhaseSet
         ensures demand { (pattern : Option ℕ) (past : Past) → CallsStand self.now past → LaidOut layout.now past.tables
-            → AreBinding options.entry pattern past.tables
+            → AreActivePattern options.entry pattern past.tables
             → Has red (λ p. same_colour (colour_of (frame_seen past) p) Red) → phases_of result ≡ demand_with pattern past }
     {
         let waiting = layout.enabled.meet(red);

@@ -3,7 +3,7 @@
 use arrayvec::ArrayVec;
 
 /// What a scenario is generated from: a seed, and how many cabinets and rounds it has.
-#[derive(Clone, Copy, Debug, PartialEq, Eq)]
+#[derive(Clone, Copy, PartialEq, Eq)]
 pub struct Seeding {
     pub seed: u32,
     pub cabinets: u32,
@@ -11,7 +11,7 @@ pub struct Seeding {
 }
 
 /// An overlap that is asked for: the number of its cabinet, its parent phases, and its times, in ticks of 0.1 s.
-#[derive(Debug, PartialEq, Drop)]
+#[derive(PartialEq, Drop)]
 pub struct Overlap {
     pub cabinet: u32,
     /// One octet for each parent, of any value.
@@ -25,7 +25,7 @@ pub struct Overlap {
 }
 
 /// What the words can ask for.
-#[derive(Debug, PartialEq, Drop)]
+#[derive(PartialEq, Drop)]
 pub enum Command {
     /// To run a scenario by so many workers; by none in the serial order.
     Run(u32),

@@ -21,7 +21,7 @@ use Rattle.sig_tables.specs.Calls.{is_green}
 use Rattle.sig_tables.specs.Command.{is_commanded, command_now}
 use Rattle.sig_tables.specs.Choosing.{is_in_step}
 use Rattle.sig_tables.specs.Counting.{last_counter}
-use Rattle.sig_tables.specs.Course.{course_of}
+use Rattle.sig_tables.specs.TickState.{tick_state_of}
 use Rattle.sig_tables.specs.Preempts.{preempts_on}
 use Rattle.sig_tables.specs.Decide.{with_moment, next_moment, colours_of}
 use Rattle.sig_tables.specs.Modes.{bound}
@@ -32,22 +32,24 @@ use Rattle.coord_count.specs.Stands.{CountStands}
 use Rattle.coord_count.proofs.Passed.{count-on}
 use Rattle.phase_clock.proofs.Passed.{clocks-on}
 use Rattle.ped_clock.proofs.Passed.{signals-on}
-use Rattle.preempt_run.specs.Dwelling.{is_dwell, NamesPhases}
-use Rattle.preempt_run.proofs.Called.{seen-is}
-use Rattle.preempt_run.proofs.OnPhases.{names-phases}
+use Rattle.preempt_stages.specs.Dwelling.{is_dwell, NamesPhases}
+use Rattle.preempt_stages.proofs.Inputs.{seen-is}
+use Rattle.preempt_stages.proofs.OnPhases.{names-phases}
 use Rattle.preempt_run.proofs.Passed.{preempts-on}
 use Rattle.prio_queue.proofs.Idle.{queue-on}
-use Rattle.tick_context.specs.declared.orders.Orders.{Orders}
+use Rattle.tick_context.specs.declared.unit_commands.UnitCommands.{UnitCommands}
 use Rattle.controller.specs.declared.Controller.{Controller}
 use Rattle.tick_context.specs.Binds.{IsBound}
 use Rattle.tick_context.specs.Modes.{is_coord}
 use Rattle.controller.specs.Shows.{ShowsColours}
-use Rattle.tick_context.specs.Orders.{OrdersStand, most}
-use Rattle.tick_context.specs.Even.{IsEven, OrdersPassed}
-use Rattle.controller.specs.StandsFor.{Keeps, CountsOn}
+use Rattle.tick_context.specs.UnitCommands.{UnitCommandsStand, most}
+use Rattle.tick_context.specs.Even.{IsEven, UnitCommandsPassed}
+use Rattle.tick_context.specs.Context.{CountsOn}
+use Rattle.controller.specs.StandsFor.{ControllerKeeps}
 use Rattle.tick_context.specs.Lasting.{Lasts, opposed_with}
 use Rattle.tick_context.specs.Passed.{timed, planned_target}
 use Rattle.controller.specs.Passed.{counted, passed, IsReady}
+use Rattle.tick_context.proofs.EvenRuns.{unit_commands-next, next-passed, first-even, rest-even, rest-by, timed-none}
 use Rattle.tick_context.proofs.Again.{free-apart, no-counter, no-target}
 use Rattle.tick_context.proofs.Counted.{counters-head}
 use Rattle.tick_context.proofs.GoesOn.{Goes, tick-goes, frame-goes, goes-alike}
@@ -57,20 +59,19 @@ use Rattle.tick_context.proofs.Rings.{each-ring, last-again, latest-again}
 use Rattle.tick_context.proofs.Seen.{opposed-green}
 use Rattle.tick_context.proofs.Sought.{start-again}
 use Rattle.tick_context.proofs.Pickups.{kept-on, start-zero, start-next, few-next, one-more, same-most}
-use Rattle.tick_context.proofs.Passed.{orders-on, after}
+use Rattle.tick_context.proofs.Passed.{unit_commands-on, after}
 
 -- the controller with these parts
-abbrev built : Controller → Orders → Frame → ℕ → ℕ → ℕ → Count → Controller
+abbrev built : Controller → UnitCommands → Frame → ℕ → ℕ → ℕ → Count → Controller
 built c new f a b d count = record c {
-  frame = f;
+  context = record c.context { frame = f; unit_commands = new };
   clocks = record c.clocks { steps = a };
   signals = record c.signals { steps = b };
   preempts = record c.preempts { steps = d };
-  orders = new;
   count = count;
 }
 
-built-same : (c : Controller) (new : Orders) (f g : Frame) (a b d e i n : ℕ) (x y : Count) → f ≡ g → a ≡ b → d ≡ e → i ≡ n → x ≡ y
+built-same : (c : Controller) (new : UnitCommands) (f g : Frame) (a b d e i n : ℕ) (x y : Count) → f ≡ g → a ≡ b → d ≡ e → i ≡ n → x ≡ y
     → built c new f a d i x ≡ built c new g b e n y
 built-same c new f g a b d e i n x y p q r s t = rw (p, q, r, s, t) refl
 
@@ -91,60 +92,42 @@ timed-twice true f target later k j count e =
 timed-twice false f target later k j count e = ap (λ (x : Bool). timed x (count.counter + j) later f) (sym e)
 
 -- passing over ticks in two parts comes to passing over all of them
-pub passed-more : (k j : ℕ) (c : Controller) (o new : Orders) → passed j (passed k c o) new ≡ passed (k + j) c new
+pub passed-more : (k j : ℕ) (c : Controller) (o new : UnitCommands) → passed j (passed k c o) new ≡ passed (k + j) c new
 passed-more k j c o new =
     built-same c new _ _
     (c.clocks.steps + k + j) (c.clocks.steps + (k + j)) (c.signals.steps + k + j) (c.signals.steps + (k + j))
     (c.preempts.steps + k + j) (c.preempts.steps + (k + j)) _ _
-    (timed-twice (is_coord c.frame.mode) c.frame (planned_target c.binding.plan o.clock) (planned_target c.binding.plan new.clock) k j c.count refl)
+    (timed-twice (is_coord c.context.frame.mode) c.context.frame (planned_target c.context.active_pattern.plan o.clock) (planned_target c.context.active_pattern.plan new.clock) k j c.count refl)
     (omega arith) (omega arith) (omega arith)
-    (counted-twice (is_coord c.frame.mode) c.frame (c.count.counter + k) (planned_target c.binding.plan o.clock) k j c.count refl)
-
--- the orders on the way
-abbrev orders-at : (k : ℕ) (o : Orders) → o.clock + k < 864000 → Orders
-orders-at k o h = record {
-  command = o.command;
-  since = min (o.since + k) most;
-  clock = o.clock + k;
-  ticks = o.ticks + k;
-  gain = o.gain;
-  lose = o.lose;
-  of_day = h;
-}
-
-at-passed : (k : ℕ) (o : Orders) (h : o.clock + k < 864000) → OrdersPassed k o (orders-at k o h)
-at-passed k o h = record { command = refl; since = refl; clock = refl; ticks = refl; gain = refl; lose = refl }
+    (counted-twice (is_coord c.context.frame.mode) c.context.frame (c.count.counter + k) (planned_target c.context.active_pattern.plan o.clock) k j c.count refl)
 
 timed-same : (f g : Frame) (a b x y : ℕ) → f ≡ g → a ≡ b → x ≡ y → timed true a x f ≡ timed true b y g
 timed-same f g a b x y e h i = rw (e, h, i) refl
 
-timed-none : (f : Frame) (counter target : ℕ) → counter ≡ f.counter → target ≡ f.target → timed true counter target f ≡ f
-timed-none f counter target c t = rw (c, t) refl
-
 -- the counter that is kept is that of the last frame
-count-is : (n : ℕ) (c : Controller) (past : Past) → Keeps c past → is_in_step (frame_seen past) past.version n ≡ true
+count-is : (n : ℕ) (c : Controller) (past : Past) → ControllerKeeps c past → is_in_step (frame_seen past) past.version n ≡ true
     → c.count.counter ≡ (frame_seen past).counter
 count-is n c past k step =
     let (before, head) = counters-head n past.version past.moments step in
     (k.counts n step).stands.counter ∙ ap last_counter head
 
 -- the frame that is kept is that of the tick
-frame-on : (mode : Mode) (j : ℕ) (c : Controller) (new : Orders) (past : Past) → Keeps c past → Lasts mode (suc j) past → Goes mode past
-    → IsBound c.binding past.tables mode → new.clock ≡ clock_now past
-    → timed (is_coord c.frame.mode) (c.count.counter + 1) (planned_target c.binding.plan new.clock) c.frame ≡ (next_moment past).frame
+frame-on : (mode : Mode) (j : ℕ) (c : Controller) (new : UnitCommands) (past : Past) → ControllerKeeps c past → Lasts mode (suc j) past → Goes mode past
+    → IsBound c.context.active_pattern past.tables mode → new.clock ≡ clock_now past
+    → timed (is_coord c.context.frame.mode) (c.count.counter + 1) (planned_target c.context.active_pattern.plan new.clock) c.context.frame ≡ (next_moment past).frame
 frame-on Free j c new past k l g bound clock =
-    let was : c.frame.mode ≡ Free = ap (λ (f : Frame). f.mode) k.frame ∙ l.was in
-    ap (λ (b : Bool). timed b (c.count.counter + 1) (planned_target c.binding.plan new.clock) c.frame) (ap is_coord was)
-    ∙ k.frame
+    let was : c.context.frame.mode ≡ Free = ap (λ (f : Frame). f.mode) k.context.frame ∙ l.was in
+    ap (λ (b : Bool). timed b (c.count.counter + 1) (planned_target c.context.active_pattern.plan new.clock) c.context.frame) (ap is_coord was)
+    ∙ k.context.frame
     ∙ sym (frame-goes Free j past l
     ∙ timed-none (frame_seen past) _ _ (no-counter past g.now ∙ sym l.goes.counter) (no-target past g.now ∙ sym l.goes.target))
 frame-on (Coord n) j c new past k l g bound clock =
-    let was : c.frame.mode ≡ Coord n = ap (λ (f : Frame). f.mode) k.frame ∙ l.was in
+    let was : c.context.frame.mode ≡ Coord n = ap (λ (f : Frame). f.mode) k.context.frame ∙ l.was in
     let same = count-is n c past k (step-in (frame_seen past) past.version n l.was l.version) in
     let next = counter-next n j past l.fresh l.goes l.was g.now in
-    ap (λ (b : Bool). timed b (c.count.counter + 1) (planned_target c.binding.plan new.clock) c.frame) (ap is_coord was)
-    ∙ timed-same c.frame (frame_seen past) (c.count.counter + 1) (course_of past).counter
-    (planned_target c.binding.plan new.clock) (course_of past).target k.frame
+    ap (λ (b : Bool). timed b (c.count.counter + 1) (planned_target c.context.active_pattern.plan new.clock) c.context.frame) (ap is_coord was)
+    ∙ timed-same c.context.frame (frame_seen past) (c.count.counter + 1) (tick_state_of past).counter
+    (planned_target c.context.active_pattern.plan new.clock) (tick_state_of past).target k.context.frame
     (ap (λ (x : ℕ). x + 1) same ∙ sym next)
     (ap (λ (x : Plan). planned_target x new.clock) bound.plan ∙ ap (λ (x : ℕ). target_at past.tables n x) clock
     ∙ sym (ap (λ (m : Mode). target_in past.tables m (clock_now past)) g.now))
@@ -159,7 +142,7 @@ frame-on (Dwell i) j c new past k l g bound clock = absurd l.goes
 frame-on (Exit i) j c new past k l g bound clock = absurd l.goes
 
 -- the counters since the pickup have its counter
-counts-coord : (n j : ℕ) (c : Controller) (past : Past) → Keeps c past → Lasts (Coord n) (suc j) past → Goes (Coord n) past
+counts-coord : (n j : ℕ) (c : Controller) (past : Past) → ControllerKeeps c past → Lasts (Coord n) (suc j) past → Goes (Coord n) past
     → CountsOn (counted true 1 c.count) (with_moment past (next_moment past)) n
 counts-coord n j c past k l g =
     let m : Moment = next_moment past in
@@ -176,9 +159,9 @@ counts-coord n j c past k l g =
       within = omega (arith, same, cycle);
     }
 
-counts-on : (mode : Mode) (j : ℕ) (c : Controller) (past : Past) → Keeps c past → Lasts mode (suc j) past → Goes mode past
+counts-on : (mode : Mode) (j : ℕ) (c : Controller) (past : Past) → ControllerKeeps c past → Lasts mode (suc j) past → Goes mode past
     → (n : ℕ) → is_in_step (next_moment past).frame past.version n ≡ true
-    → CountsOn (counted (is_coord c.frame.mode) 1 c.count) (with_moment past (next_moment past)) n
+    → CountsOn (counted (is_coord c.context.frame.mode) 1 c.count) (with_moment past (next_moment past)) n
 counts-on Free j c past k l g n st =
     let free : (next_moment past).frame.mode ≡ Free = (goes-alike Free j past l).mode ∙ l.was in
     absurd (false≢true (sym (free-apart (next_moment past).frame past.version n free) ∙ st))
@@ -187,7 +170,7 @@ counts-on (Coord i) j c past k l g n st =
     let is : m.frame.mode ≡ Coord i = (goes-alike (Coord i) j past l).mode ∙ l.was in
     let mine : (i == n) ≡ true =
     ap (λ (x : Mode). same_mode x (Coord n)) (sym is) ∙ (and_parts (same_mode m.frame.mode (Coord n)) (m.frame.version == past.version) st).0 in
-    let coord : is_coord c.frame.mode ≡ true = ap is_coord (ap (λ (f : Frame). f.mode) k.frame ∙ l.was) in
+    let coord : is_coord c.context.frame.mode ≡ true = ap is_coord (ap (λ (f : Frame). f.mode) k.context.frame ∙ l.was) in
     subst (λ (b : Bool). CountsOn (counted b 1 c.count) (with_moment past m) n) (sym coord)
     (subst (λ (x : ℕ). CountsOn (counted true 1 c.count) (with_moment past m) x) ((Decides-eqb i n).0 mine) (counts-coord i j c past k l g))
 counts-on Start j c past k l g n st = absurd l.goes
@@ -200,26 +183,37 @@ counts-on (Dwell i) j c past k l g n st = absurd l.goes
 counts-on (Exit i) j c past k l g n st = absurd l.goes
 
 -- one tick
-pub keeps-on : (mode : Mode) (j : ℕ) (c : Controller) (new : Orders) (past : Past) → OrdersPassed 1 c.orders new → Keeps c past
-    → Lasts mode (suc j) past → IsReady c mode past → IsEven c.orders past.tables 1 → past.tables.unit.backup ≤ 65535
-    → Keeps (passed 1 c new) (with_moment past (next_moment past))
+pub keeps-on : (mode : Mode) (j : ℕ) (c : Controller) (new : UnitCommands) (past : Past) → UnitCommandsPassed 1 c.context.unit_commands new → ControllerKeeps c past
+    → Lasts mode (suc j) past → IsReady c mode past → IsEven c.context.unit_commands past.tables 1 → past.tables.unit.backup ≤ 65535
+    → ControllerKeeps (passed 1 c new) (with_moment past (next_moment past))
 keeps-on mode j c new past by k l ready even few =
     let m : Moment = next_moment past in
     let g = tick-goes mode j past l in
     let a = goes-alike mode j past l in
-    let orders : OrdersStand new (with_moment past m) =
-    orders-on c.orders new past m by k.orders (record { number = refl; command = refl; is_commanded = refl; clock = refl }) l.fresh even few in
+    let unit_commands : UnitCommandsStand new (with_moment past m) =
+    unit_commands-on c.context.unit_commands new past m by k.context.unit_commands (record { number = refl; command = refl; is_commanded = refl; clock = refl }) l.fresh even few in
     let names : NamesPhases m.frame = names-phases m.frame past.tables (colours_of past (moves_seen past)) refl in
     let going : is_start (frame_seen past).mode ≡ false = ap is_start l.was ∙ g.started in
     let still : false ≡ is_start m.frame.mode = sym (ap is_start (a.mode ∙ l.was) ∙ g.started) in
     record {
-      tables = k.tables;
-      layout = k.layout;
-      ordered = k.ordered;
-      version = k.version;
-      frame = frame-on mode j c new past k l g ready.bound orders.clock;
-      calls = calls-on c.calls past m k.calls l.fresh.heard a.veh a.ped refl refl refl;
-      clocks = clocks-on c.clocks ready.sight.active ready.sight.opposed past.moments m k.clocks ready.steady a.veh
+      context = record {
+        tables = k.context.tables;
+        layout = k.context.layout;
+        ordered = k.context.ordered;
+        version = k.context.version;
+        frame = frame-on mode j c new past k l g ready.bound unit_commands.clock;
+        calls = calls-on c.context.calls past m k.context.calls l.fresh.heard a.veh a.ped refl refl refl;
+        requests = queue-on c.context.requests past m k.context.requests ready.idle (one-more (moment_seen past).number) g.active;
+        unit_commands = unit_commands;
+        active_pattern = k.context.active_pattern;
+        some = omega arith;
+        names = names;
+        few_start = few-next m past.moments
+            (λ now last. start-again past.tables past.version (command_now past) (preempts_on past.heard (moment_seen past)) past.moments
+            (colours_of past (moves_seen past)) last now);
+        old_frame = same-most past.version;
+      };
+      clocks = clocks-on c.clocks ready.tick_inputs.active ready.tick_inputs.opposed past.moments m k.clocks ready.steady a.veh
           (λ p h. ap (λ (x : Mode). is_in (quiet_with (bound x) past) p) g.now ∙ ready.looks.quiet p h)
           (λ p h.
           opposed-green past p h
@@ -234,91 +228,46 @@ keeps-on mode j c new past by k l ready even few =
         wide = ap length a.veh ∙ l.wide;
         names = names;
       });
-      requests = queue-on c.requests past m k.requests ready.idle (one-more (moment_seen past).number) g.active;
       shown = subst (λ (veh : List Colour). ShowsColours c.shown veh) (sym a.veh) k.shown;
       walking = λ p h. k.walking p h ∙ ap (λ (ped : List Ped). same_signal (get_or ped (p - 1) Walk) Walk) (sym a.ped);
       signalling = λ p h.
           k.signalling p h
           ∙ ap (λ (ped : List Ped). same_signal (get_or ped (p - 1) Walk) Walk || same_signal (get_or ped (p - 1) Walk) Flashes) (sym a.ped);
-      names = names;
       last = each-ring c.last 0 (λ q. last_on q (m ∷ past.moments))
           (k.last 1 (omega arith) (omega arith) ∙ last-again m past.moments 1 a.on a.mode going l.first)
           (k.last 2 (omega arith) (omega arith) ∙ last-again m past.moments 2 a.on a.mode going l.second);
       latest = k.latest ∙ latest-again m past.moments a.on a.mode going l.first;
       start = k.start ∙ start-zero past.moments going ∙ start-next m past.moments c.start_run false still k.start;
-      few_start = few-next m past.moments
-          (λ now last. start-again past.tables past.version (command_now past) (preempts_on past.heard (moment_seen past)) past.moments
-          (colours_of past (moves_seen past)) last now);
-      orders = orders;
-      binding = k.binding;
       counts = counts-on mode j c past k l g;
-      old_frame = same-most past.version;
     }
 
-ready-on : (mode : Mode) (j : ℕ) (c : Controller) (o : Orders) (past : Past) → Lasts mode (suc j) past → IsReady c mode past
+ready-on : (mode : Mode) (j : ℕ) (c : Controller) (o : UnitCommands) (past : Past) → Lasts mode (suc j) past → IsReady c mode past
     → IsReady (passed 1 c o) mode (with_moment past (next_moment past))
 ready-on mode j c o past l ready =
     let a = goes-alike mode j past l in
     record {
-      sight = ready.sight;
-      looks = looks-on (bound mode) ready.sight past a (seen-again (bound mode) past l.fresh a) ready.looks;
+      tick_inputs = ready.tick_inputs;
+      looks = looks-on (bound mode) ready.tick_inputs past a (seen-again (bound mode) past l.fresh a) ready.looks;
       steady = record { quiet = ready.steady.quiet; pressed = ready.steady.pressed };
       clear = record { inputs = ready.clear.inputs; green = ready.clear.green; off = ready.clear.off };
       idle = ready.idle;
       bound = ready.bound;
     }
 
-first-even : (j : ℕ) (o : Orders) (t : Tables) → IsEven o t (suc j) → IsEven o t 1
-first-even j o t even = record {
-  clock = omega (arith, even.clock);
-  gain = even.gain;
-  lose = even.lose;
-  few = even.few;
-  command = elim even.command [
-    | inl none ↦ inl none
-    | inr (inl never) ↦ inr (inl never)
-    | inr (inr short) ↦ inr (inr (omega (arith, short)))
-  ];
-}
-
--- of an even stretch what comes after its first tick is even
-rest-even : (j : ℕ) (o : Orders) (t : Tables) (h : o.clock + 1 < 864000) → IsEven o t (suc j) → IsEven (orders-at 1 o h) t j
-rest-even j o t h even = record {
-  clock = omega (arith, even.clock);
-  gain = even.gain;
-  lose = even.lose;
-  few = even.few;
-  command = elim even.command [
-    | inl none ↦ inl none
-    | inr (inl never) ↦ inr (inl never)
-    | inr (inr short) ↦ inr (inr (omega (arith, short)))
-  ];
-}
-
-rest-by : (j : ℕ) (o new : Orders) (h : o.clock + 1 < 864000) → OrdersPassed (suc j) o new → OrdersPassed j (orders-at 1 o h) new
-rest-by j o new h by = record {
-  command = by.command;
-  since = omega (arith, by.since);
-  clock = omega (arith, by.clock);
-  ticks = omega (arith, by.ticks);
-  gain = by.gain;
-  lose = by.lose;
-}
-
 -- and what is kept stands after all of them
-pub keeps-after : (n : ℕ) (mode : Mode) (c : Controller) (new : Orders) (past : Past) → 0 < n → OrdersPassed n c.orders new → Keeps c past
-    → Lasts mode n past → IsReady c mode past → IsEven c.orders past.tables n → past.tables.unit.backup ≤ 65535
-    → Keeps (passed n c new) (after n past)
+pub keeps-after : (n : ℕ) (mode : Mode) (c : Controller) (new : UnitCommands) (past : Past) → 0 < n → UnitCommandsPassed n c.context.unit_commands new → ControllerKeeps c past
+    → Lasts mode n past → IsReady c mode past → IsEven c.context.unit_commands past.tables n → past.tables.unit.backup ≤ 65535
+    → ControllerKeeps (passed n c new) (after n past)
 keeps-after zero mode c new past some by k l ready even few = absurd (omega (arith, some))
 keeps-after (suc zero) mode c new past some by k l ready even few = keeps-on mode zero c new past by k l ready even few
 keeps-after (suc (suc j)) mode c new past some by k l ready even few =
-    let day : c.orders.clock + 1 < 864000 = omega (arith, even.clock) in
-    let mid : Orders = orders-at 1 c.orders day in
+    let day : c.context.unit_commands.clock + 1 < 864000 = omega (arith, even.clock) in
+    let mid : UnitCommands = unit_commands-next c.context.unit_commands day in
     let more : 0 < suc j = omega arith in
     let whole : 1 + suc j ≡ suc (suc j) = omega arith in
     let next : Past = with_moment past (next_moment past) in
-    let first : Keeps (passed 1 c mid) next =
-    keeps-on mode (suc j) c mid past (at-passed 1 c.orders day) k l ready (first-even (suc j) c.orders past.tables even) few in
-    subst (λ (x : Controller). Keeps x (after (suc j) next)) (passed-more 1 (suc j) c mid new ∙ ap (λ (n : ℕ). passed n c new) whole)
-    (keeps-after (suc j) mode (passed 1 c mid) new next more (rest-by (suc j) c.orders new day by) first (lasts-less mode (suc j) past l)
-    (ready-on mode (suc j) c mid past l ready) (rest-even (suc j) c.orders past.tables day even) few)
+    let first : ControllerKeeps (passed 1 c mid) next =
+    keeps-on mode (suc j) c mid past (next-passed c.context.unit_commands day) k l ready (first-even (suc j) c.context.unit_commands past.tables even) few in
+    subst (λ (x : Controller). ControllerKeeps x (after (suc j) next)) (passed-more 1 (suc j) c mid new ∙ ap (λ (n : ℕ). passed n c new) whole)
+    (keeps-after (suc j) mode (passed 1 c mid) new next more (rest-by (suc j) c.context.unit_commands new day by) first (lasts-less mode (suc j) past l)
+    (ready-on mode (suc j) c mid past l ready) (rest-even (suc j) c.context.unit_commands past.tables day even) few)

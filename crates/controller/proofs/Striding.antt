@@ -6,18 +6,18 @@ use Rattle.sig_tables.specs.declared.tables.Tables.{Tables}
 use Rattle.sig_tables.specs.Past.{Past, History}
 use Rattle.sig_tables.specs.Decide.{past_at}
 use Rattle.controller.specs.declared.Controller.{Controller}
-use Rattle.tick_context.specs.Even.{IsEven, OrdersPassed}
-use Rattle.controller.specs.StandsFor.{Keeps, StandsFor}
+use Rattle.tick_context.specs.Even.{IsEven, UnitCommandsPassed}
+use Rattle.controller.specs.StandsFor.{ControllerKeeps, ControllerStands}
 use Rattle.tick_context.specs.Strides.{ticks_more}
 use Rattle.tick_context.specs.Lasting.{Lasts}
 use Rattle.controller.specs.Passed.{passed, IsReady}
 use Rattle.tick_context.proofs.Striding.{more-past}
 use Rattle.controller.proofs.Passed.{keeps-after}
 
-pub keeps-by : (n : ℕ) (mode : Mode) (c new : Controller) (h : History) → 0 < n → new ≡ passed n c new.orders → OrdersPassed n c.orders new.orders
-    → StandsFor c h → Lasts mode n (past_at h) → IsReady c mode (past_at h) → IsEven c.orders c.tables n → StandsFor new (ticks_more n h)
+pub keeps-by : (n : ℕ) (mode : Mode) (c new : Controller) (h : History) → 0 < n → new ≡ passed n c new.context.unit_commands → UnitCommandsPassed n c.context.unit_commands new.context.unit_commands
+    → ControllerStands c h → Lasts mode n (past_at h) → IsReady c mode (past_at h) → IsEven c.context.unit_commands c.context.tables n → ControllerStands new (ticks_more n h)
 keeps-by n mode c new h some same by s l ready even =
-    let now : IsEven c.orders (past_at h).tables n = subst (λ (t : Tables). IsEven c.orders t n) s.tables even in
-    subst (λ (x : Controller). StandsFor x (ticks_more n h)) (sym same)
-    (subst (λ (p : Past). Keeps (passed n c new.orders) p) (sym (more-past n h))
-    (keeps-after n mode c new.orders (past_at h) some by s l ready now now.few))
+    let now : IsEven c.context.unit_commands (past_at h).tables n = subst (λ (t : Tables). IsEven c.context.unit_commands t n) s.context.tables even in
+    subst (λ (x : Controller). ControllerStands x (ticks_more n h)) (sym same)
+    (subst (λ (p : Past). ControllerKeeps (passed n c new.context.unit_commands) p) (sym (more-past n h))
+    (keeps-after n mode c new.context.unit_commands (past_at h) some by s l ready now now.few))

@@ -9,12 +9,12 @@ use Rattle.phase_clock.specs.Passed.{IsSteady, passed as clocks_passed}
 use Rattle.ped_clock.specs.Passed.{passed as signals_passed}
 use Rattle.preempt_run.specs.Passed.{IsClear, passed as preempts_passed}
 use Rattle.prio_queue.specs.Idle.{IsIdle}
-use Rattle.tick_context.specs.declared.orders.Orders.{Orders}
-use Rattle.tick_context.specs.declared.seeing.Sight.{Sight}
+use Rattle.tick_context.specs.declared.unit_commands.UnitCommands.{UnitCommands}
+use Rattle.tick_context.specs.declared.seeing.TickInputs.{TickInputs}
 use Rattle.controller.specs.declared.Controller.{Controller}
 use Rattle.tick_context.specs.Modes.{is_coord}
 use Rattle.tick_context.specs.Binds.{IsBound}
-use Rattle.tick_context.specs.Even.{IsEven, OrdersPassed}
+use Rattle.tick_context.specs.Even.{IsEven, UnitCommandsPassed}
 use Rattle.tick_context.specs.Lasting.{Looks}
 use Rattle.tick_context.specs.Passed.{timed, planned_target}
 
@@ -24,34 +24,36 @@ counted true k count = count_passed k count
 counted false k count = count
 
 -- the controller after so many ticks at which it shows what it showed, which leave these orders
-abbrev pub passed : ℕ → Controller → Orders → Controller
+abbrev pub passed : ℕ → Controller → UnitCommands → Controller
 passed k c o = record c {
-  frame = timed (is_coord c.frame.mode) (c.count.counter + k) (planned_target c.binding.plan o.clock) c.frame;
+  context = record c.context {
+    frame = timed (is_coord c.context.frame.mode) (c.count.counter + k) (planned_target c.context.active_pattern.plan o.clock) c.context.frame;
+    unit_commands = o;
+  };
   clocks = clocks_passed k c.clocks;
   signals = signals_passed k c.signals;
   preempts = preempts_passed k c.preempts;
-  orders = o;
-  count = counted (is_coord c.frame.mode) k c.count;
+  count = counted (is_coord c.context.frame.mode) k c.count;
 }
 
 -- new is old after so many such ticks, with the orders that it has
 abbrev pub HasPassed : ℕ → Controller → Controller → Type 0
-HasPassed k old new = new ≡ passed k old new.orders
+HasPassed k old new = new ≡ passed k old new.context.unit_commands
 
 -- and these orders are the old ones after so many even ticks
-abbrev pub HasOrders : ℕ → Controller → Controller → Type 0
-HasOrders k old new = OrdersPassed k old.orders new.orders
+abbrev pub HasUnitCommands : ℕ → Controller → Controller → Type 0
+HasUnitCommands k old new = UnitCommandsPassed k old.context.unit_commands new.context.unit_commands
 
 -- at each of so many ticks that come the command and the clock go on evenly
 abbrev pub GoesEvenly : Controller → ℕ → Type 0
-GoesEvenly c k = IsEven c.orders c.tables k
+GoesEvenly c k = IsEven c.context.unit_commands c.context.tables k
 
 -- at ticks in this mode that show what the last frame shows no register moves beside those that count: what is counted of the phases
 -- was so at the last tick, no preempt is counted, no priority request was active, and the pattern of the mode is the one that is kept
 pub record IsReady (c : Controller) (mode : Mode) (past : Past) : Type 0 where
-  pub sight : Sight
-  pub looks : Looks (bound mode) sight past
-  pub steady : IsSteady c.clocks sight.active sight.opposed
+  pub tick_inputs : TickInputs
+  pub looks : Looks (bound mode) tick_inputs past
+  pub steady : IsSteady c.clocks tick_inputs.active tick_inputs.opposed
   pub clear : IsClear c.preempts
-  pub idle : IsIdle c.requests
-  pub bound : IsBound c.binding past.tables mode
+  pub idle : IsIdle c.context.requests
+  pub bound : IsBound c.context.active_pattern past.tables mode

@@ -6,7 +6,7 @@ ghost use Rattle.std.specs.Prelude.{◌≡◌, ◌<◌, ◌≤◌, ◌+◌, ◌&
 
 use crate::Controller;
 use sig_types::{Frame, Mode, PhaseSet};
-use tick_context::{Course, Sight, are_both_on, is_defined, is_free, shows_sixteen};
+use tick_context::{TickInputs, TickState, are_both_on, is_defined, is_free, shows_sixteen};
 
 /// The command that asks for flash.
 const FLASH_COMMAND: u8 = 255;
@@ -33,49 +33,53 @@ impl Controller {
     ghost use Rattle.sig_tables.specs.Ticking.{on_of};
     ghost use Rattle.sig_tables.specs.Decide.{with_moment, next_moment};
     ghost use Rattle.sig_tables.specs.Seen.{frame_seen, mode_seen, pedestrian_seen, demand_with, quiet_seen, opposed_seen};
-    ghost use Rattle.preempt_run.specs.Stands.{preempts_seen};
+    ghost use Rattle.preempt_stages.specs.Inputs.{preempts_seen};
     ghost use Rattle.tick_context.specs.Shows.{is_clearing, is_signalling};
     ghost use Rattle.tick_context.specs.Rests.{IsCurrent, Repeats};
     ghost use Rattle.controller.specs.Runs.{Runs};
     ghost use Rattle.tick_context.specs.Sees.{Sees};
-    ghost use Rattle.controller.specs.StandsFor.{Keeps, tick_count, install_count};
+    ghost use Rattle.controller.specs.StandsFor.{ControllerKeeps, tick_count, install_count};
 
     /// Whether a cabinet that runs free goes on to: no preempt input is on, and this pattern in command is none that is defined
     /// and is no flash.
     pub(crate) fn stays_free(&self, command: u8) -> bool
-        ensures was { (past : Past) → Keeps self.now past → IsTrue result → (frame_seen past).mode ≡ Free }
-        ensures free { (past : Past) → Keeps self.now past → command ≡ command_now past → IsTrue result → mode_seen past ≡ Free }
-        ensures beside { (past : Past) → Keeps self.now past → IsTrue result → preempts_seen past ≡ [] }
+        ensures was { (past : Past) → ControllerKeeps self.now past → IsTrue result → (frame_seen past).mode ≡ Free }
+        ensures free { (past : Past) → ControllerKeeps self.now past → command ≡ command_now past → IsTrue result → mode_seen past ≡ Free }
+        ensures beside { (past : Past) → ControllerKeeps self.now past → IsTrue result → preempts_seen past ≡ [] }
     {
-        if !is_free(self.frame.mode) {
+        if !is_free(self.context.frame.mode) {
             false
         } else if !self.preempts.on().is_empty() {
             false
         } else if command == FLASH_COMMAND {
             false
         } else {
-            !is_defined(&self.tables, command)
+            !is_defined(&self.context.tables, command)
         }
     }
 
     /// Whether no walk begins on a phase that stays Green: of those that show steady don't walk and are not opposed none is
     /// called to.
     pub(crate) fn is_uncalled(&self, opposed: PhaseSet) -> bool
-        ensures walks { (past : Past) (against : ℕ → Bool) (p : ℕ) → Keeps self.now past → Has opposed against → IsTrue result → is_phase p ≡ true
+        ensures walks { (past : Past) (against : ℕ → Bool) (p : ℕ) → ControllerKeeps self.now past → Has opposed against → IsTrue result → is_phase p ≡ true
             → ((has_walk past.tables p && is_in (pedestrian_seen past) p)
             && ((same_colour (colour_of (frame_seen past) p) Green && not (is_signalling (frame_seen past) p))
             && not (against p))) ≡ false }
     {
-        let called = self.layout.walks.meet(self.calls.pedestrian());
+        let called = self
+            .context
+            .layout
+            .walks
+            .meet(self.context.calls.pedestrian());
         let steady = self.shown.green.minus(self.signalling);
         called.meet(steady.minus(opposed)).is_empty()
     }
 
     /// Whether nothing runs out: no phase is in Yellow or red clearance, and none shows Walk or Flash.
     pub(crate) fn is_settled(&self) -> bool
-        ensures colours { (past : Past) (p : ℕ) → Keeps self.now past → IsTrue result → is_phase p ≡ true
+        ensures colours { (past : Past) (p : ℕ) → ControllerKeeps self.now past → IsTrue result → is_phase p ≡ true
             → is_clearing (frame_seen past).veh p ≡ false }
-        ensures signals { (past : Past) (p : ℕ) → Keeps self.now past → IsTrue result → is_phase p ≡ true
+        ensures signals { (past : Past) (p : ℕ) → ControllerKeeps self.now past → IsTrue result → is_phase p ≡ true
             → is_signalling (frame_seen past) p ≡ false }
     {
         if self.shown.clearing.is_empty() {
@@ -87,18 +91,18 @@ impl Controller {
 
     /// Whether the last frame has the version of the tables in force, and what is on by their rings.
     pub(crate) fn is_laid_out(&self) -> bool
-        ensures version { (past : Past) → Keeps self.now past → IsTrue result → (frame_seen past).version ≡ past.version }
-        ensures on { (past : Past) → Keeps self.now past → IsTrue result
+        ensures version { (past : Past) → ControllerKeeps self.now past → IsTrue result → (frame_seen past).version ≡ past.version }
+        ensures on { (past : Past) → ControllerKeeps self.now past → IsTrue result
             → (frame_seen past).on ≡ on_of past.tables (frame_seen past).veh 1 ∷ on_of past.tables (frame_seen past).veh 2 ∷ [] }
     {
         let red = self.shown.red;
-        if self.frame.version != self.version {
+        if self.context.frame.version != self.context.version {
             false
         } else {
             are_on(
-                self.frame.on,
-                self.on_in_ring(red, 1),
-                self.on_in_ring(red, 2),
+                self.context.frame.on,
+                self.context.on_in_ring(red, 1),
+                self.context.on_in_ring(red, 2),
             )
         }
     }
@@ -106,11 +110,11 @@ impl Controller {
     /// Whether the last frame has what a frame of Free has by the tables in force: their version, what is on by their rings,
     /// and no counter and no target.
     pub(crate) fn is_current(&self) -> bool
-        ensures { (past : Past) → Keeps self.now past → IsTrue result → IsCurrent past }
+        ensures { (past : Past) → ControllerKeeps self.now past → IsTrue result → IsCurrent past }
     {
-        if self.frame.counter != 0 {
+        if self.context.frame.counter != 0 {
             false
-        } else if self.frame.target != 0 {
+        } else if self.context.frame.target != 0 {
             false
         } else {
             self.is_laid_out()
@@ -119,11 +123,11 @@ impl Controller {
 
     /// Whether this tick, of a cabinet that runs free and goes on to, with these phases that have demand, is one at rest.
     pub(crate) fn is_at_rest(&self, demand: PhaseSet) -> bool
-        ensures repeats { (past : Past) → Keeps self.now past → (frame_seen past).mode ≡ Free → mode_seen past ≡ Free
+        ensures repeats { (past : Past) → ControllerKeeps self.now past → (frame_seen past).mode ≡ Free → mode_seen past ≡ Free
             → phases_of demand ≡ demand_with None past → IsTrue result → Repeats past }
         ensures demand { IsTrue result → phases_of demand ≡ [] }
     {
-        shows_sixteen(self.frame);
+        shows_sixteen(self.context.frame);
         if !demand.is_empty() {
             false
         } else if !self.is_settled() {
@@ -133,64 +137,65 @@ impl Controller {
         } else if !self.is_current() {
             false
         } else {
-            are_both_on(self.frame.on)
+            are_both_on(self.context.frame.on)
         }
     }
 
     /// A tick at rest, with this pattern in command.
     pub(crate) fn rest(&mut self, command: u8) -> Frame
         requires few { tick_count self.old < 4294967295 }
-        ensures again { result ≡ self.old.frame }
-        ensures keeps { (past : Past) → Keeps self.old past → preempts_seen past ≡ [] → command ≡ command_now past → demand_with None past ≡ []
-            → Repeats past → Keeps self.new (with_moment past (next_moment past)) }
+        ensures again { result ≡ self.old.context.frame }
+        ensures keeps { (past : Past) → ControllerKeeps self.old past → preempts_seen past ≡ [] → command ≡ command_now past → demand_with None past ≡ []
+            → Repeats past → ControllerKeeps self.new (with_moment past (next_moment past)) }
         ensures ticks { tick_count self.new ≡ tick_count self.old + 1 }
         ensures installs { install_count self.new ≡ install_count self.old }
     {
-        let clock = self.orders.clock_now();
-        let active = self.calls.active(&self.layout, None);
+        let context = &self.context;
+        let clock = context.unit_commands.clock_now();
+        let active = context.calls.active(&context.layout, None);
         self.repeat(command, clock, active, PhaseSet::empty())
     }
 
     /// Whether this tick, of a cabinet that runs free and goes on to, is plain: what clears or walks goes on with it, no walk
     /// begins, and no Green phase is done, or none has demand.
-    pub(crate) fn is_plain(&self, sight: &Sight) -> bool
+    pub(crate) fn is_plain(&self, tick_inputs: &TickInputs) -> bool
         requires few { tick_count self.now < 4294967295 }
-        ensures repeats { (past : Past) → Keeps self.now past → Sees sight.now past → (frame_seen past).mode ≡ Free → mode_seen past ≡ Free
+        ensures repeats { (past : Past) → ControllerKeeps self.now past → Sees tick_inputs.now past → (frame_seen past).mode ≡ Free → mode_seen past ≡ Free
             → IsTrue result → Repeats past }
     {
-        shows_sixteen(self.frame);
+        shows_sixteen(self.context.frame);
         if !self.clears_on() {
             false
-        } else if !self.is_uncalled(sight.opposed) {
+        } else if !self.is_uncalled(tick_inputs.opposed) {
             false
         } else if !self.all_walk_on() {
             false
-        } else if !self.all_stay(sight) {
+        } else if !self.all_stay(tick_inputs) {
             false
         } else if !self.is_current() {
             false
         } else {
-            are_both_on(self.frame.on)
+            are_both_on(self.context.frame.on)
         }
     }
 
     /// Whether this tick gives the last frame again, of a cabinet that runs free and goes on to.
-    pub(crate) fn repeats(&self, course: &Course, sight: &Sight) -> bool
+    pub(crate) fn repeats(&self, tick_state: &TickState, tick_inputs: &TickInputs) -> bool
         requires few { tick_count self.now < 4294967295 }
-        ensures repeats { (past : Past) → Runs self.now course.now past → Sees sight.now past → (frame_seen past).mode ≡ Free
+        ensures repeats { (past : Past) → Runs self.now tick_state.now past → Sees tick_inputs.now past → (frame_seen past).mode ≡ Free
             → mode_seen past ≡ Free → IsTrue result → Repeats past }
     {
-        let moves = self.moves(course, sight);
-        if !self.is_still(&self.frame.veh, moves) {
+        let moves = self.moves(tick_state, tick_inputs);
+        if !self.is_still(&self.context.frame.veh, moves) {
             return false;
         }
-        let walks = self.walks(course, sight, moves, Mode::Free);
-        if !self.is_steady(course, &self.frame.ped, walks) {
+        let walks = self.walks(tick_state, tick_inputs, moves, Mode::Free);
+        if !self.is_steady(tick_state, &self.context.frame.ped, walks) {
             false
         } else if !self.is_current() {
             false
         } else {
-            are_both_on(self.frame.on)
+            are_both_on(self.context.frame.on)
         }
     }
 
@@ -205,20 +210,26 @@ impl Controller {
     ) -> Frame
         requires few { tick_count self.old < 4294967295 }
         requires of_day { clock < 864000 }
-        ensures again { result ≡ self.old.frame }
-        ensures keeps { (past : Past) → Keeps self.old past → preempts_seen past ≡ [] → command ≡ command_now past → clock ≡ clock_now past
+        ensures again { result ≡ self.old.context.frame }
+        ensures keeps { (past : Past) → ControllerKeeps self.old past → preempts_seen past ≡ [] → command ≡ command_now past → clock ≡ clock_now past
             → ((p : ℕ) → is_phase p ≡ true → is_in (quiet_seen past) p ≡ (is_green (frame_seen past) p && not (has active p)))
-            → Has opposed (is_in (opposed_seen past)) → Repeats past → Keeps self.new (with_moment past (next_moment past)) }
+            → Has opposed (is_in (opposed_seen past)) → Repeats past → ControllerKeeps self.new (with_moment past (next_moment past)) }
         ensures ticks { tick_count self.new ≡ tick_count self.old + 1 }
         ensures installs { install_count self.new ≡ install_count self.old }
     {
-        self.calls.step(self.shown.green, self.walking);
-        self.clocks
-            .step(&self.frame, true, active, opposed, &self.tables);
-        self.signals.step(&self.frame, true, &self.tables);
+        self.context.calls.step(self.shown.green, self.walking);
+        self.clocks.step(
+            &self.context.frame,
+            true,
+            active,
+            opposed,
+            &self.context.tables,
+        );
+        self.signals
+            .step(&self.context.frame, true, &self.context.tables);
         self.preempts.stay();
-        self.requests.step(None);
-        self.orders.step(command, clock);
-        self.frame
+        self.context.requests.step(None);
+        self.context.unit_commands.step(command, clock);
+        self.context.frame
     }
 }

@@ -1,13 +1,12 @@
 //! The colours and the frame of a tick, from what the rings do.
 
-ghost use Rattle.std.specs.Prelude.{◌≡◌, ◌<◌, ◌≤◌, ℕ, List, map, IsTrue, true};
+ghost use Rattle.std.specs.Prelude.{◌≡◌, ◌<◌, ◌≤◌, ℕ, IsTrue, true};
 
 use crate::Controller;
 use crate::by_colour::ByColour;
-use flash_mode::reached;
 use ring_barrier::Changes;
-use sig_types::{Colour, Frame, Mode, Ped, PhaseSet};
-use tick_context::{Course, Sight, lone};
+use sig_types::{Colour, Frame};
+use tick_context::{TickInputs, TickState, lone};
 
 /// The frame of a tick, the phases by its colours, and whether every phase keeps the colour and the signal that it had.
 #[derive(Clone, Copy)]
@@ -19,26 +18,19 @@ pub(crate) struct Next {
 }
 
 impl Controller {
-    ghost use Rattle.sig_types.specs.Phases.{all_phases, is_phase};
+    ghost use Rattle.sig_types.specs.Phases.{is_phase};
     ghost use Rattle.sig_tables.specs.Looking.{runs_on};
-    ghost use Rattle.sig_types.specs.Colour.{same_colour, colour_in, colour_of};
-    ghost use Rattle.sig_types.specs.declared.frame.Colour.TheVariants.{Red};
-    ghost use Rattle.sig_types.specs.declared.frame.Ped.TheVariants.{Walk};
+    ghost use Rattle.sig_types.specs.Colour.{colour_of};
     ghost use Rattle.sig_tables.specs.Past.{Past};
-    ghost use Rattle.sig_tables.specs.Choosing.{mode_reached};
     ghost use Rattle.sig_tables.specs.Moves.{Moves};
-    ghost use Rattle.sig_tables.specs.Decide.{colour_after, colours_of, on_of, next_moment};
-    ghost use Rattle.sig_tables.specs.Course.{course_of};
-    ghost use Rattle.sig_tables.specs.Ticking.{signal_after, frame_of};
-    ghost use Rattle.sig_tables.specs.Layout.{Has};
-    ghost use Rattle.sig_tables.specs.Seen.{frame_seen, mode_seen, sight_seen};
+    ghost use Rattle.sig_tables.specs.Decide.{colour_after, colours_of, next_moment};
+    ghost use Rattle.sig_tables.specs.Seen.{frame_seen};
     ghost use Rattle.controller.specs.Shows.{ShowsColours};
     ghost use Rattle.tick_context.specs.Shows.{is_clearing};
-    ghost use Rattle.tick_context.specs.Walks.{crossing_seen};
     ghost use Rattle.controller.specs.Runs.{Runs};
     ghost use Rattle.tick_context.specs.Sees.{Sees};
     ghost use Rattle.controller.specs.Comes.{Comes};
-    ghost use Rattle.controller.specs.StandsFor.{Keeps, tick_count};
+    ghost use Rattle.controller.specs.StandsFor.{ControllerKeeps, tick_count};
     ghost use Rattle.tick_context.specs.Moves.{AreMoves};
 
     /// The colour of a phase, 1 to 16, after these moves.
@@ -46,10 +38,10 @@ impl Controller {
         requires above { 0 < phase }
         requires within { phase ≤ 16 }
         requires few { tick_count self.now < 4294967295 }
-        ensures after { (past : Past) (w : Moves) → Keeps self.now past → AreMoves moves w
+        ensures after { (past : Past) (w : Moves) → ControllerKeeps self.now past → AreMoves moves w
             → result ≡ colour_after w phase past.tables past.moments (colour_of (frame_seen past) phase) }
     {
-        match self.frame.veh[phase as usize - 1] {
+        match self.context.frame.veh[phase as usize - 1] {
             Colour::Green => {
                 if moves.ends.has(phase) {
                     Colour::Yellow
@@ -73,7 +65,7 @@ impl Controller {
     /// or red clearance stay in it.
     pub(crate) fn is_still(&self, veh: &[Colour; 16], moves: Changes) -> bool
         requires few { tick_count self.now < 4294967295 }
-        ensures still { (past : Past) (w : Moves) → Keeps self.now past → AreMoves moves w → veh.now ≡ (frame_seen past).veh
+        ensures still { (past : Past) (w : Moves) → ControllerKeeps self.now past → AreMoves moves w → veh.now ≡ (frame_seen past).veh
             → IsTrue result → veh.now ≡ colours_of past w }
     {
         if moves.ends.is_empty() && moves.begins.is_empty() {
@@ -87,7 +79,7 @@ impl Controller {
     /// another clears, this says no.
     pub(crate) fn clears_on(&self) -> bool
         requires few { tick_count self.now < 4294967295 }
-        ensures stays { (past : Past) (p : ℕ) → Keeps self.now past → IsTrue result → is_phase p ≡ true
+        ensures stays { (past : Past) (p : ℕ) → ControllerKeeps self.now past → IsTrue result → is_phase p ≡ true
             → is_clearing (frame_seen past).veh p ≡ true
             → runs_on p past.tables past.moments (colour_of (frame_seen past) p) ≡ colour_of (frame_seen past) p }
     {
@@ -95,7 +87,7 @@ impl Controller {
         if clearing.is_empty() {
             return true;
         }
-        let [first, second] = self.frame.on;
+        let [first, second] = self.context.frame.on;
         if clearing.minus(lone(first)).minus(lone(second)).is_empty() {
             self.keeps_colour(first) && self.keeps_colour(second)
         } else {
@@ -106,7 +98,7 @@ impl Controller {
     /// Whether a phase that neither ends nor begins keeps its colour. What is no phase does.
     fn keeps_colour(&self, phase: u8) -> bool
         requires few { tick_count self.now < 4294967295 }
-        ensures stays { (past : Past) → Keeps self.now past → IsTrue result → is_phase phase ≡ true
+        ensures stays { (past : Past) → ControllerKeeps self.now past → IsTrue result → is_phase phase ≡ true
             → runs_on phase past.tables past.moments (colour_of (frame_seen past) phase) ≡ colour_of (frame_seen past) phase }
     {
         if phase == 0 {
@@ -114,19 +106,19 @@ impl Controller {
         } else if phase > 16 {
             true
         } else {
-            self.by_itself(phase) == self.frame.veh[phase as usize - 1]
+            self.by_itself(phase) == self.context.frame.veh[phase as usize - 1]
         }
     }
 
     /// The colours after these moves: those of the last frame, where every phase keeps its own.
     fn colours(&self, moves: Changes, kept: bool) -> [Colour; 16]
         requires few { tick_count self.now < 4294967295 }
-        ensures colours { (past : Past) (w : Moves) → Keeps self.now past → AreMoves moves w
-            → (IsTrue kept → self.now.frame.veh ≡ colours_of past w) → result ≡ colours_of past w }
-        ensures kept { IsTrue kept → result ≡ self.now.frame.veh }
+        ensures colours { (past : Past) (w : Moves) → ControllerKeeps self.now past → AreMoves moves w
+            → (IsTrue kept → self.now.context.frame.veh ≡ colours_of past w) → result ≡ colours_of past w }
+        ensures kept { IsTrue kept → result ≡ self.now.context.frame.veh }
     {
         if kept {
-            return self.frame.veh;
+            return self.context.frame.veh;
         }
         let mut veh = [Colour::Red; 16];
         for p in 0..16 {
@@ -137,69 +129,28 @@ impl Controller {
 
     /// The phases by these colours; the sets that are kept, where the colours are those of the last frame.
     fn shown_in(&self, veh: &[Colour; 16], kept: bool) -> ByColour
-        ensures shown { (past : Past) → Keeps self.now past → (IsTrue kept → veh.now ≡ self.now.frame.veh) → ShowsColours result veh.now }
+        ensures shown { (past : Past) → ControllerKeeps self.now past → (IsTrue kept → veh.now ≡ self.now.context.frame.veh) → ShowsColours result veh.now }
     {
         if kept { self.shown } else { ByColour::of(veh) }
     }
 
-    /// The phase of a ring, 1 to 2, that is on in these colours, or 0.
-    pub(crate) fn on_in_ring(&self, red: PhaseSet, ring: u8) -> u8
-        requires above { 0 < ring }
-        requires within { ring ≤ 2 }
-        ensures on { (past : Past) (veh : List Colour) → Keeps self.now past → Has red (λ p. same_colour (colour_in veh p) Red)
-            → result ≡ on_of past.tables veh ring }
-    {
-        self.layout.rings[ring as usize - 1].minus(red).first()
-    }
-
-    /// The mode of this tick's frame, with these colours.
-    fn mode_reached(&self, course: &Course, veh: &[Colour; 16]) -> Mode
-        ensures reached { (past : Past) → Runs self.now course.now past → result ≡ mode_reached (mode_seen past) past.tables veh.now }
-    {
-        reached(course.mode, self.binding.plan.coordinated, veh)
-    }
-
-    /// The frame of this tick, from its mode, its colours, the phases in Red among them, and its signals.
-    fn frame_after(
-        &self,
-        course: &Course,
-        mode: Mode,
-        veh: [Colour; 16],
-        red: PhaseSet,
-        ped: [Ped; 16],
-    ) -> Frame
-        ensures frame { (past : Past) → Runs self.now course.now past → Has red (λ p. same_colour (colour_in veh p) Red)
-            → ped ≡ map (signal_after (course_of past) past (crossing_seen past mode) veh mode) all_phases
-            → result ≡ frame_of (course_of past) past (sight_seen past) veh mode }
-        ensures veh { result.veh ≡ veh }
-        ensures ped { result.ped ≡ ped }
-    {
-        Frame {
-            veh,
-            ped,
-            on: [self.on_in_ring(red, 1), self.on_in_ring(red, 2)],
-            mode,
-            counter: course.counter,
-            target: course.target,
-            version: self.version,
-        }
-    }
-
     /// The frame of this tick, and what it keeps of the last one.
-    pub(crate) fn next_frame(&self, course: &Course, sight: &Sight) -> Next
+    pub(crate) fn next_frame(&self, tick_state: &TickState, tick_inputs: &TickInputs) -> Next
         requires few { tick_count self.now < 4294967295 }
-        ensures given { (past : Past) → Runs self.now course.now past → Sees sight.now past → Comes result past }
+        ensures given { (past : Past) → Runs self.now tick_state.now past → Sees tick_inputs.now past → Comes result past }
     {
-        let moves = self.moves(course, sight);
-        let keeps_colours = self.is_still(&self.frame.veh, moves);
+        let moves = self.moves(tick_state, tick_inputs);
+        let keeps_colours = self.is_still(&self.context.frame.veh, moves);
         let veh = self.colours(moves, keeps_colours);
-        let mode = self.mode_reached(course, &veh);
-        let walks = self.walks(course, sight, moves, mode);
-        let keeps_signals = self.is_steady(course, &self.frame.ped, walks);
-        let ped = self.signals_after(course, walks, keeps_signals);
+        let mode = self.context.mode_reached(tick_state, &veh);
+        let walks = self.walks(tick_state, tick_inputs, moves, mode);
+        let keeps_signals = self.is_steady(tick_state, &self.context.frame.ped, walks);
+        let ped = self.signals_after(tick_state, walks, keeps_signals);
         let shown = self.shown_in(&veh, keeps_colours);
         Next {
-            frame: self.frame_after(course, mode, veh, shown.red, ped),
+            frame: self
+                .context
+                .frame_after(tick_state, mode, veh, shown.red, ped),
             shown,
             keeps_colours,
             keeps_signals,

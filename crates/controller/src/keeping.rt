@@ -8,7 +8,7 @@ use crate::colouring::Next;
 use call_store::signalling;
 use coord_count::Count;
 use sig_types::{Frame, Mode, Ped, PhaseSet};
-use tick_context::{Course, Sight, is_coord};
+use tick_context::{TickInputs, TickState, is_coord};
 
 /// Whether a frame is in Start.
 pub(crate) fn shows_start(frame: &Frame) -> bool
@@ -70,11 +70,12 @@ impl Controller {
     ghost use Rattle.tick_context.specs.Sees.{Sees};
     ghost use Rattle.sig_tables.specs.Choosing.{is_in_step};
     ghost use Rattle.coord_count.specs.Stands.{CountStands};
-    ghost use Rattle.controller.specs.StandsFor.{Keeps, CountsOn, tick_count, install_count};
+    ghost use Rattle.tick_context.specs.Context.{CountsOn};
+    ghost use Rattle.controller.specs.StandsFor.{ControllerKeeps, tick_count, install_count};
 
     /// The phases that show Walk; the set that is kept, where every phase keeps its signal.
     fn walking_in(&self, next: &Next) -> PhaseSet
-        ensures walking { (past : Past) → Keeps self.now past → Comes next.now past → Has result (is_walking next.now.frame) }
+        ensures walking { (past : Past) → ControllerKeeps self.now past → Comes next.now past → Has result (is_walking next.now.frame) }
     {
         if next.keeps_signals {
             self.walking
@@ -85,7 +86,7 @@ impl Controller {
 
     /// The phases that show Walk, which are these, or Flash; the set that is kept, where every phase keeps its signal.
     fn signalling_in(&self, next: &Next, walking: PhaseSet) -> PhaseSet
-        ensures signalling { (past : Past) → Keeps self.now past → Comes next.now past → Has walking (is_walking next.now.frame)
+        ensures signalling { (past : Past) → ControllerKeeps self.now past → Comes next.now past → Has walking (is_walking next.now.frame)
             → Has result (is_signalling next.now.frame) }
     {
         if next.keeps_signals {
@@ -106,11 +107,11 @@ impl Controller {
     }
 
     /// The count of the cycle after this frame: a tick in step with a pattern counts on, and any other frame may be a pickup.
-    fn count_after(&self, frame: &Frame, course: &Course) -> Count
-        ensures counts { (past : Past) → Runs self.now course.now past → frame.now ≡ (next_moment past).frame
+    fn count_after(&self, frame: &Frame, tick_state: &TickState) -> Count
+        ensures counts { (past : Past) → Runs self.now tick_state.now past → frame.now ≡ (next_moment past).frame
             → (n : ℕ) → is_in_step frame.now past.version n ≡ true → CountsOn result (with_moment past (next_moment past)) n }
     {
-        if is_coord(course.mode) {
+        if is_coord(tick_state.mode) {
             self.counted(frame.counter)
         } else {
             Count::new()
@@ -118,11 +119,11 @@ impl Controller {
     }
 
     /// Keeps the frame of this tick.
-    pub(crate) fn keep(&mut self, next: &Next, course: &Course, sight: &Sight)
+    pub(crate) fn keep(&mut self, next: &Next, tick_state: &TickState, tick_inputs: &TickInputs)
         requires few { tick_count self.old < 4294967295 }
-        requires of_day { course.now.clock < 864000 }
-        ensures keeps { (past : Past) → Runs self.old course.now past → Sees sight.now past → Comes next.now past
-            → Keeps self.new (with_moment past (next_moment past)) }
+        requires of_day { tick_state.now.clock < 864000 }
+        ensures keeps { (past : Past) → Runs self.old tick_state.now past → Sees tick_inputs.now past → Comes next.now past
+            → ControllerKeeps self.new (with_moment past (next_moment past)) }
         ensures ticks { tick_count self.new ≡ tick_count self.old + 1 }
         ensures installs { install_count self.new ≡ install_count self.old }
     {
@@ -130,19 +131,22 @@ impl Controller {
         let in_start = shows_start(frame);
         let walking = self.walking_in(next);
         let signalling = self.signalling_in(next, walking);
-        let count = self.count_after(frame, course);
-        self.calls.step(next.shown.green, walking);
+        let count = self.count_after(frame, tick_state);
+        self.context.calls.step(next.shown.green, walking);
         self.clocks.step(
             frame,
             next.keeps_colours,
-            sight.active,
-            sight.opposed,
-            &self.tables,
+            tick_inputs.active,
+            tick_inputs.opposed,
+            &self.context.tables,
         );
-        self.signals.step(frame, next.keeps_signals, &self.tables);
+        self.signals
+            .step(frame, next.keeps_signals, &self.context.tables);
         self.preempts.step(frame);
-        self.requests.step(course.active);
-        self.orders.step(course.command, course.clock);
+        self.context.requests.step(tick_state.active);
+        self.context
+            .unit_commands
+            .step(tick_state.command, tick_state.clock);
         self.count = count;
         self.shown = next.shown;
         self.walking = walking;
@@ -153,6 +157,6 @@ impl Controller {
         ];
         self.latest = latest_after(self.latest, frame.on, in_start);
         self.start_run = start_run_after(self.start_run, in_start);
-        self.frame = *frame;
+        self.context.frame = *frame;
     }
 }

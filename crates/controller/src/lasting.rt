@@ -5,7 +5,7 @@ ghost use Rattle.std.specs.Prelude.{◌≡◌, ◌<◌, ◌≤◌, ◌+◌, ◌&
 
 use crate::Controller;
 use sig_types::Colour;
-use tick_context::{Sight, is_coord, lone};
+use tick_context::{TickInputs, is_coord, lone};
 
 impl Controller {
     ghost use Rattle.sig_types.specs.Phases.{is_phase, is_in};
@@ -15,20 +15,20 @@ impl Controller {
     ghost use Rattle.sig_tables.specs.Calls.{is_green};
     ghost use Rattle.sig_tables.specs.Modes.{bound};
     ghost use Rattle.sig_tables.specs.Seen.{frame_seen, demand_with, quiet_with};
-    ghost use Rattle.ped_clock.specs.Passed.{SignalLasts};
-    ghost use Rattle.tick_context.specs.Binds.{BindingIs, IsBound};
+    ghost use Rattle.call_store.specs.Signals.{SignalLasts};
+    ghost use Rattle.tick_context.specs.Binds.{ActivePatternIs, IsBound};
     ghost use Rattle.tick_context.specs.Lasting.{Looks, ColourLasts, StaysUnserved, HasNoGap, HasNoMaximum, ComesBefore, HasNoReason, StaysUnforced, PhaseLasts, opposed_with};
-    ghost use Rattle.controller.specs.StandsFor.{Keeps, tick_count};
+    ghost use Rattle.controller.specs.StandsFor.{ControllerKeeps, tick_count};
 
     /// For how many ticks more a phase, 1 to 16, keeps its colour where it neither ends nor begins.
     fn colour_left(&self, phase: u8) -> u32
         requires above { 0 < phase }
         requires within { phase ≤ 16 }
         requires few { tick_count self.now < 4294967295 }
-        ensures left { (past : Past) (k : ℕ) → Keeps self.now past → 0 < k → k ≤ result
+        ensures left { (past : Past) (k : ℕ) → ControllerKeeps self.now past → 0 < k → k ≤ result
             → ColourLasts k phase past.tables past.moments (colour_of (frame_seen past) phase) }
     {
-        match self.frame.veh[phase as usize - 1] {
+        match self.context.frame.veh[phase as usize - 1] {
             Colour::Green => u32::MAX,
             Colour::Red => u32::MAX,
             Colour::Yellow => {
@@ -47,10 +47,11 @@ impl Controller {
         requires above { 0 < phase }
         requires within { phase ≤ 16 }
         requires few { tick_count self.now < 4294967295 }
-        ensures left { (past : Past) (k : ℕ) → Keeps self.now past → 0 < k → k ≤ result
+        ensures left { (past : Past) (k : ℕ) → ControllerKeeps self.now past → 0 < k → k ≤ result
             → SignalLasts k phase past.tables past.moments (signal_of (frame_seen past) phase) }
     {
-        self.signals.left(phase, self.frame.ped[phase as usize - 1])
+        self.signals
+            .left(phase, self.context.frame.ped[phase as usize - 1])
     }
 
     /// For how many ticks more a Green phase, 1 to 16, is not served. While it shows Walk or Flash it is not.
@@ -58,7 +59,7 @@ impl Controller {
         requires above { 0 < phase }
         requires within { phase ≤ 16 }
         requires few { tick_count self.now < 4294967295 }
-        ensures left { (past : Past) (k : ℕ) → Keeps self.now past → is_green (frame_seen past) phase ≡ true → 0 < k → k ≤ result
+        ensures left { (past : Past) (k : ℕ) → ControllerKeeps self.now past → is_green (frame_seen past) phase ≡ true → 0 < k → k ≤ result
             → StaysUnserved k past phase }
     {
         if self.signalling.has(phase) {
@@ -73,13 +74,13 @@ impl Controller {
     fn gap_left(&self, phase: u8, active: bool) -> u32
         requires above { 0 < phase }
         requires within { phase ≤ 16 }
-        ensures left { (past : Past) (o : Option ℕ) (k : ℕ) → Keeps self.now past → active ≡ not (is_in (quiet_with o past) phase) → 0 < k → k ≤ result
+        ensures left { (past : Past) (o : Option ℕ) (k : ℕ) → ControllerKeeps self.now past → active ≡ not (is_in (quiet_with o past) phase) → 0 < k → k ≤ result
             → HasNoGap o k past phase }
     {
         if active {
             u32::MAX
         } else {
-            let gap = u32::from(self.tables.phase(phase).passage.max(1));
+            let gap = u32::from(self.context.tables.phase(phase).passage.max(1));
             (gap - 1).saturating_sub(self.clocks.quiet(phase))
         }
     }
@@ -88,10 +89,10 @@ impl Controller {
     fn maximum_left(&self, phase: u8, opposed: bool) -> u32
         requires above { 0 < phase }
         requires within { phase ≤ 16 }
-        ensures left { (past : Past) (o : Option ℕ) (k : ℕ) → Keeps self.now past → opposed ≡ is_in (opposed_with o past) phase → 0 < k → k ≤ result
+        ensures left { (past : Past) (o : Option ℕ) (k : ℕ) → ControllerKeeps self.now past → opposed ≡ is_in (opposed_with o past) phase → 0 < k → k ≤ result
             → HasNoMaximum o k past phase }
     {
-        let maximum = 10 * u32::from(self.tables.phase(phase).maximum);
+        let maximum = 10 * u32::from(self.context.tables.phase(phase).maximum);
         if maximum == 0 {
             0
         } else if opposed {
@@ -105,23 +106,25 @@ impl Controller {
     fn force_left(&self, phase: u8) -> u32
         requires above { 0 < phase }
         requires within { phase ≤ 16 }
-        ensures left { (past : Past) (n k : ℕ) → Keeps self.now past → BindingIs self.now.binding past.tables n → 0 < k → k ≤ result
+        ensures left { (past : Past) (n k : ℕ) → ControllerKeeps self.now past → ActivePatternIs self.now.context.active_pattern past.tables n → 0 < k → k ≤ result
             → ComesBefore n k past phase }
     {
-        let force = self.binding.plan.force[phase as usize - 1];
-        force.saturating_sub(1).saturating_sub(self.frame.counter)
+        let force = self.context.active_pattern.plan.force[phase as usize - 1];
+        force
+            .saturating_sub(1)
+            .saturating_sub(self.context.frame.counter)
     }
 
     /// For how many ticks more there is no reason to end a Green phase, 1 to 16, where the pattern that is kept binds.
     fn bound_left(&self, phase: u8, active: bool) -> u32
         requires above { 0 < phase }
         requires within { phase ≤ 16 }
-        ensures left { (past : Past) (n k : ℕ) → Keeps self.now past → BindingIs self.now.binding past.tables n
+        ensures left { (past : Past) (n k : ℕ) → ControllerKeeps self.now past → ActivePatternIs self.now.context.active_pattern past.tables n
             → active ≡ not (is_in (quiet_with (Some n) past) phase) → 0 < k → k ≤ result → HasNoReason (Some n) k past phase }
     {
-        if self.binding.options.coordinated.has(phase) {
+        if self.context.active_pattern.options.coordinated.has(phase) {
             self.force_left(phase)
-        } else if self.binding.plan.floating {
+        } else if self.context.active_pattern.plan.floating {
             0
         } else {
             self.gap_left(phase, active)
@@ -132,7 +135,7 @@ impl Controller {
     fn unbound_left(&self, phase: u8, active: bool, opposed: bool) -> u32
         requires above { 0 < phase }
         requires within { phase ≤ 16 }
-        ensures left { (past : Past) (k : ℕ) → Keeps self.now past → active ≡ not (is_in (quiet_with None past) phase)
+        ensures left { (past : Past) (k : ℕ) → ControllerKeeps self.now past → active ≡ not (is_in (quiet_with None past) phase)
             → opposed ≡ is_in (opposed_with None past) phase → 0 < k → k ≤ result → HasNoReason None k past phase }
     {
         let gap = self.gap_left(phase, active);
@@ -143,12 +146,12 @@ impl Controller {
     fn reason_left(&self, phase: u8, active: bool, opposed: bool) -> u32
         requires above { 0 < phase }
         requires within { phase ≤ 16 }
-        ensures left { (past : Past) (k : ℕ) → Keeps self.now past → IsBound self.now.binding past.tables self.now.frame.mode
-            → active ≡ not (is_in (quiet_with (bound self.now.frame.mode) past) phase)
-            → opposed ≡ is_in (opposed_with (bound self.now.frame.mode) past) phase → 0 < k → k ≤ result
-            → HasNoReason (bound self.now.frame.mode) k past phase }
+        ensures left { (past : Past) (k : ℕ) → ControllerKeeps self.now past → IsBound self.now.context.active_pattern past.tables self.now.context.frame.mode
+            → active ≡ not (is_in (quiet_with (bound self.now.context.frame.mode) past) phase)
+            → opposed ≡ is_in (opposed_with (bound self.now.context.frame.mode) past) phase → 0 < k → k ≤ result
+            → HasNoReason (bound self.now.context.frame.mode) k past phase }
     {
-        if is_coord(self.frame.mode) {
+        if is_coord(self.context.frame.mode) {
             self.bound_left(phase, active)
         } else {
             self.unbound_left(phase, active, opposed)
@@ -159,12 +162,12 @@ impl Controller {
     fn unforced_left(&self, phase: u8) -> u32
         requires above { 0 < phase }
         requires within { phase ≤ 16 }
-        ensures left { (past : Past) (k : ℕ) → Keeps self.now past → IsBound self.now.binding past.tables self.now.frame.mode → 0 < k → k ≤ result
-            → StaysUnforced (bound self.now.frame.mode) k past phase }
+        ensures left { (past : Past) (k : ℕ) → ControllerKeeps self.now past → IsBound self.now.context.active_pattern past.tables self.now.context.frame.mode → 0 < k → k ≤ result
+            → StaysUnforced (bound self.now.context.frame.mode) k past phase }
     {
-        if !is_coord(self.frame.mode) {
+        if !is_coord(self.context.frame.mode) {
             u32::MAX
-        } else if self.binding.options.coordinated.has(phase) {
+        } else if self.context.active_pattern.options.coordinated.has(phase) {
             u32::MAX
         } else {
             self.force_left(phase)
@@ -172,89 +175,89 @@ impl Controller {
     }
 
     /// For how many ticks more an enabled Green phase, 1 to 16, stays: it is not served, or there is no reason to end it.
-    fn stay_left(&self, sight: &Sight, phase: u8) -> u32
+    fn stay_left(&self, tick_inputs: &TickInputs, phase: u8) -> u32
         requires above { 0 < phase }
         requires within { phase ≤ 16 }
         requires few { tick_count self.now < 4294967295 }
-        ensures left { (past : Past) (k : ℕ) → Keeps self.now past → IsBound self.now.binding past.tables self.now.frame.mode
-            → Looks (bound self.now.frame.mode) sight.now past → is_green (frame_seen past) phase ≡ true → 0 < k → k ≤ result
-            → StaysUnserved k past phase ⊎ HasNoReason (bound self.now.frame.mode) k past phase }
+        ensures left { (past : Past) (k : ℕ) → ControllerKeeps self.now past → IsBound self.now.context.active_pattern past.tables self.now.context.frame.mode
+            → Looks (bound self.now.context.frame.mode) tick_inputs.now past → is_green (frame_seen past) phase ≡ true → 0 < k → k ≤ result
+            → StaysUnserved k past phase ⊎ HasNoReason (bound self.now.context.frame.mode) k past phase }
     {
         let unserved = self.unserved_left(phase);
-        let active = sight.active.has(phase);
-        let opposed = sight.opposed.has(phase);
+        let active = tick_inputs.active.has(phase);
+        let opposed = tick_inputs.opposed.has(phase);
         unserved.max(self.reason_left(phase, active, opposed))
     }
 
     /// For how many ticks more a phase, 1 to 16, is not ended where it is Green: it is not forced off, and nothing has demand,
     /// or it stays.
-    fn green_left(&self, sight: &Sight, phase: u8) -> u32
+    fn green_left(&self, tick_inputs: &TickInputs, phase: u8) -> u32
         requires above { 0 < phase }
         requires within { phase ≤ 16 }
         requires few { tick_count self.now < 4294967295 }
-        ensures unforced { (past : Past) (k : ℕ) → Keeps self.now past → IsBound self.now.binding past.tables self.now.frame.mode
+        ensures unforced { (past : Past) (k : ℕ) → ControllerKeeps self.now past → IsBound self.now.context.active_pattern past.tables self.now.context.frame.mode
             → (is_enabled past.tables phase && is_green (frame_seen past) phase) ≡ true → 0 < k → k ≤ result
-            → StaysUnforced (bound self.now.frame.mode) k past phase }
-        ensures stays { (past : Past) (k : ℕ) → Keeps self.now past → IsBound self.now.binding past.tables self.now.frame.mode
-            → Looks (bound self.now.frame.mode) sight.now past
+            → StaysUnforced (bound self.now.context.frame.mode) k past phase }
+        ensures stays { (past : Past) (k : ℕ) → ControllerKeeps self.now past → IsBound self.now.context.active_pattern past.tables self.now.context.frame.mode
+            → Looks (bound self.now.context.frame.mode) tick_inputs.now past
             → (is_enabled past.tables phase && is_green (frame_seen past) phase) ≡ true → 0 < k → k ≤ result
-            → (demand_with (bound self.now.frame.mode) past ≡ [])
-            ⊎ (StaysUnserved k past phase ⊎ HasNoReason (bound self.now.frame.mode) k past phase) }
+            → (demand_with (bound self.now.context.frame.mode) past ≡ [])
+            ⊎ (StaysUnserved k past phase ⊎ HasNoReason (bound self.now.context.frame.mode) k past phase) }
     {
         if !self.shown.green.has(phase) {
             return u32::MAX;
         }
         let unforced = self.unforced_left(phase);
-        if sight.demand.is_empty() {
+        if tick_inputs.demand.is_empty() {
             unforced
         } else {
-            unforced.min(self.stay_left(sight, phase))
+            unforced.min(self.stay_left(tick_inputs, phase))
         }
     }
 
     /// For how many ticks more a phase, 1 to 16, goes on with what it shows.
-    fn phase_left(&self, sight: &Sight, phase: u8) -> u32
+    fn phase_left(&self, tick_inputs: &TickInputs, phase: u8) -> u32
         requires above { 0 < phase }
         requires within { phase ≤ 16 }
         requires few { tick_count self.now < 4294967295 }
-        ensures left { (past : Past) (k : ℕ) → Keeps self.now past → IsBound self.now.binding past.tables self.now.frame.mode
-            → Looks (bound self.now.frame.mode) sight.now past → 0 < k → k ≤ result → PhaseLasts (bound self.now.frame.mode) k past phase }
+        ensures left { (past : Past) (k : ℕ) → ControllerKeeps self.now past → IsBound self.now.context.active_pattern past.tables self.now.context.frame.mode
+            → Looks (bound self.now.context.frame.mode) tick_inputs.now past → 0 < k → k ≤ result → PhaseLasts (bound self.now.context.frame.mode) k past phase }
     {
         let colour = self.colour_left(phase);
         let signal = self.signal_left(phase);
-        colour.min(signal).min(self.green_left(sight, phase))
+        colour.min(signal).min(self.green_left(tick_inputs, phase))
     }
 
     /// The same of what may be no phase: that goes on for ever.
-    fn place_left(&self, sight: &Sight, phase: u8) -> u32
+    fn place_left(&self, tick_inputs: &TickInputs, phase: u8) -> u32
         requires few { tick_count self.now < 4294967295 }
-        ensures left { (past : Past) (k : ℕ) → Keeps self.now past → IsBound self.now.binding past.tables self.now.frame.mode
-            → Looks (bound self.now.frame.mode) sight.now past → 0 < k → k ≤ result → is_phase phase ≡ true
-            → PhaseLasts (bound self.now.frame.mode) k past phase }
+        ensures left { (past : Past) (k : ℕ) → ControllerKeeps self.now past → IsBound self.now.context.active_pattern past.tables self.now.context.frame.mode
+            → Looks (bound self.now.context.frame.mode) tick_inputs.now past → 0 < k → k ≤ result → is_phase phase ≡ true
+            → PhaseLasts (bound self.now.context.frame.mode) k past phase }
     {
         if phase == 0 {
             u32::MAX
         } else if phase > 16 {
             u32::MAX
         } else {
-            self.phase_left(sight, phase)
+            self.phase_left(tick_inputs, phase)
         }
     }
 
     /// For how many ticks more all phases go on with what they show. Only those that are on in a ring are looked at: where
     /// another is on, or shows Walk or Flash, this says none.
-    pub(crate) fn phases_left(&self, sight: &Sight) -> u32
+    pub(crate) fn phases_left(&self, tick_inputs: &TickInputs) -> u32
         requires few { tick_count self.now < 4294967295 }
-        ensures left { (past : Past) (k p : ℕ) → Keeps self.now past → IsBound self.now.binding past.tables self.now.frame.mode
-            → Looks (bound self.now.frame.mode) sight.now past → 0 < k → k ≤ result → is_phase p ≡ true
-            → PhaseLasts (bound self.now.frame.mode) k past p }
+        ensures left { (past : Past) (k p : ℕ) → ControllerKeeps self.now past → IsBound self.now.context.active_pattern past.tables self.now.context.frame.mode
+            → Looks (bound self.now.context.frame.mode) tick_inputs.now past → 0 < k → k ≤ result → is_phase p ≡ true
+            → PhaseLasts (bound self.now.context.frame.mode) k past p }
     {
-        let [first, second] = self.frame.on;
+        let [first, second] = self.context.frame.on;
         let lit = self.shown.green.union(self.shown.clearing);
         let busy = lit.union(self.signalling);
         if busy.minus(lone(first)).minus(lone(second)).is_empty() {
-            let one = self.place_left(sight, first);
-            one.min(self.place_left(sight, second))
+            let one = self.place_left(tick_inputs, first);
+            one.min(self.place_left(tick_inputs, second))
         } else {
             0
         }

@@ -6,20 +6,17 @@
 
 ghost use Rattle.std.specs.Prelude.{◌≡◌, ◌<◌, ◌≤◌, ◌+◌};
 
-use call_store::Calls;
 use coord_count::Count;
 use ped_clock::PedClocks;
 use phase_clock::Clocks;
 use preempt_run::Preempts;
-use prio_queue::Queue;
-use sig_tables::{Layout, Shown, Tables};
+use sig_tables::{Shown, Tables};
 use sig_types::{Field, Frame, PhaseSet, Request};
-use tick_context::{Binding, Orders, first_frame, is_flash};
+use tick_context::{TickContext, first_frame, is_flash};
 
 mod at_rest;
 mod by_colour;
 mod colouring;
-mod course;
 mod keeping;
 mod lasting;
 mod moving;
@@ -28,6 +25,7 @@ mod reasons;
 mod seeing;
 mod staying;
 mod stride;
+mod tick_state;
 mod ticking;
 mod walking;
 
@@ -36,15 +34,11 @@ use by_colour::ByColour;
 /// What a controller keeps between ticks.
 #[derive(Drop)]
 pub struct Controller {
-    tables: Tables,
-    layout: Layout,
-    version: u32,
-    frame: Frame,
-    calls: Calls,
+    /// The tables in force, the last frame, and what was told.
+    context: TickContext,
     clocks: Clocks,
     signals: PedClocks,
     preempts: Preempts,
-    requests: Queue,
     /// The phases by the colour that the last frame shows.
     shown: ByColour,
     /// The phases on which the last frame shows Walk, and those on which it shows Walk or Flash.
@@ -56,14 +50,8 @@ pub struct Controller {
     latest: u8,
     /// For how many frames in a row the cabinet has been in Start.
     start_run: u32,
-    /// The pattern in command, the clock and its drift.
-    orders: Orders,
-    /// The pattern that was sought or in step last.
-    binding: Binding,
-    /// The counter of its cycle.
+    /// The counter of the cycle of the pattern that was sought or in step last.
     count: Count,
-    ghost adds: { 0 < tables.unit.add },
-    ghost subtracts: { 0 < tables.unit.subtract },
 }
 
 impl Controller {
@@ -72,7 +60,7 @@ impl Controller {
     ghost use Rattle.sig_tables.specs.Decide.{decide, ticked, opening, with_one, last_frame_of, past_at};
     ghost use Rattle.sig_tables.specs.Showing.{ShownAfter};
     ghost use Rattle.tick_context.specs.Modes.{is_flash};
-    ghost use Rattle.controller.specs.StandsFor.{StandsFor, tick_count, install_count};
+    ghost use Rattle.controller.specs.StandsFor.{ControllerStands, tick_count, install_count};
     ghost use Rattle.tick_context.specs.Told.{CanRun, NamesPlace};
 
     /// A cabinet that is opened with these tables, in Start, with a pattern in command, 0 to 255 (254 and those that are
@@ -81,29 +69,21 @@ impl Controller {
     pub fn open(tables: Tables, command: u8, clock: u32) -> Controller
         requires tables { CanRun tables }
         requires of_day { clock < 864000 }
-        ensures stands { StandsFor result (opening tables command clock) }
+        ensures stands { ControllerStands result (opening tables command clock) }
         ensures ticks { tick_count result ≡ 0 }
         ensures installs { install_count result ≡ 0 }
     {
-        let layout = Layout::of(&tables, 1);
         Controller {
-            layout,
-            binding: Binding::none(&tables, layout),
-            tables,
-            version: 0,
-            frame: first_frame(),
-            calls: Calls::new(),
+            context: TickContext::open(tables, command, clock),
             clocks: Clocks::new(),
             signals: PedClocks::new(),
             preempts: Preempts::new(),
-            requests: Queue::new(),
             shown: ByColour::of(&first_frame().veh),
             walking: PhaseSet::empty(),
             signalling: PhaseSet::empty(),
             last: [0; 2],
             latest: 0,
             start_run: 1,
-            orders: Orders::of(command, clock),
             count: Count::new(),
         }
     }
@@ -111,12 +91,12 @@ impl Controller {
     /// The frame of the next tick.
     pub fn tick(&mut self) -> Frame
         requires few { tick_count self.old < 4294967295 }
-        ensures decided { (h : History) → StandsFor self.old h → result ≡ decide h }
-        ensures stands { (h : History) → StandsFor self.old h → StandsFor self.new (ticked h) }
+        ensures decided { (h : History) → ControllerStands self.old h → result ≡ decide h }
+        ensures stands { (h : History) → ControllerStands self.old h → ControllerStands self.new (ticked h) }
         ensures counted { tick_count self.new ≡ tick_count self.old + 1 }
         ensures installs { install_count self.new ≡ install_count self.old }
     {
-        let command = self.commanded();
+        let command = self.context.command_now();
         if self.stays_free(command) {
             self.tick_free(command)
         } else {
@@ -128,11 +108,11 @@ impl Controller {
     /// frames show what comes of it from the next tick on.
     pub fn input(&mut self, field: Field)
         requires place { NamesPlace field }
-        ensures stands { (h : History) → StandsFor self.old h → StandsFor self.new (with_one h (Input field)) }
+        ensures stands { (h : History) → ControllerStands self.old h → ControllerStands self.new (with_one h (Input field)) }
         ensures counted { tick_count self.new ≡ tick_count self.old }
         ensures installs { install_count self.new ≡ install_count self.old }
     {
-        self.calls.input(field, &self.layout, &self.frame);
+        self.context.input(field);
         match field {
             Field::Veh { .. } => {}
             Field::Ped { .. } => {}
@@ -145,102 +125,89 @@ impl Controller {
     pub fn install(&mut self, tables: Tables)
         requires tables { CanRun tables }
         requires few { install_count self.old < 4294967295 }
-        ensures stands { (h : History) → StandsFor self.old h → StandsFor self.new (with_one h (Install tables)) }
+        ensures stands { (h : History) → ControllerStands self.old h → ControllerStands self.new (with_one h (Install tables)) }
         ensures counted { tick_count self.new ≡ tick_count self.old }
         ensures installs { install_count self.new ≡ install_count self.old + 1 }
     {
-        self.layout = Layout::of(&tables, 1);
-        self.binding = Binding::none(&tables, self.layout);
-        self.tables = tables;
-        self.version += 1;
+        self.context.install(tables);
     }
 
     /// Commands a pattern, 0 to 255; it counts from the next tick on, and of several between two ticks the last one does.
     pub fn pattern(&mut self, command: u8)
-        ensures stands { (h : History) → StandsFor self.old h → StandsFor self.new (with_one h (SetPattern command)) }
+        ensures stands { (h : History) → ControllerStands self.old h → ControllerStands self.new (with_one h (SetPattern command)) }
         ensures counted { tick_count self.new ≡ tick_count self.old }
         ensures installs { install_count self.new ≡ install_count self.old }
     {
-        self.orders.pattern(command);
+        self.context.pattern(command);
     }
 
     /// Sets the clock, in ticks of the day.
     pub fn clock(&mut self, time: u32)
         requires of_day { time < 864000 }
-        ensures stands { (h : History) → StandsFor self.old h → StandsFor self.new (with_one h (SetClock time)) }
+        ensures stands { (h : History) → ControllerStands self.old h → ControllerStands self.new (with_one h (SetClock time)) }
         ensures counted { tick_count self.new ≡ tick_count self.old }
         ensures installs { install_count self.new ≡ install_count self.old }
     {
-        self.orders.set_clock(time);
+        self.context.set_clock(time);
     }
 
     /// Sets the drift of the clock: after how many ticks each time it gains one more, and after how many it loses one; 0
     /// for never.
     pub fn drift(&mut self, gain: u32, lose: u32)
-        ensures stands { (h : History) → StandsFor self.old h → StandsFor self.new (with_one h (SetDrift gain lose)) }
+        ensures stands { (h : History) → ControllerStands self.old h → ControllerStands self.new (with_one h (SetDrift gain lose)) }
         ensures counted { tick_count self.new ≡ tick_count self.old }
         ensures installs { install_count self.new ≡ install_count self.old }
     {
-        self.orders.drift(gain, lose);
+        self.context.drift(gain, lose);
     }
 
     /// A priority request (NTCIP 1211), whose number is 1 to 10. It replaces the one of its number.
     pub fn request(&mut self, request: Request)
         requires above { 0 < request.number }
         requires within { request.number ≤ 10 }
-        ensures stands { (h : History) → StandsFor self.old h → StandsFor self.new (with_one h (Ask request)) }
+        ensures stands { (h : History) → ControllerStands self.old h → ControllerStands self.new (with_one h (Ask request)) }
         ensures counted { tick_count self.new ≡ tick_count self.old }
         ensures installs { install_count self.new ≡ install_count self.old }
     {
-        let ticks = self.orders.ticks();
-        self.requests.request(request, ticks);
+        self.context.request(request);
     }
 
     /// Cancels the priority request of a number, 1 to 10.
     pub fn cancel(&mut self, number: u8)
         requires above { 0 < number }
         requires within { number ≤ 10 }
-        ensures stands { (h : History) → StandsFor self.old h → StandsFor self.new (with_one h (Cancel number)) }
+        ensures stands { (h : History) → ControllerStands self.old h → ControllerStands self.new (with_one h (Cancel number)) }
         ensures counted { tick_count self.new ≡ tick_count self.old }
         ensures installs { install_count self.new ≡ install_count self.old }
     {
-        let ticks = self.orders.ticks();
-        self.requests.cancel(number, ticks);
+        self.context.cancel(number);
     }
 
     /// The tables in force.
     pub fn tables(&self) -> &Tables
-        ensures tables { (h : History) → StandsFor self.now h → result.now ≡ (past_at h).tables }
+        ensures tables { (h : History) → ControllerStands self.now h → result.now ≡ (past_at h).tables }
     {
-        &self.tables
+        &self.context.tables
     }
 
     /// The last frame; before any tick, that of Start.
     pub fn frame(&self) -> Frame
-        ensures frame { (h : History) → StandsFor self.now h → result ≡ last_frame_of h }
+        ensures frame { (h : History) → ControllerStands self.now h → result ≡ last_frame_of h }
     {
-        self.frame
+        self.context.frame
     }
 
     /// Whether the cabinet flashes: its last frame is in Flash.
     pub fn flashing(&self) -> bool
-        ensures flashing { (h : History) → StandsFor self.now h → result ≡ is_flash (last_frame_of h).mode }
+        ensures flashing { (h : History) → ControllerStands self.now h → result ≡ is_flash (last_frame_of h).mode }
     {
-        is_flash(self.frame.mode)
+        is_flash(self.context.frame.mode)
     }
 
     /// What the cabinet shows to management software.
     pub fn shown(&self) -> Shown
-        ensures shown { (h : History) → StandsFor self.now h → ShownAfter result (past_at h) }
+        ensures shown { (h : History) → ControllerStands self.now h → ShownAfter result (past_at h) }
     {
-        Shown {
-            frame: self.frame,
-            command: self.orders.command(),
-            clock: self.orders.clock(),
-            veh_calls: self.calls.vehicle(),
-            ped_calls: self.calls.pedestrian(),
-            requests: self.requests.states(self.orders.ticks()),
-            version: self.version,
-        }
+        self.context.shown()
     }
 }

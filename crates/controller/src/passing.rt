@@ -7,7 +7,7 @@ ghost use Rattle.std.specs.Prelude.{◌≡◌, ◌<◌, ◌≤◌, ◌+◌, ◌�
 use crate::Controller;
 use pattern_plan::SplitOptions;
 use sig_types::{Mode, PhaseSet};
-use tick_context::{Sight, are_both_on, is_coord, is_defined, shows_sixteen};
+use tick_context::{TickInputs, are_both_on, is_coord, is_defined, shows_sixteen};
 
 /// The command that asks for flash.
 const FLASH_COMMAND: u8 = 255;
@@ -22,24 +22,24 @@ impl Controller {
     ghost use Rattle.tick_context.specs.Modes.{is_coord};
     ghost use Rattle.sig_tables.specs.Past.{Past};
     ghost use Rattle.sig_tables.specs.Layout.{Has};
-    ghost use Rattle.preempt_run.specs.Stands.{preempts_seen};
-    ghost use Rattle.pattern_plan.specs.Options.{AreBinding};
-    ghost use Rattle.tick_context.specs.Binds.{BindingIs, IsBound};
+    ghost use Rattle.preempt_stages.specs.Inputs.{preempts_seen};
+    ghost use Rattle.pattern_plan.specs.Options.{AreActivePattern};
+    ghost use Rattle.tick_context.specs.Binds.{ActivePatternIs, IsBound};
     ghost use Rattle.tick_context.specs.Lasting.{IsFresh, Looks, StaysFree, StaysInStep, ModeLasts, Lasts, opposed_with};
-    ghost use Rattle.controller.specs.Passed.{IsReady, GoesEvenly, HasPassed, HasOrders};
-    ghost use Rattle.controller.specs.StandsFor.{Keeps, tick_count, install_count};
+    ghost use Rattle.controller.specs.Passed.{IsReady, GoesEvenly, HasPassed, HasUnitCommands};
+    ghost use Rattle.controller.specs.StandsFor.{ControllerKeeps, tick_count, install_count};
 
     /// Whether the pattern that the last frame is in step with, if it is with one, is the one that is kept.
     fn is_bound(&self) -> bool
-        ensures { (past : Past) → Keeps self.now past → IsTrue result → IsBound self.now.binding past.tables self.now.frame.mode }
+        ensures { (past : Past) → ControllerKeeps self.now past → IsTrue result → IsBound self.now.context.active_pattern past.tables self.now.context.frame.mode }
     {
-        match self.frame.mode {
+        match self.context.frame.mode {
             Mode::Free => true,
             Mode::Coord(pattern) => {
                 if pattern == 0 {
                     false
                 } else {
-                    pattern == self.binding.pattern
+                    pattern == self.context.active_pattern.pattern
                 }
             }
             _ => false,
@@ -48,25 +48,28 @@ impl Controller {
 
     /// What the split of the pattern asks that the last frame is in step with; none where it is with none.
     fn options_kept(&self) -> Option<&SplitOptions>
-        ensures options { (past : Past) → IsBound self.now.binding past.tables self.now.frame.mode
-            → AreBinding result (bound self.now.frame.mode) past.tables }
+        ensures options { (past : Past) → IsBound self.now.context.active_pattern past.tables self.now.context.frame.mode
+            → AreActivePattern result (bound self.now.context.frame.mode) past.tables }
     {
-        if is_coord(self.frame.mode) {
-            Some(&self.binding.options)
+        if is_coord(self.context.frame.mode) {
+            Some(&self.context.active_pattern.options)
         } else {
             None
         }
     }
 
     /// What is seen of the phases, where the mode goes on.
-    fn sight_kept(&self) -> Sight
-        ensures looks { (past : Past) → Keeps self.now past → IsBound self.now.binding past.tables self.now.frame.mode
-            → Looks (bound self.now.frame.mode) result past }
+    fn tick_inputs_kept(&self) -> TickInputs
+        ensures looks { (past : Past) → ControllerKeeps self.now past → IsBound self.now.context.active_pattern past.tables self.now.context.frame.mode
+            → Looks (bound self.now.context.frame.mode) result past }
     {
         let options = self.options_kept();
-        let active = self.calls.active(&self.layout, options);
-        let demand = self.calls.demand(&self.layout, self.shown.red, options);
-        Sight {
+        let active = self.context.calls.active(&self.context.layout, options);
+        let demand = self
+            .context
+            .calls
+            .demand(&self.context.layout, self.shown.red, options);
+        TickInputs {
             demand,
             active,
             opposed: self.opposed(demand),
@@ -74,32 +77,33 @@ impl Controller {
     }
 
     /// Whether no register moves at ticks that see this and show what the last frame shows, beside those that count.
-    fn is_ready(&self, sight: &Sight) -> bool
-        ensures ready { (past : Past) → IsBound self.now.binding past.tables self.now.frame.mode
-            → Looks (bound self.now.frame.mode) sight.now past → IsTrue result → IsReady self.now self.now.frame.mode past }
+    fn is_ready(&self, tick_inputs: &TickInputs) -> bool
+        ensures ready { (past : Past) → IsBound self.now.context.active_pattern past.tables self.now.context.frame.mode
+            → Looks (bound self.now.context.frame.mode) tick_inputs.now past → IsTrue result → IsReady self.now self.now.context.frame.mode past }
     {
         if !self.preempts.is_clear() {
             false
-        } else if !self.requests.is_idle() {
+        } else if !self.context.requests.is_idle() {
             false
         } else {
-            self.clocks.is_steady(sight.active, sight.opposed)
+            self.clocks
+                .is_steady(tick_inputs.active, tick_inputs.opposed)
         }
     }
 
     /// Whether free operation goes on, and no walk begins, where these phases are opposed.
     fn stays_at_free(&self, opposed: PhaseSet) -> bool
-        ensures { (past : Past) → Keeps self.now past → IsFresh past → Has opposed (is_in (opposed_with None past)) → IsTrue result
+        ensures { (past : Past) → ControllerKeeps self.now past → IsFresh past → Has opposed (is_in (opposed_with None past)) → IsTrue result
             → StaysFree past }
     {
-        let command = self.orders.command();
+        let command = self.context.unit_commands.command();
         if command == FLASH_COMMAND {
             false
-        } else if is_defined(&self.tables, command) {
+        } else if is_defined(&self.context.tables, command) {
             false
-        } else if self.frame.counter != 0 {
+        } else if self.context.frame.counter != 0 {
             false
-        } else if self.frame.target != 0 {
+        } else if self.context.frame.target != 0 {
             false
         } else {
             self.is_uncalled(opposed)
@@ -109,20 +113,25 @@ impl Controller {
     /// For how many ticks more the counter of the pattern that is kept goes on as time does, before the end of its cycle. While
     /// it is to be corrected this says none.
     fn counter_left(&self) -> u32
-        ensures cycle { (past : Past) (n k : ℕ) → Keeps self.now past → BindingIs self.now.binding past.tables n → 0 < k → k ≤ result
-            → self.now.frame.counter + k < cycle_time past.tables n }
-        ensures even { (past : Past) (n : ℕ) → Keeps self.now past → BindingIs self.now.binding past.tables n → IsFresh past → 0 < result
-            → (window past.tables n ≤ self.now.frame.counter)
-            ⊎ (target_at past.tables n (moment_seen past).clock ≡ self.now.frame.counter) }
+        ensures cycle { (past : Past) (n k : ℕ) → ControllerKeeps self.now past → ActivePatternIs self.now.context.active_pattern past.tables n → 0 < k → k ≤ result
+            → self.now.context.frame.counter + k < cycle_time past.tables n }
+        ensures even { (past : Past) (n : ℕ) → ControllerKeeps self.now past → ActivePatternIs self.now.context.active_pattern past.tables n → IsFresh past → 0 < result
+            → (window past.tables n ≤ self.now.context.frame.counter)
+            ⊎ (target_at past.tables n (moment_seen past).clock ≡ self.now.context.frame.counter) }
         ensures room { 0 < result → counter_of self.now.count + result ≤ 4294967295 }
     {
         let counter = self.count.counter();
-        let left = (self.binding.plan.cycle - 1).saturating_sub(counter);
-        if self.frame.counter != counter {
+        let left = (self.context.active_pattern.plan.cycle - 1).saturating_sub(counter);
+        if self.context.frame.counter != counter {
             0
-        } else if self.binding.plan.window <= counter {
+        } else if self.context.active_pattern.plan.window <= counter {
             left
-        } else if self.binding.target(self.orders.clock()) == counter {
+        } else if self
+            .context
+            .active_pattern
+            .target(self.context.unit_commands.clock())
+            == counter
+        {
             left
         } else {
             0
@@ -132,15 +141,19 @@ impl Controller {
     /// For how many ticks more the cabinet stays in step with this pattern, which is the one that is kept, and the counter goes
     /// on as time does.
     fn step_left(&self, pattern: u8) -> u32
-        ensures left { (past : Past) (k : ℕ) → Keeps self.now past → BindingIs self.now.binding past.tables pattern → IsFresh past
+        ensures left { (past : Past) (k : ℕ) → ControllerKeeps self.now past → ActivePatternIs self.now.context.active_pattern past.tables pattern → IsFresh past
             → GoesEvenly self.now k → 0 < k → k ≤ result → StaysInStep pattern k past }
         ensures room { 0 < result → counter_of self.now.count + result ≤ 4294967295 }
     {
-        if self.orders.command() != pattern {
+        if self.context.unit_commands.command() != pattern {
             0
-        } else if !is_defined(&self.tables, pattern) {
+        } else if !is_defined(&self.context.tables, pattern) {
             0
-        } else if !self.requests.is_over(self.orders.ticks()) {
+        } else if !self
+            .context
+            .requests
+            .is_over(self.context.unit_commands.ticks())
+        {
             0
         } else {
             self.counter_left()
@@ -149,12 +162,12 @@ impl Controller {
 
     /// For how many ticks more the mode goes on, where these phases are opposed.
     fn mode_left(&self, opposed: PhaseSet) -> u32
-        ensures left { (past : Past) (k : ℕ) → Keeps self.now past → IsBound self.now.binding past.tables self.now.frame.mode → IsFresh past
-            → GoesEvenly self.now k → Has opposed (is_in (opposed_with (bound self.now.frame.mode) past)) → 0 < k → k ≤ result
-            → ModeLasts self.now.frame.mode k past }
-        ensures room { is_coord self.now.frame.mode ≡ true → 0 < result → counter_of self.now.count + result ≤ 4294967295 }
+        ensures left { (past : Past) (k : ℕ) → ControllerKeeps self.now past → IsBound self.now.context.active_pattern past.tables self.now.context.frame.mode → IsFresh past
+            → GoesEvenly self.now k → Has opposed (is_in (opposed_with (bound self.now.context.frame.mode) past)) → 0 < k → k ≤ result
+            → ModeLasts self.now.context.frame.mode k past }
+        ensures room { is_coord self.now.context.frame.mode ≡ true → 0 < result → counter_of self.now.count + result ≤ 4294967295 }
     {
-        match self.frame.mode {
+        match self.context.frame.mode {
             Mode::Free => {
                 if self.stays_at_free(opposed) {
                     u32::MAX
@@ -169,29 +182,29 @@ impl Controller {
 
     /// Whether no preempt input is on.
     fn is_beside(&self) -> bool
-        ensures { (past : Past) → Keeps self.now past → IsTrue result → preempts_seen past ≡ [] }
+        ensures { (past : Past) → ControllerKeeps self.now past → IsTrue result → preempts_seen past ≡ [] }
     {
         self.preempts.on().is_empty()
     }
 
     /// For how many ticks more the mode and all phases go on, where this is seen of them.
-    fn all_left(&self, sight: &Sight) -> u32
+    fn all_left(&self, tick_inputs: &TickInputs) -> u32
         requires few { tick_count self.now < 4294967295 }
-        ensures lasts { (past : Past) (k : ℕ) → Keeps self.now past → IsBound self.now.binding past.tables self.now.frame.mode → IsFresh past
-            → GoesEvenly self.now k → Looks (bound self.now.frame.mode) sight.now past → 0 < k → k ≤ result
-            → Lasts self.now.frame.mode k past }
-        ensures room { is_coord self.now.frame.mode ≡ true → 0 < result → counter_of self.now.count + result ≤ 4294967295 }
+        ensures lasts { (past : Past) (k : ℕ) → ControllerKeeps self.now past → IsBound self.now.context.active_pattern past.tables self.now.context.frame.mode → IsFresh past
+            → GoesEvenly self.now k → Looks (bound self.now.context.frame.mode) tick_inputs.now past → 0 < k → k ≤ result
+            → Lasts self.now.context.frame.mode k past }
+        ensures room { is_coord self.now.context.frame.mode ≡ true → 0 < result → counter_of self.now.count + result ≤ 4294967295 }
     {
-        shows_sixteen(self.frame);
-        if !are_both_on(self.frame.on) {
+        shows_sixteen(self.context.frame);
+        if !are_both_on(self.context.frame.on) {
             0
         } else if !self.is_laid_out() {
             0
         } else if !self.is_beside() {
             0
         } else {
-            let mode = self.mode_left(sight.opposed);
-            mode.min(self.phases_left(sight))
+            let mode = self.mode_left(tick_inputs.opposed);
+            mode.min(self.phases_left(tick_inputs))
         }
     }
 
@@ -201,39 +214,44 @@ impl Controller {
         requires few { tick_count self.now < 4294967295 }
         ensures within { result ≤ most }
         ensures even { 0 < result → GoesEvenly self.now result }
-        ensures lasts { (past : Past) → Keeps self.now past → IsFresh past → 0 < result → Lasts self.now.frame.mode result past }
-        ensures ready { (past : Past) → Keeps self.now past → 0 < result → IsReady self.now self.now.frame.mode past }
-        ensures room { is_coord self.now.frame.mode ≡ true → 0 < result → counter_of self.now.count + result ≤ 4294967295 }
+        ensures lasts { (past : Past) → ControllerKeeps self.now past → IsFresh past → 0 < result → Lasts self.now.context.frame.mode result past }
+        ensures ready { (past : Past) → ControllerKeeps self.now past → 0 < result → IsReady self.now self.now.context.frame.mode past }
+        ensures room { is_coord self.now.context.frame.mode ≡ true → 0 < result → counter_of self.now.count + result ≤ 4294967295 }
     {
         if !self.is_bound() {
             return 0;
         }
-        let sight = self.sight_kept();
-        if !self.is_ready(&sight) {
+        let tick_inputs = self.tick_inputs_kept();
+        if !self.is_ready(&tick_inputs) {
             return 0;
         }
-        let left = self.all_left(&sight);
-        self.orders.even(&self.tables, most.min(left))
+        let left = self.all_left(&tick_inputs);
+        self.context
+            .unit_commands
+            .even(&self.context.tables, most.min(left))
     }
 
     /// Passes over so many ticks.
     pub(crate) fn pass(&mut self, ticks: u32)
         requires few { tick_count self.old + ticks ≤ 4294967295 }
         requires even { GoesEvenly self.old ticks }
-        requires room { is_coord self.old.frame.mode ≡ true → counter_of self.old.count + ticks ≤ 4294967295 }
+        requires room { is_coord self.old.context.frame.mode ≡ true → counter_of self.old.count + ticks ≤ 4294967295 }
         ensures passed { HasPassed ticks self.old self.new }
-        ensures orders { HasOrders ticks self.old self.new }
+        ensures unit_commands { HasUnitCommands ticks self.old self.new }
         ensures ticks { tick_count self.new ≡ tick_count self.old + ticks }
         ensures installs { install_count self.new ≡ install_count self.old }
     {
         self.clocks.pass(ticks);
         self.signals.pass(ticks);
         self.preempts.pass(ticks);
-        self.orders.pass(ticks, &self.tables);
-        if is_coord(self.frame.mode) {
+        let mut unit_commands = self.context.unit_commands;
+        unit_commands.pass(ticks, &self.context.tables);
+        self.context.unit_commands = unit_commands;
+        if is_coord(self.context.frame.mode) {
             self.count.pass(ticks);
-            self.frame.counter = self.count.counter();
-            self.frame.target = self.binding.target(self.orders.clock());
+            let target = self.context.active_pattern.target(unit_commands.clock());
+            self.context.frame.counter = self.count.counter();
+            self.context.frame.target = target;
         }
     }
 }

@@ -5,9 +5,9 @@ ghost use Rattle.std.specs.Prelude.{◌≡◌, ◌<◌, ◌≤◌, ◌==◌, ℕ
 
 use crate::Controller;
 use coord_gate::{filled, released};
-use preempt_run::lesser_green;
+use preempt_stages::lesser_green;
 use sig_types::{Ped, PhaseSet};
-use tick_context::{Course, Sight, is_asked, is_coord};
+use tick_context::{TickInputs, TickState, is_asked, is_coord};
 
 impl Controller {
     ghost use Rattle.sig_tables.specs.Coordinating.{extension_of};
@@ -25,15 +25,15 @@ impl Controller {
     ghost use Rattle.ring_barrier.specs.Shows.{is_leaving};
     ghost use Rattle.controller.specs.Runs.{Runs};
     ghost use Rattle.tick_context.specs.Sees.{Sees};
-    ghost use Rattle.controller.specs.StandsFor.{Keeps, tick_count};
+    ghost use Rattle.controller.specs.StandsFor.{ControllerKeeps, tick_count};
 
     /// How long a phase, 1 to 16, clears: its yellow change and its red clearance, in ticks.
     pub(crate) fn clearance(&self, phase: u8) -> u32
         requires above { 0 < phase }
         requires within { phase ≤ 16 }
-        ensures clearance { (past : Past) → Keeps self.now past → result ≡ clearance past.tables phase }
+        ensures clearance { (past : Past) → ControllerKeeps self.now past → result ≡ clearance past.tables phase }
     {
-        let times = self.tables.phase(phase);
+        let times = self.context.tables.phase(phase);
         u32::from(times.yellow_change) + u32::from(times.red_clear)
     }
 
@@ -41,20 +41,20 @@ impl Controller {
     fn has_gap(&self, phase: u8) -> bool
         requires above { 0 < phase }
         requires within { phase ≤ 16 }
-        ensures gap { (past : Past) → Keeps self.now past → is_enabled past.tables phase ≡ true → is_in (quiet_seen past) phase ≡ true
+        ensures gap { (past : Past) → ControllerKeeps self.now past → is_enabled past.tables phase ≡ true → is_in (quiet_seen past) phase ≡ true
             → result ≡ has_gap (view_seen past) phase }
     {
-        self.clocks.quiet(phase) >= u32::from(self.tables.phase(phase).passage.max(1)) - 1
+        self.clocks.quiet(phase) >= u32::from(self.context.tables.phase(phase).passage.max(1)) - 1
     }
 
     /// Whether a Green phase, 1 to 16, is at its maximum: it was opposed for that time, this tick included.
     fn has_maximum(&self, phase: u8, opposed: bool) -> bool
         requires above { 0 < phase }
         requires within { phase ≤ 16 }
-        ensures maximum { (past : Past) → Keeps self.now past → opposed ≡ is_in (opposed_seen past) phase
+        ensures maximum { (past : Past) → ControllerKeeps self.now past → opposed ≡ is_in (opposed_seen past) phase
             → result ≡ has_maximum (view_seen past) phase }
     {
-        let maximum = 10 * u32::from(self.tables.phase(phase).maximum);
+        let maximum = 10 * u32::from(self.context.tables.phase(phase).maximum);
         if maximum == 0 {
             true
         } else if opposed {
@@ -68,7 +68,7 @@ impl Controller {
     pub(crate) fn free_reason(&self, phase: u8, active: bool, opposed: bool) -> bool
         requires above { 0 < phase }
         requires within { phase ≤ 16 }
-        ensures reason { (past : Past) → Keeps self.now past → is_enabled past.tables phase ≡ true
+        ensures reason { (past : Past) → ControllerKeeps self.now past → is_enabled past.tables phase ≡ true
             → active ≡ not (is_in (quiet_seen past) phase) → opposed ≡ is_in (opposed_seen past) phase
             → result ≡ is_reasoned None (view_seen past) phase }
     {
@@ -83,28 +83,33 @@ impl Controller {
 
     /// By how many ticks an active priority request holds a coordinated phase.
     fn extension(&self, active: Option<u8>) -> u32
-        ensures extension { (past : Past) (n : ℕ) → Keeps self.now past → active ≡ some_number n → result ≡ extension_of past.tables n }
+        ensures extension { (past : Past) (n : ℕ) → ControllerKeeps self.now past → active ≡ some_number n → result ≡ extension_of past.tables n }
     {
         match active {
-            Some(_) => u32::from(self.tables.unit().extension),
+            Some(_) => u32::from(self.context.tables.unit().extension),
             None => 0,
         }
     }
 
     /// Whether there is a reason to end an enabled Green phase, 1 to 16, where a pattern binds: its release, where the
     /// pattern holds it, else an active priority request, a gap, or its split filled where force-offs float.
-    fn bound_reason(&self, course: &Course, phase: u8, active: bool) -> bool
+    fn bound_reason(&self, tick_state: &TickState, phase: u8, active: bool) -> bool
         requires above { 0 < phase }
         requires within { phase ≤ 16 }
         requires few { tick_count self.now < 4294967295 }
-        ensures reason { (past : Past) (n : ℕ) → Runs self.now course.now past → mode_seen past ≡ Coord n
+        ensures reason { (past : Past) (n : ℕ) → Runs self.now tick_state.now past → mode_seen past ≡ Coord n
             → is_enabled past.tables phase ≡ true → is_green (frame_seen past) phase ≡ true
             → active ≡ not (is_in (quiet_seen past) phase) → result ≡ is_reasoned (Some n) (view_seen past) phase }
     {
-        let plan = &self.binding.plan;
-        if self.binding.options.coordinated.has(phase) {
-            released(plan, course.counter, self.extension(course.active), phase)
-        } else if is_asked(course.active) {
+        let plan = &self.context.active_pattern.plan;
+        if self.context.active_pattern.options.coordinated.has(phase) {
+            released(
+                plan,
+                tick_state.counter,
+                self.extension(tick_state.active),
+                phase,
+            )
+        } else if is_asked(tick_state.active) {
             true
         } else if self.gaps(phase, active) {
             true
@@ -117,39 +122,39 @@ impl Controller {
     fn gaps(&self, phase: u8, active: bool) -> bool
         requires above { 0 < phase }
         requires within { phase ≤ 16 }
-        ensures gap { (past : Past) → Keeps self.now past → is_enabled past.tables phase ≡ true
+        ensures gap { (past : Past) → ControllerKeeps self.now past → is_enabled past.tables phase ≡ true
             → active ≡ not (is_in (quiet_seen past) phase) → result ≡ has_gap (view_seen past) phase }
     {
         if active { false } else { self.has_gap(phase) }
     }
 
     /// Whether there is a reason to end an enabled Green phase, 1 to 16.
-    fn has_reason(&self, course: &Course, phase: u8, active: bool, opposed: bool) -> bool
+    fn has_reason(&self, tick_state: &TickState, phase: u8, active: bool, opposed: bool) -> bool
         requires above { 0 < phase }
         requires within { phase ≤ 16 }
         requires few { tick_count self.now < 4294967295 }
-        ensures reason { (past : Past) → Runs self.now course.now past → is_enabled past.tables phase ≡ true
+        ensures reason { (past : Past) → Runs self.now tick_state.now past → is_enabled past.tables phase ≡ true
             → is_green (frame_seen past) phase ≡ true → active ≡ not (is_in (quiet_seen past) phase)
             → opposed ≡ is_in (opposed_seen past) phase
             → result ≡ is_reasoned (bound (mode_seen past)) (view_seen past) phase }
     {
-        if is_coord(course.mode) {
-            self.bound_reason(course, phase, active)
+        if is_coord(tick_state.mode) {
+            self.bound_reason(tick_state, phase, active)
         } else {
             self.free_reason(phase, active, opposed)
         }
     }
 
     /// Whether an enabled Green phase, 1 to 16, is done: it is served, and there is a reason to end it.
-    fn is_done(&self, course: &Course, phase: u8, active: bool, opposed: bool) -> bool
+    fn is_done(&self, tick_state: &TickState, phase: u8, active: bool, opposed: bool) -> bool
         requires above { 0 < phase }
         requires within { phase ≤ 16 }
         requires few { tick_count self.now < 4294967295 }
-        ensures done { (past : Past) → Runs self.now course.now past → is_enabled past.tables phase ≡ true
+        ensures done { (past : Past) → Runs self.now tick_state.now past → is_enabled past.tables phase ≡ true
             → is_green (frame_seen past) phase ≡ true → active ≡ not (is_in (quiet_seen past) phase)
             → opposed ≡ is_in (opposed_seen past) phase → result ≡ is_done (view_seen past) phase }
     {
-        if self.has_reason(course, phase, active, opposed) {
+        if self.has_reason(tick_state, phase, active, opposed) {
             self.is_served(phase)
         } else {
             false
@@ -157,12 +162,12 @@ impl Controller {
     }
 
     /// The Green phases that are done.
-    pub(crate) fn done(&self, course: &Course, sight: &Sight) -> PhaseSet
+    pub(crate) fn done(&self, tick_state: &TickState, tick_inputs: &TickInputs) -> PhaseSet
         requires few { tick_count self.now < 4294967295 }
-        ensures done { (past : Past) → Runs self.now course.now past → Sees sight.now past → Has result (is_done (view_seen past)) }
+        ensures done { (past : Past) → Runs self.now tick_state.now past → Sees tick_inputs.now past → Has result (is_done (view_seen past)) }
     {
         let mut done = PhaseSet::empty();
-        let mut rest = self.layout.enabled.meet(self.shown.green);
+        let mut rest = self.context.layout.enabled.meet(self.shown.green);
         for _ in 0u32..16 {
             let p = rest.first();
             if p == 0 {
@@ -171,7 +176,12 @@ impl Controller {
             rest = rest.minus(PhaseSet::empty().with(p));
             done = done.with_if(
                 p,
-                self.is_done(course, p, sight.active.has(p), sight.opposed.has(p)),
+                self.is_done(
+                    tick_state,
+                    p,
+                    tick_inputs.active.has(p),
+                    tick_inputs.opposed.has(p),
+                ),
             );
         }
         done
@@ -179,25 +189,29 @@ impl Controller {
 
     /// Whether a Green phase, 1 to 16, has had the least green that the mode leaves it, and no walk or pedestrian clearance
     /// of it runs on.
-    fn is_cleared(&self, course: &Course, phase: u8) -> bool
+    fn is_cleared(&self, tick_state: &TickState, phase: u8) -> bool
         requires above { 0 < phase }
         requires within { phase ≤ 16 }
         requires few { tick_count self.now < 4294967295 }
-        ensures cleared { (past : Past) → Runs self.now course.now past → is_green (frame_seen past) phase ≡ true
+        ensures cleared { (past : Past) → Runs self.now tick_state.now past → is_green (frame_seen past) phase ≡ true
             → result ≡ is_cleared (mode_seen past) past.tables past.moments phase }
     {
-        let least = lesser_green(&self.tables, course.mode, self.clocks.latched_least(phase));
+        let least = lesser_green(
+            &self.context.tables,
+            tick_state.mode,
+            self.clocks.latched_least(phase),
+        );
         if self.clocks.run(phase) < least {
             false
         } else {
-            self.signal_within(phase, course.lesser) == Ped::Dont
+            self.signal_within(phase, tick_state.lesser) == Ped::Dont
         }
     }
 
     /// The Green phases that are cleared, so that they may end on the way to a goal.
-    pub(crate) fn cleared(&self, course: &Course) -> PhaseSet
+    pub(crate) fn cleared(&self, tick_state: &TickState) -> PhaseSet
         requires few { tick_count self.now < 4294967295 }
-        ensures cleared { (past : Past) → Runs self.now course.now past → Has result (is_leaving (view_seen past)) }
+        ensures cleared { (past : Past) → Runs self.now tick_state.now past → Has result (is_leaving (view_seen past)) }
     {
         let mut cleared = PhaseSet::empty();
         let mut rest = self.shown.green;
@@ -207,7 +221,7 @@ impl Controller {
                 return cleared;
             }
             rest = rest.minus(PhaseSet::empty().with(p));
-            cleared = cleared.with_if(p, self.is_cleared(course, p));
+            cleared = cleared.with_if(p, self.is_cleared(tick_state, p));
         }
         cleared
     }

@@ -4,7 +4,7 @@ ghost use Rattle.std.specs.Prelude.{◌≡◌, ◌<◌, ◌≤◌, ◌&&◌, [],
 
 use crate::Controller;
 use sig_types::PhaseSet;
-use tick_context::{Sight, lone};
+use tick_context::{TickInputs, lone};
 
 impl Controller {
     ghost use Rattle.sig_types.specs.declared.frame.Mode.TheVariants.{Free};
@@ -19,12 +19,12 @@ impl Controller {
     ghost use Rattle.tick_context.specs.Shows.{is_signalling};
     ghost use Rattle.tick_context.specs.Walks.{signal_seen};
     ghost use Rattle.tick_context.specs.Sees.{Sees};
-    ghost use Rattle.controller.specs.StandsFor.{Keeps, tick_count};
+    ghost use Rattle.controller.specs.StandsFor.{ControllerKeeps, tick_count};
 
     /// Whether a phase on which no walk begins keeps its signal. What is no phase does.
     fn walks_on(&self, phase: u8) -> bool
         requires few { tick_count self.now < 4294967295 }
-        ensures stays { (past : Past) → Keeps self.now past → mode_seen past ≡ Free → IsTrue result → is_phase phase ≡ true
+        ensures stays { (past : Past) → ControllerKeeps self.now past → mode_seen past ≡ Free → IsTrue result → is_phase phase ≡ true
             → signal_seen past phase ≡ signal_of (frame_seen past) phase }
     {
         if phase == 0 {
@@ -32,20 +32,20 @@ impl Controller {
         } else if phase > 16 {
             true
         } else {
-            self.signal_within(phase, None) == self.frame.ped[phase as usize - 1]
+            self.signal_within(phase, None) == self.context.frame.ped[phase as usize - 1]
         }
     }
 
     /// Whether every phase that shows Walk or Flash goes on with it. Where one does that is on in no ring, this says no.
     pub(crate) fn all_walk_on(&self) -> bool
         requires few { tick_count self.now < 4294967295 }
-        ensures stays { (past : Past) (p : ℕ) → Keeps self.now past → mode_seen past ≡ Free → IsTrue result → is_phase p ≡ true
+        ensures stays { (past : Past) (p : ℕ) → ControllerKeeps self.now past → mode_seen past ≡ Free → IsTrue result → is_phase p ≡ true
             → is_signalling (frame_seen past) p ≡ true → signal_seen past p ≡ signal_of (frame_seen past) p }
     {
         if self.signalling.is_empty() {
             return true;
         }
-        let [first, second] = self.frame.on;
+        let [first, second] = self.context.frame.on;
         if self
             .signalling
             .minus(lone(first))
@@ -63,7 +63,7 @@ impl Controller {
         requires above { 0 < phase }
         requires within { phase ≤ 16 }
         requires few { tick_count self.now < 4294967295 }
-        ensures done { (past : Past) → Keeps self.now past → mode_seen past ≡ Free → is_enabled past.tables phase ≡ true
+        ensures done { (past : Past) → ControllerKeeps self.now past → mode_seen past ≡ Free → is_enabled past.tables phase ≡ true
             → is_green (frame_seen past) phase ≡ true → active ≡ not (is_in (quiet_seen past) phase)
             → opposed ≡ is_in (opposed_seen past) phase → result ≡ is_done (view_seen past) phase }
     {
@@ -75,18 +75,24 @@ impl Controller {
     }
 
     /// Whether a phase is not done. What is no phase is not.
-    fn stays(&self, sight: &Sight, phase: u8) -> bool
+    fn stays(&self, tick_inputs: &TickInputs, phase: u8) -> bool
         requires few { tick_count self.now < 4294967295 }
-        ensures stays { (past : Past) → Keeps self.now past → Sees sight.now past → mode_seen past ≡ Free → IsTrue result → is_phase phase ≡ true
+        ensures stays { (past : Past) → ControllerKeeps self.now past → Sees tick_inputs.now past → mode_seen past ≡ Free → IsTrue result → is_phase phase ≡ true
             → is_done (view_seen past) phase ≡ false }
     {
         if phase == 0 {
             true
         } else if phase > 16 {
             true
-        } else if self.layout.enabled.meet(self.shown.green).has(phase) {
-            let active = sight.active.has(phase);
-            let opposed = sight.opposed.has(phase);
+        } else if self
+            .context
+            .layout
+            .enabled
+            .meet(self.shown.green)
+            .has(phase)
+        {
+            let active = tick_inputs.active.has(phase);
+            let opposed = tick_inputs.opposed.has(phase);
             !self.is_free_done(phase, active, opposed)
         } else {
             true
@@ -95,19 +101,19 @@ impl Controller {
 
     /// Whether no phase has demand, or none is done, so that both rings stay as they are where neither is open. Where a phase
     /// is Green that is on in no ring, this says no.
-    pub(crate) fn all_stay(&self, sight: &Sight) -> bool
+    pub(crate) fn all_stay(&self, tick_inputs: &TickInputs) -> bool
         requires few { tick_count self.now < 4294967295 }
-        ensures stay { (past : Past) → Keeps self.now past → Sees sight.now past → mode_seen past ≡ Free → IsTrue result
+        ensures stay { (past : Past) → ControllerKeeps self.now past → Sees tick_inputs.now past → mode_seen past ≡ Free → IsTrue result
             → is_open (view_seen past) 1 ≡ false → is_open (view_seen past) 2 ≡ false
             → ring_moves (view_seen past) ≡ record { ends = []; begins = [] } }
     {
-        if sight.demand.is_empty() {
+        if tick_inputs.demand.is_empty() {
             return true;
         }
-        let [first, second] = self.frame.on;
+        let [first, second] = self.context.frame.on;
         let green = self.shown.green;
         if green.minus(lone(first)).minus(lone(second)).is_empty() {
-            self.stays(sight, first) && self.stays(sight, second)
+            self.stays(tick_inputs, first) && self.stays(tick_inputs, second)
         } else {
             false
         }

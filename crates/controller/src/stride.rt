@@ -10,15 +10,15 @@ impl Controller {
     ghost use Rattle.sig_tables.specs.Past.{History};
     ghost use Rattle.sig_tables.specs.Decide.{ticked};
     ghost use Rattle.tick_context.specs.Strides.{IsStride, is_told, ticks_more};
-    ghost use Rattle.controller.specs.StandsFor.{StandsFor, tick_count, install_count};
+    ghost use Rattle.controller.specs.StandsFor.{ControllerStands, tick_count, install_count};
 
     /// Passes over ticks that come, at most so many, and says how many, where nothing has been told since the last tick. It may
     /// stop before the first whose frame has a line.
     fn pass_on(&mut self, most: u32) -> u32
         requires few { tick_count self.old + most ≤ 4294967295 }
         ensures within { result ≤ most }
-        ensures stands { (h : History) → StandsFor self.old (ticked h) → StandsFor self.new (ticks_more result (ticked h)) }
-        ensures plain { (h : History) (k : ℕ) → StandsFor self.old (ticked h) → k < result → is_told (ticked h) (suc k) ≡ false }
+        ensures stands { (h : History) → ControllerStands self.old (ticked h) → ControllerStands self.new (ticks_more result (ticked h)) }
+        ensures plain { (h : History) (k : ℕ) → ControllerStands self.old (ticked h) → k < result → is_told (ticked h) (suc k) ≡ false }
         ensures ticks { tick_count self.new ≡ tick_count self.old + result }
         ensures installs { install_count self.new ≡ install_count self.old }
     {
@@ -39,8 +39,8 @@ impl Controller {
     pub fn stride(&mut self, n: u32) -> u32
         requires some { 1 ≤ n }
         requires few { tick_count self.old + n ≤ 4294967295 }
-        ensures least { (h : History) → StandsFor self.old h → IsStride h n result }
-        ensures stands { (h : History) → StandsFor self.old h → StandsFor self.new (ticks_more result h) }
+        ensures least { (h : History) → ControllerStands self.old h → IsStride h n result }
+        ensures stands { (h : History) → ControllerStands self.old h → ControllerStands self.new (ticks_more result h) }
         ensures some { 1 ≤ result }
         ensures within { result ≤ n }
         ensures counted { tick_count self.new ≡ tick_count self.old + result }
@@ -54,9 +54,9 @@ impl Controller {
     pub fn stride_told(&mut self, n: u32) -> (u32, bool)
         requires some { 1 ≤ n }
         requires few { tick_count self.old + n ≤ 4294967295 }
-        ensures least { (h : History) → StandsFor self.old h → IsStride h n result.0 }
-        ensures told { (h : History) → StandsFor self.old h → result.1 ≡ is_told h result.0 }
-        ensures stands { (h : History) → StandsFor self.old h → StandsFor self.new (ticks_more result.0 h) }
+        ensures least { (h : History) → ControllerStands self.old h → IsStride h n result.0 }
+        ensures told { (h : History) → ControllerStands self.old h → result.1 ≡ is_told h result.0 }
+        ensures stands { (h : History) → ControllerStands self.old h → ControllerStands self.new (ticks_more result.0 h) }
         ensures some { 1 ≤ result.0 }
         ensures within { result.0 ≤ n }
         ensures counted { tick_count self.new ≡ tick_count self.old + result.0 }
@@ -64,7 +64,7 @@ impl Controller {
     {
         let mut done = 0;
         while done < n {
-            let last = self.frame;
+            let last = self.context.frame;
             let next = self.tick();
             done += 1;
             if has_line(&last, &next) {

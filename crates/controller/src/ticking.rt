@@ -4,22 +4,22 @@
 ghost use Rattle.std.specs.Prelude.{◌≡◌, ◌<◌, ◌+◌, []};
 
 use crate::Controller;
-use flash_mode::Turn;
+use flash_mode::RingTurn;
 use sig_types::{Frame, Mode, PhaseSet};
-use tick_context::{Course, Sight};
+use tick_context::{TickInputs, TickState};
 
 /// What a tick is about in a cabinet that runs free and goes on to, with this pattern in command, at this time.
-fn free_course(command: u8, clock: u32) -> Course
-    ensures course { (past : Past) → (frame_seen past).mode ≡ Free → mode_seen past ≡ Free → command ≡ command_now past → clock ≡ clock_now past
-        → OnCourse result past }
+fn free_tick_state(command: u8, clock: u32) -> TickState
+    ensures tick_state { (past : Past) → (frame_seen past).mode ≡ Free → mode_seen past ≡ Free → command ≡ command_now past → clock ≡ clock_now past
+        → TickStateIs result past }
     ensures clock { result.clock ≡ clock }
 {
-    Course {
+    TickState {
         command,
         clock,
         mode: Mode::Free,
         goal: PhaseSet::empty(),
-        turn: Turn::Rings,
+        ring_turn: RingTurn::Rings,
         lesser: None,
         counter: 0,
         target: 0,
@@ -32,7 +32,7 @@ ghost use Rattle.sig_tables.specs.Past.{Past};
 ghost use Rattle.sig_tables.specs.Command.{command_now};
 ghost use Rattle.sig_tables.specs.Clock.{clock_now};
 ghost use Rattle.sig_tables.specs.Seen.{frame_seen, mode_seen};
-ghost use Rattle.tick_context.specs.Course.{OnCourse};
+ghost use Rattle.tick_context.specs.TickState.{TickStateIs};
 
 impl Controller {
     ghost use Rattle.sig_types.specs.declared.frame.Mode.TheVariants.{Free};
@@ -40,32 +40,32 @@ impl Controller {
     ghost use Rattle.sig_tables.specs.Command.{command_now};
     ghost use Rattle.sig_tables.specs.Decide.{with_moment, next_moment};
     ghost use Rattle.sig_tables.specs.Seen.{frame_seen, mode_seen};
-    ghost use Rattle.preempt_run.specs.Stands.{preempts_seen};
+    ghost use Rattle.preempt_stages.specs.Inputs.{preempts_seen};
     ghost use Rattle.controller.specs.Runs.{Runs};
     ghost use Rattle.tick_context.specs.Sees.{Sees};
-    ghost use Rattle.controller.specs.StandsFor.{Keeps, tick_count, install_count};
+    ghost use Rattle.controller.specs.StandsFor.{ControllerKeeps, tick_count, install_count};
 
     /// The frame of a tick that is about this and sees this.
-    fn go_on(&mut self, course: &Course, sight: &Sight) -> Frame
+    fn go_on(&mut self, tick_state: &TickState, tick_inputs: &TickInputs) -> Frame
         requires few { tick_count self.old < 4294967295 }
-        requires of_day { course.now.clock < 864000 }
-        ensures given { (past : Past) → Runs self.old course.now past → Sees sight.now past → result ≡ (next_moment past).frame }
-        ensures keeps { (past : Past) → Runs self.old course.now past → Sees sight.now past → Keeps self.new (with_moment past (next_moment past)) }
+        requires of_day { tick_state.now.clock < 864000 }
+        ensures given { (past : Past) → Runs self.old tick_state.now past → Sees tick_inputs.now past → result ≡ (next_moment past).frame }
+        ensures keeps { (past : Past) → Runs self.old tick_state.now past → Sees tick_inputs.now past → ControllerKeeps self.new (with_moment past (next_moment past)) }
         ensures ticks { tick_count self.new ≡ tick_count self.old + 1 }
         ensures installs { install_count self.new ≡ install_count self.old }
     {
-        let next = self.next_frame(course, sight);
-        self.keep(&next, course, sight);
+        let next = self.next_frame(tick_state, tick_inputs);
+        self.keep(&next, tick_state, tick_inputs);
         next.frame
     }
 
     /// The frame of a tick of a cabinet that runs free and goes on to, with this pattern in command.
     pub(crate) fn tick_free(&mut self, command: u8) -> Frame
         requires few { tick_count self.old < 4294967295 }
-        ensures given { (past : Past) → Keeps self.old past → (frame_seen past).mode ≡ Free → mode_seen past ≡ Free
+        ensures given { (past : Past) → ControllerKeeps self.old past → (frame_seen past).mode ≡ Free → mode_seen past ≡ Free
             → command ≡ command_now past → result ≡ (next_moment past).frame }
-        ensures keeps { (past : Past) → Keeps self.old past → (frame_seen past).mode ≡ Free → mode_seen past ≡ Free → preempts_seen past ≡ []
-            → command ≡ command_now past → Keeps self.new (with_moment past (next_moment past)) }
+        ensures keeps { (past : Past) → ControllerKeeps self.old past → (frame_seen past).mode ≡ Free → mode_seen past ≡ Free → preempts_seen past ≡ []
+            → command ≡ command_now past → ControllerKeeps self.new (with_moment past (next_moment past)) }
         ensures ticks { tick_count self.new ≡ tick_count self.old + 1 }
         ensures installs { install_count self.new ≡ install_count self.old }
     {
@@ -73,31 +73,31 @@ impl Controller {
         if self.is_at_rest(demand) {
             return self.rest(command);
         }
-        let sight = self.free_sight(demand);
-        let clock = self.orders.clock_now();
-        if self.is_plain(&sight) {
-            return self.repeat(command, clock, sight.active, sight.opposed);
+        let tick_inputs = self.free_tick_inputs(demand);
+        let clock = self.context.unit_commands.clock_now();
+        if self.is_plain(&tick_inputs) {
+            return self.repeat(command, clock, tick_inputs.active, tick_inputs.opposed);
         }
-        let course = free_course(command, clock);
-        if self.repeats(&course, &sight) {
-            return self.repeat(command, clock, sight.active, sight.opposed);
+        let tick_state = free_tick_state(command, clock);
+        if self.repeats(&tick_state, &tick_inputs) {
+            return self.repeat(command, clock, tick_inputs.active, tick_inputs.opposed);
         }
-        self.go_on(&course, &sight)
+        self.go_on(&tick_state, &tick_inputs)
     }
 
     /// The frame of a tick in any mode, with this pattern in command.
     pub(crate) fn tick_in_any(&mut self, command: u8) -> Frame
         requires few { tick_count self.old < 4294967295 }
-        ensures given { (past : Past) → Keeps self.old past → command ≡ command_now past → result ≡ (next_moment past).frame }
-        ensures keeps { (past : Past) → Keeps self.old past → command ≡ command_now past
-            → Keeps self.new (with_moment past (next_moment past)) }
+        ensures given { (past : Past) → ControllerKeeps self.old past → command ≡ command_now past → result ≡ (next_moment past).frame }
+        ensures keeps { (past : Past) → ControllerKeeps self.old past → command ≡ command_now past
+            → ControllerKeeps self.new (with_moment past (next_moment past)) }
         ensures ticks { tick_count self.new ≡ tick_count self.old + 1 }
         ensures installs { install_count self.new ≡ install_count self.old }
     {
         let mode = self.mode(command);
         self.follow(mode);
-        let course = self.course(mode, command);
-        let sight = self.sight(&course);
-        self.go_on(&course, &sight)
+        let tick_state = self.context.tick_state(mode, command, self.count);
+        let tick_inputs = self.tick_inputs(&tick_state);
+        self.go_on(&tick_state, &tick_inputs)
     }
 }

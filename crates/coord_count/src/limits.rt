@@ -14,7 +14,7 @@ pub(crate) const ADD_ONLY: u8 = 4;
 
 /// The mode of correction (2 dwell, 3 shortway, 4 add only; by any other nothing is corrected), and the most ticks that one
 /// cycle dwells, adds and subtracts.
-#[derive(Clone, Copy, Debug, PartialEq, Eq)]
+#[derive(Clone, Copy, PartialEq, Eq)]
 pub struct Limits {
     pub mode: u8,
     pub dwell: u32,

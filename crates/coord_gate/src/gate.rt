@@ -62,7 +62,7 @@ pub struct Gate<'a> {
 }
 
 impl Gate<'_> {
-    ghost use Rattle.coord_gate.specs.Stands.{Stands};
+    ghost use Rattle.coord_gate.specs.Stands.{GateStands};
 
     /// Those of the phases that the pattern does not coordinate.
     fn others(&self, among: PhaseSet) -> PhaseSet
@@ -74,7 +74,7 @@ impl Gate<'_> {
     /// Those of the phases that have room: the coordinated ones, and from the window on those whose least service ends by
     /// their force points where they begin `k` ticks after this counter.
     pub fn with_room(&self, counter: u32, k: u32, among: PhaseSet) -> PhaseSet
-        ensures { (t : Tables) → (n : ℕ) → Stands self.now t n → Has result (λ p. has among p && has_room (Some n) t counter k p) }
+        ensures { (t : Tables) → (n : ℕ) → GateStands self.now t n → Has result (λ p. has among p && has_room (Some n) t counter k p) }
     {
         let held = among.meet(self.coordinated);
         if counter < self.plan.window {
@@ -86,7 +86,7 @@ impl Gate<'_> {
 
     /// Those of the phases that the pattern forces off: not coordinated, and with their force points reached.
     pub fn forced(&self, counter: u32, among: PhaseSet) -> PhaseSet
-        ensures { (t : Tables) → (n : ℕ) → Stands self.now t n → Has result (λ p. has among p && is_forced_off (Some n) t counter p) }
+        ensures { (t : Tables) → (n : ℕ) → GateStands self.now t n → Has result (λ p. has among p && is_forced_off (Some n) t counter p) }
     {
         reached(&self.plan.force, counter, self.others(among))
     }
@@ -94,7 +94,7 @@ impl Gate<'_> {
     /// Those of the phases that the pattern releases: with their force points reached, and `held` ticks more, by which an
     /// active priority request holds them.
     pub fn released(&self, counter: u32, held: u32, among: PhaseSet) -> PhaseSet
-        ensures { (t : Tables) → (n active : ℕ) → Stands self.now t n → held ≡ extension_of t active
+        ensures { (t : Tables) → (n active : ℕ) → GateStands self.now t n → held ≡ extension_of t active
             → Has result (λ p. has among p && is_released t n counter active p) }
     {
         if counter < held {

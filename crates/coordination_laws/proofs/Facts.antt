@@ -18,7 +18,7 @@ use Rattle.sig_tables.specs.Command.{command_now}
 use Rattle.sig_tables.specs.Counting.{HasRoom, next_counter}
 use Rattle.sig_tables.specs.Counters.{correction_of, counters_since, counter_in}
 use Rattle.sig_tables.specs.Choosing.{is_in_step, are_all_red, mode_reached}
-use Rattle.sig_tables.specs.Course.{Turn, turn_in, turn_from_start, turn_of, course_of}
+use Rattle.sig_tables.specs.TickState.{RingTurn, ring_turn_in, ring_turn_from_start, ring_turn_of, tick_state_of}
 use Rattle.sig_tables.specs.Moves.{Moves, ring_moves}
 use Rattle.sig_types.specs.Colour.{is_start, colour_of}
 use Rattle.sig_tables.specs.Past.{Past, Moment}
@@ -30,7 +30,7 @@ use Rattle.tick_laws.specs.InStep.{NamesOn, Coordinated}
 use Rattle.tick_laws.proofs.Apart.{Holds}
 use Rattle.tick_laws.proofs.InStep.{GoesInStep, sees, step-of}
 use Rattle.tick_laws.proofs.Next.{next-colour}
-use Rattle.tick_laws.proofs.Standing.{enabled-phase}
+use Rattle.tick_laws.proofs.FrameStands.{enabled-phase}
 use Rattle.tick_laws.proofs.Modes.{same-coord}
 use Rattle.tick_laws.proofs.PatternFacts.{holds-pair, plan-serves, times-serve, window-within}
 use Rattle.coordination_laws.specs.Search.{AnyMoment}
@@ -40,9 +40,9 @@ use Rattle.coordination_laws.specs.Lasting.{SeekTick}
 use Rattle.offset_laws.specs.Drifting.{moved}
 use Rattle.coordination_laws.specs.Cycles.{HasTime, step_at}
 use Rattle.coordination_laws.specs.Facts.{is_coord, SeekFacts, StepFacts, Tells, Elsewhere, Seeks, Steps}
-use Rattle.coordination_laws.specs.Goes.{GoesOn}
+use Rattle.coordination_laws.specs.Goes.{CounterGoesOn}
 use Rattle.coordination_laws.proofs.Telling.{goes-on, target-later}
-use Rattle.coordination_laws.specs.Told.{Obeys, Follows, Told}
+use Rattle.coordination_laws.specs.Told.{Obeys, ModeFollows, MomentTold}
 use Rattle.coordination_laws.proofs.TellingMet.{obeys}
 use Rattle.coordination_laws.proofs.Seeking.{SeeksOn, seek-tick}
 
@@ -50,7 +50,7 @@ use Rattle.coordination_laws.proofs.Seeking.{SeeksOn, seek-tick}
 pub record Before (d : Drift) (past : Past) (l : Moment) (earlier : List Moment) : Type 0 where
   pub lasting : past.moments ≡ l ∷ earlier
   pub holds : Holds past.tables past.moments
-  pub told : Told l
+  pub told : MomentTold l
   pub version : l.frame.version ≡ past.version → l.tables ≡ past.tables
   pub time : drifts d ≡ true → (n : ℕ) → is_defined past.tables n ≡ true → HasTime d (correction_of past.tables n)
   pub any : AnyMoment (greatest_at (next_moment past ∷ l ∷ earlier)) past.tables (next_moment past ∷ l ∷ earlier)
@@ -103,7 +103,7 @@ quiet-mode : (d : Drift) (l : Moment) (earlier : List Moment) → is_disturbed d
 quiet-mode d l [] h = absurd (false≢true (sym h))
 quiet-mode d l (k ∷ older) h = (goes-on d l k older h).mode
 
-sought-before : (t : Tables) (n : ℕ) (mode : Mode) → interrupts mode ≡ false → Follows t n mode → is_defined t n ≡ true
+sought-before : (t : Tables) (n : ℕ) (mode : Mode) → interrupts mode ≡ false → ModeFollows t n mode → is_defined t n ≡ true
     → same_mode mode (Coord n) ≡ false → mode ≡ Seek n
 sought-before t n Free quiet follows defined apart = absurd (both_ways _ follows defined)
 sought-before t n (Seek k) quiet follows defined apart = ap Seek follows
@@ -116,7 +116,7 @@ quiet-before : (d : Drift) (past : Past) (l : Moment) (earlier : List Moment) �
     → (past.tables ≡ l.tables) × (same_mode l.frame.mode (Coord (command_now past)) ≡ false)
 quiet-before d past l earlier b apart quiet = (sym (b.version (sym on.version)), off (same_mode l.frame.mode (Coord (command_now past))) refl)
   where
-    on : GoesOn d (next_moment past) l
+    on : CounterGoesOn d (next_moment past) l
     on = goes-on d (next_moment past) l earlier quiet
 
     here : is_in_step l.frame past.version (command_now past) ≡ false
@@ -151,7 +151,7 @@ seeks d past n l earlier b mode same defined apart = elim (cases_Bool (is_distur
         let k = quiet-before d past l earlier b apart quiet in
         let command : l.command ≡ n = sym (goes-on d (next_moment past) l earlier quiet).command ∙ sym same in
         sought-before past.tables n l.frame.mode (quiet-mode d l earlier older)
-        (subst (λ (u : Tables). Follows u n l.frame.mode) (sym k.0) (subst (λ (x : ℕ). Follows l.tables x l.frame.mode) command b.told.mode)) defined
+        (subst (λ (u : Tables). ModeFollows u n l.frame.mode) (sym k.0) (subst (λ (x : ℕ). ModeFollows l.tables x l.frame.mode) command b.told.mode)) defined
         (subst (λ (x : ℕ). same_mode l.frame.mode (Coord x) ≡ false) (sym same) k.1)
 
     on : is_disturbed d (next_moment past ∷ l ∷ earlier) ≡ false → is_disturbed d (l ∷ earlier) ≡ false → SeeksOn past n
@@ -176,7 +176,7 @@ seek-facts d past n l earlier b mode same defined apart = record {
   before = λ quiet. let k = quiet-before d past l earlier b apart quiet in
       (k.0, subst (λ (x : ℕ). same_mode l.frame.mode (Coord x) ≡ false) (sym same) k.1);
   reached = reached;
-  counter = ap (λ (m : Mode). counter_in past.tables m (course_of past).target past.moments) mode;
+  counter = ap (λ (m : Mode). counter_in past.tables m (tick_state_of past).target past.moments) mode;
   target = subst (λ (x : ℕ). x < cycle_time past.tables n) (sym (ap (λ (m : Mode). target_in past.tables m (clock_now past)) mode))
       (target-below past.tables n (clock_now past) defined);
   room = has-room past.tables n b.holds.sound defined;
@@ -186,7 +186,7 @@ seek-facts d past n l earlier b mode same defined apart = record {
   any = b.any;
   alone = λ green.
       (b.shown n (reached ∙ ap (λ (x : Bool). if x then Coord n else Seek n) green)).zero
-      (ap (λ (m : Mode). counter_in past.tables m (course_of past).target past.moments) mode);
+      (ap (λ (m : Mode). counter_in past.tables m (tick_state_of past).target past.moments) mode);
   tick = seeks d past n l earlier b mode same defined apart;
 }
   where
@@ -197,9 +197,9 @@ seek-facts d past n l earlier b mode same defined apart = record {
 
 ring-moves : (past : Past) (n : ℕ) → mode_seen past ≡ Coord n → (last_frame past.moments).mode ≡ Coord n → moves_seen past ≡ ring_moves (view_seen past)
 ring-moves past n mode last =
-    ap (λ (turn : Turn). moves_of turn (view_seen past))
-    (ap (λ (m : Mode). turn_of past.tables past.moments m) mode
-    ∙ ap (λ (m : Mode). if is_start m then turn_from_start past.tables (Coord n) else turn_in past.tables (Coord n)) last)
+    ap (λ (ring_turn : RingTurn). moves_of ring_turn (view_seen past))
+    (ap (λ (m : Mode). ring_turn_of past.tables past.moments m) mode
+    ∙ ap (λ (m : Mode). if is_start m then ring_turn_from_start past.tables (Coord n) else ring_turn_in past.tables (Coord n)) last)
 
 step-facts : (d : Drift) (past : Past) (n : ℕ) (l : Moment) (earlier : List Moment) → Before d past l earlier → mode_seen past ≡ Coord n → n ≡ command_now past
     → is_defined past.tables n ≡ true → is_in_step (last_frame past.moments) past.version n ≡ true → StepFacts d n (next_moment past) l earlier
@@ -211,8 +211,8 @@ step-facts d past n l earlier b mode same defined before = record {
     mode = ap (λ (m : Mode). mode_reached m past.tables (colours_of past (moves_seen past))) mode;
     before = last;
     version = sym version;
-    counter = ap (λ (m : Mode). counter_in past.tables m (course_of past).target past.moments) mode
-        ∙ ap (λ (ms : List Moment). next_counter (correction_of past.tables n) (counters_since n (last_frame ms).version ms) (course_of past).target) b.lasting;
+    counter = ap (λ (m : Mode). counter_in past.tables m (tick_state_of past).target past.moments) mode
+        ∙ ap (λ (ms : List Moment). next_counter (correction_of past.tables n) (counters_since n (last_frame ms).version ms) (tick_state_of past).target) b.lasting;
   };
   tick = record {
     view = view_seen past;
@@ -221,7 +221,7 @@ step-facts d past n l earlier b mode same defined before = record {
     sees = sees past n going;
     gives = record {
       frame = refl;
-      counter = subst (λ (ms : List Moment). CounterSteps (cycle_time past.tables n) (window past.tables n) (last_frame ms).counter (course_of past).counter)
+      counter = subst (λ (ms : List Moment). CounterSteps (cycle_time past.tables n) (window past.tables n) (last_frame ms).counter (tick_state_of past).counter)
           b.lasting (step-of past n going);
       tables = refl;
       colours = λ p e.
@@ -255,14 +255,14 @@ step-facts d past n l earlier b mode same defined before = record {
     tables : l.tables ≡ past.tables
     tables = b.version version
 
-    targeted : (course_of past).target ≡ target_at past.tables n (clock_now past)
+    targeted : (tick_state_of past).target ≡ target_at past.tables n (clock_now past)
     targeted = ap (λ (m : Mode). target_in past.tables m (clock_now past)) mode
 
     before-target : l.frame.target ≡ target_at past.tables n l.clock
     before-target = b.told.target ∙ ap (λ (m : Mode). target_in l.tables m l.clock) last ∙ ap (λ (t : Tables). target_at t n l.clock) tables
 
-    later : GoesOn d (next_moment past) l
-        → (course_of past).target ≡ moved (cycle_time past.tables n) (step_at d (next_moment past).number) l.frame.target
+    later : CounterGoesOn d (next_moment past) l
+        → (tick_state_of past).target ≡ moved (cycle_time past.tables n) (step_at d (next_moment past).number) l.frame.target
     later on =
         targeted ∙ ap (target_at past.tables n) on.clock
         ∙ target-later d past.tables n (next_moment past).number l.clock

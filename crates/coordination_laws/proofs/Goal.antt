@@ -20,7 +20,7 @@ use Rattle.offset_laws.proofs.Looks.{fits}
 use Rattle.tick_laws.proofs.Runs.{run-on, run-first}
 use Rattle.tick_laws.proofs.Others.{end-choice}
 use Rattle.tick_laws.proofs.Finding.{in-left, in-right, finds-only}
-use Rattle.coordination_laws.specs.Search.{Greatest, Sums, Keeps, GoalStands, Sought, Found}
+use Rattle.coordination_laws.specs.Search.{Greatest, Sums, GreatestKeeps, GoalStands, Sought, Found}
 use Rattle.coordination_laws.proofs.Clearing.{latched-goes, yellow-goes, clear-goes}
 use Rattle.coordination_laws.proofs.Outside.{found-from}
 
@@ -48,7 +48,7 @@ goal-stays v goal q goes h = elim (in-append (goal_ending_in v goal 1) (goal_end
 ]
 
 -- what was true of a phase of the goal is true a tick later
-pub goal-step : (g : Greatest) (v : View) (n q ticks : ℕ) (goal : List ℕ) (l : Moment) (past : List Moment) (m : Moment) → Sums g → Keeps g v.tables q
+pub goal-step : (g : Greatest) (v : View) (n q ticks : ℕ) (goal : List ℕ) (l : Moment) (past : List Moment) (m : Moment) → Sums g → GreatestKeeps g v.tables q
     → Sought v n goal
     → is_in goal q ≡ true → v.past ≡ l ∷ past → Found v goal q m → GoalStands g v.tables q ticks (l ∷ past) (colour_of l.frame q)
     → GoalStands g v.tables q (ticks + 1) (m ∷ l ∷ past) (colour_of m.frame q)

@@ -8,7 +8,7 @@ use Rattle.sig_tables.specs.Tables.{option, is_enabled, least_green, walk_time, 
 use Rattle.sig_tables.specs.Sums.{greatest}
 use Rattle.sig_tables.specs.Past.{Moment}
 use Rattle.sig_tables.specs.Looking.{in_a_row, begun}
-use Rattle.coordination_laws.specs.Search.{Sums, Keeps, KeepsEach, IsLate}
+use Rattle.coordination_laws.specs.Search.{Sums, GreatestKeeps, KeepsEach, IsLate}
 use Rattle.plan_facts.specs.Greatest.{most, was_enabled, greatest_time, red_revert, clearance_so_far}
 use Rattle.plan_facts.specs.Greatest.{service_so_far, greatest_clearance, greatest_service, greatest_revert, pickup_bound}
 use Rattle.coordination_laws.specs.Versions.{IsVersion, greatest_at, HasYellow}
@@ -132,7 +132,7 @@ greatest-sums past p = record {
 
 -- tables that were in force keep the greatest times, for each phase that some version enables
 pub version-keeps : (past : List Moment) (t : Tables) (p : ℕ) → IsVersion t past → was_enabled p past ≡ true → 1 ≤ yellow_time t p
-    → Keeps (greatest_at past p) t p
+    → GreatestKeeps (greatest_at past p) t p
 version-keeps past t p h e yellow = record {
   least = upper _ _ _ _ (time-bounds least_green t p past e h) (service-bounds past p);
   walk = time-bounds walk_time t p past e h;

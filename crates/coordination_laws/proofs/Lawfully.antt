@@ -21,7 +21,7 @@ use Rattle.plan_facts.specs.Disturbances.{Drift, drifts, drift_gap, IsSlow}
 use Rattle.coordination_laws.specs.Cycles.{HasTime}
 use Rattle.coordination_laws.specs.Facts.{TellsEach}
 use Rattle.coordination_laws.proofs.Meeting.{tells-opening}
-use Rattle.coordination_laws.specs.Told.{Told}
+use Rattle.coordination_laws.specs.Told.{MomentTold}
 use Rattle.coordination_laws.specs.Ranged.{PutsInRange, EachInRange}
 use Rattle.coordination_laws.proofs.Underway.{any-moment}
 use Rattle.coordination_laws.proofs.TellingMet.{next-told, first-told}
@@ -80,7 +80,7 @@ each-allowed d opening (e ∷ events) lawful range =
 record Carried (d : Drift) (t : Tables) (version : ℕ) (moments : List Moment) : Type 0 where
   number : (last_frame moments).version ≤ version
   tables : (last_frame moments).version ≡ version → (last_moment t moments).tables ≡ t
-  told : EachMoment (λ past m. Told m) moments
+  told : EachMoment (λ past m. MomentTold m) moments
   tells : TellsEach d moments
   range : drifts d ≡ true → InRange t
 
@@ -94,7 +94,7 @@ before-tick : (d : Drift) (opening : Tables) (events : List Event) → (drifts d
 before-tick d opening events slow lawful c l earlier e = record {
   lasting = e;
   holds = holds opening events lawful;
-  told = (subst (λ (ms : List Moment). EachMoment (λ past m. Told m) ms) e c.told).0;
+  told = (subst (λ (ms : List Moment). EachMoment (λ past m. MomentTold m) ms) e c.told).0;
   version = subst
       (λ (ms : List Moment). (last_frame ms).version ≡ (past_of opening events).version
       → (last_moment (past_of opening events).tables ms).tables ≡ (past_of opening events).tables)

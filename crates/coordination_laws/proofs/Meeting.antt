@@ -16,10 +16,10 @@ use Rattle.coordination_laws.specs.Lasting.{SeekTick, Searches}
 use Rattle.coordination_laws.proofs.Greatest.{pickup-grows}
 use Rattle.coordination_laws.proofs.SearchingInTime.{search-short, search-grows, picked-up, least-bound}
 use Rattle.coordination_laws.proofs.Stepping.{step-keeps, pickup-in-time, zero-green}
-use Rattle.coordination_laws.specs.Cycles.{PicksUp, OnCourse}
+use Rattle.coordination_laws.specs.Cycles.{PicksUp, OnPath}
 use Rattle.coordination_laws.proofs.Zeros.{quiet-none, quiet-more, first-quiet}
 use Rattle.coordination_laws.proofs.Cycles.{cycle-pickup, cycle-step, cycle-in-time}
-use Rattle.coordination_laws.proofs.Offsets.{pickup-begins, zero-begins, course-begins, course-step, course-holds, course-no-sooner}
+use Rattle.coordination_laws.proofs.Offsets.{pickup-begins, zero-begins, path-begins, path-step, path-holds, path-no-sooner}
 use Rattle.coordination_laws.specs.Facts.{is_coord, SeekFacts, StepFacts, Tells, Elsewhere, Seeks, Steps, TellsEach, Seeking, InStep, Carried}
 use Rattle.coordination_laws.proofs.Quiet.{disturbed-none, quiet-zero, elsewhere-zero, bound-some, bound-pickup, bound-cycle, bound-same}
 use Rattle.coordination_laws.proofs.Quiet.{within-soon, soon-within, zero-owed, offset-owed, not-defined-zero, not-defined-offset, no-zero-green}
@@ -146,7 +146,7 @@ seek-picks d n m l past f c green = record {
   room = f.room;
   cycle = cycle-pickup d m.tables n m l past f.room up (why (is_disturbed d (m ∷ l ∷ past)) refl);
   time = pickup-in-time m.tables n m (l ∷ past) (f.alone green) f.counter;
-  course = λ has. course (quiet-if d m (l ∷ past) has);
+  path = λ has. path (quiet-if d m (l ∷ past) has);
 }
   where
     up : PicksUp n m l
@@ -159,9 +159,9 @@ seek-picks d n m l past f c green = record {
     why true e = inr e
     why false e = inl (comes e)
 
-    course : is_disturbed d (m ∷ l ∷ past) ≡ false → OnCourse d m.tables n (zero_bound (m ∷ l ∷ past) m.tables n) (m ∷ l ∷ past)
-    course quiet = let b = before-seek d n m l past f c quiet in
-        course-begins d m.tables n (zero_bound (m ∷ l ∷ past) m.tables n) m l past up.mode quiet b.0 (comes quiet) b.1
+    path : is_disturbed d (m ∷ l ∷ past) ≡ false → OnPath d m.tables n (zero_bound (m ∷ l ∷ past) m.tables n) (m ∷ l ∷ past)
+    path quiet = let b = before-seek d n m l past f c quiet in
+        path-begins d m.tables n (zero_bound (m ∷ l ∷ past) m.tables n) m l past up.mode quiet b.0 (comes quiet) b.1
         (pickup-begins n m l past up) f.target f.room f.time
 
 seek-carries : (d : Drift) (n : ℕ) (m l : Moment) (past : List Moment) → SeekFacts d n m l past → Carried d l past → Carried d m (l ∷ past)
@@ -185,7 +185,7 @@ seek-meets d m l past f c = pick (are_coordinated_green m.tables m.command m.fra
       green = shown (is_zero (m ∷ l ∷ past));
       zero = zero-owed d m (l ∷ past) (cycle-in-time d m.tables m.command (zero_bound (m ∷ l ∷ past) m.tables m.command)
           (m ∷ l ∷ past) step.cycle (bound-cycle (m ∷ l ∷ past) m.tables m.command));
-      offset = offset-owed d m (l ∷ past) (λ follows has. course-holds d m.tables m.command _ (m ∷ l ∷ past) (step.course has) follows);
+      offset = offset-owed d m (l ∷ past) (λ follows has. path-holds d m.tables m.command _ (m ∷ l ∷ past) (step.path has) follows);
     }
       where
         step : InStep d m.tables m.command (m ∷ l ∷ past)
@@ -219,7 +219,7 @@ step-on d n m l past f c = record {
   room = f.room;
   cycle = cycle-step d m.tables n m l past f.room f.counts old.cycle;
   time = (step-keeps m.tables n m l past f.pair f.plan f.times f.tick old.time).0;
-  course = λ has. course has (quiet-if d m (l ∷ past) has);
+  path = λ has. path has (quiet-if d m (l ∷ past) has);
 }
   where
     old : InStep d m.tables n (l ∷ past)
@@ -234,16 +234,16 @@ step-on d n m l past f c = record {
     early : has_zero d (l ∷ past) ≡ false → quiet_for d (l ∷ past) < zero_bound (m ∷ l ∷ past) m.tables n
     early none = soon-within d most (l ∷ past) none (cycle-in-time d m.tables n most (l ∷ past) old.cycle (bound-cycle (m ∷ l ∷ past) m.tables n))
 
-    course : has_zero d (m ∷ l ∷ past) ≡ true → is_disturbed d (m ∷ l ∷ past) ≡ false
-        → OnCourse d m.tables n (zero_bound (m ∷ l ∷ past) m.tables n) (m ∷ l ∷ past)
-    course has quiet = pick (has_zero d (l ∷ past)) (is_zero (m ∷ l ∷ past)) refl refl
+    path : has_zero d (m ∷ l ∷ past) ≡ true → is_disturbed d (m ∷ l ∷ past) ≡ false
+        → OnPath d m.tables n (zero_bound (m ∷ l ∷ past) m.tables n) (m ∷ l ∷ past)
+    path has quiet = pick (has_zero d (l ∷ past)) (is_zero (m ∷ l ∷ past)) refl refl
       where
         pick : (a b : Bool) → has_zero d (l ∷ past) ≡ a → is_zero (m ∷ l ∷ past) ≡ b
-            → OnCourse d m.tables n (zero_bound (m ∷ l ∷ past) m.tables n) (m ∷ l ∷ past)
-        pick true b e h = course-step d m.tables n most m l past quiet f.counts f.number (f.later quiet)
+            → OnPath d m.tables n (zero_bound (m ∷ l ∷ past) m.tables n) (m ∷ l ∷ past)
+        pick true b e h = path-step d m.tables n most m l past quiet f.counts f.number (f.later quiet)
             (ap (cycle_time m.tables) f.command)
-            (subst (λ (x : ℕ). OnCourse d m.tables n x (l ∷ past)) (sym same) (old.course e))
-        pick false true e h = course-begins d m.tables n most m l past f.counts.mode quiet e h (early e)
+            (subst (λ (x : ℕ). OnPath d m.tables n x (l ∷ past)) (sym same) (old.path e))
+        pick false true e h = path-begins d m.tables n most m l past f.counts.mode quiet e h (early e)
             (zero-begins m.tables n m l past f.counts h) f.target f.room f.time
         pick false false e h = absurd (false≢true (sym (none-still d m (l ∷ past) quiet e h) ∙ has))
 
@@ -259,7 +259,7 @@ step-meets d m l past f c = record {
   zero = zero-owed d m (l ∷ past)
       (cycle-in-time d m.tables m.command (zero_bound (m ∷ l ∷ past) m.tables m.command) (m ∷ l ∷ past) now.cycle
       (bound-cycle (m ∷ l ∷ past) m.tables m.command));
-  offset = offset-owed d m (l ∷ past) (λ follows has. course-holds d m.tables m.command _ (m ∷ l ∷ past) (now.course has) follows);
+  offset = offset-owed d m (l ∷ past) (λ follows has. path-holds d m.tables m.command _ (m ∷ l ∷ past) (now.path has) follows);
 }
   where
     now : InStep d m.tables m.command (m ∷ l ∷ past)
@@ -316,7 +316,7 @@ pub no-sooner : (d : Drift) (n : ℕ) (past : List Moment) → drifts d ≡ fals
 no-sooner d n [] none tells = tt
 no-sooner d n (m ∷ past) none tells = λ mode zero some met.
     let now : InStep d m.tables n (m ∷ past) = (carries d m past tells).in_step n mode in
-    course-no-sooner d m.tables n (zero_bound (m ∷ past) m.tables n) m past none now.room (now.course zero) some met
+    path-no-sooner d m.tables n (zero_bound (m ∷ past) m.tables n) m past none now.room (now.path zero) some met
 
 -- the moment before any tick neither seeks a pattern nor is in step
 abbrev is_seek : Mode → Bool

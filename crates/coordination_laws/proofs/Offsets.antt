@@ -17,7 +17,7 @@ use Rattle.offset_laws.proofs.Reaching.{shifted, shifted-at, drifted-more, targe
 use Rattle.plan_facts.specs.Disturbances.{Drift, drifts, is_disturbed, quiet_for}
 use Rattle.plan_facts.specs.Bounds.{longest_cycle, shortest_cycle}
 use Rattle.plan_facts.specs.Meets.{is_zero, first_zero, has_zero, zero_target, is_met, is_near, holds_since, offset_within, can_follow}
-use Rattle.coordination_laws.specs.Cycles.{counters, CountsOn, PicksUp, step_at, steps_after, HasTime, are_near, ComesNear, last_number, cycles_needed, OnCourse}
+use Rattle.coordination_laws.specs.Cycles.{counters, CountsOn, PicksUp, step_at, steps_after, HasTime, are_near, ComesNear, last_number, cycles_needed, OnPath}
 use Rattle.coordination_laws.proofs.Zeros.{quiet-more, first-older, first-now, has-older, has-now, zero-changes}
 use Rattle.coordination_laws.proofs.Cycles.{counters-on, counters-at, counters-pickup}
 use Rattle.coordination_laws.proofs.Drifting.{comes-near, keeps-time, drifted-even, target-even}
@@ -67,12 +67,12 @@ held-on d bound m past zero near before =
 is-met : (m : Moment) → m.frame.counter ≡ m.frame.target → is_met m ≡ true
 is-met m e = ap (λ (x : ℕ). m.frame.counter == x) (sym e) ∙ same m.frame.counter
 
--- the first local zero begins the course
-pub course-begins : (d : Drift) (t : Tables) (n most : ℕ) (m l : Moment) (past : List Moment) → m.frame.mode ≡ Coord n
+-- the first local zero begins the path
+pub path-begins : (d : Drift) (t : Tables) (n most : ℕ) (m l : Moment) (past : List Moment) → m.frame.mode ≡ Coord n
     → is_disturbed d (m ∷ l ∷ past) ≡ false → has_zero d (l ∷ past) ≡ false → is_zero (m ∷ l ∷ past) ≡ true
     → quiet_for d (l ∷ past) < most → begins_cycle (counters n (m ∷ l ∷ past)) ≡ true → m.frame.target < cycle_time t n
-    → HasRoom (correction_of t n) → (drifts d ≡ true → HasTime d (correction_of t n)) → OnCourse d t n most (m ∷ l ∷ past)
-course-begins d t n most m l past mode quiet none zero soon begins below room time = record {
+    → HasRoom (correction_of t n) → (drifts d ≡ true → HasTime d (correction_of t n)) → OnPath d t n most (m ∷ l ∷ past)
+path-begins d t n most m l past mode quiet none zero soon begins below room time = record {
   mode = mode;
   zero = has-now d m (l ∷ past) quiet zero;
   start = m ∷ l ∷ past;
@@ -115,10 +115,10 @@ course-begins d t n most m l past mode quiet none zero soon begins below room ti
         none x.equal
 
 -- a quiet tick goes on with it
-pub course-step : (d : Drift) (t : Tables) (n most : ℕ) (m l : Moment) (past : List Moment) → is_disturbed d (m ∷ l ∷ past) ≡ false
+pub path-step : (d : Drift) (t : Tables) (n most : ℕ) (m l : Moment) (past : List Moment) → is_disturbed d (m ∷ l ∷ past) ≡ false
     → CountsOn t n m l past → m.number ≡ l.number + 1 → m.frame.target ≡ moved (cycle_time t n) (step_at d m.number) l.frame.target
-    → cycle_time m.tables m.command ≡ cycle_time t n → OnCourse d t n most (l ∷ past) → OnCourse d t n most (m ∷ l ∷ past)
-course-step d t n most m l past quiet on next later cycle before = record {
+    → cycle_time m.tables m.command ≡ cycle_time t n → OnPath d t n most (l ∷ past) → OnPath d t n most (m ∷ l ∷ past)
+path-step d t n most m l past quiet on next later cycle before = record {
   mode = on.mode;
   zero = zero;
   start = start;
@@ -201,39 +201,39 @@ course-step d t n most m l past quiet on next later cycle before = record {
         bound : (q r z j most i need : ℕ) → q ≡ r + 1 → r ≡ z + j → z ≤ most → i ≡ j + 1 → i ≤ need → q ≤ most + need
         bound q r z j most i need a b c e f = omega arith
 
--- so on course, where the correction can follow the clock, the offset is met within the needed cycles, and held
-pub course-holds : (d : Drift) (t : Tables) (n most : ℕ) (past : List Moment) → OnCourse d t n most past → can_follow d t ≡ true
+-- so on that path, where the correction can follow the clock, the offset is met within the needed cycles, and held
+pub path-holds : (d : Drift) (t : Tables) (n most : ℕ) (past : List Moment) → OnPath d t n most past → can_follow d t ≡ true
     → offset_within d (most + cycles_needed d t n (zero_target d past)) past ≡ true
-course-holds d t n most past course follows =
-    subst (λ (z : List Moment). offset_within d (most + cycles_needed d t n (last_frame z).target) past ≡ true) (sym course.first)
-    (pick (nat_le (most + cycles_needed d t n (last_frame course.start).target) (quiet_for d past)) refl)
+path-holds d t n most past path follows =
+    subst (λ (z : List Moment). offset_within d (most + cycles_needed d t n (last_frame z).target) past ≡ true) (sym path.first)
+    (pick (nat_le (most + cycles_needed d t n (last_frame path.start).target) (quiet_for d past)) refl)
   where
     over : (i need most q z j : ℕ) → i ≤ need → most + need ≤ q → q ≡ z + j → z ≤ most → i ≤ j
     over i need most q z j a b c e = omega arith
 
-    pick : (b : Bool) → nat_le (most + cycles_needed d t n (last_frame course.start).target) (quiet_for d past) ≡ b
-        → (if b then holds_since d (most + cycles_needed d t n (last_frame course.start).target) past else true) ≡ true
-    pick true late = course.held follows (over _ _ _ _ _ _ (course.comes follows).within (leb-true _ _ late) course.quiet course.soon)
+    pick : (b : Bool) → nat_le (most + cycles_needed d t n (last_frame path.start).target) (quiet_for d past) ≡ b
+        → (if b then holds_since d (most + cycles_needed d t n (last_frame path.start).target) past else true) ≡ true
+    pick true late = path.held follows (over _ _ _ _ _ _ (path.comes follows).within (leb-true _ _ late) path.quiet path.soon)
     pick false late = refl
 
 -- it is not met before the last of these cycles, each of the others at its shortest, where the clock keeps time
-pub course-no-sooner : (d : Drift) (t : Tables) (n most : ℕ) (m : Moment) (past : List Moment) → drifts d ≡ false → HasRoom (correction_of t n)
-    → OnCourse d t n most (m ∷ past) → 1 ≤ zero_target d (m ∷ past) → m.frame.counter ≡ m.frame.target
+pub path-no-sooner : (d : Drift) (t : Tables) (n most : ℕ) (m : Moment) (past : List Moment) → drifts d ≡ false → HasRoom (correction_of t n)
+    → OnPath d t n most (m ∷ past) → 1 ≤ zero_target d (m ∷ past) → m.frame.counter ≡ m.frame.target
     → quiet_for d (first_zero d (m ∷ past)) + (needed (correction_of t n) (zero_target d (m ∷ past)) - 1) * shortest_cycle t n
     < quiet_for d (m ∷ past)
-course-no-sooner d t n most m past none room course some met =
-    subst (λ (z : List Moment). quiet_for d z + (needed k (last_frame z).target - 1) * shortest_cycle t n < quiet_for d (m ∷ past)) (sym course.first)
-    (sums _ _ _ _ course.quiet
-    (by (t.unit.mode == 3) refl (subst (λ (z : List Moment). 1 ≤ (last_frame z).target) course.first some)))
+path-no-sooner d t n most m past none room path some met =
+    subst (λ (z : List Moment). quiet_for d z + (needed k (last_frame z).target - 1) * shortest_cycle t n < quiet_for d (m ∷ past)) (sym path.first)
+    (sums _ _ _ _ path.quiet
+    (by (t.unit.mode == 3) refl (subst (λ (z : List Moment). 1 ≤ (last_frame z).target) path.first some)))
   where
     k : Correction
     k = correction_of t n
 
     start : List Moment
-    start = course.start
+    start = path.start
 
     j : ℕ
-    j = course.ticks
+    j = path.ticks
 
     steps : ℕ → Step
     steps = steps_after d (last_number start)
@@ -246,13 +246,13 @@ course-no-sooner d t n most m past none room course some met =
 
     equal : last_counter (counted k j from (counters n start)) ≡ target_after k j from
     equal =
-        ap last_counter (sym (drifted-even j k steps from (counters n start) even) ∙ sym course.counted ∙ counters-at n m past course.mode)
-        ∙ met ∙ course.target ∙ target-even j (cycle_time t n) steps from even ∙ gone-is j (cycle_time t n) from course.below
+        ap last_counter (sym (drifted-even j k steps from (counters n start) even) ∙ sym path.counted ∙ counters-at n m past path.mode)
+        ∙ met ∙ path.target ∙ target-even j (cycle_time t n) steps from even ∙ gone-is j (cycle_time t n) from path.below
 
     by : (b : Bool) → (t.unit.mode == 3) ≡ b → 1 ≤ from
         → (needed k from - 1) * (if b then cycle_time t n - t.unit.subtract else longest_cycle t n) < j
-    by true e some = not-sooner k (counters n start) from j room course.begins course.below some equal
-    by false e some = not-sooner-adding k (counters n start) from j room course.begins course.below some
+    by true e some = not-sooner k (counters n start) from j room path.begins path.below some equal
+    by false e some = not-sooner-adding k (counters n start) from j room path.begins path.below some
         (λ three. false≢true (sym e ∙ ap (λ (x : ℕ). x == 3) three)) equal
 
     sums : (q z j need : ℕ) → q ≡ z + j → need < j → z + need < q

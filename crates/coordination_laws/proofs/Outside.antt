@@ -25,7 +25,7 @@ use Rattle.offset_laws.proofs.Looks.{fits}
 use Rattle.tick_laws.proofs.Runs.{run-on, run-first, run-none}
 use Rattle.tick_laws.proofs.Others.{end-choice}
 use Rattle.tick_laws.proofs.Finding.{in-left, in-right}
-use Rattle.coordination_laws.specs.Search.{Greatest, Sums, Keeps, OutGreen, OutStands, OutSignal, Sought, Found}
+use Rattle.coordination_laws.specs.Search.{Greatest, Sums, GreatestKeeps, OutGreen, OutStands, OutSignal, Sought, Found}
 use Rattle.coordination_laws.proofs.Clearing.{latched-goes, yellow-goes, clear-goes, signal-goes}
 use Rattle.coordination_laws.proofs.Clearing.{signal-comes, signal_latched-goes, signal_latched-comes, walk-goes, flash-goes}
 
@@ -34,7 +34,7 @@ choice true x y = inl (refl, refl)
 choice false x y = inr (refl, refl)
 
 -- its signal runs on, and is over with the greatest service
-pub out-signal : (g : Greatest) (t : Tables) (p ticks : ℕ) (l : Moment) (past : List Moment) (m : Moment) → Sums g → Keeps g t p → m.tables ≡ t
+pub out-signal : (g : Greatest) (t : Tables) (p ticks : ℕ) (l : Moment) (past : List Moment) (m : Moment) → Sums g → GreatestKeeps g t p → m.tables ≡ t
     → signal_of m.frame p ≡ signal_runs_on p t (l ∷ past) (signal_of l.frame p) → OutSignal g t p ticks (l ∷ past) (signal_of l.frame p)
     → OutSignal g t p (ticks + 1) (m ∷ l ∷ past) (signal_of m.frame p)
 out-signal g t p ticks l past m sums keeps tables goes = by (signal_of l.frame p) refl goes
@@ -145,7 +145,7 @@ found-from v goal p l past m x lasting found e =
     ∙ ap (λ (y : Colour). colour_after (goal_moves v goal) p v.tables (l ∷ past) y) e
 
 -- what was true of a phase outside the goal is true a tick later
-pub out-step : (g : Greatest) (v : View) (n p ticks : ℕ) (goal : List ℕ) (l : Moment) (past : List Moment) (m : Moment) → Sums g → Keeps g v.tables p
+pub out-step : (g : Greatest) (v : View) (n p ticks : ℕ) (goal : List ℕ) (l : Moment) (past : List Moment) (m : Moment) → Sums g → GreatestKeeps g v.tables p
     → Sought v n goal
     → is_enabled v.tables p ≡ true → is_in goal p ≡ false → v.past ≡ l ∷ past → Found v goal p m
     → OutSignal g v.tables p ticks (l ∷ past) (signal_of l.frame p) → OutStands g v.tables p ticks (l ∷ past) (colour_of l.frame p)

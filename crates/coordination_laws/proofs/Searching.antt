@@ -16,7 +16,7 @@ use Rattle.sig_tables.specs.View.{View, is_startable}
 use Rattle.sig_tables.specs.Moves.{goal_moves}
 use Rattle.sig_tables.specs.Decide.{colour_after}
 use Rattle.tick_laws.proofs.Others.{end-choice}
-use Rattle.coordination_laws.specs.Search.{Greatest, Sums, Keeps, OutStands, OutSignal, GoalStands, Sought}
+use Rattle.coordination_laws.specs.Search.{Greatest, Sums, GreatestKeeps, OutStands, OutSignal, GoalStands, Sought}
 use Rattle.coordination_laws.specs.Search.{Found, InSearch, KeepsEach, Gives, IsLate, Runs, SignalRuns, AnyMoment}
 use Rattle.coordination_laws.proofs.Outside.{out-signal, out-step, out-red}
 use Rattle.coordination_laws.proofs.Goal.{goal-step, goal-ready, goal-begins, goal-stays}
@@ -33,7 +33,7 @@ signal-any g t p past Walk sums r = let some = r.0 in let le = r.1 in record { r
 signal-any g t p past Flash sums r = let some = r.0 in let le = r.1 in record { ran = omega arith; within = le; most = r.2 }
 signal-any g t p past Dont sums r = tt
 
-goal-any : (g : Greatest) (t : Tables) (p : ℕ) (past : List Moment) (x : Colour) → Sums g → Keeps g t p → Runs g t p past x → GoalStands g t p 0 past x
+goal-any : (g : Greatest) (t : Tables) (p : ℕ) (past : List Moment) (x : Colour) → Sums g → GreatestKeeps g t p → Runs g t p past x → GoalStands g t p 0 past x
 goal-any g t p past Green sums keeps r = tt
 goal-any g t p past Yellow sums keeps r = let some = r.0 in let le = r.1 in record { rest = omega (arith, r.2, sums.clearance); within = le }
 goal-any g t p past Clear sums keeps r = let some = r.0 in let le = r.1 in record { rest = omega (arith, r.2, sums.clearance); within = le }

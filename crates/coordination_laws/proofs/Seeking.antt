@@ -20,12 +20,12 @@ use Rattle.sig_tables.specs.Goals.{goal_in}
 use Rattle.sig_tables.specs.Past.{Moment, Past}
 use Rattle.sig_tables.specs.Looking.{last_frame}
 use Rattle.sig_tables.specs.Choosing.{are_coordinated_green, mode_reached}
-use Rattle.sig_tables.specs.Course.{Turn, Goal, turn_in, turn_from_start, turn_of}
+use Rattle.sig_tables.specs.TickState.{RingTurn, Goal, ring_turn_in, ring_turn_from_start, ring_turn_of}
 use Rattle.sig_tables.specs.Walking.{Crossing, walk_begins}
 use Rattle.sig_tables.specs.Moves.{Moves, goal_moves, goal_beginning_in}
 use Rattle.sig_tables.specs.Seen.{mode_seen, view_seen, moves_seen}
 use Rattle.sig_tables.specs.Decide.{moves_of, colour_after, colours_of, next_moment}
-use Rattle.sig_tables.proofs.FreeCourse.{lesser-unstaged}
+use Rattle.sig_tables.proofs.FreeTickState.{lesser-unstaged}
 use Rattle.tick_laws.proofs.Others.{end-choice}
 use Rattle.plan_facts.specs.Goals.{GoTogether}
 use Rattle.tick_laws.specs.Lawful.{Sound}
@@ -34,7 +34,7 @@ use Rattle.tick_laws.specs.InStep.{NamesOn}
 use Rattle.tick_laws.proofs.Choices.{not-chosen, differs}
 use Rattle.tick_laws.proofs.Next.{next-colour, next-signal, mode_given, crossing_seen, walk_seen}
 use Rattle.tick_laws.proofs.Sought.{goal-goes}
-use Rattle.tick_laws.proofs.Standing.{Standing, enabled-phase}
+use Rattle.tick_laws.proofs.FrameStands.{FrameStands, enabled-phase}
 use Rattle.coordination_laws.specs.Search.{Sought, Gives}
 use Rattle.coordination_laws.proofs.Outside.{begins-goal}
 use Rattle.coordination_laws.specs.Lasting.{SeekTick}
@@ -43,7 +43,7 @@ use Rattle.coordination_laws.proofs.SearchingInTime.{in-goal}
 -- what is known of a tick that seeks pattern n after a frame that did
 pub record SeeksOn (past : Past) (n : ℕ) : Type 0 where
   pub sound : Sound past.tables
-  pub stands : Standing past.tables (last_frame past.moments)
+  pub stands : FrameStands past.tables (last_frame past.moments)
   pub named : NamesOn past.tables (last_frame past.moments)
   pub defined : is_defined past.tables n ≡ true
   pub mode : mode_seen past ≡ Seek n
@@ -59,15 +59,15 @@ lit f p ne = by (colour_of f p) ne
     by Red ne = absurd (ne refl)
 
 -- the turn is that of the goal
-goal-turn : (past : Past) (n : ℕ) → (last_frame past.moments).mode ≡ Seek n → turn_of past.tables past.moments (Seek n) ≡ Goal (goal_in past.tables (Seek n))
-goal-turn past n last = ap (λ (m : Mode). if is_start m then turn_from_start past.tables (Seek n) else turn_in past.tables (Seek n)) last
+goal-ring_turn : (past : Past) (n : ℕ) → (last_frame past.moments).mode ≡ Seek n → ring_turn_of past.tables past.moments (Seek n) ≡ Goal (goal_in past.tables (Seek n))
+goal-ring_turn past n last = ap (λ (m : Mode). if is_start m then ring_turn_from_start past.tables (Seek n) else ring_turn_in past.tables (Seek n)) last
 
 moves-are : (past : Past) (n : ℕ) → SeeksOn past n → moves_seen past ≡ goal_moves (view_seen past) (goal_in past.tables (Seek n))
 moves-are past n s =
-    ap (λ (turn : Turn). moves_of turn (view_seen past)) (ap (λ (m : Mode). turn_of past.tables past.moments m) s.mode ∙ goal-turn past n s.before)
+    ap (λ (ring_turn : RingTurn). moves_of ring_turn (view_seen past)) (ap (λ (m : Mode). ring_turn_of past.tables past.moments m) s.mode ∙ goal-ring_turn past n s.before)
 
 goes : (past : Past) (n : ℕ) → SeeksOn past n → GoTogether past.tables (goal_in past.tables (Seek n))
-goes past n s = goal-goes (Seek n) past.tables past.moments s.sound s.defined (goal_in past.tables (Seek n)) (goal-turn past n s.before)
+goes past n s = goal-goes (Seek n) past.tables past.moments s.sound s.defined (goal_in past.tables (Seek n)) (goal-ring_turn past n s.before)
 
 sought : (past : Past) (n : ℕ) → SeeksOn past n → Sought (view_seen past) n (goal_in past.tables (Seek n))
 sought past n s = record {

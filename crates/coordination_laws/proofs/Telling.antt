@@ -10,7 +10,7 @@ use Rattle.sig_tables.specs.Past.{Moment}
 use Rattle.offset_laws.specs.Drifting.{moved}
 use Rattle.plan_facts.specs.Disturbances.{Drift, rise, is_reset, passes_midnight, moves_at_midnight, interrupts, differs, is_out, is_disturbed}
 use Rattle.coordination_laws.specs.Cycles.{step_of, step_at}
-use Rattle.coordination_laws.specs.Goes.{GoesOn}
+use Rattle.coordination_laws.specs.Goes.{CounterGoesOn}
 
 neither : (a b : Bool) → (a || b) ≡ false → (a ≡ false) × (b ≡ false)
 neither true b e = absurd (false≢true (sym e))
@@ -20,7 +20,7 @@ holds : (b : Bool) → not b ≡ false → b ≡ true
 holds true e = refl
 holds false e = absurd (false≢true (sym e))
 
-pub goes-on : (d : Drift) (m l : Moment) (past : List Moment) → is_disturbed d (m ∷ l ∷ past) ≡ false → GoesOn d m l
+pub goes-on : (d : Drift) (m l : Moment) (past : List Moment) → is_disturbed d (m ∷ l ∷ past) ≡ false → CounterGoesOn d m l
 goes-on d m l past e =
     let all = neither (differs d m l) (is_out (m ∷ l ∷ past) && not (is_out (l ∷ past))) e in
     let last = neither (not (m.command == l.command) || not (m.frame.version == l.frame.version) || is_reset d m l || passes_midnight d m l

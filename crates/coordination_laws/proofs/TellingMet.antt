@@ -18,7 +18,7 @@ use Rattle.sig_tables.specs.Seen.{mode_seen, moves_seen}
 use Rattle.sig_tables.specs.Decide.{colours_of, next_moment}
 use Rattle.tick_laws.proofs.Sought.{Numbered, IsStage, EachStage, now-stage}
 use Rattle.tick_laws.proofs.InStep.{next-named}
-use Rattle.coordination_laws.specs.Told.{Obeys, Follows, Told}
+use Rattle.coordination_laws.specs.Told.{Obeys, ModeFollows, MomentTold}
 
 commanded : (t : Tables) (v n : ℕ) (f : Frame) → Obeys t v f n (mode_commanded t v n f)
 commanded t v n f = split (is_defined t n) (is_in_step f v n) refl refl
@@ -68,17 +68,17 @@ obeys past k =
     after (last_frame past.moments).mode past.tables past.version (command_now past)
     (preempts_on past.heard (last_moment past.tables past.moments)) past.moments k
 
-reached-follows : (mode : Mode) (t : Tables) (v n : ℕ) (f : Frame) (veh : List Colour) → Obeys t v f n mode → Follows t n (mode_reached mode t veh)
+reached-follows : (mode : Mode) (t : Tables) (v n : ℕ) (f : Frame) (veh : List Colour) → Obeys t v f n mode → ModeFollows t n (mode_reached mode t veh)
 reached-follows Free t v n f veh h = h
 reached-follows (Seek k) t v n f veh h = split (are_coordinated_green t k veh)
   where
-    split : (b : Bool) → Follows t n (if b then Coord k else Seek k)
+    split : (b : Bool) → ModeFollows t n (if b then Coord k else Seek k)
     split true = h.0
     split false = h.0
 reached-follows (Coord k) t v n f veh h = h.0
 reached-follows Ending t v n f veh h = split (are_all_red veh)
   where
-    split : (b : Bool) → Follows t n (if b then Flash else Ending)
+    split : (b : Bool) → ModeFollows t n (if b then Flash else Ending)
     split true = tt
     split false = tt
 reached-follows _ t v n f veh h = tt
@@ -96,7 +96,7 @@ reached-target Ending t veh time = split (are_all_red veh)
     split false = refl
 reached-target _ t veh time = refl
 
-pub next-told : (past : Past) → Numbered (last_frame past.moments).mode → Told (next_moment past)
+pub next-told : (past : Past) → Numbered (last_frame past.moments).mode → MomentTold (next_moment past)
 next-told past k = record {
   clock = mod-lt _ (omega arith);
   named = next-named past;
@@ -105,7 +105,7 @@ next-told past k = record {
   target = reached-target (mode_seen past) past.tables (colours_of past (moves_seen past)) (clock_now past);
 }
 
-pub first-told : (t : Tables) → Told (first_moment t)
+pub first-told : (t : Tables) → MomentTold (first_moment t)
 first-told t = record {
   clock = omega arith;
   named = λ r which. elim which [ inl one ↦ inl (rw one refl) | inr two ↦ inl (rw two refl) ];

@@ -15,7 +15,7 @@ use Rattle.tick_laws.proofs.Runs.{run-on}
 use Rattle.tick_laws.specs.Lawful.{Lawful}
 use Rattle.tick_laws.specs.Safe.{Within, LongYellow, EachWithin, EachLongYellow}
 use Rattle.tick_laws.specs.Walking.{WalkWithin, FlashWithin, EachWalkWithin, EachFlashWithin}
-use Rattle.tick_laws.proofs.Standing.{enabled-phase}
+use Rattle.tick_laws.proofs.FrameStands.{enabled-phase}
 use Rattle.tick_laws.proofs.Within.{each-within}
 use Rattle.tick_laws.proofs.Apart.{each-long}
 use Rattle.tick_laws.proofs.SignalWithin.{each-walk-within, each-flash-within}

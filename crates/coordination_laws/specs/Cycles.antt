@@ -88,7 +88,7 @@ cycles_needed d t n target = cycles_for_one d * needed (correction_of t n) targe
 -- since the first local zero after the last disturbance, which came within so many ticks, the counter has been corrected tick by
 -- tick, and the target has gone on as the clock does; where the correction can follow the clock, they meet within the cycles needed,
 -- and once they have they are held
-pub record OnCourse (d : Drift) (t : Tables) (n most : ℕ) (past : List Moment) : Type 0 where
+pub record OnPath (d : Drift) (t : Tables) (n most : ℕ) (past : List Moment) : Type 0 where
   pub mode : (last_frame past).mode ≡ Coord n
   pub zero : has_zero d past ≡ true
   pub start : List Moment

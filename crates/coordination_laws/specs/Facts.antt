@@ -23,7 +23,7 @@ use Rattle.plan_facts.specs.Bounds.{zero_bound}
 use Rattle.plan_facts.specs.Meets.{has_zero}
 use Rattle.coordination_laws.specs.Versions.{IsVersion, greatest_at, HasYellow}
 use Rattle.coordination_laws.specs.Lasting.{SeekTick, Searches, StepTick}
-use Rattle.coordination_laws.specs.Cycles.{CountsOn, InCycle, HasTime, step_at, OnCourse}
+use Rattle.coordination_laws.specs.Cycles.{CountsOn, InCycle, HasTime, step_at, OnPath}
 
 -- the mode is in step with a pattern
 abbrev pub is_coord : Mode → Bool
@@ -92,7 +92,7 @@ pub record InStep (d : Drift) (t : Tables) (n : ℕ) (past : List Moment) : Type
   pub room : HasRoom (correction_of t n)
   pub cycle : InCycle d t n past
   pub time : InTime t n (last_frame past).counter past
-  pub course : has_zero d past ≡ true → OnCourse d t n (zero_bound past t n) past
+  pub path : has_zero d past ≡ true → OnPath d t n (zero_bound past t n) past
 
 -- what is carried along, by the mode of the last moment
 pub record Carried (d : Drift) (m : Moment) (past : List Moment) : Type 0 where

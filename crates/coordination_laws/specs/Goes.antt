@@ -6,7 +6,7 @@ use Rattle.sig_tables.specs.Past.{Moment}
 use Rattle.plan_facts.specs.Disturbances.{Drift, rise, interrupts}
 
 -- moment m goes on as l: the same command and version, the clock as far on as its drift has it, no midnight that moves the target, no interruption
-pub record GoesOn (d : Drift) (m l : Moment) : Type 0 where
+pub record CounterGoesOn (d : Drift) (m l : Moment) : Type 0 where
   pub command : m.command ≡ l.command
   pub version : m.frame.version ≡ l.frame.version
   pub clock : m.clock ≡ (l.clock + rise d m.number) % day

@@ -33,7 +33,7 @@ pub record Sums (g : Greatest) : Type 0 where
   pub some : 1 ≤ g.revert
 
 -- tables keep these times for phase p
-pub record Keeps (g : Greatest) (t : Tables) (p : ℕ) : Type 0 where
+pub record GreatestKeeps (g : Greatest) (t : Tables) (p : ℕ) : Type 0 where
   pub least : least_green t p ≤ g.service
   pub walk : walk_time t p ≤ g.walk
   pub flash : pedestrian_clear_time t p ≤ g.flash
@@ -118,7 +118,7 @@ pub record InSearch (g : ℕ → Greatest) (t : Tables) (goal : List ℕ) (ticks
 -- the tables keep the greatest times
 pub record KeepsEach (g : ℕ → Greatest) (t : Tables) : Type 0 where
   pub sums : (p : ℕ) → Sums (g p)
-  pub each : (p : ℕ) → is_enabled t p ≡ true → Keeps (g p) t p
+  pub each : (p : ℕ) → is_enabled t p ≡ true → GreatestKeeps (g p) t p
 
 -- the moment that a tick of the search gives; no walk begins outside the goal
 pub record Gives (v : View) (goal : List ℕ) (m : Moment) : Type 0 where

@@ -19,15 +19,15 @@ Obeys t v f n (Coord k) = (k ≡ n) × (is_defined t n ≡ true) × (is_in_step 
 Obeys t v f n mode = Unit {0}
 
 -- the mode of a frame with pattern n in command
-abbrev pub Follows : Tables → ℕ → Mode → Type 0
-Follows t n Free = is_defined t n ≡ false
-Follows t n (Seek k) = k ≡ n
-Follows t n (Coord k) = k ≡ n
-Follows t n mode = Unit {0}
+abbrev pub ModeFollows : Tables → ℕ → Mode → Type 0
+ModeFollows t n Free = is_defined t n ≡ false
+ModeFollows t n (Seek k) = k ≡ n
+ModeFollows t n (Coord k) = k ≡ n
+ModeFollows t n mode = Unit {0}
 
 -- what is told of a moment
-pub record Told (m : Moment) : Type 0 where
+pub record MomentTold (m : Moment) : Type 0 where
   pub clock : m.clock < day
   pub named : NamesOn m.tables m.frame
-  pub mode : Follows m.tables m.command m.frame.mode
+  pub mode : ModeFollows m.tables m.command m.frame.mode
   pub target : m.frame.target ≡ target_in m.tables m.frame.mode m.clock

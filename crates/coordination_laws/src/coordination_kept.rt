@@ -12,7 +12,7 @@ ghost use Rattle.plan_facts.specs.Disturbances.{Drift, drifts, drift_of, no_drif
 ghost use Rattle.plan_facts.specs.Meets.{MeetsEach, Meets, NotSooner};
 ghost use Rattle.coordination_laws.specs.Cycles.{step_at};
 ghost use Rattle.coordination_laws.specs.Facts.{TellsEach};
-ghost use Rattle.coordination_laws.specs.Goes.{GoesOn};
+ghost use Rattle.coordination_laws.specs.Goes.{CounterGoesOn};
 
 /// Where each tick is as the rules of a tick have it, every moment meets what coordination promises: both coordinated phases Green
 /// at each local zero, a local zero in time after each disturbance, and the offset met in time and held: exactly where the clock keeps
@@ -29,7 +29,7 @@ pub fn promise_kept()
 /// A tick that is no disturbance goes on as the one before; and where it does, the target goes on as the clock does: by one tick, by
 /// two, or not at all.
 pub fn quiet_tells()
-    ensures goes_on { (d : Drift) (m l : Moment) (past : List Moment) → is_disturbed d (m ∷ l ∷ past) ≡ false → GoesOn d m l }
+    ensures goes_on { (d : Drift) (m l : Moment) (past : List Moment) → is_disturbed d (m ∷ l ∷ past) ≡ false → CounterGoesOn d m l }
     ensures later { (d : Drift) (t : Tables) (n number time : ℕ) → (time + rise d number < day) ⊎ (day % cycle_time t n ≡ 0)
         → target_at t n ((time + rise d number) % day) ≡ moved (cycle_time t n) (step_at d number) (target_at t n time) }
 {}

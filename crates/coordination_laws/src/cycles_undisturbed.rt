@@ -12,7 +12,7 @@ ghost use Rattle.offset_laws.specs.Drifting.{moved};
 ghost use Rattle.plan_facts.specs.Disturbances.{Drift, drifts, is_disturbed, quiet_for};
 ghost use Rattle.plan_facts.specs.Bounds.{longest_cycle, shortest_cycle};
 ghost use Rattle.plan_facts.specs.Meets.{is_zero, first_zero, has_zero, zero_target, zero_within, offset_within, can_follow};
-ghost use Rattle.coordination_laws.specs.Cycles.{counters, CountsOn, PicksUp, InCycle, HasTime, step_at, cycles_needed, OnCourse};
+ghost use Rattle.coordination_laws.specs.Cycles.{counters, CountsOn, PicksUp, InCycle, HasTime, step_at, cycles_needed, OnPath};
 
 /// In step with a pattern, whatever the targets and the disturbances are: from a pickup on, each tick keeps the limits of the
 /// correction, and after each disturbance a local zero comes within the longest cycle.
@@ -36,15 +36,15 @@ pub fn offset_met_in_time()
     ensures begins { (d : Drift) (t : Tables) (n most : ℕ) (m l : Moment) (past : List Moment) → m.frame.mode ≡ Coord n
         → is_disturbed d (m ∷ l ∷ past) ≡ false → has_zero d (l ∷ past) ≡ false → is_zero (m ∷ l ∷ past) ≡ true
         → quiet_for d (l ∷ past) < most → begins_cycle (counters n (m ∷ l ∷ past)) ≡ true → m.frame.target < cycle_time t n
-        → HasRoom (correction_of t n) → (drifts d ≡ true → HasTime d (correction_of t n)) → OnCourse d t n most (m ∷ l ∷ past) }
+        → HasRoom (correction_of t n) → (drifts d ≡ true → HasTime d (correction_of t n)) → OnPath d t n most (m ∷ l ∷ past) }
     ensures step { (d : Drift) (t : Tables) (n most : ℕ) (m l : Moment) (past : List Moment) → is_disturbed d (m ∷ l ∷ past) ≡ false
         → CountsOn t n m l past → m.number ≡ l.number + 1 → m.frame.target ≡ moved (cycle_time t n) (step_at d m.number) l.frame.target
-        → cycle_time m.tables m.command ≡ cycle_time t n → OnCourse d t n most (l ∷ past) → OnCourse d t n most (m ∷ l ∷ past) }
+        → cycle_time m.tables m.command ≡ cycle_time t n → OnPath d t n most (l ∷ past) → OnPath d t n most (m ∷ l ∷ past) }
     ensures early { (d : Drift) (most : ℕ) (past : List Moment) → quiet_for d past < most → offset_within d most past ≡ true }
-    ensures met { (d : Drift) (t : Tables) (n most : ℕ) (past : List Moment) → OnCourse d t n most past → can_follow d t ≡ true
+    ensures met { (d : Drift) (t : Tables) (n most : ℕ) (past : List Moment) → OnPath d t n most past → can_follow d t ≡ true
         → offset_within d (most + cycles_needed d t n (zero_target d past)) past ≡ true }
     ensures no_sooner { (d : Drift) (t : Tables) (n most : ℕ) (m : Moment) (past : List Moment) → drifts d ≡ false
-        → HasRoom (correction_of t n) → OnCourse d t n most (m ∷ past) → 1 ≤ zero_target d (m ∷ past)
+        → HasRoom (correction_of t n) → OnPath d t n most (m ∷ past) → 1 ≤ zero_target d (m ∷ past)
         → m.frame.counter ≡ m.frame.target
         → quiet_for d (first_zero d (m ∷ past)) + (needed (correction_of t n) (zero_target d (m ∷ past)) - 1) * shortest_cycle t n
         < quiet_for d (m ∷ past) }

@@ -1,5 +1,6 @@
-//! The search for a pattern ends in time, from whatever the cabinet shows as it begins. The function has no body: it stands for the
-//! laws of its contract, which callers cite. (FHWA Signal Timing Manual: transition into coordination.)
+//! Coordination over histories: the search for a pattern ends in time, a cabinet in step keeps its offset, and what both give of
+//! a history that nothing disturbs (FHWA Signal Timing Manual: transition into coordination). The functions have no bodies: each
+//! stands for the law of its contract, which callers cite.
 #![tactic(auto)]
 
 mod coordination_kept;

@@ -12,7 +12,7 @@ ghost use Rattle.sig_tables.specs.Splits.{coordinated_phases};
 ghost use Rattle.sig_tables.specs.Choosing.{are_coordinated_green, mode_reached};
 ghost use Rattle.sig_tables.specs.Past.{Moment};
 ghost use Rattle.sig_tables.specs.Looking.{last_frame, in_a_row, begun};
-ghost use Rattle.coordination_laws.specs.Search.{Keeps, KeepsEach, IsLate, AnyMoment, InSearch};
+ghost use Rattle.coordination_laws.specs.Search.{GreatestKeeps, KeepsEach, IsLate, AnyMoment, InSearch};
 ghost use Rattle.tick_laws.specs.Zero.{HoldsPair, PlanServes, TimesServe, ZeroHolds, InTime};
 ghost use Rattle.plan_facts.specs.Disturbances.{Drift, quiet_for};
 ghost use Rattle.plan_facts.specs.Greatest.{was_enabled, greatest_time, pickup_bound};
@@ -29,7 +29,7 @@ pub fn greatest_times()
     ensures bound { (m : Moment) (past : List Moment) → pickup_bound past ≤ pickup_bound (m ∷ past) }
     ensures same { (m : Moment) (past : List Moment) → IsVersion m.tables past → pickup_bound (m ∷ past) ≡ pickup_bound past }
     ensures keeps { (past : List Moment) (t : Tables) (p : ℕ) → IsVersion t past → was_enabled p past ≡ true → 1 ≤ yellow_time t p
-        → Keeps (greatest_at past p) t p }
+        → GreatestKeeps (greatest_at past p) t p }
     ensures each { (past : List Moment) (t : Tables) → IsVersion t past → HasYellow t → KeepsEach (greatest_at past) t }
     ensures latched { (test : Moment → Bool) (now : Tables) (past : List Moment) → 1 ≤ in_a_row test past → IsVersion (begun test now past) past }
     ensures late { (past : List Moment) (ticks : ℕ) → pickup_bound past ≤ ticks + 2 → IsLate (greatest_at past) ticks }

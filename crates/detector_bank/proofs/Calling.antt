@@ -5,7 +5,7 @@ use Rattle.sig_types.specs.PhaseSet.{has}
 use Rattle.detector_bank.specs.declared.bank.Detector.{Detector}
 use Rattle.detector_bank.specs.declared.bank.Pulse.{Pulse}
 use Rattle.detector_bank.specs.declared.bank.Call.{Call}
-use Rattle.detector_bank.specs.declared.post.Post.{Post}
+use Rattle.detector_bank.specs.declared.detector_state.DetectorState.{DetectorState}
 use Rattle.detector_bank.specs.declared.changes.Calling.{Calling}
 use Rattle.detector_bank.specs.Watching.{tally, Tallies, AreCalled}
 use Rattle.detector_bank.specs.Bank.{calls, called}
@@ -85,16 +85,16 @@ pub calls-more : (ds : List Detector) (ps : List Pulse) (j : ℕ) → calls_unti
 calls-more ds ps j = ap (λ n. calls_until ds ps n) (sym (add-one j))
 
 -- where as many detectors as are kept call, a phase is called if and only if some of its detectors call
-pub called-tally : (ds : List Detector) (posts : List Post) (ps : List Pulse) (cabinet phase j : ℕ) → length posts ≡ length ds
-    → ((k : ℕ) (p : Post) (d : Detector) → k < length ds → (get_or posts k p).calls ≡ calls (get_or ds k d) ps j)
-    → called ds ps cabinet phase j ≡ nat_lt 0 (tally ds posts cabinet phase)
-called-tally [] posts ps cabinet phase j same h = refl
+pub called-tally : (ds : List Detector) (detector_states : List DetectorState) (ps : List Pulse) (cabinet phase j : ℕ) → length detector_states ≡ length ds
+    → ((k : ℕ) (p : DetectorState) (d : Detector) → k < length ds → (get_or detector_states k p).calls ≡ calls (get_or ds k d) ps j)
+    → called ds ps cabinet phase j ≡ nat_lt 0 (tally ds detector_states cabinet phase)
+called-tally [] detector_states ps cabinet phase j same h = refl
 called-tally (d ∷ ds) [] ps cabinet phase j same h = absurd (omega (arith, same))
-called-tally (d ∷ ds) (p ∷ posts) ps cabinet phase j same h =
+called-tally (d ∷ ds) (p ∷ detector_states) ps cabinet phase j same h =
     ap (λ b. ((d.cabinet == cabinet) && ((d.phase == phase) && b)) || called ds ps cabinet phase j) (sym (h 0 p d (omega arith)))
     ∙ ap (λ b. ((d.cabinet == cabinet) && ((d.phase == phase) && p.calls)) || b)
-    (called-tally ds posts ps cabinet phase j (omega (arith, same)) (λ k q e low. h (suc k) q e (omega (arith, low))))
-    ∙ some ((d.cabinet == cabinet) && ((d.phase == phase) && p.calls)) (tally ds posts cabinet phase)
+    (called-tally ds detector_states ps cabinet phase j (omega (arith, same)) (λ k q e low. h (suc k) q e (omega (arith, low))))
+    ∙ some ((d.cabinet == cabinet) && ((d.phase == phase) && p.calls)) (tally ds detector_states cabinet phase)
   where
     some : (b : Bool) (n : ℕ) → (b || nat_lt 0 n) ≡ nat_lt 0 ((if b then 1 else 0) + n)
     some true n = sym (lt-ltb 0 (1 + n) (omega arith))
@@ -103,11 +103,11 @@ called-tally (d ∷ ds) (p ∷ posts) ps cabinet phase j same h =
         zero-plus : (n : ℕ) → n ≡ 0 + n
         zero-plus n = omega arith
 
-pub sets-called : (c : Calling) (ds : List Detector) (posts : List Post) (ps : List Pulse) (j : ℕ) → length posts ≡ length ds
-    → ((k : ℕ) (p : Post) (d : Detector) → k < length ds → (get_or posts k p).calls ≡ calls (get_or ds k d) ps j) → Tallies c ds posts → AreCalled c.sets ds ps j
-sets-called c ds posts ps j same h t = record {
+pub sets-called : (c : Calling) (ds : List Detector) (detector_states : List DetectorState) (ps : List Pulse) (j : ℕ) → length detector_states ≡ length ds
+    → ((k : ℕ) (p : DetectorState) (d : Detector) → k < length ds → (get_or detector_states k p).calls ≡ calls (get_or ds k d) ps j) → Tallies c ds detector_states → AreCalled c.sets ds ps j
+sets-called c ds detector_states ps j same h t = record {
   each = λ k p s low some most.
       let before : p - 1 + 1 ≡ p = omega (arith, some) in
-      ap (λ n. has (get_or c.sets k s) n) (sym before) ∙ t.sets k (p - 1) s low (omega (arith, some, most)) ∙ sym (called-tally ds posts ps (k + 1) (p - 1 + 1) j same h)
+      ap (λ n. has (get_or c.sets k s) n) (sym before) ∙ t.sets k (p - 1) s low (omega (arith, some, most)) ∙ sym (called-tally ds detector_states ps (k + 1) (p - 1 + 1) j same h)
       ∙ ap (λ n. called ds ps (k + 1) n j) before;
 }

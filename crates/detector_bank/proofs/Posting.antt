@@ -2,7 +2,7 @@
 use Rattle.std.proofs.Common.{◌≡◌, ℕ, ◌+◌, ◌-◌, ◌*◌, ◌%◌, ◌<◌, ◌≤◌, false, List, [], length, take, drop, get_or, sym, ap, ◌∙◌, subst, add-one, arith}
 use Rattle.detector_bank.specs.declared.bank.Detector.{Detector}
 use Rattle.detector_bank.specs.declared.bank.Pulse.{Pulse}
-use Rattle.detector_bank.specs.declared.post.Post.{Post}
+use Rattle.detector_bank.specs.declared.detector_state.DetectorState.{DetectorState}
 use Rattle.detector_bank.specs.Pulses.{flags_of, flags}
 use Rattle.detector_bank.specs.Bank.{calls}
 use Rattle.detector_bank.specs.Watching.{Watches, key_of, key, at_key, Sorts, Before, Posted}
@@ -10,7 +10,7 @@ use Rattle.detector_bank.proofs.Watched.{watch-quiet}
 use Rattle.detector_bank.proofs.Sorting.{key-is, none-between, keyed-flags}
 use Rattle.detector_bank.proofs.Calling.{none-calls}
 
-pub posted-start : (p : Post) (sorted : List Pulse) (d : Detector) (ps : List Pulse) → Watches p.watch d ps 0 → Before sorted p.next (key_of d.cabinet d.detector 1)
+pub posted-start : (p : DetectorState) (sorted : List Pulse) (d : Detector) (ps : List Pulse) → Watches p.watch d ps 0 → Before sorted p.next (key_of d.cabinet d.detector 1)
     → p.calls ≡ false → Posted p 0 sorted d ps 0
 posted-start p sorted d ps watch before calls = record {
   watch = watch;
@@ -21,7 +21,7 @@ posted-start p sorted d ps watch before calls = record {
 }
 
 -- a round that is not due
-pub posted-quiet : (p : Post) (due : ℕ) (sorted : List Pulse) (d : Detector) (ps : List Pulse) (j : ℕ) → j + 1 < due → Posted p due sorted d ps j
+pub posted-quiet : (p : DetectorState) (due : ℕ) (sorted : List Pulse) (d : Detector) (ps : List Pulse) (j : ℕ) → j + 1 < due → Posted p due sorted d ps j
     → Posted p due sorted d ps (j + 1)
 posted-quiet p due sorted d ps j soon h = record {
   watch = next;
@@ -43,7 +43,7 @@ posted-quiet p due sorted d ps j soon h = record {
     more x a h = omega (arith, h)
 
 -- a round that is due
-pub posted-step : (old new : Post) (due silent pulse next : ℕ) (sorted : List Pulse) (d : Detector) (ps : List Pulse) (j r n from end : ℕ)
+pub posted-step : (old new : DetectorState) (due silent pulse next : ℕ) (sorted : List Pulse) (d : Detector) (ps : List Pulse) (j r n from end : ℕ)
     → r ≡ j + 1 → n ≡ key_of d.cabinet d.detector r → Sorts sorted ps → Posted old due sorted d ps j → from ≤ end → end ≤ length sorted
     → (Before sorted old.next n → Before sorted from n) → (Before sorted from (n + 1) → Before sorted end (n + 1))
     → ((p : Pulse) → from < length sorted → n ≤ key (get_or sorted from p)) → ((p : Pulse) → end < length sorted → n + 1 ≤ key (get_or sorted end p))

@@ -27,19 +27,19 @@ and-false true b e = e
 and-false false b e = refl
 
 -- a number of rounds in a row that ends now goes on
-pub still-present : (on : Bool) (lit idle j : ℕ) → lit ≤ j → idle ≤ j
-    → (if on then (if on || (lit == j) then j - idle else 0) + 1 else 0) ≡ (if on || (lit == suc j) then suc j - idle else 0)
-still-present true lit idle j a b = omega arith
-still-present false lit idle j a b = sym (ap (λ t. if t then suc j - idle else 0) (other-number lit (suc j) (λ e. omega (arith, e, a))))
+pub still-present : (on : Bool) (last_on last_inactive j : ℕ) → last_on ≤ j → last_inactive ≤ j
+    → (if on then (if on || (last_on == j) then j - last_inactive else 0) + 1 else 0) ≡ (if on || (last_on == suc j) then suc j - last_inactive else 0)
+still-present true last_on last_inactive j a b = omega arith
+still-present false last_on last_inactive j a b = sym (ap (λ t. if t then suc j - last_inactive else 0) (other-number last_on (suc j) (λ e. omega (arith, e, a))))
 
 -- none does where it is off and no pulse comes
-pub none-present : (on : Bool) (lit idle i : ℕ) → on ≡ false → (lit ≡ i → ⊥) → (if on || (lit == i) then i - idle else 0) ≡ 0
-none-present true lit idle i off ne = absurd (cc)
-none-present false lit idle i off ne = ap (λ t. if t then i - idle else 0) (other-number lit i ne)
+pub none-present : (on : Bool) (last_on last_inactive i : ℕ) → on ≡ false → (last_on ≡ i → ⊥) → (if on || (last_on == i) then i - last_inactive else 0) ≡ 0
+none-present true last_on last_inactive i off ne = absurd (cc)
+none-present false last_on last_inactive i off ne = ap (λ t. if t then i - last_inactive else 0) (other-number last_on i ne)
 
-pub present-few : (b : Bool) (idle j : ℕ) → (if b then j - idle else 0) ≤ j
-present-few true idle j = omega arith
-present-few false idle j = omega arith
+pub present-few : (b : Bool) (last_inactive j : ℕ) → (if b then j - last_inactive else 0) ≤ j
+present-few true last_inactive j = omega arith
+present-few false last_inactive j = omega arith
 
 -- the last round past the delay lies no longer ago than so many rounds: one round later
 later-round : (j past m : ℕ) → nat_le j (past + m) ≡ nat_le (suc j) (past + suc m)

@@ -11,7 +11,7 @@ pub record Took (d : Detector) (span : List Pulse) (on : Bool) (i : ℕ) (t : Ta
   pub few : t.edges ≤ i
   pub state : after t.on (flags_of d (drop i span)) ≡ after on (flags_of d span)
   pub some : (t.some || some_pulse (flags_of d (drop i span))) ≡ some_pulse (flags_of d span)
-  pub lit : (t.lit || any_on (flags_of d (drop i span))) ≡ any_on (flags_of d span)
+  pub had_on : (t.had_on || any_on (flags_of d (drop i span))) ≡ any_on (flags_of d span)
   pub edges : t.edges + edges_from t.on (flags_of d (drop i span)) ≡ edges_from on (flags_of d span)
 
 flags-more : (d : Detector) (span : List Pulse) (i : ℕ) (p : Pulse) → i < length span
@@ -26,7 +26,7 @@ passed d span on i t p h other w =
       few = let low = w.few in omega arith;
       state = ap (λ fs. after t.on fs) (sym here) ∙ w.state;
       some = ap (λ fs. t.some || some_pulse fs) (sym here) ∙ w.some;
-      lit = ap (λ fs. t.lit || any_on fs) (sym here) ∙ w.lit;
+      had_on = ap (λ fs. t.had_on || any_on fs) (sym here) ∙ w.had_on;
       edges = ap (λ fs. t.edges + edges_from t.on fs) (sym here) ∙ w.edges;
     }
 
@@ -39,7 +39,7 @@ or-assoc true b c = refl
 or-assoc false b c = refl
 
 pub took : (d : Detector) (span : List Pulse) (on : Bool) (i : ℕ) (t u : Taken) (p : Pulse) → i < length span → is_of d (get_or span i p) ≡ true
-    → u.on ≡ (get_or span i p).on → u.some ≡ true → u.lit ≡ (t.lit || (get_or span i p).on)
+    → u.on ≡ (get_or span i p).on → u.some ≡ true → u.had_on ≡ (t.had_on || (get_or span i p).on)
     → u.edges ≡ t.edges + (if (get_or span i p).on && not t.on then 1 else 0)
     → Took d span on i t → Took d span on (i + 1) u
 took d span on i t u p h own is some lit edges w =
@@ -52,7 +52,7 @@ took d span on i t u p h own is some lit edges w =
       few = omega (arith, edges, low, one);
       state = ap (λ b. after b rest) is ∙ ap (λ fs. after t.on fs) (sym here) ∙ w.state;
       some = ap (λ b. b || some_pulse rest) some ∙ sym (or-true t.some) ∙ ap (λ fs. t.some || some_pulse fs) (sym here) ∙ w.some;
-      lit = ap (λ b. b || any_on rest) lit ∙ or-assoc t.lit q (any_on rest) ∙ ap (λ fs. t.lit || any_on fs) (sym here) ∙ w.lit;
+      had_on = ap (λ b. b || any_on rest) lit ∙ or-assoc t.had_on q (any_on rest) ∙ ap (λ fs. t.had_on || any_on fs) (sym here) ∙ w.had_on;
       edges = ap (λ b. u.edges + edges_from b rest) is ∙ sums u.edges t.edges (if q && not t.on then 1 else 0) (edges_from q rest) edges ∙ ap (λ fs. t.edges + edges_from t.on fs) (sym here) ∙ w.edges;
     }
   where
@@ -66,8 +66,8 @@ took d span on i t u p h own is some lit edges w =
 zero-plus : (n : ℕ) → 0 + n ≡ n
 zero-plus n = omega arith
 
-pub took-start : (d : Detector) (span : List Pulse) (on : Bool) → Took d span on 0 (record { on = on; some = false; lit = false; edges = 0 })
-took-start d span on = record { few = omega arith; state = refl; some = refl; lit = refl; edges = zero-plus (edges_from on (flags_of d span)) }
+pub took-start : (d : Detector) (span : List Pulse) (on : Bool) → Took d span on 0 (record { on = on; some = false; had_on = false; edges = 0 })
+took-start d span on = record { few = omega arith; state = refl; some = refl; had_on = refl; edges = zero-plus (edges_from on (flags_of d span)) }
 
 or-none : (b : Bool) → (b || false) ≡ b
 or-none true = refl
@@ -77,11 +77,11 @@ plus-none : (n : ℕ) → n + 0 ≡ n
 plus-none n = omega arith
 
 pub took-all : (d : Detector) (span : List Pulse) (on : Bool) (i : ℕ) (t : Taken) → length span ≤ i → Took d span on i t
-    → (t.on ≡ after on (flags_of d span)) × (t.some ≡ some_pulse (flags_of d span)) × (t.lit ≡ any_on (flags_of d span)) × (t.edges ≡ edges_from on (flags_of d span))
+    → (t.on ≡ after on (flags_of d span)) × (t.some ≡ some_pulse (flags_of d span)) × (t.had_on ≡ any_on (flags_of d span)) × (t.edges ≡ edges_from on (flags_of d span))
 took-all d span on i t past w =
     let none : flags_of d (drop i span) ≡ [] = ap (λ xs. flags_of d xs) (drop_all i span past) in (
       ap (λ fs. after t.on fs) (sym none) ∙ w.state,
       sym (or-none t.some) ∙ ap (λ fs. t.some || some_pulse fs) (sym none) ∙ w.some,
-      sym (or-none t.lit) ∙ ap (λ fs. t.lit || any_on fs) (sym none) ∙ w.lit,
+      sym (or-none t.had_on) ∙ ap (λ fs. t.had_on || any_on fs) (sym none) ∙ w.had_on,
       sym (plus-none t.edges) ∙ ap (λ fs. t.edges + edges_from t.on fs) (sym none) ∙ w.edges,
     )

@@ -13,15 +13,15 @@ use Rattle.detector_bank.proofs.Counting.{slot-other, zeros, fewer, latest-few}
 use Rattle.detector_bank.proofs.Reaching.{other-number, same-number, or-none, still-present, none-present, present-few, now-only, lately-still, lately-next, first-next}
 
 pub watch-start : (d : Detector) (ps : List Pulse) → length ps ≤ 1000000
-    → Watches (record { on = false; pulsed = 0; lit = 0; idle = 0; past = 0; most = 0; rounds = replicate 60 0; edges = replicate 60 0 }) d ps 0
+    → Watches (record { on = false; last_pulse = 0; last_on = 0; last_inactive = 0; last_past_delay = 0; most = 0; rounds = replicate 60 0; edges = replicate 60 0 }) d ps 0
 watch-start d ps few = record {
   few = few;
   on = refl;
-  pulsed = refl;
+  last_pulse = refl;
   present = refl;
-  lit = omega arith;
-  idle = omega arith;
-  past = omega arith;
+  last_on = omega arith;
+  last_inactive = omega arith;
+  last_past_delay = omega arith;
   lately = λ n. sym (ap (λ b. b || false) (le-ltb d.delay 0 (omega arith)));
   ended = λ off is. refl;
   most = none-more (latest_edges d ps 60 0) refl;
@@ -42,7 +42,7 @@ watch-start d ps few = record {
 
 -- where it is past its delay some rounds have gone by
 begun : (w : Watch) (delay j : ℕ) → nat_lt delay (present_at w j) ≡ true → 0 < j
-begun w delay j past = let more = ltb-true delay (present_at w j) past in let few = present-few (w.on || (w.lit == j)) w.idle j in omega (arith, more, few)
+begun w delay j past = let more = ltb-true delay (present_at w j) past in let few = present-few (w.on || (w.last_on == j)) w.last_inactive j in omega (arith, more, few)
 
 -- a round without a pulse
 quiet-counts : (w : Watch) (d : Detector) (ps : List Pulse) (j : ℕ) → edges_in d ps (suc j) ≡ 0 → Counts w d ps j → Counts w d ps (suc j)
@@ -63,11 +63,11 @@ pub watch-quiet : (w : Watch) (d : Detector) (ps : List Pulse) (j : ℕ) → fla
 watch-quiet w d ps j none h = record {
   few = h.few;
   on = now;
-  pulsed = ap (λ n. w.pulsed + n) longer ∙ sums w.pulsed (quiet d ps j) j h.pulsed;
+  last_pulse = ap (λ n. w.last_pulse + n) longer ∙ sums w.last_pulse (quiet d ps j) j h.last_pulse;
   present = there;
-  lit = let low = h.lit in omega (arith, low);
-  idle = let low = h.idle in omega (arith, low);
-  past = let low = h.past in omega (arith, low);
+  last_on = let low = h.last_on in omega (arith, low);
+  last_inactive = let low = h.last_inactive in omega (arith, low);
+  last_past_delay = let low = h.last_past_delay in omega (arith, low);
   lately = λ n. late n;
   ended = λ off past. let x = ltb-true d.delay (present_at w (suc j)) past in let y = ended off in absurd (omega (arith, x, y));
   most = fewer-now;
@@ -90,30 +90,30 @@ watch-quiet w d ps j none h = record {
     act = ap (λ b. b || any_on (flags d ps (suc j))) (sym now) ∙ ap (λ fs. w.on || any_on fs) none ∙ or-none w.on
 
     there : present d ps (suc j) ≡ present_at w (suc j)
-    there = ap (λ b. if b then present d ps j + 1 else 0) act ∙ ap (λ n. if w.on then n + 1 else 0) h.present ∙ still-present w.on w.lit w.idle j h.lit h.idle
+    there = ap (λ b. if b then present d ps j + 1 else 0) act ∙ ap (λ n. if w.on then n + 1 else 0) h.present ∙ still-present w.on w.last_on w.last_inactive j h.last_on h.last_inactive
 
     past-now : past_delay d ps (suc j) ≡ nat_lt d.delay (present_at w (suc j))
     past-now = ap (λ n. nat_lt d.delay n) there
 
     ended : w.on ≡ false → present_at w (suc j) ≡ 0
-    ended off = let low = h.lit in none-present w.on w.lit w.idle (suc j) off (λ e. omega (arith, e, low))
+    ended off = let low = h.last_on in none-present w.on w.last_on w.last_inactive (suc j) off (λ e. omega (arith, e, low))
 
-    goes-on : (b : Bool) → w.on ≡ b → nat_lt d.delay (present_at w j) ≡ true → (nat_lt d.delay (present_at w (suc j)) ≡ true) ⊎ (w.past ≡ j)
+    goes-on : (b : Bool) → w.on ≡ b → nat_lt d.delay (present_at w j) ≡ true → (nat_lt d.delay (present_at w (suc j)) ≡ true) ⊎ (w.last_past_delay ≡ j)
     goes-on true on past = inl (on-goes on past)
       where
         on-goes : w.on ≡ true → nat_lt d.delay (present_at w j) ≡ true → nat_lt d.delay (present_at w (suc j)) ≡ true
         on-goes on past =
-            let a : present_at w j ≡ j - w.idle = ap (λ b. if b || (w.lit == j) then j - w.idle else 0) on in
-            let b : present_at w (suc j) ≡ suc j - w.idle = ap (λ b. if b || (w.lit == suc j) then suc j - w.idle else 0) on in
+            let a : present_at w j ≡ j - w.last_inactive = ap (λ b. if b || (w.last_on == j) then j - w.last_inactive else 0) on in
+            let b : present_at w (suc j) ≡ suc j - w.last_inactive = ap (λ b. if b || (w.last_on == suc j) then suc j - w.last_inactive else 0) on in
             let more = ltb-true d.delay (present_at w j) past in
             lt-ltb d.delay (present_at w (suc j)) (omega (arith, a, b, more))
     goes-on false off past = inr (h.ended off past)
 
     late : (n : ℕ) → lately_past d ps n (suc j) ≡ lately_at w d.delay n (suc j)
-    late zero = past-now ∙ now-only (nat_lt d.delay (present_at w (suc j))) j w.past h.past
+    late zero = past-now ∙ now-only (nat_lt d.delay (present_at w (suc j))) j w.last_past_delay h.last_past_delay
     late (suc m) =
         ap₂ (λ (a b : Bool). a || b) past-now (h.lately m)
-        ∙ lately-still (nat_lt d.delay (present_at w (suc j))) (nat_lt d.delay (present_at w j)) j w.past m (begun w d.delay j) (goes-on w.on refl)
+        ∙ lately-still (nat_lt d.delay (present_at w (suc j))) (nat_lt d.delay (present_at w j)) j w.last_past_delay m (begun w d.delay j) (goes-on w.on refl)
 
     fewer-now : latest_edges d ps 60 (suc j) ≤ w.most
     fewer-now = least (latest_edges d ps 60 (suc j)) (edges_in d ps (suc j)) (latest_edges d ps 59 j) (latest_edges d ps 60 j) w.most refl no-edges (fewer d ps j) h.most
@@ -164,25 +164,25 @@ taken-counts w v d ps j edges long longer own rounds kept h = record {
 
 pub watch-next : (w v : Watch) (d : Detector) (ps : List Pulse) (j : ℕ) (fs : List Bool) → length w.rounds ≡ 60 → length w.edges ≡ 60 → fs ≡ flags d ps (suc j)
     → v.on ≡ after w.on fs
-    → v.pulsed ≡ (if some_pulse fs then suc j else w.pulsed)
-    → v.lit ≡ (if any_on fs then suc j else w.lit)
-    → v.idle ≡ j - present_at w j
-    → v.past ≡ (if nat_lt d.delay (present_at v (suc j)) then suc j else (if nat_lt d.delay (present_at w j) then j else w.past))
+    → v.last_pulse ≡ (if some_pulse fs then suc j else w.last_pulse)
+    → v.last_on ≡ (if any_on fs then suc j else w.last_on)
+    → v.last_inactive ≡ j - present_at w j
+    → v.last_past_delay ≡ (if nat_lt d.delay (present_at v (suc j)) then suc j else (if nat_lt d.delay (present_at w j) then j else w.last_past_delay))
     → v.most ≡ min (w.most + edges_from w.on fs) (2 ^ 32 - 1)
     → v.rounds ≡ slice_set w.rounds (suc j % 60) (suc j)
     → v.edges ≡ slice_set w.edges (suc j % 60) (edges_from w.on fs)
     → Watches w d ps j → Watches v d ps (suc j)
-watch-next w v d ps j fs long longer are on pulsed lit idle past most rounds edges h = record {
+watch-next w v d ps j fs long longer are on last_pulse last_on last_inactive past most rounds edges h = record {
   few = h.few;
   on = now;
-  pulsed = ap (λ n. n + quiet d ps (suc j)) (pulsed ∙ ap (λ xs. if some_pulse xs then suc j else w.pulsed) are)
-      ∙ counted (some_pulse (flags d ps (suc j))) w.pulsed (quiet d ps j) j h.pulsed;
+  last_pulse = ap (λ n. n + quiet d ps (suc j)) (last_pulse ∙ ap (λ xs. if some_pulse xs then suc j else w.last_pulse) are)
+      ∙ counted (some_pulse (flags d ps (suc j))) w.last_pulse (quiet d ps j) j h.last_pulse;
   present = there;
-  lit = lit-low (any_on fs) v.lit w.lit j lit h.lit;
-  idle = omega (arith, idle);
-  past = past-low (nat_lt d.delay (present_at v (suc j))) (nat_lt d.delay (present_at w j)) v.past w.past j past h.past;
+  last_on = last_on-low (any_on fs) v.last_on w.last_on j last_on h.last_on;
+  last_inactive = omega (arith, last_inactive);
+  last_past_delay = past-low (nat_lt d.delay (present_at v (suc j))) (nat_lt d.delay (present_at w j)) v.last_past_delay w.last_past_delay j past h.last_past_delay;
   lately = λ n. late n;
-  ended = λ off is. past ∙ ap (λ b. if b then suc j else (if nat_lt d.delay (present_at w j) then j else w.past)) is;
+  ended = λ off is. past ∙ ap (λ b. if b then suc j else (if nat_lt d.delay (present_at w j) then j else w.last_past_delay)) is;
   most = few-now;
   counts = taken-counts w v d ps j (edges_from w.on fs) long longer own rounds edges h.counts;
 }
@@ -197,27 +197,27 @@ watch-next w v d ps j fs long longer are on pulsed lit idle past most rounds edg
     counted true p q j h = omega arith
     counted false p q j h = omega (arith, h)
 
-    lit-low : (b : Bool) (v w j : ℕ) → v ≡ (if b then suc j else w) → w ≤ j → v ≤ suc j
-    lit-low true v w j e h = omega (arith, e)
-    lit-low false v w j e h = omega (arith, e, h)
+    last_on-low : (b : Bool) (v w j : ℕ) → v ≡ (if b then suc j else w) → w ≤ j → v ≤ suc j
+    last_on-low true v w j e h = omega (arith, e)
+    last_on-low false v w j e h = omega (arith, e, h)
 
     past-low : (a p : Bool) (v w j : ℕ) → v ≡ (if a then suc j else (if p then j else w)) → w ≤ j → v ≤ suc j
     past-low true p v w j e h = omega (arith, e)
     past-low false true v w j e h = omega (arith, e)
     past-low false false v w j e h = omega (arith, e, h)
 
-    lit-is : (b : Bool) (v w j : ℕ) → v ≡ (if b then suc j else w) → w ≤ j → (v == suc j) ≡ b
-    lit-is true v w j e h = same-number v (suc j) e
-    lit-is false v w j e h = other-number v (suc j) (λ x. omega (arith, e, h, x))
+    last_on-is : (b : Bool) (v w j : ℕ) → v ≡ (if b then suc j else w) → w ≤ j → (v == suc j) ≡ b
+    last_on-is true v w j e h = same-number v (suc j) e
+    last_on-is false v w j e h = other-number v (suc j) (λ x. omega (arith, e, h, x))
 
-    act : active d ps (suc j) ≡ (v.on || (v.lit == suc j))
-    act = ap₂ (λ (a b : Bool). a || b) (sym now) (sym (lit-is (any_on fs) v.lit w.lit j lit h.lit ∙ ap any_on are))
+    act : active d ps (suc j) ≡ (v.on || (v.last_on == suc j))
+    act = ap₂ (λ (a b : Bool). a || b) (sym now) (sym (last_on-is (any_on fs) v.last_on w.last_on j last_on h.last_on ∙ ap any_on are))
 
     there : present d ps (suc j) ≡ present_at v (suc j)
     there = ap₂ (λ (b : Bool) (n : ℕ). if b then n else 0) act longest
       where
-        longest : present d ps j + 1 ≡ suc j - v.idle
-        longest = let few = present-few (w.on || (w.lit == j)) w.idle j in let is = h.present in lengths (present d ps j) (present_at w j) v.idle is few idle
+        longest : present d ps j + 1 ≡ suc j - v.last_inactive
+        longest = let few = present-few (w.on || (w.last_on == j)) w.last_inactive j in let is = h.present in lengths (present d ps j) (present_at w j) v.last_inactive is few last_inactive
           where
             lengths : (p q i : ℕ) → p ≡ q → q ≤ j → i ≡ j - q → p + 1 ≡ suc j - i
             lengths p q i a b c = omega (arith, a, b, c)
@@ -226,10 +226,10 @@ watch-next w v d ps j fs long longer are on pulsed lit idle past most rounds edg
     past-now = ap (λ n. nat_lt d.delay n) there
 
     late : (n : ℕ) → lately_past d ps n (suc j) ≡ lately_at v d.delay n (suc j)
-    late zero = past-now ∙ first-next (nat_lt d.delay (present_at v (suc j))) (nat_lt d.delay (present_at w j)) j w.past v.past h.past past
+    late zero = past-now ∙ first-next (nat_lt d.delay (present_at v (suc j))) (nat_lt d.delay (present_at w j)) j w.last_past_delay v.last_past_delay h.last_past_delay past
     late (suc m) =
         ap₂ (λ (a b : Bool). a || b) past-now (h.lately m)
-        ∙ lately-next (nat_lt d.delay (present_at v (suc j))) (nat_lt d.delay (present_at w j)) j w.past v.past m (begun w d.delay j) past
+        ∙ lately-next (nat_lt d.delay (present_at v (suc j))) (nat_lt d.delay (present_at w j)) j w.last_past_delay v.last_past_delay m (begun w d.delay j) past
 
     few-now : latest_edges d ps 60 (suc j) ≤ v.most
     few-now =
@@ -246,21 +246,21 @@ edges-here w d ps j h = sym (h.counts.edges j (omega arith) (omega arith))
 pub watch-taken : (w v : Watch) (d : Detector) (ps : List Pulse) (j r last : ℕ) (fs : List Bool) → length w.rounds ≡ 60 → length w.edges ≡ 60 → r ≡ j + 1 → last ≡ r - 1
     → fs ≡ flags d ps (j + 1)
     → v.on ≡ after w.on fs
-    → v.pulsed ≡ (if some_pulse fs then r else w.pulsed)
-    → v.lit ≡ (if any_on fs then r else w.lit)
-    → v.idle ≡ last - present_at w last
-    → v.past ≡ (if nat_lt d.delay (present_at v r) then r else (if nat_lt d.delay (present_at w last) then last else w.past))
+    → v.last_pulse ≡ (if some_pulse fs then r else w.last_pulse)
+    → v.last_on ≡ (if any_on fs then r else w.last_on)
+    → v.last_inactive ≡ last - present_at w last
+    → v.last_past_delay ≡ (if nat_lt d.delay (present_at v r) then r else (if nat_lt d.delay (present_at w last) then last else w.last_past_delay))
     → v.most ≡ min (w.most + edges_from w.on fs) (2 ^ 32 - 1)
     → v.rounds ≡ slice_set w.rounds (r % 60) r
     → v.edges ≡ slice_set w.edges (r % 60) (edges_from w.on fs)
     → Watches w d ps j → Watches v d ps (j + 1)
-watch-taken w v d ps j r last fs long longer is before are on pulsed lit idle past most rounds edges h =
+watch-taken w v d ps j r last fs long longer is before are on last_pulse last_on last_inactive past most rounds edges h =
     let now : r ≡ suc j = is ∙ add-one j in
     let old : last ≡ j = omega (arith, is, before) in
     subst (λ n. Watches v d ps n) (sym (add-one j))
     (watch-next w v d ps j fs long longer (are ∙ ap (λ n. flags d ps n) (add-one j)) on
-    (pulsed ∙ ap (λ n. if some_pulse fs then n else w.pulsed) now)
-    (lit ∙ ap (λ n. if any_on fs then n else w.lit) now)
-    (idle ∙ ap (λ n. n - present_at w n) old)
-    (past ∙ ap₂ (λ (n m : ℕ). if nat_lt d.delay (present_at v n) then n else (if nat_lt d.delay (present_at w m) then m else w.past)) now old)
+    (last_pulse ∙ ap (λ n. if some_pulse fs then n else w.last_pulse) now)
+    (last_on ∙ ap (λ n. if any_on fs then n else w.last_on) now)
+    (last_inactive ∙ ap (λ n. n - present_at w n) old)
+    (past ∙ ap₂ (λ (n m : ℕ). if nat_lt d.delay (present_at v n) then n else (if nat_lt d.delay (present_at w m) then m else w.last_past_delay)) now old)
     most (rounds ∙ ap (λ n. slice_set w.rounds (n % 60) n) now) (edges ∙ ap (λ n. slice_set w.edges (n % 60) (edges_from w.on fs)) now) h)

@@ -7,7 +7,7 @@ use Rattle.sig_types.specs.PhaseSet.{has}
 use Rattle.detector_bank.specs.declared.bank.Detector.{Detector}
 use Rattle.detector_bank.specs.declared.bank.Pulse.{Pulse}
 use Rattle.detector_bank.specs.declared.watch.Watch.{Watch}
-use Rattle.detector_bank.specs.declared.post.Post.{Post}
+use Rattle.detector_bank.specs.declared.detector_state.DetectorState.{DetectorState}
 use Rattle.detector_bank.specs.declared.walk.Walk.{Walk}
 use Rattle.detector_bank.specs.declared.changes.Calling.{Calling}
 use Rattle.detector_bank.specs.Pulses.{flags, state, edges_in}
@@ -15,11 +15,11 @@ use Rattle.detector_bank.specs.Bank.{quiet, present, latest_edges, lately_past, 
 
 -- for how many rounds in a row the detector has been active in round j
 abbrev pub present_at : Watch → ℕ → ℕ
-present_at w j = if w.on || (w.lit == j) then j - w.idle else 0
+present_at w j = if w.on || (w.last_on == j) then j - w.last_inactive else 0
 
 -- it was past its delay in some of the rounds j - n to j
 abbrev pub lately_at : Watch → ℕ → ℕ → ℕ → Bool
-lately_at w delay n j = nat_lt delay (present_at w j) || (nat_lt 0 w.past && nat_le j (w.past + n))
+lately_at w delay n j = nat_lt delay (present_at w j) || (nat_lt 0 w.last_past_delay && nat_le j (w.last_past_delay + n))
 
 -- its edges in a round, one of the latest sixty
 abbrev pub edges_at : Watch → ℕ → ℕ
@@ -34,13 +34,13 @@ pub record Counts (w : Watch) (d : Detector) (ps : List Pulse) (j : ℕ) : Type 
 pub record Watches (w : Watch) (d : Detector) (ps : List Pulse) (j : ℕ) : Type 0 where
   pub few : length ps ≤ 1000000
   pub on : w.on ≡ state d ps j
-  pub pulsed : w.pulsed + quiet d ps j ≡ j
+  pub last_pulse : w.last_pulse + quiet d ps j ≡ j
   pub present : present d ps j ≡ present_at w j
-  pub lit : w.lit ≤ j
-  pub idle : w.idle ≤ j
-  pub past : w.past ≤ j
+  pub last_on : w.last_on ≤ j
+  pub last_inactive : w.last_inactive ≤ j
+  pub last_past_delay : w.last_past_delay ≤ j
   pub lately : (n : ℕ) → lately_past d ps n j ≡ lately_at w d.delay n j
-  pub ended : w.on ≡ false → nat_lt d.delay (present_at w j) ≡ true → w.past ≡ j
+  pub ended : w.on ≡ false → nat_lt d.delay (present_at w j) ≡ true → w.last_past_delay ≡ j
   pub most : latest_edges d ps 60 j ≤ w.most
   pub counts : Counts w d ps j
 
@@ -66,45 +66,45 @@ abbrev pub Before : List Pulse → ℕ → ℕ → Type 0
 Before sorted place n = (k : ℕ) (p : Pulse) → k < place → key (get_or sorted k p) < n
 
 -- after round j, until the round that is due: the detector has no pulse, and it calls if and only if it does in round j
-pub record Posted (p : Post) (due : ℕ) (sorted : List Pulse) (d : Detector) (ps : List Pulse) (j : ℕ) : Type 0 where
+pub record Posted (p : DetectorState) (due : ℕ) (sorted : List Pulse) (d : Detector) (ps : List Pulse) (j : ℕ) : Type 0 where
   pub watch : Watches p.watch d ps j
   pub before : Before sorted p.next (key_of d.cabinet d.detector (j + 1))
   pub none : (i : ℕ) → j < i → i < due → flags d ps i ≡ []
   pub told : p.calls ≡ calls d ps j
   pub still : (i : ℕ) → j ≤ i → i < due → Watches p.watch d ps i → calls d ps i ≡ calls d ps j
 
--- the walk has a post and a round that is due for each detector
+-- the walk has a state and a round that is due for each detector
 pub record WalkFits (w : Walk) (ds : List Detector) : Type 0 where
   pub few : length w.sorted.items ≤ 1000000
-  pub posts : length w.posts.items ≡ length ds
+  pub detector_states : length w.detector_states.items ≡ length ds
   pub dues : length w.dues.items ≡ length ds
 
 -- after round j it stands for what the pulses of each detector say
 pub record WalkStands (w : Walk) (ds : List Detector) (ps : List Pulse) (j : ℕ) : Type 0 where
   pub sorts : Sorts w.sorted.items ps
-  pub each : (k : ℕ) (p : Post) (d : Detector) → k < length ds → Posted (get_or w.posts.items k p) (get_or w.dues.items k 0) w.sorted.items (get_or ds k d) ps j
+  pub each : (k : ℕ) (p : DetectorState) (d : Detector) → k < length ds → Posted (get_or w.detector_states.items k p) (get_or w.dues.items k 0) w.sorted.items (get_or ds k d) ps j
 
 -- a detector was looked at in a round, and the others were not
 pub record Looks (old new : Walk) (d : Detector) (k round : ℕ) : Type 0 where
   pub sorted : new.sorted.items ≡ old.sorted.items
-  pub many : length new.posts.items ≡ length old.posts.items
+  pub many : length new.detector_states.items ≡ length old.detector_states.items
   pub as_many : length new.dues.items ≡ length old.dues.items
-  pub posts : (i : ℕ) (p : Post) → i ≢ k → get_or new.posts.items i p ≡ get_or old.posts.items i p
+  pub detector_states : (i : ℕ) (p : DetectorState) → i ≢ k → get_or new.detector_states.items i p ≡ get_or old.detector_states.items i p
   pub dues : (i : ℕ) → i ≢ k → get_or new.dues.items i 0 ≡ get_or old.dues.items i 0
-  pub here : (ps : List Pulse) (j : ℕ) (p : Post) → round ≡ j + 1 → Sorts old.sorted.items ps
-      → Posted (get_or old.posts.items k p) (get_or old.dues.items k 0) old.sorted.items d ps j
-      → Posted (get_or new.posts.items k p) (get_or new.dues.items k 0) old.sorted.items d ps (j + 1)
+  pub here : (ps : List Pulse) (j : ℕ) (p : DetectorState) → round ≡ j + 1 → Sorts old.sorted.items ps
+      → Posted (get_or old.detector_states.items k p) (get_or old.dues.items k 0) old.sorted.items d ps j
+      → Posted (get_or new.detector_states.items k p) (get_or new.dues.items k 0) old.sorted.items d ps (j + 1)
 
 -- how many of these detectors stand at a cabinet, have this phase, and call
-abbrev pub tally : List Detector → List Post → ℕ → ℕ → ℕ
-tally [] posts cabinet phase = 0
+abbrev pub tally : List Detector → List DetectorState → ℕ → ℕ → ℕ
+tally [] detector_states cabinet phase = 0
 tally (d ∷ ds) [] cabinet phase = 0
-tally (d ∷ ds) (p ∷ posts) cabinet phase = (if (d.cabinet == cabinet) && ((d.phase == phase) && p.calls) then 1 else 0) + tally ds posts cabinet phase
+tally (d ∷ ds) (p ∷ detector_states) cabinet phase = (if (d.cabinet == cabinet) && ((d.phase == phase) && p.calls) then 1 else 0) + tally ds detector_states cabinet phase
 
 -- the counts of detectors that call, and the sets of phases that some detector calls
-pub record Tallies (c : Calling) (ds : List Detector) (posts : List Post) : Type 0 where
-  pub counts : (k p : ℕ) → k < 64 → p < 16 → get_or c.counts (k * 16 + p) 0 ≡ tally ds posts (k + 1) (p + 1)
-  pub sets : (k p : ℕ) (s : PhaseSet) → k < 64 → p < 16 → has (get_or c.sets k s) (p + 1) ≡ nat_lt 0 (tally ds posts (k + 1) (p + 1))
+pub record Tallies (c : Calling) (ds : List Detector) (detector_states : List DetectorState) : Type 0 where
+  pub counts : (k p : ℕ) → k < 64 → p < 16 → get_or c.counts (k * 16 + p) 0 ≡ tally ds detector_states (k + 1) (p + 1)
+  pub sets : (k p : ℕ) (s : PhaseSet) → k < 64 → p < 16 → has (get_or c.sets k s) (p + 1) ≡ nat_lt 0 (tally ds detector_states (k + 1) (p + 1))
 
 -- the sets of called phases, one for each cabinet, are those of round j
 pub record AreCalled (sets : List PhaseSet) (ds : List Detector) (ps : List Pulse) (j : ℕ) : Type 0 where

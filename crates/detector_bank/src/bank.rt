@@ -2,7 +2,7 @@
 //! from 1.
 
 /// A detector of a cabinet, which calls one of its phases.
-#[derive(Clone, Copy, Debug, PartialEq, Eq)]
+#[derive(Clone, Copy, PartialEq, Eq)]
 pub struct Detector {
     /// The cabinet, 1 to 64.
     pub cabinet: u32,
@@ -23,7 +23,7 @@ pub struct Detector {
 }
 
 /// A detector goes on or off in a round.
-#[derive(Clone, Copy, Debug, PartialEq, Eq)]
+#[derive(Clone, Copy, PartialEq, Eq)]
 pub struct Pulse {
     pub round: u32,
     pub cabinet: u32,
@@ -32,7 +32,7 @@ pub struct Pulse {
 }
 
 /// From a round on, a phase of a cabinet is called, or no longer.
-#[derive(Clone, Copy, Debug, PartialEq, Eq)]
+#[derive(Clone, Copy, PartialEq, Eq)]
 pub struct Call {
     pub round: u32,
     pub cabinet: u32,
@@ -41,7 +41,7 @@ pub struct Call {
 }
 
 /// How often a detector went on in a round.
-#[derive(Clone, Copy, Debug, PartialEq, Eq)]
+#[derive(Clone, Copy, PartialEq, Eq)]
 pub struct Edge {
     pub round: u32,
     pub cabinet: u32,

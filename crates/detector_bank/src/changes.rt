@@ -55,12 +55,12 @@ fn count_after(count: usize, more: bool) -> usize
 
 impl Calling {
     ghost use Rattle.std.specs.Prelude.{slice_set};
-    ghost use Rattle.detector_bank.specs.declared.post.Post.{Post as PostRow};
+    ghost use Rattle.detector_bank.specs.declared.detector_state.DetectorState.{DetectorState as DetectorStateRow};
     ghost use Rattle.detector_bank.specs.Watching.{Tallies};
 
     /// No detector calls.
     pub fn new() -> Calling
-        ensures { (ds : List DetectorRow) (posts : List PostRow) → ((k : ℕ) (p : PostRow) → k < length posts → (get_or posts k p).calls ≡ false) → Tallies result ds posts }
+        ensures { (ds : List DetectorRow) (detector_states : List DetectorStateRow) → ((k : ℕ) (p : DetectorStateRow) → k < length detector_states → (get_or detector_states k p).calls ≡ false) → Tallies result ds detector_states }
     {
         Calling {
             counts: [0; 1024],
@@ -74,8 +74,8 @@ impl Calling {
         requires few { detector.now.cabinet ≤ 64 }
         requires least { 1 ≤ detector.now.phase }
         requires most { detector.now.phase ≤ 16 }
-        ensures { (ds : List DetectorRow) (posts : List PostRow) (k : ℕ) (p q : PostRow) (d : DetectorRow) → k < length ds → length ds ≡ length posts → length ds < 2 ^ 63
-            → detector.now ≡ get_or ds k d → (get_or posts k p).calls ≡ before → q.calls ≡ now → Tallies self.old ds posts → Tallies self.new ds (slice_set posts k q) }
+        ensures { (ds : List DetectorRow) (detector_states : List DetectorStateRow) (k : ℕ) (p q : DetectorStateRow) (d : DetectorRow) → k < length ds → length ds ≡ length detector_states → length ds < 2 ^ 63
+            → detector.now ≡ get_or ds k d → (get_or detector_states k p).calls ≡ before → q.calls ≡ now → Tallies self.old ds detector_states → Tallies self.new ds (slice_set detector_states k q) }
     {
         if before == now {
             return;

@@ -5,8 +5,8 @@
 
 mod bank;
 mod changes;
+mod detector_state;
 mod order;
-mod post;
 mod pulses;
 mod rounds;
 mod walk;

@@ -3,14 +3,14 @@
 ghost use Rattle.std.specs.Prelude.{ℕ, ◌≡◌, ◌+◌, ◌<◌, ◌≤◌, ◌++◌, false, List, length, get_or, slice_set, IfOk, OnOk};
 ghost use Rattle.detector_bank.specs.declared.bank.Pulse.{Pulse as PulseRow};
 ghost use Rattle.detector_bank.specs.declared.bank.Detector.{Detector as DetectorRow};
-ghost use Rattle.detector_bank.specs.declared.post.Post.{Post as PostRow};
+ghost use Rattle.detector_bank.specs.declared.detector_state.DetectorState.{DetectorState as DetectorStateRow};
 ghost use Rattle.detector_bank.specs.Lists.{EachStands, edge_of, round_edges};
 ghost use Rattle.detector_bank.specs.Watching.{Sorts, Posted, Tallies, WalkFits, WalkStands, Looks};
 
 use crate::bank::{Detector, Edge, Pulse};
 use crate::changes::Calling;
+use crate::detector_state::DetectorState;
 use crate::order::push_edge;
-use crate::post::Post;
 use crate::pulses::sorted_pulses;
 use sig_types::NoMemory;
 use std::alloc::Global;
@@ -19,28 +19,32 @@ use std::alloc::Global;
 #[derive(Drop)]
 pub struct Walk {
     pub sorted: Vec<Pulse>,
-    pub posts: Vec<Post>,
+    pub detector_states: Vec<DetectorState>,
     pub dues: Vec<u32>,
 }
 
 /// What is kept of each detector before the first round.
-fn posts_of(alloc: Global, bank: &Vec<Detector>, sorted: &[Pulse]) -> Result<Vec<Post>, NoMemory>
-    ensures count { IfOk result (λ posts. length posts.items ≡ length bank.now.items) }
-    ensures fresh { IfOk result (λ posts. (ps : List PulseRow) (k : ℕ) (p : PostRow) (d : DetectorRow) → Sorts sorted.now ps → k < length bank.now.items
-        → Posted (get_or posts.items k p) 0 sorted.now (get_or bank.now.items k d) ps 0) }
-    ensures none { IfOk result (λ posts. (k : ℕ) (p : PostRow) → k < length posts.items → (get_or posts.items k p).calls ≡ false) }
+fn detector_states_of(
+    alloc: Global,
+    bank: &Vec<Detector>,
+    sorted: &[Pulse],
+) -> Result<Vec<DetectorState>, NoMemory>
+    ensures count { IfOk result (λ detector_states. length detector_states.items ≡ length bank.now.items) }
+    ensures fresh { IfOk result (λ detector_states. (ps : List PulseRow) (k : ℕ) (p : DetectorStateRow) (d : DetectorRow) → Sorts sorted.now ps → k < length bank.now.items
+        → Posted (get_or detector_states.items k p) 0 sorted.now (get_or bank.now.items k d) ps 0) }
+    ensures none { IfOk result (λ detector_states. (k : ℕ) (p : DetectorStateRow) → k < length detector_states.items → (get_or detector_states.items k p).calls ≡ false) }
 {
-    let Ok(mut posts) = Vec::with_capacity(alloc, bank.len()) else {
+    let Ok(mut detector_states) = Vec::with_capacity(alloc, bank.len()) else {
         return Err(NoMemory);
     };
     for k in 0..bank.len() {
-        let post = Post::new(&bank[k], sorted);
-        match posts.push(post) {
+        let detector_state = DetectorState::new(&bank[k], sorted);
+        match detector_states.push(detector_state) {
             Ok(()) => {}
             Err(_) => return Err(NoMemory),
         }
     }
-    Ok(posts)
+    Ok(detector_states)
 }
 
 /// The walk before the first round.
@@ -48,20 +52,20 @@ pub fn start(alloc: Global, bank: &Vec<Detector>, pulses: &Vec<Pulse>) -> Result
     requires few { length pulses.now.items ≤ 1000000 }
     ensures fits { IfOk result (λ walk. WalkFits walk bank.now.items) }
     ensures stands { IfOk result (λ walk. WalkStands walk bank.now.items pulses.now.items 0) }
-    ensures none { IfOk result (λ walk. (k : ℕ) (p : PostRow) → k < length walk.posts.items → (get_or walk.posts.items k p).calls ≡ false) }
+    ensures none { IfOk result (λ walk. (k : ℕ) (p : DetectorStateRow) → k < length walk.detector_states.items → (get_or walk.detector_states.items k p).calls ≡ false) }
 {
     let sorted = match sorted_pulses(alloc, pulses.as_slice()) {
         Ok(sorted) => sorted,
         Err(NoMemory) => return Err(NoMemory),
     };
-    let posts = match posts_of(alloc, bank, sorted.as_slice()) {
-        Ok(posts) => posts,
+    let detector_states = match detector_states_of(alloc, bank, sorted.as_slice()) {
+        Ok(detector_states) => detector_states,
         Err(NoMemory) => return Err(NoMemory),
     };
     match vec![in alloc; 0u32; bank.len()] {
         Ok(dues) => Ok(Walk {
             sorted,
-            posts,
+            detector_states,
             dues,
         }),
         Err(_) => Err(NoMemory),
@@ -70,13 +74,13 @@ pub fn start(alloc: Global, bank: &Vec<Detector>, pulses: &Vec<Pulse>) -> Result
 
 /// Looks at a detector in a round that is due.
 fn look(walk: &mut Walk, detector: &Detector, k: usize, round: u32)
-    requires posts { k < length walk.old.posts.items }
+    requires detector_states { k < length walk.old.detector_states.items }
     requires dues { k < length walk.old.dues.items }
     requires few { length walk.old.sorted.items ≤ 1000000 }
     ensures looks { Looks walk.old walk.new detector.now k round }
-    ensures set { (p : PostRow) → walk.new.posts.items ≡ slice_set walk.old.posts.items k (get_or walk.new.posts.items k p) }
+    ensures set { (p : DetectorStateRow) → walk.new.detector_states.items ≡ slice_set walk.old.detector_states.items k (get_or walk.new.detector_states.items k p) }
 {
-    walk.dues[k] = walk.posts[k].step(detector, round, walk.sorted.as_slice());
+    walk.dues[k] = walk.detector_states[k].step(detector, round, walk.sorted.as_slice());
 }
 
 /// A detector of a bank that calls, in a round.
@@ -85,19 +89,19 @@ fn call_at(walk: &mut Walk, calling: &mut Calling, detector: &Detector, k: usize
     requires few { detector.now.cabinet ≤ 64 }
     requires least { 1 ≤ detector.now.phase }
     requires most { detector.now.phase ≤ 16 }
-    requires posts { k < length walk.old.posts.items }
+    requires detector_states { k < length walk.old.detector_states.items }
     requires dues { k < length walk.old.dues.items }
     requires short { length walk.old.sorted.items ≤ 1000000 }
     ensures looks { Looks walk.old walk.new detector.now k round }
-    ensures tallies { (ds : List DetectorRow) (d : DetectorRow) → k < length ds → length ds ≡ length walk.old.posts.items → detector.now ≡ get_or ds k d
-        → Tallies calling.old ds walk.old.posts.items → Tallies calling.new ds walk.new.posts.items }
+    ensures tallies { (ds : List DetectorRow) (d : DetectorRow) → k < length ds → length ds ≡ length walk.old.detector_states.items → detector.now ≡ get_or ds k d
+        → Tallies calling.old ds walk.old.detector_states.items → Tallies calling.new ds walk.new.detector_states.items }
 {
     if walk.dues[k] > round {
         return;
     }
-    let before = walk.posts[k].calls;
+    let before = walk.detector_states[k].calls;
     look(walk, detector, k, round);
-    calling.turn(detector, before, walk.posts[k].calls);
+    calling.turn(detector, before, walk.detector_states[k].calls);
 }
 
 /// One round more of a bank that calls.
@@ -106,7 +110,7 @@ pub(crate) fn call_round(walk: &mut Walk, calling: &mut Calling, bank: &Vec<Dete
     requires fits { WalkFits walk.old bank.now.items }
     ensures fits { WalkFits walk.new bank.now.items }
     ensures stands { (ps : List PulseRow) (j : ℕ) → round ≡ j + 1 → WalkStands walk.old bank.now.items ps j → WalkStands walk.new bank.now.items ps (j + 1) }
-    ensures tallies { Tallies calling.old bank.now.items walk.old.posts.items → Tallies calling.new bank.now.items walk.new.posts.items }
+    ensures tallies { Tallies calling.old bank.now.items walk.old.detector_states.items → Tallies calling.new bank.now.items walk.new.detector_states.items }
 {
     for k in 0..bank.len() {
         call_at(walk, calling, &bank[k], k, round);
@@ -121,19 +125,19 @@ fn edge_at(
     k: usize,
     round: u32,
 ) -> Result<(), NoMemory>
-    requires posts { k < length walk.old.posts.items }
+    requires detector_states { k < length walk.old.detector_states.items }
     requires dues { k < length walk.old.dues.items }
     requires short { length walk.old.sorted.items ≤ 1000000 }
     ensures looks { OnOk result (Looks walk.old walk.new detector.now k round) }
-    ensures edges { OnOk result ((ps : List PulseRow) (j : ℕ) (p : PostRow) → round ≡ j + 1 → Sorts walk.old.sorted.items ps
-        → Posted (get_or walk.old.posts.items k p) (get_or walk.old.dues.items k 0) walk.old.sorted.items detector.now ps j
+    ensures edges { OnOk result ((ps : List PulseRow) (j : ℕ) (p : DetectorStateRow) → round ≡ j + 1 → Sorts walk.old.sorted.items ps
+        → Posted (get_or walk.old.detector_states.items k p) (get_or walk.old.dues.items k 0) walk.old.sorted.items detector.now ps j
         → edges.new.items ≡ edges.old.items ++ edge_of ps round detector.now) }
 {
     if walk.dues[k] > round {
         return Ok(());
     }
     look(walk, detector, k, round);
-    match push_edge(edges, detector, &walk.posts[k].watch, round) {
+    match push_edge(edges, detector, &walk.detector_states[k].watch, round) {
         Ok(()) => Ok(()),
         Err(NoMemory) => Err(NoMemory),
     }

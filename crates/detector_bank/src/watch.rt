@@ -13,13 +13,13 @@ pub struct Watch {
     /// Its state.
     pub on: bool,
     /// The round of its last pulse; 0 before the first.
-    pub pulsed: u32,
+    pub last_pulse: u32,
     /// The round of its last pulse that was on; 0 before the first.
-    pub lit: u32,
+    pub last_on: u32,
     /// The last round in which it wasn't active, where it is active.
-    pub idle: u32,
+    pub last_inactive: u32,
     /// The last round looked at in which it was past its delay; 0 where there is none.
-    pub past: u32,
+    pub last_past_delay: u32,
     /// It had no more edges than this in the latest sixty rounds.
     pub most: u32,
     /// The rounds whose edges are kept, each at its number modulo 60.
@@ -31,9 +31,13 @@ pub struct Watch {
 /// What the pulses of a round do to a detector.
 #[derive(Clone, Copy)]
 struct Taken {
+    /// Its state after them.
     on: bool,
+    /// There was one.
     some: bool,
-    lit: bool,
+    /// One of them was on.
+    had_on: bool,
+    /// How often it went from off to on.
     edges: u32,
 }
 
@@ -49,14 +53,14 @@ fn take_pulses(detector: &Detector, on: bool, span: &[Pulse]) -> Taken
     requires few { length span.now ≤ 1000000 }
     ensures on { result.on ≡ after on (flags_of detector.now span.now) }
     ensures some { result.some ≡ some_pulse (flags_of detector.now span.now) }
-    ensures lit { result.lit ≡ any_on (flags_of detector.now span.now) }
+    ensures had_on { result.had_on ≡ any_on (flags_of detector.now span.now) }
     ensures edges { result.edges ≡ edges_from on (flags_of detector.now span.now) }
     ensures few { result.edges ≤ length span.now }
 {
     let mut taken = Taken {
         on,
         some: false,
-        lit: false,
+        had_on: false,
         edges: 0,
     };
     for pulse in span {
@@ -72,14 +76,14 @@ fn after_pulse(taken: Taken, on: bool) -> Taken
     requires { taken.edges < 1000000 }
     ensures on { result.on ≡ on }
     ensures some { result.some ≡ true }
-    ensures lit { result.lit ≡ (taken.lit || on) }
+    ensures had_on { result.had_on ≡ (taken.had_on || on) }
     ensures edges { result.edges ≡ taken.edges + (if on && not taken.on then 1 else 0) }
 {
     let edge = on && !taken.on;
     Taken {
         on,
         some: true,
-        lit: taken.lit || on,
+        had_on: taken.had_on || on,
         edges: if edge { taken.edges + 1 } else { taken.edges },
     }
 }
@@ -109,10 +113,10 @@ impl Watch {
     {
         Watch {
             on: false,
-            pulsed: 0,
-            lit: 0,
-            idle: 0,
-            past: 0,
+            last_pulse: 0,
+            last_on: 0,
+            last_inactive: 0,
+            last_past_delay: 0,
             most: 0,
             rounds: [0; 60],
             edges: [0; 60],
@@ -123,8 +127,8 @@ impl Watch {
     fn present(&self, round: u32) -> u32
         ensures { result ≡ present_at self.now round }
     {
-        if self.on || self.lit == round {
-            round.saturating_sub(self.idle)
+        if self.on || self.last_on == round {
+            round.saturating_sub(self.last_inactive)
         } else {
             0
         }
@@ -171,12 +175,12 @@ impl Watch {
         let present = self.present(last);
         let taken = take_pulses(detector, self.on, span);
         self.on = taken.on;
-        self.pulsed = round_if(taken.some, round, self.pulsed);
-        self.lit = round_if(taken.lit, round, self.lit);
-        self.idle = last.saturating_sub(present);
+        self.last_pulse = round_if(taken.some, round, self.last_pulse);
+        self.last_on = round_if(taken.had_on, round, self.last_on);
+        self.last_inactive = last.saturating_sub(present);
         let now = self.is_past(detector, round);
-        let past = round_if(before, last, self.past);
-        self.past = round_if(now, round, past);
+        let past = round_if(before, last, self.last_past_delay);
+        self.last_past_delay = round_if(now, round, past);
         self.most = self.most.saturating_add(taken.edges);
         let slot = (round % 60) as usize;
         self.rounds[slot] = round;
@@ -214,7 +218,7 @@ impl Watch {
     pub fn failed(&self, detector: &Detector, round: u32) -> bool
         ensures { (ps : List PulseRow) → Watches self.now detector.now ps round → result ≡ failed detector.now ps round }
     {
-        let quiet = round.saturating_sub(self.pulsed);
+        let quiet = round.saturating_sub(self.last_pulse);
         let present = self.present(round);
         let no_activity = detector.no_activity > 0 && quiet >= u32::from(detector.no_activity);
         let locked_on = detector.max_presence > 0 && present >= u32::from(detector.max_presence);
@@ -225,8 +229,10 @@ impl Watch {
     fn lately_past(&self, detector: &Detector, round: u32) -> bool
         ensures { (ps : List PulseRow) → Watches self.now detector.now ps round → result ≡ lately_past detector.now ps detector.now.extend round }
     {
-        let until = self.past.saturating_add(u32::from(detector.extend));
-        self.is_past(detector, round) || self.past > 0 && round <= until
+        let until = self
+            .last_past_delay
+            .saturating_add(u32::from(detector.extend));
+        self.is_past(detector, round) || self.last_past_delay > 0 && round <= until
     }
 
     /// Whether the detector calls its phase in the round.
@@ -246,10 +252,10 @@ impl Watch {
     /// Whether it may call otherwise in the next round, though no limit is reached then.
     fn is_restless(&self, detector: &Detector, round: u32) -> bool
         ensures quiet { result ≡ false → nat_lt 0 detector.now.erratic ≡ true → self.now.most ≤ detector.now.erratic }
-        ensures left { result ≡ false → self.now.on ≡ false → self.now.lit ≢ round }
+        ensures left { result ≡ false → self.now.on ≡ false → self.now.last_on ≢ round }
     {
         let limit = u32::from(detector.erratic);
-        limit > 0 && self.most > limit || !self.on && self.lit == round
+        limit > 0 && self.most > limit || !self.on && self.last_on == round
     }
 
     /// The round before which it calls as in this one, where no pulse comes.
@@ -262,19 +268,29 @@ impl Watch {
         }
         let silent = earlier(
             u32::MAX,
-            self.pulsed,
+            self.last_pulse,
             u32::from(detector.no_activity),
             round,
         );
         let extend = u32::from(detector.extend) + 1;
         if !self.on {
-            return earlier(silent, self.past, extend, round);
+            return earlier(silent, self.last_past_delay, extend, round);
         }
-        let locked = earlier(silent, self.idle, u32::from(detector.max_presence), round);
+        let locked = earlier(
+            silent,
+            self.last_inactive,
+            u32::from(detector.max_presence),
+            round,
+        );
         if self.is_past(detector, round) {
             return locked;
         }
-        let extended = earlier(locked, self.past, extend, round);
-        earlier(extended, self.idle, u32::from(detector.delay) + 1, round)
+        let extended = earlier(locked, self.last_past_delay, extend, round);
+        earlier(
+            extended,
+            self.last_inactive,
+            u32::from(detector.delay) + 1,
+            round,
+        )
     }
 }

@@ -15,7 +15,7 @@ use Rattle.scenario_read.proofs.Walks.{within-fits}
 use Rattle.scenario_checked.specs.Inside.{scenario}
 use Rattle.scenario_checked.proofs.Around.{scenario-clean, scenario-held}
 use Rattle.scenario_file.specs.declared.source.Source.{Source}
-use Rattle.scenario_file.specs.Listing.{list_path, Told}
+use Rattle.scenario_file.specs.Listing.{list_path, ListTold}
 use Rattle.scenario_file.specs.Source.{Writes}
 use Rattle.scenario_file.proofs.Growth.{none-both, each_of-len}
 use Rattle.scenario_file.proofs.Rounds.{said-same}
@@ -25,7 +25,7 @@ use Rattle.field_read.specs.Content.{respond_content, detector_of, pulse_of, res
 use Rattle.field_read.proofs.WholeFields.{two-parts, none-of-two, content-from}
 use Rattle.field_read.specs.declared.parts.Parts.{Parts}
 use Rattle.field_read.specs.Lists.{any_detector, any_pulse}
-use Rattle.field_read.specs.Parts.{IsAt, IsList, SaysScenario, SaysRespond, Stands}
+use Rattle.field_read.specs.Parts.{IsAt, IsList, SaysScenario, SaysRespond, PartsStand}
 use Rattle.field_read.specs.Right.{SaysNames}
 use Rattle.field_read.proofs.Narrow.{each-narrowed, detector_within, pulse_within, detector-narrowed, pulse-narrowed}
 
@@ -37,7 +37,7 @@ value-there None ds none = ap (λ es. Some (array es)) (sym none)
 value-there (Some d) ds is = ap Some is
 
 list-clean : {A : Type 0} (name : List ℕ) (most : ℕ) (any kind : Kind) (says : Data → A) (found : List A) (ms : Members) (ds : Items) → IsList (get_member name ms) ds
-    → Told (list_path name) any says most found ds → each kind (list_path name) 0 ds ≡ [] → field_faults [] (object ms) (optional_list name most kind) ≡ []
+    → ListTold (list_path name) any says most found ds → each kind (list_path name) 0 ds ≡ [] → field_faults [] (object ms) (optional_list name most kind) ≡ []
 list-clean name most any kind says found ms ds is told none =
     let here = list_path name in
     let few : items_len ds ≤ most = subst (λ n. n ≤ most) (ap length told.said ∙ each_of-len says ds) told.few in
@@ -61,7 +61,7 @@ respond-said (Some r) o at = ap Some at.2.said ∙ ap (option_map respond_of) (s
 
 -- ---- what stands beside the scenario
 
-traffic-clean : (parts : Parts) (rounds cabinets : ℕ) (ms : Members) → Stands parts ms → list_all (detector_within cabinets) parts.bank.items ≡ true
+traffic-clean : (parts : Parts) (rounds cabinets : ℕ) (ms : Members) → PartsStand parts ms → list_all (detector_within cabinets) parts.bank.items ≡ true
     → list_all (pulse_within rounds cabinets) parts.pulses.items ≡ true → fields_faults [] (object ms) (traffic_fields rounds cabinets) ≡ []
 traffic-clean parts rounds cabinets ms s detectors_in pulses_in =
     let d = object ms in
@@ -79,7 +79,7 @@ traffic-clean parts rounds cabinets ms s detectors_in pulses_in =
 
 -- ---- the whole
 
-pub says-names : (parts : Parts) (source : Source) (ms : Members) → parts.scenario ≡ Some source → Stands parts ms
+pub says-names : (parts : Parts) (source : Source) (ms : Members) → parts.scenario ≡ Some source → PartsStand parts ms
     → list_all (detector_within (length source.scenario.cabinets.items)) parts.bank.items ≡ true
     → list_all (pulse_within source.scenario.rounds (length source.scenario.cabinets.items)) parts.pulses.items ≡ true
     → SaysNames (record { field = record { scenario = source.scenario; bank = parts.bank; pulses = parts.pulses; respond = parts.respond }; text = source.text }) (object ms)

@@ -6,11 +6,11 @@ use Rattle.serde_json.specs.Find.{get_member}
 use Rattle.serde_json.proofs.Views.{get_member-put, get_member-put_other}
 use Rattle.scenario_read.specs.Paths.{Step}
 use Rattle.scenario_read.specs.Kinds.{Kind}
-use Rattle.scenario_file.specs.Listing.{Told}
+use Rattle.scenario_file.specs.Listing.{ListTold}
 use Rattle.field_read.specs.declared.found.Found.{Found}
 use Rattle.field_read.specs.declared.parts.Parts.{Parts}
 use Rattle.field_read.specs.Lists.{Holds, name_of}
-use Rattle.field_read.specs.Parts.{IsAt, IsList, ListStands, Stands}
+use Rattle.field_read.specs.Parts.{IsAt, IsList, ListStands, PartsStand}
 
 apart : (k l : List ℕ) → bytes_eq k l ≡ false → k ≡ l → ⊥
 apart k l other same =
@@ -42,11 +42,11 @@ list-there found other d ms differ stands = record {
 }
 
 -- a list put in under what it is known to be
-pub same-found : (parts : Parts) (found known : Found) (ds : Items) (ms : Members) → found ≡ known → Stands parts (put (name_of known) (array ds) ms) → Stands parts (put (name_of found) (array ds) ms)
-same-found parts found known ds ms is stands = subst (λ (f : Found). Stands parts (put (name_of f) (array ds) ms)) (sym is) stands
+pub same-found : (parts : Parts) (found known : Found) (ds : Items) (ms : Members) → found ≡ known → PartsStand parts (put (name_of known) (array ds) ms) → PartsStand parts (put (name_of found) (array ds) ms)
+same-found parts found known ds ms is stands = subst (λ (f : Found). PartsStand parts (put (name_of f) (array ds) ms)) (sym is) stands
 
 -- a list without items
-pub none-told : {A : Type 0} (path : List Step) (kind : Kind) (says : Data → A) (most : ℕ) (found : List A) → found ≡ [] → Told path kind says most found no_items
+pub none-told : {A : Type 0} (path : List Step) (kind : Kind) (says : Data → A) (most : ℕ) (found : List A) → found ≡ [] → ListTold path kind says most found no_items
 none-told path kind says most found none =
     let count : length found ≡ 0 = ap length none in
     record { causes = refl; said = none; few = omega (arith, count) }

@@ -3,7 +3,7 @@ use Rattle.std.specs.Prelude.{ℕ, List, codes}
 use Rattle.serde_json.specs.Data.{Items}
 use Rattle.scenario_read.specs.Kinds.{Kind}
 use Rattle.scenario_read.specs.Fields.{object_of}
-use Rattle.scenario_file.specs.Listing.{list_path, Told}
+use Rattle.scenario_file.specs.Listing.{list_path, ListTold}
 use Rattle.field_read.specs.Table.{detector_shape, pulse_shape}
 use Rattle.field_read.specs.Content.{detector_of, pulse_of}
 use Rattle.field_read.specs.declared.found.Found.{Found}
@@ -18,8 +18,8 @@ any_pulse = object_of (pulse_shape 86400 64)
 
 -- what was found says what the items say, and these are without fault where there are rounds and cabinets enough
 abbrev pub Holds : Found → Items → Type 0
-Holds (Bank found) ds = Told (list_path (codes "bank")) any_detector (detector_of 64) 512 found.items ds
-Holds (Pulses found) ds = Told (list_path (codes "pulses")) any_pulse (pulse_of 86400 64) 1000000 found.items ds
+Holds (Bank found) ds = ListTold (list_path (codes "bank")) any_detector (detector_of 64) 512 found.items ds
+Holds (Pulses found) ds = ListTold (list_path (codes "pulses")) any_pulse (pulse_of 86400 64) 1000000 found.items ds
 
 -- the name of a list
 abbrev pub name_of : Found → List ℕ

@@ -49,7 +49,7 @@ pub record ListStands (found : Found) (ms : Members) : Type 0 where
   pub holds : Holds found items
 
 -- this was found at the names of these members, and there are no other names
-pub record Stands (parts : Parts) (ms : Members) : Type 0 where
+pub record PartsStand (parts : Parts) (ms : Members) : Type 0 where
   pub names : unknown_faults known [] ms ≡ []
   pub scenario : IsAt SaysScenario parts.scenario (get_member (codes "scenario") ms)
   pub bank : ListStands (Bank parts.bank) ms
@@ -58,4 +58,4 @@ pub record Stands (parts : Parts) (ms : Members) : Type 0 where
 
 -- a value was read at a name, in place of what was found there before
 abbrev pub Puts : Parts → Parts → List ℕ → Data → Type 0
-Puts old new name d = (ms : Members) → Stands old ms → Stands new (put name d ms)
+Puts old new name d = (ms : Members) → PartsStand old ms → PartsStand new (put name d ms)

@@ -1,10 +1,6 @@
-//! The field file, read whole and refused at its first fault: a scenario, the vehicle detectors of its cabinets with their
-//! pulses, and how patterns follow the traffic, as one JSON object (RFC 8259) with the names `scenario`, `bank`, `pulses` and
-//! `respond`.
-//!
-//! The field file, read with little memory: its detectors, its pulses and the lists of its scenario, which may be most of a
-//! file, are read item by item, and only how patterns follow the traffic becomes a tree. What a field file is, and what is
-//! refused, is as in `field_read`; of what is wrong or unusual nothing is said here.
+//! The field file (RFC 8259): a scenario, the vehicle detectors of its cabinets with their pulses, and how patterns follow the
+//! traffic, as one JSON object with the names `scenario`, `bank`, `pulses` and `respond`. Read whole, it is refused at its first
+//! fault. Read item by item, a right file takes little memory, and of any other nothing is said.
 #![tactic(auto)]
 
 mod across;

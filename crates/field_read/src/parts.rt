@@ -3,7 +3,7 @@
 ghost use Rattle.std.specs.Prelude.{codes};
 ghost use Rattle.serde_json.specs.Data.{Data, Items, Members, no_members, array, put};
 ghost use Rattle.field_read.specs.Lists.{Holds, name_of};
-ghost use Rattle.field_read.specs.Parts.{SaysScenario, SaysRespond, Stands};
+ghost use Rattle.field_read.specs.Parts.{SaysScenario, SaysRespond, PartsStand};
 
 use crate::Respond;
 use crate::found::Found;
@@ -22,7 +22,7 @@ pub(crate) struct Parts<'a> {
 
 /// Nothing found.
 pub(crate) fn no_parts<'a>(alloc: Global) -> Parts<'a>
-    ensures { Stands result no_members }
+    ensures { PartsStand result no_members }
 {
     Parts {
         scenario: None,
@@ -34,14 +34,14 @@ pub(crate) fn no_parts<'a>(alloc: Global) -> Parts<'a>
 
 /// Puts a scenario in place of the one before.
 pub(crate) fn put_scenario<'a>(parts: &mut Parts<'a>, source: Source<'a>)
-    ensures { (ms : Members) → (d : Data) → Stands parts.old ms → SaysScenario source.entry d → Stands parts.new (put (codes "scenario") d ms) }
+    ensures { (ms : Members) → (d : Data) → PartsStand parts.old ms → SaysScenario source.entry d → PartsStand parts.new (put (codes "scenario") d ms) }
 {
     parts.scenario = Some(source);
 }
 
 /// Puts a list in place of the one before.
 pub(crate) fn put_list(parts: &mut Parts<'_>, found: Found)
-    ensures { (ms : Members) → (ds : Items) → Stands parts.old ms → Holds found ds → Stands parts.new (put (name_of found) (array ds) ms) }
+    ensures { (ms : Members) → (ds : Items) → PartsStand parts.old ms → Holds found ds → PartsStand parts.new (put (name_of found) (array ds) ms) }
 {
     match found {
         Found::Bank(bank) => parts.bank = bank,
@@ -51,7 +51,7 @@ pub(crate) fn put_list(parts: &mut Parts<'_>, found: Found)
 
 /// Puts the rules of the sections in place of those before.
 pub(crate) fn put_respond(parts: &mut Parts<'_>, respond: Respond)
-    ensures { (ms : Members) → (d : Data) → Stands parts.old ms → SaysRespond respond d → Stands parts.new (put (codes "respond") d ms) }
+    ensures { (ms : Members) → (d : Data) → PartsStand parts.old ms → SaysRespond respond d → PartsStand parts.new (put (codes "respond") d ms) }
 {
     parts.respond = Some(respond);
 }

@@ -5,7 +5,7 @@ ghost use Rattle.json.specs.Json.{value, members};
 ghost use Rattle.serde_json.specs.Data.{Data, Members, object, no_members, no_items};
 ghost use Rattle.serde_json.specs.Read.{of_json, of_members, converted, read};
 ghost use Rattle.field_read.specs.Lists.{Holds, name_of};
-ghost use Rattle.field_read.specs.Parts.{Stands, Puts};
+ghost use Rattle.field_read.specs.Parts.{PartsStand, Puts};
 
 use crate::found::Found;
 use crate::lists::list_at;
@@ -91,7 +91,7 @@ fn member_at<'a>(
 /// The members up to the brace that closes the whole object. Of equal names the last counts.
 fn members_of<'a>(alloc: Global, reader: &mut Reader<'_>, file: &'a [u8]) -> Option<Parts<'a>>
     ensures { IfSome result (λ parts. (ms : Members)
-        × (converted (λ es. of_members es no_members) (members (value 126) (length reader.old) reader.old) ≡ Some (ms, reader.new)) × Stands parts ms) }
+        × (converted (λ es. of_members es no_members) (members (value 126) (length reader.old) reader.old) ≡ Some (ms, reader.new)) × PartsStand parts ms) }
 {
     let mut parts = no_parts(alloc);
     'members: loop {
@@ -107,7 +107,7 @@ fn members_of<'a>(alloc: Global, reader: &mut Reader<'_>, file: &'a [u8]) -> Opt
 /// The parts of a text that is one object.
 pub(crate) fn parts_of<'a>(alloc: Global, bytes: &'a [u8]) -> Option<Parts<'a>>
     ensures utf8 { IfSome result (λ _. IsUtf8 bytes.now) }
-    ensures ok { IfSome result (λ parts. (ms : Members) × (read bytes.now ≡ Some (object ms)) × Stands parts ms) }
+    ensures ok { IfSome result (λ parts. (ms : Members) × (read bytes.now ≡ Some (object ms)) × PartsStand parts ms) }
 {
     let Ok(text) = std::str::from_utf8(bytes) else {
         return None;

@@ -3,7 +3,7 @@
 ghost use Rattle.std.specs.Prelude.{◌≡◌, ◌&&◌, true, nat_le, IfSome, IsTrue};
 ghost use Rattle.std.specs.List.{list_all};
 ghost use Rattle.serde_json.specs.Data.{Members, object};
-ghost use Rattle.field_read.specs.Parts.{Stands};
+ghost use Rattle.field_read.specs.Parts.{PartsStand};
 ghost use Rattle.field_read.specs.Right.{SaysNames};
 
 use crate::Field;
@@ -44,7 +44,7 @@ fn lie_within(bank: &Vec<Detector>, pulses: &Vec<Pulse>, rounds: u32, cabinets: 
 
 /// The whole of these parts, where there is a scenario, and it has the rounds and cabinets that detectors and pulses name.
 pub(crate) fn whole_of<'a>(parts: Parts<'a>) -> Option<Listed<'a>>
-    ensures { IfSome result (λ listed. (ms : Members) → Stands parts.entry ms → SaysNames listed (object ms)) }
+    ensures { IfSome result (λ listed. (ms : Members) → PartsStand parts.entry ms → SaysNames listed (object ms)) }
 {
     let Parts {
         scenario,

@@ -9,7 +9,7 @@ use Rattle.sig_types.proofs.Sets.{in-phases, those-same, listed-phase}
 use Rattle.sig_tables.specs.declared.tables.Tables.{Tables}
 use Rattle.sig_tables.specs.Tables.{starts_up}
 use Rattle.sig_tables.specs.Goals.{listed_goal, goal_in}
-use Rattle.sig_tables.specs.Course.{Turn, StartUp, Goal, startup_phases, first_turn, turn_in, turn_from_start}
+use Rattle.sig_tables.specs.TickState.{RingTurn, StartUp, Goal, startup_phases, first_ring_turn, ring_turn_in, ring_turn_from_start}
 use Rattle.sig_tables.specs.Layout.{Has}
 
 -- a set that has the phases of a list of phases is that list
@@ -21,7 +21,7 @@ goal-same t mode goal h =
 
 -- a mode in which the rings neither rest nor run by the rules of actuated control has a goal
 pub has-goal : (t : Tables) (mode : Mode) → (mode ≡ Start → ⊥) → (mode ≡ Flash → ⊥) → (mode ≡ Free → ⊥) → ((n : ℕ) → mode ≡ Coord n → ⊥)
-    → turn_in t mode ≡ Goal (goal_in t mode)
+    → ring_turn_in t mode ≡ Goal (goal_in t mode)
 has-goal t Start s f r c = absurd (s refl)
 has-goal t Free s f r c = absurd (r refl)
 has-goal t (Seek n) s f r c = refl
@@ -35,7 +35,7 @@ has-goal t (Exit i) s f r c = refl
 
 -- the tick after Start
 pub from-start : (t : Tables) (mode : Mode) → (mode ≡ Start → ⊥) → (mode ≡ Flash → ⊥)
-    → turn_from_start t mode ≡ first_turn (startup_phases t) (turn_in t mode)
+    → ring_turn_from_start t mode ≡ first_ring_turn (startup_phases t) (ring_turn_in t mode)
 from-start t Start s f = absurd (s refl)
 from-start t Free s f = refl
 from-start t (Seek n) s f = refl
@@ -51,13 +51,13 @@ from-start t (Exit i) s f = refl
 starting : (t : Tables) (s : PhaseSet) → Has s (starts_up t) → phases_of s ≡ startup_phases t
 starting t s h = those-same (has s) (starts_up t) all_phases (λ p i. h p (listed-phase p i))
 
-pub none-up : (t : Tables) (s : PhaseSet) (turn : Turn) → Has s (starts_up t) → phases_of s ≡ [] → turn ≡ first_turn (startup_phases t) turn
-none-up t s turn h e = ap (λ (xs : List ℕ). first_turn xs turn) (sym e ∙ starting t s h)
+pub none-up : (t : Tables) (s : PhaseSet) (ring_turn : RingTurn) → Has s (starts_up t) → phases_of s ≡ [] → ring_turn ≡ first_ring_turn (startup_phases t) ring_turn
+none-up t s ring_turn h e = ap (λ (xs : List ℕ). first_ring_turn xs ring_turn) (sym e ∙ starting t s h)
 
-pub some-up : (t : Tables) (s : PhaseSet) (turn : Turn) → Has s (starts_up t) → (phases_of s ≡ [] → ⊥)
-    → StartUp ≡ first_turn (startup_phases t) turn
-some-up t s turn h ne = cons (phases_of s) ne ∙ ap (λ (xs : List ℕ). first_turn xs turn) (starting t s h)
+pub some-up : (t : Tables) (s : PhaseSet) (ring_turn : RingTurn) → Has s (starts_up t) → (phases_of s ≡ [] → ⊥)
+    → StartUp ≡ first_ring_turn (startup_phases t) ring_turn
+some-up t s ring_turn h ne = cons (phases_of s) ne ∙ ap (λ (xs : List ℕ). first_ring_turn xs ring_turn) (starting t s h)
   where
-    cons : (xs : List ℕ) → (xs ≡ [] → ⊥) → StartUp ≡ first_turn xs turn
+    cons : (xs : List ℕ) → (xs ≡ [] → ⊥) → StartUp ≡ first_ring_turn xs ring_turn
     cons [] ne = absurd (ne refl)
     cons (x ∷ xs) ne = refl

@@ -1,2 +1,2 @@
 pub mod OwnMode
-pub mod Turns
+pub mod RingTurns

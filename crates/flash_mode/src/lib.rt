@@ -12,12 +12,12 @@ ghost use Rattle.flash_mode.specs.OwnMode.{own_mode, other_mode, CountsStart};
 
 mod choosing;
 mod reaching;
-mod turn;
+mod ring_turn;
 
 pub use choosing::{Choice, commanded, running, sought};
 pub use reaching::reached;
+pub use ring_turn::{RingTurn, ring_turn_of};
 use sig_types::{Frame, Mode};
-pub use turn::{Turn, turn_of};
 
 /// How many frames Start lasts: 6 seconds of all red after power-up or flash.
 const START_FRAMES: u32 = 60;

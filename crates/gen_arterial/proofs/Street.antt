@@ -7,6 +7,8 @@ use Rattle.sig_tables.specs.declared.cells.Cell.TheVariants.{Pattern, Unit as Un
 use Rattle.sig_tables.specs.Cells.{Number, with_content}
 use Rattle.sig_tables.specs.Putting.{with_put, with_cells}
 use Rattle.sig_tables.specs.Standard.{std8, standard}
+use Rattle.rule_book.specs.declared.rules.Rule.TheVariants.{OnPattern, Correction}
+use Rattle.rule_book.specs.declared.rules.PatternRule.TheVariants.{Offset}
 use Rattle.rule_book.specs.Rules.{at_rows, broken, Consistent}
 use Rattle.rule_book.specs.Patterns.{corrects, has_offset}
 use Rattle.scenario_data.specs.Opening.{opening_tables}
@@ -44,7 +46,7 @@ tables-offset offset correction h = rw (lt-ltb offset 90 h) refl
 
 -- what is broken, by what these two say
 broken-by : Bool → Bool → List Broken
-broken-by corrected within = at_rows 13 (if not corrected then 0 ∷ [] else []) ++ (at_rows 15 (if not within then 1 ∷ [] else []) ++ [])
+broken-by corrected within = at_rows Correction (if not corrected then 0 ∷ [] else []) ++ (at_rows (OnPattern Offset) (if not within then 1 ∷ [] else []) ++ [])
 
 broken-is : (offset correction : ℕ)
     → broken (tables_with offset correction) (tables_with offset correction) false ≡ broken-by (corrects (tables_with offset correction)) (has_offset (tables_with offset correction) 1)

@@ -2,8 +2,8 @@
 //! A listed number is of 32 bits, so of the calls past 4,294,967,295 none fails by the list.
 //! They move as much as they can, or pieces of so many bytes at the most, as a file, a pipe or a line may.
 
-ghost use Rattle.std.specs.Prelude.{◌≡◌, ◌<◌, ◌≤◌, ◌+◌, ◌-◌, ◌↔◌, ◌⊎◌, [], ℕ, Some, take, drop, length, min, IfOk, OnOk, OnErr, IsErr, IsTrue, vec_len, vec_capacity};
-ghost use Rattle.io_edge.specs.Edge.{Rises, Reads, Appends};
+ghost use Rattle.std.specs.Prelude.{◌≡◌, ◌<◌, ◌≤◌, ◌+◌, ◌-◌, ◌↔◌, ◌⊎◌, [], ℕ, Some, take, drop, length, min, IfOk, OnOk, OnErr, IsErr, IsTrue, true, vec_len, vec_capacity};
+ghost use Rattle.io_edge.specs.Edge.{Rises, Stays, Reads, Appends};
 ghost use Rattle.io_edge.specs.Calls.{FailsAt, one_more};
 
 use crate::{Failed, Gate, Sink, Source};
@@ -65,6 +65,8 @@ impl Source for MemSource {
 
     ghost faults = { source_faults };
 
+    ghost counts_exactly = { true };
+
     fn read(&mut self, buf: &mut [u8]) -> Result<usize, Failed>
         requires { 0 < length buf.old }
         ensures count { IfOk result (λ n. n ≤ length buf.new) }
@@ -75,6 +77,7 @@ impl Source for MemSource {
         ensures kept { source_faults self.old ≤ source_faults self.new }
         ensures failed { IsErr result ↔ FailsAt (failing_reads self.old) (reads_so_far self.old) }
         ensures counts { OnOk result (source_faults self.new ≡ source_faults self.old) }
+        ensures exact { OnOk result (Stays true (source_faults self.old) (source_faults self.new)) }
         ensures counts_fault { OnErr result (source_faults self.new ≡ one_more (source_faults self.old)) }
         ensures list { failing_reads self.new ≡ failing_reads self.old }
         ensures counted { reads_so_far self.new ≡ one_more (reads_so_far self.old) }
@@ -166,6 +169,8 @@ impl Sink for MemSink {
 
     ghost faults = { sink_faults };
 
+    ghost counts_exactly = { true };
+
     fn write(&mut self, piece: &[u8]) -> Result<usize, Failed>
         ensures count { IfOk result (λ n. n ≤ length piece.now) }
         ensures some { IfOk result (λ n. 0 < length piece.now → 0 < n) }
@@ -176,6 +181,7 @@ impl Sink for MemSink {
         ensures kept { sink_faults self.old ≤ sink_faults self.new }
         ensures failed { IsErr result ↔ (FailsAt (failing_writes self.old) (writes_so_far self.old) ⊎ ((room_left self.old ≡ 0) × (0 < length piece.now))) }
         ensures counts { OnOk result (sink_faults self.new ≡ sink_faults self.old) }
+        ensures exact { OnOk result (Stays true (sink_faults self.old) (sink_faults self.new)) }
         ensures counts_fault { OnErr result (sink_faults self.new ≡ one_more (sink_faults self.old)) }
         ensures room { IfOk result (λ n. room_left self.new + n ≡ room_left self.old) }
         ensures room_kept { OnErr result (room_left self.new ≡ room_left self.old) }

@@ -1,12 +1,46 @@
-//! Adapters over any reader and writer of std. They tell no bytes: what stands outside the program is trusted.
+//! Adapters over readers and writers of std. Where the reader tells what is left, the source tells the same; where the writer tells
+//! what was written, the sink does. Standard input and output tell nothing: what stands outside the program is trusted.
 
-ghost use Rattle.std.specs.Prelude.{◌≡◌, ◌<◌, ◌≤◌, None, take, length, IfOk, OnOk, OnErr};
+ghost use Rattle.std.specs.Prelude.{◌≡◌, ◌<◌, ◌≤◌, None, take, length, IfOk, OnOk, OnErr, true};
+ghost use Rattle.std.proofs.Common.{ap};
 ghost use Rattle.io_edge.specs.Calls.{one_more};
-ghost use Rattle.io_edge.specs.Edge.{Rises, Reads, Appends};
-ghost use Rattle.io_edge.specs.Standard.{reader_faults, writer_faults};
+ghost use Rattle.io_edge.specs.Edge.{Rises, Stays, Reads, Appends, told_as};
+ghost use Rattle.io_edge.specs.Standard.{reader_of, reader_faults, writer_of, writer_faults};
 
 use crate::{Failed, Sink, Source};
-use std::io::{Read, Write};
+use std::io::{Read, Stderr, Stdin, Stdout, Write};
+
+/// A reader that tells what is left at all times, or at none.
+pub trait SteadyRead: Read {
+    /// Where it tells nothing once, it never tells anything.
+    ghost steady: { (r q : Self) → Self.remaining r ≡ None → Self.remaining q ≡ None };
+}
+
+/// A writer that tells what was written at all times, or at none.
+pub trait SteadyWrite: Write {
+    /// Where it tells nothing once, it never tells anything.
+    ghost steady: { (w v : Self) → Self.contents w ≡ None → Self.contents v ≡ None };
+}
+
+impl SteadyRead for Stdin {
+    ghost steady = { λ r q none. none };
+}
+
+impl SteadyRead for &[u8] {
+    ghost steady = { λ r q none. ap (told_as q.now) none };
+}
+
+impl SteadyWrite for Stdout {
+    ghost steady = { λ w v none. none };
+}
+
+impl SteadyWrite for Stderr {
+    ghost steady = { λ w v none. none };
+}
+
+impl SteadyWrite for Vec<u8> {
+    ghost steady = { λ w v none. ap (told_as v.items) none };
+}
 
 /// A source over a reader, which counts the reads that fail.
 #[derive(Drop)]
@@ -18,6 +52,7 @@ pub struct StdSource<R: Drop> {
 impl<R: Drop> StdSource<R> {
     /// A source over this reader.
     pub fn new(r: R) -> StdSource<R>
+        ensures reader { reader_of result ≡ r }
         ensures faultless { reader_faults result ≡ 0 }
     {
         StdSource {
@@ -25,18 +60,29 @@ impl<R: Drop> StdSource<R> {
             faults: 0,
         }
     }
+
+    /// The reader, as the source left it.
+    pub fn into_inner(self) -> R
+        ensures { result ≡ reader_of self }
+    {
+        self.inner
+    }
 }
 
-impl<R: Read + Drop> Source for StdSource<R> {
-    ghost left = { λ _. None };
+impl<R: SteadyRead + Drop> Source for StdSource<R> {
+    ghost left = { λ s. R.remaining (reader_of s) };
 
     ghost faults = { λ s. reader_faults s };
+
+    ghost counts_exactly = { true };
 
     fn read(&mut self, buf: &mut [u8]) -> Result<usize, Failed>
         requires { 0 < length buf.old }
         ensures count { IfOk result (λ n. n ≤ length buf.new) }
-        ensures ok { IfOk result (λ n. Reads None None (take n buf.new)) }
+        ensures ok { IfOk result (λ n. Reads (R.remaining (reader_of self.old)) (R.remaining (reader_of self.new)) (take n buf.new)) }
+        ensures err { OnErr result (R.remaining (reader_of self.new) ≡ R.remaining (reader_of self.old)) }
         ensures counts { OnOk result (reader_faults self.new ≡ reader_faults self.old) }
+        ensures exact { OnOk result (Stays true (reader_faults self.old) (reader_faults self.new)) }
         ensures counts_fault { OnErr result (reader_faults self.new ≡ one_more (reader_faults self.old)) }
         ensures fault { OnErr result (Rises (reader_faults self.old) (reader_faults self.new)) }
         ensures kept { reader_faults self.old ≤ reader_faults self.new }
@@ -61,6 +107,7 @@ pub struct StdSink<W: Drop> {
 impl<W: Drop> StdSink<W> {
     /// A sink over this writer.
     pub fn new(w: W) -> StdSink<W>
+        ensures writer { writer_of result ≡ w }
         ensures faultless { writer_faults result ≡ 0 }
     {
         StdSink {
@@ -68,18 +115,29 @@ impl<W: Drop> StdSink<W> {
             faults: 0,
         }
     }
+
+    /// The writer, as the sink left it.
+    pub fn into_inner(self) -> W
+        ensures { result ≡ writer_of self }
+    {
+        self.inner
+    }
 }
 
-impl<W: Write + Drop> Sink for StdSink<W> {
-    ghost written = { λ _. None };
+impl<W: SteadyWrite + Drop> Sink for StdSink<W> {
+    ghost written = { λ s. W.contents (writer_of s) };
 
     ghost faults = { λ s. writer_faults s };
+
+    ghost counts_exactly = { true };
 
     fn write(&mut self, piece: &[u8]) -> Result<usize, Failed>
         ensures count { IfOk result (λ n. n ≤ length piece.now) }
         ensures some { IfOk result (λ n. 0 < length piece.now → 0 < n) }
-        ensures ok { IfOk result (λ n. Appends None None (take n piece.now)) }
+        ensures ok { IfOk result (λ n. Appends (W.contents (writer_of self.old)) (W.contents (writer_of self.new)) (take n piece.now)) }
+        ensures err { OnErr result (W.contents (writer_of self.new) ≡ W.contents (writer_of self.old)) }
         ensures counts { OnOk result (writer_faults self.new ≡ writer_faults self.old) }
+        ensures exact { OnOk result (Stays true (writer_faults self.old) (writer_faults self.new)) }
         ensures counts_fault { OnErr result (writer_faults self.new ≡ one_more (writer_faults self.old)) }
         ensures fault { OnErr result (Rises (writer_faults self.old) (writer_faults self.new)) }
         ensures kept { writer_faults self.old ≤ writer_faults self.new }

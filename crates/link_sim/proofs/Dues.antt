@@ -2,11 +2,11 @@
 use Rattle.std.proofs.Common.{◌≡◌, ℕ, zero, suc, length, ◌+◌, ◌<◌, ◌≤◌, ◌&&◌, Bool, true, false, ◌==◌, nat_lt, nat_le, if◌then◌else◌, List, [], ◌∷◌, ◌++◌, refl, ◌∙◌, ap, arith}
 use Rattle.std.specs.List.{filter, AllByRecursion}
 use Rattle.std.specs.Prelude.{get_or}
-use Rattle.link_sim.specs.Shelves.{DropsPast}
+use Rattle.link_sim.specs.LateLists.{DropsPast}
 use Rattle.std.proofs.lemmas.Grind.{common_steps}
 use Rattle.scenario_data.specs.declared.scenario.FaultKind.TheVariants.{Late as LateFault}
 use Rattle.link_sim.specs.Faults.{copy_after}
-use Rattle.link_sim.specs.declared.wire.Late.{Late}
+use Rattle.link_sim.specs.declared.stream_line.Late.{Late}
 use Rattle.link_sim.specs.Due.{due_texts}
 
 pub due-append : (before due : ℕ) (xs ys : List Late) → due_texts before due (xs ++ ys) ≡ due_texts before due xs ++ due_texts before due ys

@@ -1,7 +1,7 @@
 mod Sorting
 mod Order
 mod Dues
-pub mod Shelves
+pub mod LateLists
 mod Dates
 pub mod Fits
 mod Lookups

@@ -11,7 +11,7 @@ use Rattle.link_sim.specs.declared.Line.{Line}
 use Rattle.link_sim.specs.Order.{SameFaults}
 use Rattle.link_sim.specs.Carried.{carried}
 use Rattle.link_sim.specs.Reaching.{frames_of, line_down}
-use Rattle.link_sim.specs.Trio.{Passed, AreLines, with_round}
+use Rattle.link_sim.specs.StreamFrames.{Passed, AreLines, with_round}
 use Rattle.link_sim.proofs.Carried.{same_carried}
 
 -- what a line carries by the kept faults of what was sent is what it carries by the scenario's

@@ -1,6 +1,6 @@
 -- The copies that a line keeps until they are due.
 use Rattle.std.specs.Prelude.{ℕ, ◌==◌, ◌&&◌, nat_lt, if◌then◌else◌, List, [], ◌∷◌}
-use Rattle.link_sim.specs.declared.wire.Late.{Late}
+use Rattle.link_sim.specs.declared.stream_line.Late.{Late}
 
 -- the octets of the copies of what was sent before this round, of those that are due in that one
 abbrev pub due_texts : ℕ → ℕ → List Late → List (List ℕ)

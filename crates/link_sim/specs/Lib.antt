@@ -3,13 +3,13 @@ pub mod Order
 pub mod Kept
 pub mod Carried
 pub mod Due
-pub mod Shelves
+pub mod LateLists
 pub mod Agenda
 pub mod Priority
 pub mod Made
 pub mod Reaching
 pub mod Lists
-pub mod Trio
+pub mod StreamFrames
 pub mod Link
 pub mod Stands
 pub mod Sorted

@@ -15,7 +15,7 @@ use Rattle.link_sim.specs.declared.lists.Lists.{Lists}
 use Rattle.link_sim.specs.Kept.{faults_in}
 use Rattle.link_sim.specs.Lists.{AreOf}
 use Rattle.link_sim.specs.Reaching.{requested, deliveries, returning}
-use Rattle.link_sim.specs.Trio.{Passed, AreLines, with_round}
+use Rattle.link_sim.specs.StreamFrames.{Passed, AreLines, with_round}
 
 -- the octets that are sent on a stream: of one frame or none
 abbrev pub sent_text : Option (ArrayVec ℕ) → List (List ℕ)

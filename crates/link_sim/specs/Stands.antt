@@ -7,7 +7,7 @@ use Rattle.link_sim.specs.declared.link.Link.{Link}
 use Rattle.link_sim.specs.Kept.{faults_in}
 use Rattle.link_sim.specs.Link.{sent_past}
 use Rattle.link_sim.specs.Lists.{AreOf}
-use Rattle.link_sim.specs.Trio.{Passed, AreLines}
+use Rattle.link_sim.specs.StreamFrames.{Passed, AreLines}
 
 -- the number of cabinets
 abbrev pub cabinet_count : Link → ℕ
@@ -15,7 +15,7 @@ cabinet_count link = length link.down.items
 
 -- at the cabinet at this place, counted from 0, the link stands for these rounds: for what the master sent on its two streams, and
 -- for what the cabinet replied
-pub record Stands (link : Link) (s : ScenarioContent) (place : ℕ) (polls loads : List (List (List ℕ))) (replied : Passed) : Type 0 where
+pub record LinkStands (link : Link) (s : ScenarioContent) (place : ℕ) (polls loads : List (List (List ℕ))) (replied : Passed) : Type 0 where
   pub lists : AreOf link.lists s
   pub down : (d : Lines) → AreLines (get_or link.down.items place d) (faults_in link.lists.faults) (place + 1) Down (sent_past s (place + 1) polls loads)
   pub up : (d : Lines) → AreLines (get_or link.up.items place d) (faults_in link.lists.faults) (place + 1) Up replied

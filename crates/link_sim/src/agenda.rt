@@ -9,7 +9,7 @@ ghost use Rattle.link_sim.specs.Agenda.{is_of, by_round};
 use sig_types::NoMemory;
 
 /// An item of a list: its round, its cabinet, and its place in the list, counted from 0.
-#[derive(Clone, Copy, Debug, PartialEq, Eq)]
+#[derive(Clone, Copy, PartialEq, Eq)]
 pub struct Due {
     pub round: u32,
     pub cabinet: u32,

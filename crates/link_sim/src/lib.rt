@@ -11,7 +11,7 @@ mod lines;
 mod link;
 mod lists;
 mod priority;
-mod wire;
+mod stream_line;
 
 pub use agenda::{Agenda, Due};
 pub use fault_list::FaultList;
@@ -20,10 +20,10 @@ pub use link::Link;
 pub use lists::{Arrivals, Lists};
 use scenario_data::Direction;
 use sig_types::Way;
-pub use wire::{Late, Shelf, Wire};
+pub use stream_line::{Late, LateList, StreamLine};
 
 /// One stream of a cabinet, towards it or from it.
-#[derive(Clone, Copy, Debug, PartialEq, Eq)]
+#[derive(Clone, Copy, PartialEq, Eq)]
 pub struct Line {
     pub cab: u32,
     pub way: Way,

@@ -8,7 +8,7 @@ ghost use Rattle.sig_types.specs.Items.{texts_of};
 ghost use Rattle.link_sim.specs.Carried.{carried};
 ghost use Rattle.link_sim.specs.Kept.{faults_in};
 
-use crate::{Arrivals, FaultList, Line, Wire};
+use crate::{Arrivals, FaultList, Line, StreamLine};
 use scenario_data::Direction;
 use sig_types::{NoMemory, Octets, Way};
 use std::alloc::Global;
@@ -16,9 +16,9 @@ use std::alloc::Global;
 /// The lines of the polls, the loads and the priority requests of a cabinet in one direction.
 #[derive(Drop)]
 pub struct Lines {
-    polls: Wire,
-    loads: Wire,
-    prios: Wire,
+    polls: StreamLine,
+    loads: StreamLine,
+    prios: StreamLine,
 }
 
 /// One line of a cabinet.
@@ -33,16 +33,16 @@ fn line_at(cab: u32, way: Way, direction: Direction) -> Line
 }
 
 impl Lines {
-    ghost use Rattle.link_sim.specs.Trio.{Passed, AreLines, line_at, with_round};
+    ghost use Rattle.link_sim.specs.StreamFrames.{Passed, AreLines, line_at, with_round};
 
     /// Lines over which nothing went.
     pub fn new(alloc: Global, cab: u32, direction: Direction) -> Lines
         ensures { (faults : List Fault) → AreLines result faults cab direction (record { polls = []; loads = []; prios = [] }) }
     {
         Lines {
-            polls: Wire::new(alloc, line_at(cab, Way::Poll, direction)),
-            loads: Wire::new(alloc, line_at(cab, Way::Load, direction)),
-            prios: Wire::new(alloc, line_at(cab, Way::Prio, direction)),
+            polls: StreamLine::new(alloc, line_at(cab, Way::Poll, direction)),
+            loads: StreamLine::new(alloc, line_at(cab, Way::Load, direction)),
+            prios: StreamLine::new(alloc, line_at(cab, Way::Prio, direction)),
         }
     }
 

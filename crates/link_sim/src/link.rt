@@ -9,7 +9,7 @@ ghost use Rattle.sig_types.specs.declared.streams.Answers.{Answers as AnswersRow
 ghost use Rattle.link_sim.specs.declared.lines.Lines.{Lines as LinesRow};
 ghost use Rattle.link_sim.specs.Kept.{faults_in};
 ghost use Rattle.link_sim.specs.Link.{Stays, Delivers, Returns};
-ghost use Rattle.link_sim.specs.Trio.{AreLines, nothing_passed};
+ghost use Rattle.link_sim.specs.StreamFrames.{AreLines, nothing_passed};
 ghost use Rattle.scenario_data.specs.declared.scenario.Fault.{Fault};
 
 use crate::delivery::{bring_back, deliver};
@@ -106,9 +106,9 @@ fn bring_all_back(
 
 impl Link {
     ghost use Rattle.link_sim.specs.Link.{sent_text, answered};
-    ghost use Rattle.link_sim.specs.Stands.{Stands, cabinet_count};
+    ghost use Rattle.link_sim.specs.Stands.{LinkStands, cabinet_count};
     ghost use Rattle.link_sim.specs.Reaching.{deliveries, returning};
-    ghost use Rattle.link_sim.specs.Trio.{Passed};
+    ghost use Rattle.link_sim.specs.StreamFrames.{Passed};
     ghost use Rattle.sig_types.specs.Items.{items_of, texts_of};
     ghost use Rattle.sig_types.specs.declared.notes.Way.TheVariants.{Poll, Load, Prio};
     ghost use Rattle.std.specs.Prelude.{[], ◌∷◌, OnOk, OnErr};
@@ -117,7 +117,7 @@ impl Link {
     pub fn open(alloc: Global, s: &Scenario) -> Result<Link, NoMemory>
         requires cabinets { length s.now.cabinets.items ≤ 64 }
         ensures count { IfOk result (λ link. cabinet_count link ≡ length s.now.cabinets.items) }
-        ensures stands { IfOk result (λ link. (place : ℕ) → place < length s.now.cabinets.items → Stands link (scenario_content s.now) place [] [] nothing_passed) }
+        ensures stands { IfOk result (λ link. (place : ℕ) → place < length s.now.cabinets.items → LinkStands link (scenario_content s.now) place [] [] nothing_passed) }
     {
         let lists = match Lists::new(alloc, s) {
             Ok(lists) => lists,
@@ -145,9 +145,9 @@ impl Link {
         requires each { length sendings.now ≡ cabinet_count self.old }
         ensures kept { cabinet_count self.new ≡ cabinet_count self.old }
         ensures count { IfOk result (λ all. length all.items ≡ cabinet_count self.old) }
-        ensures reaches { IfOk result (λ all. (place : ℕ) (polls loads : List (List (List ℕ))) (replied : Passed) (sending : SendingRow) (streams : StreamsRow) → place < cabinet_count self.old → Stands self.old (scenario_content s.now) place polls loads replied → round ≡ length polls + 1 → items_of (get_or all.items place streams) ≡ deliveries (scenario_content s.now) (place + 1) (sent_text (get_or sendings.now place sending).poll ∷ polls) (sent_text (get_or sendings.now place sending).load ∷ loads)) }
-        ensures stands { OnOk result ((place : ℕ) (polls loads : List (List (List ℕ))) (replied : Passed) (sending : SendingRow) → place < cabinet_count self.old → Stands self.old (scenario_content s.now) place polls loads replied → round ≡ length polls + 1 → Stands self.new (scenario_content s.now) place (sent_text (get_or sendings.now place sending).poll ∷ polls) (sent_text (get_or sendings.now place sending).load ∷ loads) replied) }
-        ensures again { OnErr result ((place : ℕ) (polls loads : List (List (List ℕ))) (replied : Passed) → place < cabinet_count self.old → Stands self.old (scenario_content s.now) place polls loads replied → round ≡ length polls + 1 → Stands self.new (scenario_content s.now) place polls loads replied) }
+        ensures reaches { IfOk result (λ all. (place : ℕ) (polls loads : List (List (List ℕ))) (replied : Passed) (sending : SendingRow) (streams : StreamsRow) → place < cabinet_count self.old → LinkStands self.old (scenario_content s.now) place polls loads replied → round ≡ length polls + 1 → items_of (get_or all.items place streams) ≡ deliveries (scenario_content s.now) (place + 1) (sent_text (get_or sendings.now place sending).poll ∷ polls) (sent_text (get_or sendings.now place sending).load ∷ loads)) }
+        ensures stands { OnOk result ((place : ℕ) (polls loads : List (List (List ℕ))) (replied : Passed) (sending : SendingRow) → place < cabinet_count self.old → LinkStands self.old (scenario_content s.now) place polls loads replied → round ≡ length polls + 1 → LinkStands self.new (scenario_content s.now) place (sent_text (get_or sendings.now place sending).poll ∷ polls) (sent_text (get_or sendings.now place sending).load ∷ loads) replied) }
+        ensures again { OnErr result ((place : ℕ) (polls loads : List (List (List ℕ))) (replied : Passed) → place < cabinet_count self.old → LinkStands self.old (scenario_content s.now) place polls loads replied → round ≡ length polls + 1 → LinkStands self.new (scenario_content s.now) place polls loads replied) }
     {
         match deliver_all(&mut self.down, &self.lists, alloc, round, s, sendings) {
             Ok(all) => Ok(all),
@@ -167,11 +167,11 @@ impl Link {
         requires each { length answers.now ≡ cabinet_count self.old }
         ensures kept { cabinet_count self.new ≡ cabinet_count self.old }
         ensures count { IfOk result (λ all. length all.items ≡ cabinet_count self.old) }
-        ensures polls { IfOk result (λ all. (place : ℕ) (polls loads : List (List (List ℕ))) (replied : Passed) (replies arrived : AnswersRow) → place < cabinet_count self.old → Stands self.old (scenario_content s.now) place polls loads replied → round ≡ length replied.polls + 1 → texts_of (get_or all.items place arrived).polls.items ≡ returning (scenario_content s.now) (place + 1) Poll (texts_of (get_or answers.now place replies).polls.items ∷ replied.polls)) }
-        ensures loads { IfOk result (λ all. (place : ℕ) (polls loads : List (List (List ℕ))) (replied : Passed) (replies arrived : AnswersRow) → place < cabinet_count self.old → Stands self.old (scenario_content s.now) place polls loads replied → round ≡ length replied.polls + 1 → texts_of (get_or all.items place arrived).loads.items ≡ returning (scenario_content s.now) (place + 1) Load (texts_of (get_or answers.now place replies).loads.items ∷ replied.loads)) }
-        ensures prios { IfOk result (λ all. (place : ℕ) (polls loads : List (List (List ℕ))) (replied : Passed) (replies arrived : AnswersRow) → place < cabinet_count self.old → Stands self.old (scenario_content s.now) place polls loads replied → round ≡ length replied.polls + 1 → texts_of (get_or all.items place arrived).prios.items ≡ returning (scenario_content s.now) (place + 1) Prio (texts_of (get_or answers.now place replies).prios.items ∷ replied.prios)) }
-        ensures stands { OnOk result ((place : ℕ) (polls loads : List (List (List ℕ))) (replied : Passed) (replies : AnswersRow) → place < cabinet_count self.old → Stands self.old (scenario_content s.now) place polls loads replied → round ≡ length replied.polls + 1 → Stands self.new (scenario_content s.now) place polls loads (answered (get_or answers.now place replies) replied)) }
-        ensures again { OnErr result ((place : ℕ) (polls loads : List (List (List ℕ))) (replied : Passed) → place < cabinet_count self.old → Stands self.old (scenario_content s.now) place polls loads replied → round ≡ length replied.polls + 1 → Stands self.new (scenario_content s.now) place polls loads replied) }
+        ensures polls { IfOk result (λ all. (place : ℕ) (polls loads : List (List (List ℕ))) (replied : Passed) (replies arrived : AnswersRow) → place < cabinet_count self.old → LinkStands self.old (scenario_content s.now) place polls loads replied → round ≡ length replied.polls + 1 → texts_of (get_or all.items place arrived).polls.items ≡ returning (scenario_content s.now) (place + 1) Poll (texts_of (get_or answers.now place replies).polls.items ∷ replied.polls)) }
+        ensures loads { IfOk result (λ all. (place : ℕ) (polls loads : List (List (List ℕ))) (replied : Passed) (replies arrived : AnswersRow) → place < cabinet_count self.old → LinkStands self.old (scenario_content s.now) place polls loads replied → round ≡ length replied.polls + 1 → texts_of (get_or all.items place arrived).loads.items ≡ returning (scenario_content s.now) (place + 1) Load (texts_of (get_or answers.now place replies).loads.items ∷ replied.loads)) }
+        ensures prios { IfOk result (λ all. (place : ℕ) (polls loads : List (List (List ℕ))) (replied : Passed) (replies arrived : AnswersRow) → place < cabinet_count self.old → LinkStands self.old (scenario_content s.now) place polls loads replied → round ≡ length replied.polls + 1 → texts_of (get_or all.items place arrived).prios.items ≡ returning (scenario_content s.now) (place + 1) Prio (texts_of (get_or answers.now place replies).prios.items ∷ replied.prios)) }
+        ensures stands { OnOk result ((place : ℕ) (polls loads : List (List (List ℕ))) (replied : Passed) (replies : AnswersRow) → place < cabinet_count self.old → LinkStands self.old (scenario_content s.now) place polls loads replied → round ≡ length replied.polls + 1 → LinkStands self.new (scenario_content s.now) place polls loads (answered (get_or answers.now place replies) replied)) }
+        ensures again { OnErr result ((place : ℕ) (polls loads : List (List (List ℕ))) (replied : Passed) → place < cabinet_count self.old → LinkStands self.old (scenario_content s.now) place polls loads replied → round ≡ length replied.polls + 1 → LinkStands self.new (scenario_content s.now) place polls loads replied) }
     {
         let _ = s;
         match bring_all_back(&mut self.up, &self.lists, alloc, round, answers) {

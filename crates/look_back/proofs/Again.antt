@@ -17,14 +17,14 @@ use Rattle.sig_tables.specs.Past.{Moment}
 use Rattle.sig_tables.specs.Looking.{in_a_row, last_frame, last_on, latest_on}
 use Rattle.sig_tables.specs.Calls.{is_green}
 use Rattle.sig_tables.specs.Modes.{stage_of}
-use Rattle.look_back.specs.declared.glance.Glance.{Glance}
+use Rattle.look_back.specs.declared.sample.Sample.{Sample}
 use Rattle.look_back.specs.declared.row.Row.{Row}
-use Rattle.look_back.specs.declared.stretches.Stretch.{Stretch}
-use Rattle.look_back.specs.declared.stretches.Stretches.{Stretches}
+use Rattle.look_back.specs.declared.frame_runs.FrameRun.{FrameRun}
+use Rattle.look_back.specs.declared.frame_runs.FrameRuns.{FrameRuns}
 use Rattle.look_back.specs.declared.latched.Latched.{Latched}
 use Rattle.look_back.specs.Look.{Tells}
-use Rattle.look_back.specs.Spread.{stretch, spread, TellLast, more_of}
-use Rattle.look_back.specs.Keeps.{Keeps, newest_of}
+use Rattle.look_back.specs.Spread.{frame_run, spread, TellLast, more_of}
+use Rattle.look_back.specs.Keeps.{FrameRunsKeep, newest_of}
 use Rattle.look_back.specs.Latching.{LatchedStands}
 use Rattle.look_back.specs.Rows.{most, no_row, RowStands}
 use Rattle.look_back.specs.Again.{ShowsAgain, AllGoOn, AllTell, AllPass, more_by, lengthened}
@@ -49,15 +49,15 @@ last-shows active pressed (m ∷ ms) past all =
     shows-on m.frame (last_frame (ms ++ past)) (last_frame past) all.0.shows (last-shows active pressed ms past all.1)
 
 -- what is kept of the last frame tells the last moment
-pub newest-tells : (n t : ℕ) (g : Glance) (older : List Stretch) (m : Moment) (past : List Moment) → 1 ≤ n → (1 ≤ t) ⊎ (older ≡ [])
-    → TellLast n (spread (stretch g t ∷ older)) (m ∷ past) → Tells g m
+pub newest-tells : (n t : ℕ) (g : Sample) (older : List FrameRun) (m : Moment) (past : List Moment) → 1 ≤ n → (1 ≤ t) ⊎ (older ≡ [])
+    → TellLast n (spread (frame_run g t ∷ older)) (m ∷ past) → Tells g m
 newest-tells zero t g older m past le some h = absurd (omega arith)
 newest-tells (suc n) (suc t) g older m past le some h = h.0
 newest-tells (suc n) zero g older m past le (inl one) h = absurd (omega arith)
 newest-tells (suc n) zero g older m past le (inr none) h = absurd (rw none at h)
 
 -- what is kept of a moment is kept of one that goes on with it, but for what its tick saw
-pub tells-again : (g : Glance) (last m : Moment) (q o : PhaseSet) → Tells g last → ShowsAgain m.frame last.frame
+pub tells-again : (g : Sample) (last m : Moment) (q o : PhaseSet) → Tells g last → ShowsAgain m.frame last.frame
     → ((p : ℕ) → is_phase p ≡ true → has q p ≡ is_in m.quiet p) → ((p : ℕ) → is_phase p ≡ true → has o p ≡ is_in m.opposed p)
     → Tells (record g { quiet = q; opposed = o }) m
 tells-again g last m q o tells shows quiet opposed = record {
@@ -74,7 +74,7 @@ tells-again g last m q o tells shows quiet opposed = record {
 }
 
 -- and so of each of many
-pub all-tell : (g : Glance) (last : Moment) (before : List Moment) (q o active pressed : PhaseSet) → Tells g last
+pub all-tell : (g : Sample) (last : Moment) (before : List Moment) (q o active pressed : PhaseSet) → Tells g last
     → ((p : ℕ) → p ≤ 16 → has q p ≡ (has g.shown.green p && not (has active p)))
     → ((p : ℕ) → has o p ≡ (has g.shown.green p && has pressed p))
     → (ms : List Moment) → AllGoOn active pressed ms (last ∷ before) → AllTell (record g { quiet = q; opposed = o }) ms
@@ -89,7 +89,7 @@ all-tell g last before q o active pressed tells quiet opposed (m ∷ ms) all =
       all-tell g last before q o active pressed tells quiet opposed ms all.1,
     )
 
--- one more of the newest stretch
+-- one more of the newest run
 pub more-one : (t n : ℕ) → more_of (more_by t n) ≡ more_by t (suc n)
 more-one t n = elim (cases_Bool (nat_lt t 4096)) [
   | inl e ↦ elim (cases_Bool (nat_lt (min (t + n) 4096) 4096)) [
@@ -111,19 +111,19 @@ more-none t = elim (cases_Bool (nat_lt t 4096)) [
   | inr e ↦ rw e refl
 ]
 
--- the stretches keep one moment more of the newest
-keeps-like : (n : ℕ) (s : Stretches) (m : Moment) (past : List Moment) → Keeps (lengthened n s) past → Tells (newest_of s) m
-    → Keeps (lengthened (suc n) s) (m ∷ past)
+-- the runs keep one moment more of the newest
+keeps-like : (n : ℕ) (s : FrameRuns) (m : Moment) (past : List Moment) → FrameRunsKeep (lengthened n s) past → Tells (newest_of s) m
+    → FrameRunsKeep (lengthened (suc n) s) (m ∷ past)
 keeps-like n s m past keeps tells =
     let one : more_of (more_by s.newest.ticks n) ≡ more_by s.newest.ticks (suc n) = more-one s.newest.ticks n in
     record {
-      tells = rw (← one) (adds-like (more_by s.newest.ticks n) s.newest.glance s.older.items m past tells keeps.tells);
+      tells = rw (← one) (adds-like (more_by s.newest.ticks n) s.newest.sample s.older.items m past tells keeps.tells);
       newest = inl (rw (← one) (more-lasts (more_by s.newest.ticks n)));
       older = keeps.older;
       room = keeps.room;
     }
 
-keeps-same : (s : Stretches) (past : List Moment) → Keeps s past → Keeps (lengthened 0 s) past
+keeps-same : (s : FrameRuns) (past : List Moment) → FrameRunsKeep s past → FrameRunsKeep (lengthened 0 s) past
 keeps-same s past keeps = record {
   tells = rw (more-none s.newest.ticks) keeps.tells;
   newest = rw (more-none s.newest.ticks) keeps.newest;
@@ -132,9 +132,9 @@ keeps-same s past keeps = record {
 }
 
 -- and so many
-pub keeps-again : (s : Stretches) (g : Glance) (past : List Moment) → newest_of s ≡ g
-    → ((m : Moment) → Tells g m → Keeps s (m ∷ past)) → (n : ℕ) (ms : List Moment) → length ms ≡ suc n → AllTell g ms
-    → Keeps (lengthened n s) (ms ++ past)
+pub keeps-again : (s : FrameRuns) (g : Sample) (past : List Moment) → newest_of s ≡ g
+    → ((m : Moment) → Tells g m → FrameRunsKeep s (m ∷ past)) → (n : ℕ) (ms : List Moment) → length ms ≡ suc n → AllTell g ms
+    → FrameRunsKeep (lengthened n s) (ms ++ past)
 keeps-again s g past e one n [] few all = absurd (omega arith)
 keeps-again s g past e one zero (m ∷ []) few all = keeps-same s (m ∷ past) (one m all.0)
 keeps-again s g past e one (suc n) (m ∷ []) few all = absurd (omega arith)

@@ -5,7 +5,7 @@ use Rattle.std.specs.Prelude.{Option, Some, None, min}
 use Rattle.sig_tables.specs.declared.tables.Tables.{Tables}
 use Rattle.sig_tables.specs.Lesser.{Lesser, InFull, AtMost}
 use Rattle.sig_tables.specs.Goals.{lesser_green}
-use Rattle.preempt_run.specs.Goals.{ticks_of}
+use Rattle.preempt_stages.specs.Goals.{ticks_of}
 
 -- no more is left than there is, but for the one tick that every green has
 pub left-within : (t : Tables) (i time : ℕ) → time ≤ 2550 → lesser_green t i time ≤ 2550

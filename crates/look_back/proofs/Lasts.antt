@@ -9,7 +9,7 @@ use Rattle.sig_tables.specs.declared.tables.PhaseList.{PhaseList}
 use Rattle.sig_tables.specs.Tables.{listed}
 use Rattle.sig_tables.specs.Preempts.{has_reached}
 use Rattle.sig_tables.specs.Past.{Moment}
-use Rattle.look_back.specs.declared.glance.Look.TheVariants.{Dwells}
+use Rattle.look_back.specs.declared.sample.Look.TheVariants.{Dwells}
 use Rattle.look_back.specs.Look.{is_so}
 use Rattle.sig_tables.specs.Looking.{in_a_row, lasts, lasts_now, start_run}
 use Rattle.sig_tables.proofs.Lasting.{lasts-counted}

@@ -10,7 +10,7 @@ use Rattle.sig_tables.specs.Past.{Moment}
 use Rattle.sig_tables.specs.Looking.{last_frame}
 use Rattle.sig_tables.specs.Calls.{is_green}
 use Rattle.sig_tables.specs.Layout.{Has}
-use Rattle.look_back.specs.declared.glance.Glance.{Glance}
+use Rattle.look_back.specs.declared.sample.Sample.{Sample}
 use Rattle.look_back.specs.declared.window.Seen.{Seen}
 use Rattle.look_back.specs.declared.window.Window.{Window}
 use Rattle.look_back.specs.Shown.{IsShown}
@@ -23,11 +23,11 @@ pub green-before : (w : Window) (past : List Moment) → WindowStands w past →
 green-before w past stands p is =
     stands.shown.colours Green p is ∙ ap (λ (veh : List Colour). same_colour (colour_in veh p) Green) stands.veh
 
-pub glance-tells : (g : Glance) (m : Moment) (s : Seen) (past : List Moment) (green : PhaseSet)
+pub sample-tells : (g : Sample) (m : Moment) (s : Seen) (past : List Moment) (green : PhaseSet)
     → IsShown g.shown s.frame.veh s.frame.ped → g.first ≡ on_in s.frame 1 → g.second ≡ on_in s.frame 2 → g.mode ≡ s.frame.mode → Saw m s past → Has green (is_green (last_frame past))
     → ((p : ℕ) → p ≤ 16 → has g.quiet p ≡ (has green p && not (has s.active p)))
     → ((p : ℕ) → has g.opposed p ≡ (has green p && has s.opposed p)) → Tells g m
-glance-tells g m s past green shown first second mode saw before quiet opposed = record {
+sample-tells g m s past green shown first second mode saw before quiet opposed = record {
   wide = rw saw.frame shown.wide;
   colours = λ colour p is. rw saw.frame (shown.colours colour p is);
   signals = λ signal p is. rw saw.frame (shown.signals signal p is);

@@ -7,7 +7,7 @@ use Rattle.sig_types.specs.declared.phase_set.PhaseSet.{PhaseSet}
 use Rattle.sig_types.specs.Colour.{same_mode}
 use Rattle.sig_types.proofs.Lists.{eq-true}
 use Rattle.look_back.specs.declared.shown.Shown.{Shown}
-use Rattle.look_back.specs.declared.glance.Glance.{Glance}
+use Rattle.look_back.specs.declared.sample.Sample.{Sample}
 use Rattle.look_back.specs.Shown.{ShowsSame}
 use Rattle.look_back.specs.Look.{IsAsSeen}
 
@@ -41,12 +41,12 @@ one-shown a b same walk flash dont =
     rw (same.green, same.yellow, same.clear, same.red, walk, flash, dont) refl in
     e
 
-abbrev glance : Shown → ℕ → ℕ → Mode → PhaseSet → PhaseSet → Glance
-glance s first second mode quiet opposed =
+abbrev sample : Shown → ℕ → ℕ → Mode → PhaseSet → PhaseSet → Sample
+sample s first second mode quiet opposed =
     record { shown = s; first = first; second = second; mode = mode; quiet = quiet; opposed = opposed }
 
-pub one-glance : (a b : Glance) → a.shown ≡ b.shown → IsAsSeen a b → a ≡ b
-one-glance a b same seen =
-    let e : glance a.shown a.first a.second a.mode a.quiet a.opposed ≡ glance b.shown b.first b.second b.mode b.quiet b.opposed =
+pub one-sample : (a b : Sample) → a.shown ≡ b.shown → IsAsSeen a b → a ≡ b
+one-sample a b same seen =
+    let e : sample a.shown a.first a.second a.mode a.quiet a.opposed ≡ sample b.shown b.first b.second b.mode b.quiet b.opposed =
     rw (same, seen.first, seen.second, seen.mode, seen.quiet, seen.opposed) refl in
     e

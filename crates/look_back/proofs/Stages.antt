@@ -13,8 +13,8 @@ use Rattle.sig_tables.specs.Past.{Moment}
 use Rattle.sig_tables.specs.Looking.{last_frame}
 use Rattle.sig_tables.specs.Preempts.{is_preempt_called, preempt_called, breaks_in, stage_after, stage_now}
 use Rattle.sig_tables.proofs.Below.{phase-is}
-use Rattle.preempt_run.proofs.Least.{least-none}
-use Rattle.preempt_run.proofs.Called.{not-called}
+use Rattle.preempt_stages.proofs.Least.{least-none}
+use Rattle.preempt_stages.proofs.Inputs.{not-called}
 
 -- where no input is on, none is called
 pub none-on : (t : Tables) (on : PhaseSet) (inputs : List ℕ) (past : List Moment)

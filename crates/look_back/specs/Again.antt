@@ -8,10 +8,10 @@ use Rattle.sig_types.specs.PhaseSet.{has}
 use Rattle.sig_tables.specs.Past.{Moment}
 use Rattle.sig_tables.specs.Looking.{last_frame}
 use Rattle.sig_tables.specs.Calls.{is_green}
-use Rattle.look_back.specs.declared.glance.Glance.{Glance}
-use Rattle.look_back.specs.declared.stretches.Stretches.{Stretches}
+use Rattle.look_back.specs.declared.sample.Sample.{Sample}
+use Rattle.look_back.specs.declared.frame_runs.FrameRuns.{FrameRuns}
 use Rattle.look_back.specs.Look.{Tells}
-use Rattle.look_back.specs.Spread.{stretch}
+use Rattle.look_back.specs.Spread.{frame_run}
 
 -- a frame shows what another shows: colours, signals, what is on, the mode and the version
 pub record ShowsAgain (f g : Frame) : Type 0 where
@@ -24,7 +24,7 @@ pub record ShowsAgain (f g : Frame) : Type 0 where
 -- the moment goes on with these: it shows what the last frame shows, in step with a pattern with a counter that is one more; of the
 -- phases that were Green before it those were not active that are not of the first set, and to those an incompatible phase had
 -- demand that are of the second; no preempt input was on, and no pattern was commanded
-pub record GoesOn (active pressed : PhaseSet) (m : Moment) (past : List Moment) : Type 0 where
+pub record FrameGoesOn (active pressed : PhaseSet) (m : Moment) (past : List Moment) : Type 0 where
   pub shows : ShowsAgain m.frame (last_frame past)
   pub counter : (n : ℕ) → m.frame.mode ≡ Coord n → m.frame.counter ≡ (last_frame past).counter + 1
   pub quiet : (p : ℕ) → is_phase p ≡ true → is_in m.quiet p ≡ (is_green (last_frame past) p && not (has active p))
@@ -35,10 +35,10 @@ pub record GoesOn (active pressed : PhaseSet) (m : Moment) (past : List Moment) 
 -- each of so many moments more goes on with those before it
 abbrev pub AllGoOn : PhaseSet → PhaseSet → List Moment → List Moment → Type 0
 AllGoOn active pressed [] past = Unit {0}
-AllGoOn active pressed (m ∷ ms) past = GoesOn active pressed m (ms ++ past) × AllGoOn active pressed ms past
+AllGoOn active pressed (m ∷ ms) past = FrameGoesOn active pressed m (ms ++ past) × AllGoOn active pressed ms past
 
 -- of each of the moments this is what is kept
-abbrev pub AllTell : Glance → List Moment → Type 0
+abbrev pub AllTell : Sample → List Moment → Type 0
 AllTell g [] = Unit {0}
 AllTell g (m ∷ ms) = Tells g m × AllTell g ms
 
@@ -51,6 +51,6 @@ AllPass test (m ∷ ms) = (test m ≡ true) × AllPass test ms
 abbrev pub more_by : ℕ → ℕ → ℕ
 more_by ticks more = if nat_lt ticks 4096 then min (ticks + more) 4096 else ticks
 
--- the stretches with so many frames more in the newest one
-abbrev pub lengthened : ℕ → Stretches → Stretches
-lengthened n s = record s { newest = stretch s.newest.glance (more_by s.newest.ticks n) }
+-- the runs with so many frames more in the newest one
+abbrev pub lengthened : ℕ → FrameRuns → FrameRuns
+lengthened n s = record s { newest = frame_run s.newest.sample (more_by s.newest.ticks n) }

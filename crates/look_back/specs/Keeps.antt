@@ -1,17 +1,17 @@
--- What the stretches keep of all moments that were added.
+-- What the runs keep of all moments that were added.
 use Rattle.std.specs.Prelude.{◌≡◌, ◌≤◌, ◌⊎◌, List, [], ◌∷◌}
 use Rattle.sig_tables.specs.Past.{Moment}
-use Rattle.look_back.specs.declared.glance.Glance.{Glance}
-use Rattle.look_back.specs.declared.stretches.Stretches.{Stretches}
+use Rattle.look_back.specs.declared.sample.Sample.{Sample}
+use Rattle.look_back.specs.declared.frame_runs.FrameRuns.{FrameRuns}
 use Rattle.look_back.specs.Spread.{spread, EachLasts, TellLast}
 
 -- what is kept of the last frame
-abbrev pub newest_of : Stretches → Glance
-newest_of s = s.newest.glance
+abbrev pub newest_of : FrameRuns → Sample
+newest_of s = s.newest.sample
 
--- what is kept tells the last 4,096 of the moments; there is room for as many stretches, each with a frame but where none was
+-- what is kept tells the last 4,096 of the moments; there is room for as many runs, each with a frame but where none was
 -- added
-pub record Keeps (s : Stretches) (past : List Moment) : Type 0 where
+pub record FrameRunsKeep (s : FrameRuns) (past : List Moment) : Type 0 where
   pub tells : TellLast 4096 (spread (s.newest ∷ s.older.items)) past
   pub newest : (1 ≤ s.newest.ticks) ⊎ (s.older.items ≡ [])
   pub older : EachLasts s.older.items

@@ -9,7 +9,7 @@ pub mod Latching
 pub mod Cuts
 pub mod Rows
 pub mod LastOn
-pub mod Further
+pub mod LongCounts
 pub mod Counts
-pub mod Lookouts
+pub mod FrameHistories
 pub mod Again

@@ -13,9 +13,9 @@ use Rattle.sig_tables.specs.Modes.{same_mode, stage_of}
 use Rattle.sig_tables.specs.Tables.{listed}
 use Rattle.sig_tables.specs.Layout.{Has}
 use Rattle.sig_tables.specs.Preempts.{has_reached}
-use Rattle.look_back.specs.declared.glance.Glance.{Glance}
-use Rattle.look_back.specs.declared.glance.Look.{Look}
-use Rattle.look_back.specs.declared.glance.Look.TheVariants.{Shows, Signals, Quiet, Opposed, IsIn, Serves, Dwells}
+use Rattle.look_back.specs.declared.sample.Sample.{Sample}
+use Rattle.look_back.specs.declared.sample.Look.{Look}
+use Rattle.look_back.specs.declared.sample.Look.TheVariants.{Shows, Signals, Quiet, Opposed, IsIn, Serves, Dwells}
 use Rattle.look_back.specs.Shown.{in_colour, in_signal}
 
 -- it is so at the moment
@@ -33,7 +33,7 @@ abbrev pub is_due : PhaseSet → ℕ → Bool
 is_due s octet = nat_lt 16 octet || has s octet
 
 -- what is kept of a frame says that it is so
-abbrev pub is_told : Look → Glance → Bool
+abbrev pub is_told : Look → Sample → Bool
 is_told (Shows p colour) g = has (in_colour g.shown colour) p
 is_told (Signals p signal) g = has (in_signal g.shown signal) p
 is_told (Quiet p) g = has g.quiet p
@@ -55,7 +55,7 @@ LooksAtPhase (Opposed p) = (0 < p) × (p ≤ 16)
 LooksAtPhase _ = Unit {0}
 
 -- what is kept of a frame is what the moment that gave it shows and saw
-pub record Tells (g : Glance) (m : Moment) : Type 0 where
+pub record Tells (g : Sample) (m : Moment) : Type 0 where
   pub wide : length m.frame.veh ≡ 16
   pub colours : (colour : Colour) → Has (in_colour g.shown colour) (λ p. shows p colour m)
   pub signals : (signal : Ped) → Has (in_signal g.shown signal) (λ p. signals p signal m)
@@ -66,7 +66,7 @@ pub record Tells (g : Glance) (m : Moment) : Type 0 where
   pub opposed : Has g.opposed (is_in m.opposed)
 
 -- beside what two frames show of the phases the same is kept of them
-pub record IsAsSeen (a b : Glance) : Type 0 where
+pub record IsAsSeen (a b : Sample) : Type 0 where
   pub first : a.first ≡ b.first
   pub second : a.second ≡ b.second
   pub mode : a.mode ≡ b.mode

@@ -8,11 +8,11 @@ use Rattle.sig_tables.specs.Calls.{is_green}
 use Rattle.look_back.specs.declared.window.Seen.{Seen}
 use Rattle.look_back.specs.declared.window.Window.{Window}
 use Rattle.look_back.specs.Shown.{IsShown}
-use Rattle.look_back.specs.Keeps.{Keeps, newest_of}
+use Rattle.look_back.specs.Keeps.{FrameRunsKeep, newest_of}
 
--- all that was seen are these moments: the stretches keep them, and the colours and signals are those of the last frame
+-- all that was seen are these moments: the runs keep them, and the colours and signals are those of the last frame
 pub record WindowStands (w : Window) (past : List Moment) : Type 0 where
-  pub kept : Keeps w.kept past
+  pub kept : FrameRunsKeep w.kept past
   pub veh : w.veh ≡ (last_frame past).veh
   pub ped : w.ped ≡ (last_frame past).ped
   pub shown : IsShown (newest_of w.kept).shown w.veh w.ped

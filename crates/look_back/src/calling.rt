@@ -9,7 +9,7 @@ ghost use Rattle.sig_tables.specs.Past.{Moment};
 ghost use Rattle.sig_types.specs.PhaseSet.{has};
 ghost use Rattle.sig_tables.specs.Preempts.{is_preempt_called, preempt_called};
 
-use crate::further::Further;
+use crate::long_counts::LongCounts;
 use sig_tables::{Preempt, Tables};
 use sig_types::PhaseSet;
 
@@ -41,14 +41,14 @@ fn calls(on: bool, is_configured: bool, is_delayed: bool, presence: u16, is_past
     on && is_configured && is_delayed && (presence == 0 || !is_past)
 }
 
-impl Further {
-    ghost use Rattle.look_back.specs.Further.{FurtherStands};
+impl LongCounts {
+    ghost use Rattle.look_back.specs.LongCounts.{LongCountsStands};
 
     /// Whether a preempt, 1 to 8, whose input is on at this tick or not, is called.
     pub fn is_called(&self, t: &Tables, number: u8, on: bool) -> bool
         requires above { 0 < number }
         requires below { number ≤ 8 }
-        ensures { (inputs : List ℕ) (past : List Moment) → FurtherStands self.now past → on ≡ is_in inputs number
+        ensures { (inputs : List ℕ) (past : List Moment) → LongCountsStands self.now past → on ≡ is_in inputs number
             → result ≡ is_preempt_called t.now inputs past number }
     {
         let row = t.preempt(number);
@@ -59,7 +59,7 @@ impl Further {
 
     /// The least preempt that is called, or 0, where the inputs of these, 1 to 8 in a set as phases are, are on at this tick.
     pub fn called(&self, t: &Tables, on: PhaseSet) -> u8
-        ensures { (inputs : List ℕ) (past : List Moment) → FurtherStands self.now past
+        ensures { (inputs : List ℕ) (past : List Moment) → LongCountsStands self.now past
             → ((i : ℕ) → 0 < i → i ≤ 8 → has on i ≡ is_in inputs i) → result ≡ preempt_called t.now inputs past }
     {
         if on.is_empty() {

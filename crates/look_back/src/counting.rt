@@ -9,7 +9,7 @@ ghost use Rattle.sig_tables.specs.Counters.{counters_since};
 ghost use Rattle.coord_count.specs.Stands.{CountStands, counter_of};
 ghost use Rattle.coord_count.specs.Passed.{passed};
 
-use crate::glance::same_mode;
+use crate::sample::same_mode;
 use coord_count::Count;
 use sig_types::{Frame, Mode};
 

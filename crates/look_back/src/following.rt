@@ -17,7 +17,7 @@ ghost use Rattle.sig_tables.specs.Ticking.{colour_after};
 ghost use Rattle.look_back.specs.Cuts.{lesser_of};
 
 use crate::cuts::Cut;
-use crate::lookout::Lookout;
+use crate::frame_history::FrameHistory;
 use sig_tables::Tables;
 use sig_types::{Colour, Ped, PhaseSet};
 
@@ -30,8 +30,8 @@ fn cut_of(cut: Option<Cut>, goal: PhaseSet, phase: u8) -> Option<Cut>
     if goal.has(phase) { None } else { cut }
 }
 
-impl Lookout {
-    ghost use Rattle.look_back.specs.Lookouts.{LooksOver};
+impl FrameHistory {
+    ghost use Rattle.look_back.specs.FrameHistories.{LooksOver};
 
     /// The colours of all phases, which showed these in the last frame, where these phases end and those begin.
     pub fn colours(

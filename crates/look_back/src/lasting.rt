@@ -15,7 +15,7 @@ ghost use Rattle.sig_tables.specs.Modes.{bound};
 ghost use Rattle.sig_tables.specs.Splits.{keeps_maximum};
 ghost use Rattle.sig_tables.specs.View.{View, has_gap, has_maximum};
 
-use crate::glance::Look;
+use crate::sample::Look;
 use crate::times::{gap_time, maximum_time, red_revert_time, stage_time};
 use crate::window::Window;
 use sig_tables::{PhaseList, Tables};

@@ -1,6 +1,6 @@
 //! What was seen of a cabinet in its last 4,096 frames and more, and what looking back over it
 //! gives: for how many frames in a row something was so. Frames that show and saw the same stand
-//! as one stretch with a count, so that the memory is flat and a tick at which nothing changes
+//! as one run with a count, so that the memory is flat and a tick at which nothing changes
 //! does little.
 #![tactic(auto)]
 
@@ -8,29 +8,29 @@ mod calling;
 mod counting;
 mod cuts;
 mod following;
-mod further;
-mod glance;
+mod frame_history;
+mod frame_runs;
 mod lasting;
 mod latched;
-mod lookout;
+mod long_counts;
 mod reach;
 mod readiness;
 mod row;
+mod sample;
 mod shown;
 mod staging;
-mod stretches;
 mod times;
 mod window;
 
 pub use counting::Counting;
 pub use cuts::Cut;
-pub use further::Further;
-pub use glance::{Glance, Look};
+pub use frame_history::FrameHistory;
+pub use frame_runs::{FrameRun, FrameRuns};
 pub use latched::Latched;
-pub use lookout::Lookout;
+pub use long_counts::LongCounts;
 pub use reach::{reach_decides, times_are_in_reach};
 pub use readiness::cut_in;
 pub use row::Row;
+pub use sample::{Look, Sample};
 pub use shown::Shown;
-pub use stretches::{Stretch, Stretches};
 pub use window::{Seen, Window};

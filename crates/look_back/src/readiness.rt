@@ -16,8 +16,8 @@ ghost use Rattle.sig_tables.specs.Goals.{is_cleared, lesser_times, lesser_green}
 ghost use Rattle.look_back.specs.Cuts.{lesser_of};
 
 use crate::cuts::Cut;
-use crate::lookout::Lookout;
-use preempt_run::{lesser, lesser_green};
+use crate::frame_history::FrameHistory;
+use preempt_stages::{lesser, lesser_green};
 use sig_tables::Tables;
 use sig_types::{Colour, Frame, Mode, Ped, PhaseSet};
 
@@ -40,8 +40,8 @@ fn least_left(t: &Tables, mode: Mode, time: u32) -> u32
     lesser_green(t, mode, time)
 }
 
-impl Lookout {
-    ghost use Rattle.look_back.specs.Lookouts.{LooksOver};
+impl FrameHistory {
+    ghost use Rattle.look_back.specs.FrameHistories.{LooksOver};
 
     /// The phases that are green in the last frame and cleared, so that they may end on the way to a goal in this mode.
     pub fn cleared(&self, t: &Tables, mode: Mode, last: &Frame) -> PhaseSet

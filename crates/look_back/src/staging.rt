@@ -8,13 +8,13 @@ ghost use Rattle.sig_tables.specs.Past.{Moment};
 ghost use Rattle.sig_tables.specs.Looking.{last_frame};
 ghost use Rattle.sig_tables.specs.Preempts.{is_preempt_called, is_track_over, is_dwell_over, stage_after, stage_now};
 
-use crate::lookout::Lookout;
-use preempt_run::{after_entry, after_exit, breaks_in, exit_from, row_of};
+use crate::frame_history::FrameHistory;
+use preempt_stages::{after_entry, after_exit, breaks_in, exit_from, row_of};
 use sig_tables::Tables;
 use sig_types::{Frame, Mode, PhaseSet};
 
-impl Lookout {
-    ghost use Rattle.look_back.specs.Lookouts.{LooksOver};
+impl FrameHistory {
+    ghost use Rattle.look_back.specs.FrameHistories.{LooksOver};
 
     /// The stage or the exit that preemption asks for after the last frame, where the inputs of these preempts, 1 to 8 in a set as
     /// phases are, are on at this tick; none where it asks for nothing.
@@ -23,7 +23,7 @@ impl Lookout {
             → ((i : ℕ) → 0 < i → i ≤ 8 → has on i ≡ is_in inputs i) → ((i : ℕ) → (i ≡ 0) ⊎ (8 < i) → is_in inputs i ≡ false)
             → result ≡ stage_now t.now inputs past }
     {
-        let called = self.further().called(t, on);
+        let called = self.long_counts().called(t, on);
         if breaks_in(called, last.mode) {
             Some(Mode::Entry(called))
         } else {
@@ -77,7 +77,7 @@ impl Lookout {
         let dwelt = self
             .window()
             .has_dwelt(number, row.dwell_green, &row.dwell_phases);
-        let lasted = self.further().has_lasted(number, row.minimum_duration);
+        let lasted = self.long_counts().has_lasted(number, row.minimum_duration);
         !called && dwelt && lasted
     }
 
@@ -90,6 +90,6 @@ impl Lookout {
         if number == 0 || number > 8 {
             return false;
         }
-        self.further().is_called(t, number, on.has(number))
+        self.long_counts().is_called(t, number, on.has(number))
     }
 }

@@ -6,9 +6,9 @@ ghost use Rattle.sig_tables.specs.Past.{Moment, first_frame};
 ghost use Rattle.sig_tables.specs.Looking.{last_frame, in_a_row, run, signal_run};
 ghost use Rattle.look_back.specs.Shown.{IsShown};
 
-use crate::glance::{Glance, Look};
+use crate::frame_runs::FrameRuns;
+use crate::sample::{Look, Sample};
 use crate::shown::{Shown, same_colours, same_signals};
-use crate::stretches::Stretches;
 use sig_types::{Colour, Frame, Mode, NoMemory, Ped, PhaseSet};
 use std::alloc::Global;
 
@@ -21,17 +21,17 @@ pub struct Seen {
     pub opposed: PhaseSet,
 }
 
-/// What was seen of a cabinet since the window was opened: the stretches of the last frames, and what the last one shows.
+/// What was seen of a cabinet since the window was opened: the runs of the last frames, and what the last one shows.
 #[derive(Drop)]
 pub struct Window {
-    kept: Stretches,
+    kept: FrameRuns,
     veh: [Colour; 16],
     ped: [Ped; 16],
 }
 
 impl Window {
     ghost use Rattle.look_back.specs.Look.{LooksAtPhase, is_so};
-    ghost use Rattle.look_back.specs.Keeps.{Keeps, newest_of};
+    ghost use Rattle.look_back.specs.Keeps.{FrameRunsKeep, newest_of};
     ghost use Rattle.look_back.specs.Stands.{WindowStands, Saw};
     ghost use Rattle.look_back.specs.Again.{AllGoOn};
 
@@ -39,7 +39,7 @@ impl Window {
     pub fn open(alloc: Global) -> Result<Window, NoMemory>
         ensures stands { IfOk result (λ window. WindowStands window []) }
     {
-        let before = Glance {
+        let before = Sample {
             shown: Shown::of(&[Colour::Red; 16], &[Ped::Dont; 16]),
             first: 0,
             second: 0,
@@ -47,15 +47,15 @@ impl Window {
             quiet: PhaseSet::empty(),
             opposed: PhaseSet::empty(),
         };
-        match Stretches::open(alloc, before) {
+        match FrameRuns::open(alloc, before) {
             Ok(kept) => Ok(Window::of(kept)),
             Err(refused) => Err(refused),
         }
     }
 
-    /// The window over no frame, with these stretches, of which there is none; before any frame all is red.
-    fn of(kept: Stretches) -> Window
-        requires kept { Keeps kept [] }
+    /// The window over no frame, with these runs, of which there is none; before any frame all is red.
+    fn of(kept: FrameRuns) -> Window
+        requires kept { FrameRunsKeep kept [] }
         requires red { IsShown (newest_of kept).shown first_frame.veh first_frame.ped }
         ensures { WindowStands result [] }
     {
@@ -72,7 +72,7 @@ impl Window {
             → WindowStands self.new (m ∷ past) }
     {
         let green = self.kept.newest().shown.green;
-        let glance = Glance {
+        let sample = Sample {
             shown: self.read(&seen.frame),
             first: seen.frame.on[0],
             second: seen.frame.on[1],
@@ -80,7 +80,7 @@ impl Window {
             quiet: green.minus(seen.active),
             opposed: green.meet(seen.opposed),
         };
-        self.kept.add(glance);
+        self.kept.add(sample);
         self.veh = seen.frame.veh;
         self.ped = seen.frame.ped;
     }
@@ -94,7 +94,7 @@ impl Window {
     {
         let newest = self.kept.newest();
         let green = newest.shown.green;
-        let glance = Glance {
+        let sample = Sample {
             shown: newest.shown,
             first: newest.first,
             second: newest.second,
@@ -102,7 +102,7 @@ impl Window {
             quiet: green.minus(active),
             opposed: green.meet(opposed),
         };
-        self.kept.add_again(glance, ticks);
+        self.kept.add_again(sample, ticks);
     }
 
     /// What the last frame shows, as sets of phases.

@@ -18,7 +18,7 @@ outcome_of (Some m) = if is_good m then Good else Refused
 
 -- the loader keeps what looking back gives; `at` is the place of the load that was begun last among all loads of the scenario, and
 -- from `next` on the cabinet's loads are those that were not begun
-pub record StandsFor (l : Loader) (cab : ℕ) (loads : List LoadContent) (past : List LoadEvent) : Type 0 where
+pub record LoaderStands (l : Loader) (cab : ℕ) (loads : List LoadContent) (past : List LoadEvent) : Type 0 where
   pub sent : l.sent ≡ last_frame past
   pub outcome : l.outcome ≡ outcome_of (answer past)
   pub at : ForSome l.sent (λ frame. load_at (loads_of cab loads) frame.load ≡ slice_get loads l.at)

@@ -15,7 +15,7 @@ use sig_types::Octets;
 use snmp_msg::Bind;
 
 /// Where a download is. Parts are counted from 1.
-#[derive(Clone, Copy, Debug, PartialEq, Eq)]
+#[derive(Clone, Copy, PartialEq, Eq)]
 pub enum Step {
     Begin,
     Part(u16),
@@ -25,7 +25,7 @@ pub enum Step {
 
 /// A frame of a download: the cabinet, the number of the load among the cabinet's (from 1), its step, and the id that it is
 /// sent under.
-#[derive(Clone, Copy, Debug, PartialEq, Eq)]
+#[derive(Clone, Copy, PartialEq, Eq)]
 pub struct LoadFrame {
     pub cab: u32,
     pub load: u32,

@@ -17,7 +17,7 @@ use sig_types::{MasterNote, Octets};
 use snmp_msg::Message;
 
 /// What became of a frame: no answer yet, a good one, or any other.
-#[derive(Clone, Copy, Debug, PartialEq, Eq)]
+#[derive(Clone, Copy, PartialEq, Eq)]
 pub enum Outcome {
     Open,
     Good,
@@ -26,7 +26,7 @@ pub enum Outcome {
 
 /// The downloads of one cabinet: the last frame and what became of it, the place of its load among all loads of the scenario, and
 /// the place from which the next load of the cabinet is looked for.
-#[derive(Clone, Copy, Debug)]
+#[derive(Clone, Copy)]
 pub struct Loader {
     sent: Option<LoadFrame>,
     outcome: Outcome,
@@ -66,11 +66,11 @@ fn cells_at(loads: &[LoadItem], place: usize) -> &[(Cell, CellValue)]
 }
 
 impl Loader {
-    ghost use Rattle.master_load.specs.Stands.{StandsFor};
+    ghost use Rattle.master_load.specs.Stands.{LoaderStands};
 
     /// Nothing was sent yet.
     pub fn new() -> Loader
-        ensures { (cab : ℕ) (loads : List LoadContent) → StandsFor result cab loads [] }
+        ensures { (cab : ℕ) (loads : List LoadContent) → LoaderStands result cab loads [] }
     {
         Loader {
             sent: None,
@@ -82,8 +82,8 @@ impl Loader {
 
     /// A message arrived on the load stream: a note where it is the first Response to the last frame and ends the load.
     pub fn reply(&mut self, m: &Message) -> Option<MasterNote>
-        ensures made { (cab : ℕ) (loads : List LoadContent) (past : List LoadEvent) → StandsFor self.old cab loads past → result ≡ note_of past m.now }
-        ensures stands { (cab : ℕ) (loads : List LoadContent) (past : List LoadEvent) → StandsFor self.old cab loads past → StandsFor self.new cab loads (Told m.now ∷ past) }
+        ensures made { (cab : ℕ) (loads : List LoadContent) (past : List LoadEvent) → LoaderStands self.old cab loads past → result ≡ note_of past m.now }
+        ensures stands { (cab : ℕ) (loads : List LoadContent) (past : List LoadEvent) → LoaderStands self.old cab loads past → LoaderStands self.new cab loads (Told m.now ∷ past) }
     {
         let Some(frame) = self.sent else {
             return None;
@@ -105,7 +105,7 @@ impl Loader {
     /// The step of the present load that is to be sent; none where there is no load or it is at its end.
     fn step_due(&self, loads: &[LoadItem]) -> Option<Step>
         requires loads { AreLoads (map load_content loads.now) }
-        ensures { (cab : ℕ) (past : List LoadEvent) → StandsFor self.now cab (map load_content loads.now) past
+        ensures { (cab : ℕ) (past : List LoadEvent) → LoaderStands self.now cab (map load_content loads.now) past
             → result ≡ step_due (map load_content loads.now) cab (last_frame past) (answer past) }
     {
         let Some(frame) = self.sent else {
@@ -132,10 +132,10 @@ impl Loader {
     /// Begins the next load of the cabinet, once its round has come.
     fn begin(&mut self, loads: &[LoadItem], cab: u32, round: u32, id: i32) -> Option<LoadFrame>
         requires few { length loads.now ≤ 1000000 }
-        ensures begins { (past : List LoadEvent) → StandsFor self.old cab (map load_content loads.now) past
+        ensures begins { (past : List LoadEvent) → LoaderStands self.old cab (map load_content loads.now) past
             → result ≡ begin_next (map load_content loads.now) cab round id (begun_by (last_frame past)) }
-        ensures stands { (past : List LoadEvent) → StandsFor self.old cab (map load_content loads.now) past
-            → StandsFor self.new cab (map load_content loads.now) (with_frame result past) }
+        ensures stands { (past : List LoadEvent) → LoaderStands self.old cab (map load_content loads.now) past
+            → LoaderStands self.new cab (map load_content loads.now) (with_frame result past) }
         ensures sent { ForSome result (λ frame. (frame.cab ≡ cab) × (frame.load ≤ 1000000)) }
     {
         let begun = self.begun();
@@ -163,10 +163,10 @@ impl Loader {
     fn turn(&mut self, loads: &[LoadItem], cab: u32, round: u32, id: i32) -> Option<LoadFrame>
         requires few { length loads.now ≤ 1000000 }
         requires loads { AreLoads (map load_content loads.now) }
-        ensures follows { (past : List LoadEvent) → StandsFor self.old cab (map load_content loads.now) past
+        ensures follows { (past : List LoadEvent) → LoaderStands self.old cab (map load_content loads.now) past
             → result ≡ next_frame (map load_content loads.now) cab round id past }
-        ensures stands { (past : List LoadEvent) → StandsFor self.old cab (map load_content loads.now) past
-            → StandsFor self.new cab (map load_content loads.now) (with_frame result past) }
+        ensures stands { (past : List LoadEvent) → LoaderStands self.old cab (map load_content loads.now) past
+            → LoaderStands self.new cab (map load_content loads.now) (with_frame result past) }
         ensures sent { ForSome result (λ frame. (frame.cab ≡ cab) × (frame.load ≤ 1000000)) }
     {
         match (self.sent, self.step_due(loads)) {
@@ -189,10 +189,10 @@ impl Loader {
     pub fn next(&mut self, round: u32, cab: u32, s: &Scenario, id: i32) -> Option<Octets>
         requires few { length s.now.loads.items ≤ 1000000 }
         requires loads { AreLoads (map load_content s.now.loads.items) }
-        ensures sent { (past : List LoadEvent) → StandsFor self.old cab (map load_content s.now.loads.items) past
+        ensures sent { (past : List LoadEvent) → LoaderStands self.old cab (map load_content s.now.loads.items) past
             → octets_in result ≡ option_map (frame_text s.now.community.items (map load_content s.now.loads.items)) (next_frame (map load_content s.now.loads.items) cab round id past) }
-        ensures stands { (past : List LoadEvent) → StandsFor self.old cab (map load_content s.now.loads.items) past
-            → StandsFor self.new cab (map load_content s.now.loads.items) (with_frame (next_frame (map load_content s.now.loads.items) cab round id past) past) }
+        ensures stands { (past : List LoadEvent) → LoaderStands self.old cab (map load_content s.now.loads.items) past
+            → LoaderStands self.new cab (map load_content s.now.loads.items) (with_frame (next_frame (map load_content s.now.loads.items) cab round id past) past) }
     {
         match self.turn(&s.loads, cab, round, id) {
             Some(frame) => {

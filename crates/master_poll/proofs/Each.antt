@@ -8,7 +8,7 @@ use Rattle.scenario_data.specs.Content.{ScenarioContent, CabinetContent}
 use Rattle.master_poll.specs.declared.master.Master.{Master}
 use Rattle.master_poll.specs.declared.master.Round.{Round}
 use Rattle.master_poll.specs.Sends.{Arrived, sending_of, notes_of}
-use Rattle.master_poll.specs.Masters.{IsRound, MasterStands, PostIsAt, frames_of, notes_from, sendings_from, sendings_of}
+use Rattle.master_poll.specs.Masters.{IsRound, MasterStands, ChannelIsAt, frames_of, notes_from, sendings_from, sendings_of}
 
 -- the same has arrived from each of so many cabinets, of which the first has this number
 abbrev pub SameFrom : (ℕ → List Arrived) → (ℕ → List Arrived) → ℕ → ℕ → Type 0
@@ -30,7 +30,7 @@ same_notes s a b first (c ∷ cabinets) same =
 
 pub same_stands : (m : Master) (s : ScenarioContent) (a b : ℕ → List Arrived) → SameFrom a b 1 (length s.cabinets) → MasterStands m s a → MasterStands m s b
 same_stands m s a b same stands = λ place p c found there.
-    subst (λ arrived. PostIsAt p s place m.rounds c arrived) (same (place + 1) (omega arith) (omega (arith, slice_get_within s.cabinets place c there)))
+    subst (λ arrived. ChannelIsAt p s place m.rounds c arrived) (same (place + 1) (omega arith) (omega (arith, slice_get_within s.cabinets place c there)))
     (stands place p c found there)
 
 pub same_round : (m : Master) (r : Round) (s : ScenarioContent) (a b : ℕ → List Arrived) → SameFrom a b 1 (length s.cabinets) → IsRound m r s a → IsRound m r s b

@@ -10,7 +10,7 @@ use Rattle.sig_types.specs.declared.notes.MasterNote.TheVariants.{Fail, Good}
 use Rattle.snmp_msg.specs.declared.message.Message.{Message}
 use Rattle.master_load.specs.declared.loader.Loader.{Loader}
 use Rattle.master_load.specs.Loading.{next_frame}
-use Rattle.master_poll.specs.declared.desk.Desk.{Desk}
+use Rattle.master_poll.specs.declared.command_state.CommandState.{CommandState}
 use Rattle.master_poll.specs.declared.command.Turned.{Turned}
 use Rattle.master_poll.specs.Commands.{Turn, frames_sent, count_of}
 use Rattle.master_poll.specs.Turns.{Plan, next_turn, load_events, told}
@@ -18,7 +18,7 @@ use Rattle.master_poll.specs.Notes.{turn_notes, load_notes, where_made, pattern_
 use Rattle.master_poll.specs.Stands.{IsTurn, sent_by}
 
 -- the id of the next frame is that of the turn's frame of a download
-pub frame_is : (d : Desk) (r : Turned) (plan : Plan) (past : List Turn) (polls loads : List Message) (id : ℤ)
+pub frame_is : (d : CommandState) (r : Turned) (plan : Plan) (past : List Turn) (polls loads : List Message) (id : ℤ)
     → IsTurn d r plan past polls loads → id ≡ pos (sent_by d + 1)
     → next_frame plan.loads plan.cab plan.now.round id (told loads (load_events past)) ≡ (next_turn plan past polls loads).frame
 frame_is d r plan past polls loads id is next =
@@ -34,7 +34,7 @@ one_more None text (Some frame) e = grind (arith, e, common_steps)
 one_more (Some octets) text None e = grind (arith, e, common_steps)
 
 -- five pieces of notes, one after another
-pub notes_are : (plan : Plan) (past : List Turn) (polls loads : List Message) (d : Desk) (r : Turned) (l : Loader) (n0 n1 n2 n3 n4 : List MasterNote)
+pub notes_are : (plan : Plan) (past : List Turn) (polls loads : List Message) (d : CommandState) (r : Turned) (l : Loader) (n0 n1 n2 n3 n4 : List MasterNote)
     → IsTurn d r plan past polls loads
     → n1 ≡ n0 ++ where_made r.good (Good plan.cab)
     → n2 ≡ n1 ++ pattern_note plan.cab r.acknowledged

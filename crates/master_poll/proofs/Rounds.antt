@@ -9,11 +9,11 @@ use Rattle.scenario_data.specs.Content.{ScenarioContent, CabinetContent}
 use Rattle.requests.specs.Requests.{messages, octets_in}
 use Rattle.master_plan.specs.Schedule.{master_clock, scheduled}
 use Rattle.master_poll.specs.declared.command.Now.{Now}
-use Rattle.master_poll.specs.declared.post.Post.{Post}
+use Rattle.master_poll.specs.declared.channel.Channel.{Channel}
 use Rattle.master_poll.specs.Stands.{plan_with}
-use Rattle.master_poll.specs.Posts.{IsPosted}
+use Rattle.master_poll.specs.Channels.{IsPosted}
 use Rattle.master_poll.specs.Sends.{Arrived, Frames, notes_of, plan_of, sending_of, turns}
-use Rattle.master_poll.specs.Masters.{GoesOn, PostIsAt, frames_of, notes_from, sendings_from}
+use Rattle.master_poll.specs.Masters.{MasterGoesOn, ChannelIsAt, frames_of, notes_from, sendings_from}
 
 -- there are as many turns as rounds
 turn_count : (s : ScenarioContent) (cab : ℕ) (c : CabinetContent) (arrived : List Arrived) → length (turns s cab c arrived) ≡ length arrived
@@ -40,22 +40,22 @@ from_there (y ∷ xs) zero x e = cc
 from_there (y ∷ xs) (suc n) x e = from_there xs n x e
 
 -- one cabinet more
-pub one_more_cabinet : (posts : List Post) (sendings : List Sending) (notes after : List MasterNote) (s : ScenarioContent) (rounds place : ℕ) (arrived : ℕ → List Arrived)
-    (p : Post) (sending : Sending) (c : CabinetContent)
-    → GoesOn posts sendings notes s rounds place arrived → length posts ≡ place → slice_get s.cabinets place ≡ Some c
-    → PostIsAt p s place rounds c (arrived (place + 1))
+pub one_more_cabinet : (channels : List Channel) (sendings : List Sending) (notes after : List MasterNote) (s : ScenarioContent) (rounds place : ℕ) (arrived : ℕ → List Arrived)
+    (p : Channel) (sending : Sending) (c : CabinetContent)
+    → MasterGoesOn channels sendings notes s rounds place arrived → length channels ≡ place → slice_get s.cabinets place ≡ Some c
+    → ChannelIsAt p s place rounds c (arrived (place + 1))
     → frames_of sending ≡ sending_of s (place + 1) c (arrived (place + 1))
     → after ≡ notes ++ notes_of s (place + 1) c (arrived (place + 1))
-    → GoesOn (posts ++ p ∷ []) (sendings ++ sending ∷ []) after s rounds (place + 1) arrived
-one_more_cabinet posts sendings notes after s rounds place arrived p sending c g count cabinet at sends noted =
+    → MasterGoesOn (channels ++ p ∷ []) (sendings ++ sending ∷ []) after s rounds (place + 1) arrived
+one_more_cabinet channels sendings notes after s rounds place arrived p sending c g count cabinet at sends noted =
     let here : drop place s.cabinets ≡ c ∷ drop (place + 1) s.cabinets = from_there s.cabinets place c cabinet ∙ rw add-one refl in
     let more = sendings_from s arrived (place + 1 + 1) (drop (place + 1) s.cabinets) in
     let more_notes = notes_from s arrived (place + 1 + 1) (drop (place + 1) s.cabinets) in
-    let last : (d : CabinetContent) → slice_get s.cabinets (length posts) ≡ Some d → PostIsAt p s (length posts) rounds d (arrived (length posts + 1)) =
-    subst (λ n. (d : CabinetContent) → slice_get s.cabinets n ≡ Some d → PostIsAt p s n rounds d (arrived (n + 1))) (sym count)
-    (λ d there. let same : c ≡ d = cc in subst (λ e. PostIsAt p s place rounds e (arrived (place + 1))) same at) in
+    let last : (d : CabinetContent) → slice_get s.cabinets (length channels) ≡ Some d → ChannelIsAt p s (length channels) rounds d (arrived (length channels + 1)) =
+    subst (λ n. (d : CabinetContent) → slice_get s.cabinets n ≡ Some d → ChannelIsAt p s n rounds d (arrived (n + 1))) (sym count)
+    (λ d there. let same : c ≡ d = cc in subst (λ e. ChannelIsAt p s place rounds e (arrived (place + 1))) same at) in
     record {
-      stands = λ k q d found there. pushed (λ n z. (e : CabinetContent) → slice_get s.cabinets n ≡ Some e → PostIsAt z s n rounds e (arrived (n + 1))) posts p
+      stands = λ k q d found there. pushed (λ n z. (e : CabinetContent) → slice_get s.cabinets n ≡ Some e → ChannelIsAt z s n rounds e (arrived (n + 1))) channels p
           (λ n z before e placed. g.stands n z e before placed) last k q found d there;
       sent =
           ap (λ xs. xs ++ more) (map-append frames_of sendings (sending ∷ []))
@@ -76,12 +76,12 @@ abbrev pub now_of : ScenarioContent → CabinetContent → ℕ → ℕ → Now
 now_of s c round clock = record { round = round; clock = clock; pattern = scheduled s.master.schedule c.section clock }
 
 -- a turn at a cabinet is that of the definitions
-pub record Taken (p : Post) (sending : Sending) (before after : List MasterNote) (s : ScenarioContent) (place rounds : ℕ) (c : CabinetContent) (arrived : List Arrived) : Type 0 where
-  pub at : PostIsAt p s place rounds c arrived
+pub record Taken (p : Channel) (sending : Sending) (before after : List MasterNote) (s : ScenarioContent) (place rounds : ℕ) (c : CabinetContent) (arrived : List Arrived) : Type 0 where
+  pub at : ChannelIsAt p s place rounds c arrived
   pub sends : frames_of sending ≡ sending_of s (place + 1) c arrived
   pub noted : after ≡ before ++ notes_of s (place + 1) c arrived
 
-pub taken : (p : Post) (sending : Sending) (before after : List MasterNote) (s : ScenarioContent) (place rounds : ℕ) (c : CabinetContent) (a : Arrived) (past : List Arrived) (now : Now)
+pub taken : (p : Channel) (sending : Sending) (before after : List MasterNote) (s : ScenarioContent) (place rounds : ℕ) (c : CabinetContent) (a : Arrived) (past : List Arrived) (now : Now)
     → length past + 1 ≡ rounds
     → now ≡ now_of s c rounds (master_clock s rounds)
     → IsPosted p sending before after s.community (plan_with s.master (place + 1) now s.loads) (turns s (place + 1) c past) (messages a.polls) (messages a.loads)

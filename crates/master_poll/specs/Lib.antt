@@ -5,5 +5,5 @@ pub mod Sends
 pub mod Stands
 pub mod Laws
 pub mod Hearing
-pub mod Posts
+pub mod Channels
 pub mod Masters

@@ -9,11 +9,11 @@ use Rattle.sig_types.specs.Items.{texts_of}
 use Rattle.scenario_data.specs.Content.{ScenarioContent, CabinetContent}
 use Rattle.requests.specs.Requests.{octets_in}
 use Rattle.master_load.specs.Downloads.{AreLoads}
-use Rattle.master_poll.specs.declared.post.Post.{Post}
+use Rattle.master_poll.specs.declared.channel.Channel.{Channel}
 use Rattle.master_poll.specs.declared.master.Master.{Master}
 use Rattle.master_poll.specs.declared.master.Round.{Round}
 use Rattle.master_poll.specs.Sends.{Arrived, Frames, sending_of, notes_of, turns}
-use Rattle.master_poll.specs.Posts.{PostStands}
+use Rattle.master_poll.specs.Channels.{ChannelStands}
 
 -- the octets of what is sent to a cabinet
 abbrev pub frames_of : Sending → Frames
@@ -44,31 +44,31 @@ notes_from s arrived cab (c ∷ cabinets) = notes_of s cab c (arrived cab) ++ no
 abbrev pub all_notes_of : ScenarioContent → (ℕ → List Arrived) → List MasterNote
 all_notes_of s arrived = notes_from s arrived 1 s.cabinets
 
--- the post of the cabinet at a place stands for its turns, and so many rounds have been
-pub record PostIsAt (p : Post) (s : ScenarioContent) (place rounds : ℕ) (c : CabinetContent) (arrived : List Arrived) : Type 0 where
-  pub stands : PostStands p s.master.retries (place + 1) s.loads (turns s (place + 1) c arrived)
+-- the channel of the cabinet at a place stands for its turns, and so many rounds have been
+pub record ChannelIsAt (p : Channel) (s : ScenarioContent) (place rounds : ℕ) (c : CabinetContent) (arrived : List Arrived) : Type 0 where
+  pub stands : ChannelStands p s.master.retries (place + 1) s.loads (turns s (place + 1) c arrived)
   pub count : length arrived ≡ rounds
 
--- each post stands for what has arrived from its cabinet
-abbrev pub EachStands : List Post → ScenarioContent → ℕ → (ℕ → List Arrived) → Type 0
-EachStands posts s rounds arrived =
-    (place : ℕ) (p : Post) (c : CabinetContent) → slice_get posts place ≡ Some p → slice_get s.cabinets place ≡ Some c
-    → PostIsAt p s place rounds c (arrived (place + 1))
+-- each channel stands for what has arrived from its cabinet
+abbrev pub EachStands : List Channel → ScenarioContent → ℕ → (ℕ → List Arrived) → Type 0
+EachStands channels s rounds arrived =
+    (place : ℕ) (p : Channel) (c : CabinetContent) → slice_get channels place ≡ Some p → slice_get s.cabinets place ≡ Some c
+    → ChannelIsAt p s place rounds c (arrived (place + 1))
 
 -- the number of cabinets that it was opened for, and of rounds so far
 abbrev pub cabinet_count : Master → ℕ
-cabinet_count m = length m.posts.items
+cabinet_count m = length m.channels.items
 
 abbrev pub round_count : Master → ℕ
 round_count m = m.rounds
 
 -- the master stands for what has arrived from each cabinet
 abbrev pub MasterStands : Master → ScenarioContent → (ℕ → List Arrived) → Type 0
-MasterStands m s arrived = EachStands m.posts.items s m.rounds arrived
+MasterStands m s arrived = EachStands m.channels.items s m.rounds arrived
 
--- the posts stand for these rounds, of which the last sends and notes what the definitions say
-pub record IsMade (posts : List Post) (r : Round) (s : ScenarioContent) (rounds : ℕ) (arrived : ℕ → List Arrived) : Type 0 where
-  pub stands : EachStands posts s rounds arrived
+-- the channels stand for these rounds, of which the last sends and notes what the definitions say
+pub record IsMade (channels : List Channel) (r : Round) (s : ScenarioContent) (rounds : ℕ) (arrived : ℕ → List Arrived) : Type 0 where
+  pub stands : EachStands channels s rounds arrived
   pub sendings : map frames_of r.sendings.items ≡ sendings_of s arrived
   pub notes : r.notes.items ≡ all_notes_of s arrived
 
@@ -79,8 +79,8 @@ pub record IsRound (m : Master) (r : Round) (s : ScenarioContent) (arrived : ℕ
   pub notes : r.notes.items ≡ all_notes_of s arrived
 
 -- the same as far as the cabinet at a place, which is to come
-pub record GoesOn (posts : List Post) (sendings : List Sending) (notes : List MasterNote) (s : ScenarioContent) (rounds place : ℕ) (arrived : ℕ → List Arrived) : Type 0 where
-  pub stands : EachStands posts s rounds arrived
+pub record MasterGoesOn (channels : List Channel) (sendings : List Sending) (notes : List MasterNote) (s : ScenarioContent) (rounds place : ℕ) (arrived : ℕ → List Arrived) : Type 0 where
+  pub stands : EachStands channels s rounds arrived
   pub sent : map frames_of sendings ++ sendings_from s arrived (place + 1) (drop place s.cabinets) ≡ sendings_of s arrived
   pub noted : notes ++ notes_from s arrived (place + 1) (drop place s.cabinets) ≡ all_notes_of s arrived
 

@@ -15,7 +15,7 @@ use sig_types::Octets;
 use snmp_msg::Bind;
 
 /// A kind of command: it sets a pattern, it sets the clock, or it asks how the cabinet fares.
-#[derive(Clone, Copy, Debug, PartialEq, Eq)]
+#[derive(Clone, Copy, PartialEq, Eq)]
 pub enum Kind {
     Pattern,
     Clock,
@@ -23,7 +23,7 @@ pub enum Kind {
 }
 
 /// What a command does, with the pattern or the time of day that it carries.
-#[derive(Clone, Copy, Debug, PartialEq, Eq)]
+#[derive(Clone, Copy, PartialEq, Eq)]
 pub enum Task {
     Pattern(u8),
     Clock(u32),
@@ -61,7 +61,7 @@ impl Kind {
 }
 
 /// A command as it is sent: its id, and for which time in a row it is sent.
-#[derive(Clone, Copy, Debug, PartialEq, Eq)]
+#[derive(Clone, Copy, PartialEq, Eq)]
 pub struct Command {
     pub task: Task,
     pub id: i32,
@@ -121,7 +121,7 @@ pub fn task_octets(community: &ArrayVec<u8, 32>, id: i32, task: Task) -> Octets
 }
 
 /// What holds in a round: its number, the master's clock, and the pattern scheduled for the cabinet's section.
-#[derive(Clone, Copy, Debug, PartialEq, Eq)]
+#[derive(Clone, Copy, PartialEq, Eq)]
 pub struct Now {
     pub round: u32,
     pub clock: u32,
@@ -130,7 +130,7 @@ pub struct Now {
 
 /// What a turn gave: the command that is sent, and what is noted: that the cabinet answers again, that it acknowledged another
 /// pattern, that it no longer answers.
-#[derive(Clone, Copy, Debug, PartialEq, Eq)]
+#[derive(Clone, Copy, PartialEq, Eq)]
 pub struct Turned {
     pub command: Option<Command>,
     pub good: bool,

@@ -1,21 +1,21 @@
-//! The master's desk: what it sends to each cabinet in a round, and what it notes, as the replies come in. Polls, patterns and
+//! The master at each cabinet: what it sends to each cabinet in a round, and what it notes, as the replies come in. Polls, patterns and
 //! clocks go out again until they are answered or given up; downloads beside them (requests of RFC 1157).
 #![tactic(auto)]
 
+mod channel;
 mod command;
-mod desk;
+mod command_state;
 mod master;
-mod post;
 
 ghost use Rattle.std.specs.Prelude.{ℕ, List};
 ghost use Rattle.scenario_data.specs.Content.{ScenarioContent, CabinetContent};
 ghost use Rattle.master_poll.specs.Sends.{Arrived};
 ghost use Rattle.master_poll.specs.Laws.{OpenIsLast};
 
+pub use channel::Channel;
 pub use command::{Command, Kind, Now, Task, Turned, task_octets};
-pub use desk::Desk;
+pub use command_state::CommandState;
 pub use master::{Master, Next, Round};
-pub use post::Post;
 
 /// A law: what the master takes for open, the command of the last turn, is the last command that it sent, where that was neither
 /// answered nor given up.

@@ -1,46 +1,46 @@
-//! The master of all cabinets: a post for each. A round is taken whole or not at all.
+//! The master of all cabinets: a channel for each. A round is taken whole or not at all.
 
 ghost use Rattle.std.specs.Prelude.{◌≡◌, ◌≤◌, ◌<◌, ◌+◌, ◌*◌, ℕ, List, [], map, length, All, IfOk, OnErr, OnOk};
 ghost use Rattle.std.specs.Prelude.{Some};
 ghost use Rattle.std.specs.List.{slice_get};
 ghost use Rattle.scenario_data.specs.Content.{scenario_content};
 ghost use Rattle.master_plan.specs.Schedule.{scheduled};
-ghost use Rattle.master_poll.specs.Posts.{IsNew, count_of_post};
+ghost use Rattle.master_poll.specs.Channels.{IsNew, count_of_channel};
 
+use crate::channel::Channel;
 use crate::command::Now;
-use crate::post::Post;
 use master_plan::{master_clock, scheduled};
 use scenario_data::{Cabinet, Scenario};
 use sig_types::{Answers, MasterNote, NoMemory, Sending};
 use std::alloc::{AllocError, Global};
 
 /// What the master sends and notes in a round, in the cabinets' order: one sending a cabinet.
-#[derive(Debug, PartialEq, Drop)]
+#[derive(PartialEq, Drop)]
 pub struct Round {
     pub sendings: Vec<Sending>,
     pub notes: Vec<MasterNote>,
 }
 
 /// The master after a round that is not yet taken, and what the round sends and notes.
-#[derive(Debug, Drop)]
+#[derive(Drop)]
 pub struct Next {
     pub master: Master,
     pub round: Round,
 }
 
-/// The posts after a round, and what it sends and notes.
-#[derive(Debug, Drop)]
+/// The channels after a round, and what it sends and notes.
+#[derive(Drop)]
 struct Made {
-    posts: Vec<Post>,
+    channels: Vec<Channel>,
     round: Round,
 }
 
-/// The master: its posts in the cabinets' order, and the number of rounds so far.
-#[derive(Debug, Drop)]
+/// The master: its channels in the cabinets' order, and the number of rounds so far.
+#[derive(Drop)]
 pub struct Master {
-    posts: Vec<Post>,
+    channels: Vec<Channel>,
     rounds: u32,
-    ghost counted: { All (λ p. count_of_post p ≤ 2 * rounds) posts.items },
+    ghost counted: { All (λ p. count_of_channel p ≤ 2 * rounds) channels.items },
 }
 
 /// What holds for a cabinet in a round, at this time of day.
@@ -54,16 +54,16 @@ fn now_at(s: &Scenario, cabinet: &Cabinet, round: u32, clock: u32) -> Now
     }
 }
 
-/// So many posts to which nothing was sent yet.
-fn new_posts(alloc: Global, count: usize) -> Result<Vec<Post>, AllocError>
-    ensures count { IfOk result (λ posts. length posts.items ≡ count) }
-    ensures new { IfOk result (λ posts. All IsNew posts.items) }
+/// So many channels to which nothing was sent yet.
+fn new_channels(alloc: Global, count: usize) -> Result<Vec<Channel>, AllocError>
+    ensures count { IfOk result (λ channels. length channels.items ≡ count) }
+    ensures new { IfOk result (λ channels. All IsNew channels.items) }
 {
-    let mut posts = Vec::with_capacity(alloc, count)?;
+    let mut channels = Vec::with_capacity(alloc, count)?;
     for _place in 0..count {
-        posts.push(Post::new())?;
+        channels.push(Channel::new())?;
     }
-    Ok(posts)
+    Ok(channels)
 }
 
 impl Master {
@@ -76,19 +76,22 @@ impl Master {
         ensures cabinets { IfOk result (λ m. cabinet_count m ≡ length s.now.cabinets.items) }
         ensures rounds { IfOk result (λ m. round_count m ≡ 0) }
     {
-        let Ok(posts) = new_posts(alloc, s.cabinets.len()) else {
+        let Ok(channels) = new_channels(alloc, s.cabinets.len()) else {
             return Err(NoMemory);
         };
-        Ok(Master { posts, rounds: 0 })
+        Ok(Master {
+            channels,
+            rounds: 0,
+        })
     }
 
     /// What is kept of the cabinet at a place.
-    fn post_at(&self, place: usize) -> Post
+    fn channel_at(&self, place: usize) -> Channel
         requires { place < cabinet_count self.now }
-        ensures post { slice_get self.now.posts.items place ≡ Some result }
-        ensures counted { count_of_post result ≤ 2 * self.now.rounds }
+        ensures channel { slice_get self.now.channels.items place ≡ Some result }
+        ensures counted { count_of_channel result ≤ 2 * self.now.rounds }
     {
-        self.posts[place]
+        self.channels[place]
     }
 
     /// The next round, where this has arrived from each cabinet.
@@ -105,24 +108,24 @@ impl Master {
         requires arrived { length arrived.now ≡ length s.now.cabinets.items }
         requires run { IsRun (scenario_content s.now) }
         ensures made { IfOk result (λ m. (before : ℕ → List Arrived) → MasterStands self.now (scenario_content s.now) before
-            → IsMade m.posts.items m.round (scenario_content s.now) round (with_round arrived.now before)) }
-        ensures cabinets { IfOk result (λ m. length m.posts.items ≡ cabinet_count self.now) }
+            → IsMade m.channels.items m.round (scenario_content s.now) round (with_round arrived.now before)) }
+        ensures cabinets { IfOk result (λ m. length m.channels.items ≡ cabinet_count self.now) }
         ensures each { IfOk result (λ m. length m.round.sendings.items ≡ cabinet_count self.now) }
-        ensures counted { IfOk result (λ m. All (λ p. count_of_post p ≤ 2 * round) m.posts.items) }
+        ensures counted { IfOk result (λ m. All (λ p. count_of_channel p ≤ 2 * round) m.channels.items) }
     {
         let clock = master_clock(s, round);
-        let mut posts = Vec::with_capacity(alloc, self.posts.len())?;
-        let mut sendings = Vec::with_capacity(alloc, self.posts.len())?;
+        let mut channels = Vec::with_capacity(alloc, self.channels.len())?;
+        let mut sendings = Vec::with_capacity(alloc, self.channels.len())?;
         let mut notes = Vec::new(alloc);
-        for place in 0..self.posts.len() {
-            let mut post = self.post_at(place);
+        for place in 0..self.channels.len() {
+            let mut channel = self.channel_at(place);
             let now = now_at(s, &s.cabinets[place], round, clock);
-            let sending = post.turn(s, place as u32 + 1, now, &arrived[place], &mut notes)?;
-            posts.push(post)?;
+            let sending = channel.turn(s, place as u32 + 1, now, &arrived[place], &mut notes)?;
+            channels.push(channel)?;
             sendings.push(sending)?;
         }
         let round = Round { sendings, notes };
-        Ok(Made { posts, round })
+        Ok(Made { channels, round })
     }
 
     /// The master after the next round, and what it then sends and notes, where this has arrived from each cabinet, in the
@@ -150,7 +153,7 @@ impl Master {
             return Err(NoMemory);
         };
         let master = Master {
-            posts: made.posts,
+            channels: made.channels,
             rounds: round,
         };
         Ok(Next {

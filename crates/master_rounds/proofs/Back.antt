@@ -9,7 +9,7 @@ use Rattle.sig_types.specs.Replies.{Reply, replied_on}
 use Rattle.scenario_data.specs.Content.{ScenarioContent}
 use Rattle.link_sim.specs.Link.{answered}
 use Rattle.link_sim.specs.Reaching.{returning}
-use Rattle.link_sim.specs.Trio.{Passed}
+use Rattle.link_sim.specs.StreamFrames.{Passed}
 use Rattle.master_poll.specs.Sends.{Arrived}
 use Rattle.master_poll.specs.Masters.{arrived_in}
 use Rattle.master_rounds.specs.Answered.{AreReplies, IsEmpty, arrived_since, replied_before}

@@ -12,8 +12,8 @@ use Rattle.requests.specs.Requests.{octets_in}
 use Rattle.link_sim.specs.declared.link.Link.{Link}
 use Rattle.link_sim.specs.Link.{sent_text}
 use Rattle.link_sim.specs.Reaching.{deliveries}
-use Rattle.link_sim.specs.Stands.{Stands, cabinet_count as link_count}
-use Rattle.link_sim.specs.Trio.{Passed}
+use Rattle.link_sim.specs.Stands.{LinkStands, cabinet_count as link_count}
+use Rattle.link_sim.specs.StreamFrames.{Passed}
 use Rattle.master_poll.specs.declared.master.Master.{Master}
 use Rattle.master_poll.specs.declared.master.Round.{Round}
 use Rattle.master_poll.specs.Sends.{Arrived, Frames, sending_of}
@@ -22,9 +22,9 @@ use Rattle.master_poll.proofs.Each.{SameFrom, same_round}
 use Rattle.master_rounds.specs.Rounds.{arrivals, loads_sent, noted, polls_sent, streams_of}
 use Rattle.master_rounds.proofs.Counts.{are_delivered, polls_counted}
 use Rattle.master_rounds.specs.Answered.{arrivals_before, arrived_since, loads_before, polls_before}
-use Rattle.master_rounds.specs.declared.desk.Desk.{Desk}
+use Rattle.master_rounds.specs.declared.master_rounds.MasterRounds.{MasterRounds}
 use Rattle.master_rounds.specs.Begun.{noted_from}
-use Rattle.master_rounds.specs.Stands.{DeskStands, cabinet_count, rounds_begun}
+use Rattle.master_rounds.specs.Stands.{MasterRoundsStands, cabinet_count, rounds_begun}
 
 -- what has arrived by the turn to come: what has arrived since the last one, and what had before
 arrivals_are : (s : ScenarioContent) (cab : ℕ) (answered : List (List Reply)) → arrived_since s cab answered ∷ arrivals_before s cab answered ≡ arrivals s cab answered
@@ -87,14 +87,14 @@ delivers s cab c answered sending is =
 -- and the link stands for what was sent with this round
 pub link_goes : (link : Link) (s : ScenarioContent) (place : ℕ) (c : CabinetContent) (answered : List (List Reply)) (replied : Passed) (sending : Sending)
     → frames_of sending ≡ sending_of s (place + 1) c (arrivals s (place + 1) answered)
-    → Stands link s place (sent_text sending.poll ∷ polls_before s (place + 1) c answered) (sent_text sending.load ∷ loads_before s (place + 1) c answered) replied
-    → Stands link s place (polls_sent s (place + 1) c answered) (loads_sent s (place + 1) c answered) replied
+    → LinkStands link s place (sent_text sending.poll ∷ polls_before s (place + 1) c answered) (sent_text sending.load ∷ loads_before s (place + 1) c answered) replied
+    → LinkStands link s place (polls_sent s (place + 1) c answered) (loads_sent s (place + 1) c answered) replied
 link_goes link s place c answered replied sending is stands =
-    subst (λ loads. Stands link s place (polls_sent s (place + 1) c answered) loads replied) (loads_go s (place + 1) c answered sending is)
-    (subst (λ polls. Stands link s place polls (sent_text sending.load ∷ loads_before s (place + 1) c answered) replied) (polls_go s (place + 1) c answered sending is) stands)
+    subst (λ loads. LinkStands link s place (polls_sent s (place + 1) c answered) loads replied) (loads_go s (place + 1) c answered sending is)
+    (subst (λ polls. LinkStands link s place polls (sent_text sending.load ∷ loads_before s (place + 1) c answered) replied) (polls_go s (place + 1) c answered sending is) stands)
 
 -- the master's round is that of what has arrived by it
-pub round_is : (d : Desk) (now : List Answers) (m : Master) (r : Round) (s : ScenarioContent) (done : ℕ) (answered : ℕ → List (List Reply)) → DeskStands d s done answered
+pub round_is : (d : MasterRounds) (now : List Answers) (m : Master) (r : Round) (s : ScenarioContent) (done : ℕ) (answered : ℕ → List (List Reply)) → MasterRoundsStands d s done answered
     → now ≡ d.arrived.items → ((before : ℕ → List Arrived) → MasterStands d.master s before → IsRound m r s (with_round now before))
     → IsRound m r s (λ cab. arrivals s cab (answered cab))
 round_is d now m r s done answered h is stepped =
@@ -103,12 +103,12 @@ round_is d now m r s done answered h is stepped =
     (arrives now s answered (λ place low. ap (λ xs. arrived_in (slice_get xs place)) is ∙ h.arrived place low)) (stepped before h.master)
 
 -- the link has a place for each cabinet
-pub has_lines : (d : Desk) (s : ScenarioContent) (place : ℕ) (c : CabinetContent) → cabinet_count d ≡ length s.cabinets → slice_get s.cabinets place ≡ Some c
+pub has_lines : (d : MasterRounds) (s : ScenarioContent) (place : ℕ) (c : CabinetContent) → cabinet_count d ≡ length s.cabinets → slice_get s.cabinets place ≡ Some c
     → place < link_count d.link
 has_lines d s place c count there = omega (arith, d.same_link, count, slice_get_within s.cabinets place c there)
 
 -- the round to come is the one behind those so far
-pub comes_next : (d : Desk) (s : ScenarioContent) (done round : ℕ) (answered : ℕ → List (List Reply)) → DeskStands d s done answered → round ≡ rounds_begun d + 1
+pub comes_next : (d : MasterRounds) (s : ScenarioContent) (done round : ℕ) (answered : ℕ → List (List Reply)) → MasterRoundsStands d s done answered → round ≡ rounds_begun d + 1
     → (place : ℕ) (c : CabinetContent) → slice_get s.cabinets place ≡ Some c
     → round ≡ length (polls_before s (place + 1) c (answered (place + 1))) + 1
 comes_next d s done round answered h order place c there =

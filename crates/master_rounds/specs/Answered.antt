@@ -5,7 +5,7 @@ use Rattle.sig_types.specs.declared.streams.Answers.{Answers}
 use Rattle.sig_types.specs.Items.{texts_of}
 use Rattle.sig_types.specs.Replies.{Reply, replied_on}
 use Rattle.scenario_data.specs.Content.{CabinetContent, ScenarioContent}
-use Rattle.link_sim.specs.Trio.{Passed}
+use Rattle.link_sim.specs.StreamFrames.{Passed}
 use Rattle.master_poll.specs.Sends.{Arrived}
 use Rattle.master_rounds.specs.Rounds.{arrived_of, arrivals, polls_sent, loads_sent}
 

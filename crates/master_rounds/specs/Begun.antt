@@ -7,7 +7,7 @@ use Rattle.sig_types.specs.Items.{items_of}
 use Rattle.sig_types.specs.Replies.{Reply}
 use Rattle.scenario_data.specs.Content.{CabinetContent, ScenarioContent}
 use Rattle.master_rounds.specs.Rounds.{noted, streams_of}
-use Rattle.master_rounds.specs.declared.desk.Begun.{Begun}
+use Rattle.master_rounds.specs.declared.master_rounds.Begun.{Begun}
 use Rattle.master_rounds.specs.Bounds.{AreInputs, IsShort}
 
 -- what is noted of the cabinets in their order, of which the first has this number

@@ -1,4 +1,4 @@
--- How the rounds of the master's desk and one cabinet close: what has arrived of the cabinet's replies decides what the master sends,
+-- How the rounds of the master and one cabinet close: what has arrived of the cabinet's replies decides what the master sends,
 -- and what it sends decides what reaches the cabinet. All is a function of the replies of the rounds so far. Lists of rounds have the
 -- newest first.
 use Rattle.std.specs.Prelude.{ℕ, ◌≡◌, ◌+◌, ◌==◌, if◌then◌else◌, List, [], ◌∷◌, map, length, replicate}

@@ -1,4 +1,4 @@
--- What the desk asks of a scenario; each that was read without a fault has it.
+-- What master and line ask of a scenario; each that was read without a fault has it.
 use Rattle.std.specs.Prelude.{◌≤◌, length}
 use Rattle.scenario_data.specs.Content.{ScenarioContent}
 use Rattle.master_poll.specs.Masters.{IsRun}

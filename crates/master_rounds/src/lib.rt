@@ -1,8 +1,8 @@
-//! The master's desk as a whole: the master, and the link with its faults. A round begins with what the master notes and with the
+//! Master and line as one: the master, and the link with its faults. A round begins with what the master notes and with the
 //! streams that reach each cabinet, and ends with what the cabinets have answered.
 #![tactic(auto)]
 
-mod desk;
+mod master_rounds;
 mod rounds;
 
 ghost use Rattle.std.specs.Prelude.{ℕ, List};
@@ -12,7 +12,7 @@ ghost use Rattle.sig_types.specs.Replies.{Reply};
 ghost use Rattle.link_sim.specs.declared.Line.{Line};
 ghost use Rattle.master_rounds.specs.Bounds.{CarriesFew, RoundIsShort};
 
-pub use desk::{Begun, Desk};
+pub use master_rounds::{Begun, MasterRounds};
 pub use rounds::rounds_close;
 
 /// A law: what a line carries in a round is bounded by what is sent in it and by the faults, however many rounds were before; so the

@@ -12,11 +12,11 @@ mod ber_code_cases;
 #[cfg(test)]
 mod captured;
 #[cfg(test)]
-mod desk_cases;
-#[cfg(test)]
 mod link_sim_cases;
 #[cfg(test)]
 mod master_poll_cases;
+#[cfg(test)]
+mod master_rounds_cases;
 #[cfg(test)]
 mod oid_map_cases;
 #[cfg(test)]

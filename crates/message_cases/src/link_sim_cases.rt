@@ -3,7 +3,7 @@
 ghost use Rattle.std.specs.Prelude.{◌≡◌, length, IfOk};
 
 use arrayvec::ArrayVec;
-use link_sim::{FaultList, Line, Link, Wire};
+use link_sim::{FaultList, Line, Link, StreamLine};
 use scenario_data::{
     Base, Cabinet, Direction, Fault, FaultKind, FrameItem, FrameOctets, Input, MasterSetup,
     PriorityAct, PriorityItem, Scenario,
@@ -63,7 +63,7 @@ fn each_kind_of_fault(rt: HostRuntime) -> Result<(), Fail> {
     let Ok(list) = FaultList::new(rt.alloc(), &faults) else {
         return Err(Fail::from("no list"));
     };
-    let mut wire = Wire::new(rt.alloc(), LINE);
+    let mut stream_line = StreamLine::new(rt.alloc(), LINE);
     let first = [
         frame(&[1, 2, 3]),
         frame(&[4]),
@@ -72,7 +72,7 @@ fn each_kind_of_fault(rt: HostRuntime) -> Result<(), Fail> {
         frame(&[9, 10, 11]),
         frame(&[12]),
     ];
-    let Ok(arrived) = wire.carry(rt.alloc(), &list, 1, first.as_slice()) else {
+    let Ok(arrived) = stream_line.carry(rt.alloc(), &list, 1, first.as_slice()) else {
         return Err(Fail::from("no memory"));
     };
     assert!(rt;
@@ -90,7 +90,7 @@ fn each_kind_of_fault(rt: HostRuntime) -> Result<(), Fail> {
         )
     );
     let second = [frame(&[13]), frame(&[14])];
-    let Ok(arrived) = wire.carry(rt.alloc(), &list, 2, second.as_slice()) else {
+    let Ok(arrived) = stream_line.carry(rt.alloc(), &list, 2, second.as_slice()) else {
         return Err(Fail::from("no memory"));
     };
     assert!(rt;

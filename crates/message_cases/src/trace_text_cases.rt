@@ -10,7 +10,7 @@ use trace_text::*;
 /// The line is written so, and so it is read.
 fn is_written(rt: &impl Abort, alloc: Global, line: Line, text: &str) {
     let written = write_line(alloc, &line).expect(rt, "memory");
-    assert_eq!(rt; written.as_slice(), text.as_bytes());
+    assert!(rt; written.as_slice() == text.as_bytes());
     is_line(rt, alloc, text);
 }
 
@@ -20,7 +20,7 @@ fn is_line(rt: &impl Abort, alloc: Global, text: &str) {
         .expect(rt, "memory")
         .expect(rt, "a line");
     let again = write_line(alloc, &line).expect(rt, "memory");
-    assert_eq!(rt; again.as_slice(), text.as_bytes());
+    assert!(rt; again.as_slice() == text.as_bytes());
 }
 
 /// The frame that a cabinet shows when its main street has its first green, a minute's tenth after power-up.
@@ -284,7 +284,7 @@ fn takes_replies_of_1472_octets_at_most(rt: HostRuntime) -> Result<(), Fail> {
             text.extend_from_slice(b"00")?;
         }
         text.push(b'\n')?;
-        assert_eq!(rt; read_line(alloc, &text)?.is_some(), is);
+        assert!(rt; read_line(alloc, &text)?.is_some() == is);
     }
     Ok(())
 }

@@ -20,9 +20,9 @@ use Rattle.sig_tables.specs.Preempts.{all_preempts, preempt_on}
 use Rattle.sig_tables.specs.Seen.{frame_seen, moment_seen, demand_with}
 use Rattle.sig_tables.proofs.Below.{phase-is}
 use Rattle.call_store.proofs.Listed.{none-has}
-use Rattle.ped_clock.specs.Passed.{SignalLasts}
-use Rattle.preempt_run.specs.Stands.{preempts_seen}
-use Rattle.preempt_run.proofs.Least.{preempt-above, preempt-within}
+use Rattle.call_store.specs.Signals.{SignalLasts}
+use Rattle.preempt_stages.specs.Inputs.{preempts_seen}
+use Rattle.preempt_stages.proofs.Least.{preempt-above, preempt-within}
 use Rattle.tick_context.specs.Modes.{is_free}
 use Rattle.tick_context.specs.Shows.{is_clearing, is_signalling}
 use Rattle.tick_context.specs.Lasting.{PhaseLasts}

@@ -7,20 +7,14 @@ use Rattle.sig_tables.specs.Tables.{has_maximum_recall}
 use Rattle.sig_tables.specs.Past.{Past}
 use Rattle.sig_tables.specs.Modes.{bound}
 use Rattle.sig_tables.specs.Splits.{keeps_maximum, split_maximum}
-use Rattle.sig_tables.specs.Seen.{mode_seen}
-use Rattle.tick_context.specs.declared.course.Course.{Course}
-use Rattle.tick_context.specs.Modes.{is_coord}
-use Rattle.tick_context.specs.Binds.{BindingIs, IsBound}
+use Rattle.tick_context.specs.declared.tick_state.TickState.{TickState}
+use Rattle.tick_context.specs.Runs.{ContextRuns}
 use Rattle.observer.specs.declared.Observer.{Observer}
 use Rattle.observer.specs.Runs.{Runs}
 
--- in step with pattern n, that is the pattern which is kept
-pub binding-in : (o : Observer) (k : Course) (past : Past) (n : ℕ) → Runs o k past → mode_seen past ≡ Coord n → BindingIs o.binding past.tables n
-binding-in o k past n r e = subst (λ (m : Mode). IsBound o.binding past.tables m) e r.bound
-
--- whether the mode of a course is in step with a pattern
-pub coord-of : (o : Observer) (k : Course) (past : Past) (b x : Bool) → Runs o k past → b ≡ is_coord k.mode → b ≡ x → is_coord (mode_seen past) ≡ x
-coord-of o k past b x r e f = sym (ap is_coord r.course.mode) ∙ sym e ∙ f
+-- what a tick of an observer is about, for what both engines keep
+pub runs-context : (o : Observer) (k : TickState) (past : Past) → Runs o k past → ContextRuns o.context k past
+runs-context o k past r = record { context = r.keeps.context; tick_state = r.tick_state; bound = r.bound }
 
 -- a phase is held to its maximum by its options or by the pattern that binds
 pub held-itself : (o : Option ℕ) (t : Tables) (p : ℕ) → has_maximum_recall t p ≡ true → true ≡ keeps_maximum o t p

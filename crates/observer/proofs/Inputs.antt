@@ -9,8 +9,8 @@ use Rattle.sig_tables.specs.Past.{Past, Moment, Input}
 use Rattle.sig_tables.specs.Decide.{with_event, with_moment}
 use Rattle.sig_tables.specs.Seen.{moment_seen}
 use Rattle.sig_tables.specs.Preempts.{preempt_on}
-use Rattle.preempt_run.specs.Stands.{preempts_seen}
-use Rattle.preempt_run.proofs.Least.{in-preempts}
+use Rattle.preempt_stages.specs.Inputs.{preempts_seen}
+use Rattle.preempt_stages.proofs.Least.{in-preempts}
 
 -- the set has the preempts whose input is on
 abbrev pub AreOn : PhaseSet → Past → Type 0

@@ -4,7 +4,7 @@ use Rattle.sig_types.specs.declared.frame.Mode.TheVariants.{Free}
 use Rattle.sig_tables.specs.Slots.{is_defined}
 use Rattle.sig_tables.specs.Past.{Past}
 use Rattle.sig_tables.specs.Seen.{frame_seen, moment_seen, demand_with}
-use Rattle.preempt_run.specs.Stands.{preempts_seen}
+use Rattle.preempt_stages.specs.Inputs.{preempts_seen}
 use Rattle.tick_context.specs.Lasting.{Lasts}
 
 -- it runs free, beside all preempts, and what is in command is no flash and no pattern that is defined

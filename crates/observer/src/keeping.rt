@@ -6,7 +6,7 @@ use crate::Observer;
 use call_store::signalling;
 use look_back::Seen;
 use sig_types::{Colour, Frame, Ped, showing};
-use tick_context::{Course, Sight};
+use tick_context::{TickInputs, TickState};
 
 impl Observer {
     ghost use Rattle.sig_tables.specs.Past.{Past};
@@ -16,28 +16,30 @@ impl Observer {
     ghost use Rattle.observer.specs.Runs.{Runs};
 
     /// Keeps the frame of this tick.
-    pub(crate) fn keep(&mut self, frame: &Frame, course: &Course, sight: &Sight)
+    pub(crate) fn keep(&mut self, frame: &Frame, tick_state: &TickState, tick_inputs: &TickInputs)
         requires few { tick_count self.old < 4294967295 }
-        requires of_day { course.now.clock < 864000 }
-        ensures keeps { (past : Past) → Runs self.old course.now past → Sees sight.now past → frame.now ≡ (next_moment past).frame
+        requires of_day { tick_state.now.clock < 864000 }
+        ensures keeps { (past : Past) → Runs self.old tick_state.now past → Sees tick_inputs.now past → frame.now ≡ (next_moment past).frame
             → Remembers self.new (with_moment past (next_moment past)) }
         ensures ticks { tick_count self.new ≡ tick_count self.old + 1 }
         ensures installs { install_count self.new ≡ install_count self.old }
     {
         let seen = Seen {
             frame: *frame,
-            active: sight.active,
-            opposed: sight.opposed,
+            active: tick_inputs.active,
+            opposed: tick_inputs.opposed,
         };
-        self.lookout
-            .push(&seen, &self.tables, self.inputs, self.commanded);
-        self.calls.step(
+        self.frame_history
+            .push(&seen, &self.context.tables, self.inputs, self.commanded);
+        self.context.calls.step(
             showing(&frame.veh, Colour::Green),
             signalling(&frame.ped, Ped::Walk),
         );
-        self.requests.step(course.active);
-        self.orders.step(course.command, course.clock);
+        self.context.requests.step(tick_state.active);
+        self.context
+            .unit_commands
+            .step(tick_state.command, tick_state.clock);
         self.commanded = false;
-        self.frame = *frame;
+        self.context.frame = *frame;
     }
 }

@@ -6,72 +6,60 @@ ghost use Rattle.std.specs.Prelude.{◌≡◌, ◌<◌, ◌≤◌, ◌+◌, ◌=
 ghost use Rattle.sig_types.specs.PhaseSet.{has};
 ghost use Rattle.sig_tables.specs.declared.tables.Tables.{Tables};
 ghost use Rattle.sig_tables.specs.Past.{first_moment};
-ghost use Rattle.look_back.specs.Lookouts.{LooksOver};
+ghost use Rattle.look_back.specs.FrameHistories.{LooksOver};
 
-use call_store::Calls;
-use look_back::{Lookout, Seen};
-use prio_queue::Queue;
-use sig_tables::{Layout, Shown, Tables};
+use look_back::{FrameHistory, Seen};
+use sig_tables::{Shown, Tables};
 use sig_types::{Field, Frame, NoMemory, PhaseSet, Request};
 use std::alloc::Global;
-use tick_context::{Binding, Orders, first_frame, is_flash};
+use tick_context::{TickContext, first_frame, is_flash};
 
-mod course;
 mod framing;
 mod keeping;
 mod moving;
 mod reasons;
 mod resting;
-mod sight;
+mod tick_inputs;
+mod tick_state;
 mod ticking;
 mod walking;
 
 /// What was told to a cabinet, and what was seen of it.
 #[derive(Drop)]
 pub struct Observer {
-    tables: Tables,
-    layout: Layout,
-    version: u32,
-    /// The last frame.
-    frame: Frame,
-    calls: Calls,
+    /// The tables in force, the last frame, and what was told.
+    context: TickContext,
     /// The preempts, 1 to 8 in a set as phases are, whose input is on.
     inputs: PhaseSet,
-    requests: Queue,
-    /// The pattern in command, the clock and its drift; and whether the pattern was commanded since the last frame.
-    orders: Orders,
+    /// Whether a pattern was commanded since the last frame.
     commanded: bool,
-    /// The pattern that was sought or in step last.
-    binding: Binding,
     /// All that was seen.
-    lookout: Lookout,
-    ghost adds: { 0 < tables.unit.add },
-    ghost subtracts: { 0 < tables.unit.subtract },
+    frame_history: FrameHistory,
 }
 
-/// The lookout over the moment before any tick.
-fn first_lookout(alloc: Global, tables: &Tables) -> Result<Lookout, NoMemory>
-    ensures { IfOk result (λ lookout. LooksOver lookout (first_moment tables.now ∷ [])) }
+/// The frame history of the moment before any tick.
+fn first_frame_history(alloc: Global, tables: &Tables) -> Result<FrameHistory, NoMemory>
+    ensures { IfOk result (λ frame_history. LooksOver frame_history (first_moment tables.now ∷ [])) }
 {
-    match Lookout::open(alloc) {
-        Ok(lookout) => Ok(with_first(lookout, tables)),
+    match FrameHistory::open(alloc) {
+        Ok(frame_history) => Ok(with_first(frame_history, tables)),
         Err(refused) => Err(refused),
     }
 }
 
-/// The lookout over no frame, with that before any tick.
-fn with_first(lookout: Lookout, tables: &Tables) -> Lookout
-    requires { LooksOver lookout [] }
+/// The frame history of no frame, with that before any tick.
+fn with_first(frame_history: FrameHistory, tables: &Tables) -> FrameHistory
+    requires { LooksOver frame_history [] }
     ensures { LooksOver result (first_moment tables.now ∷ []) }
 {
-    let mut lookout = lookout;
+    let mut frame_history = frame_history;
     let seen = Seen {
         frame: first_frame(),
         active: PhaseSet::empty(),
         opposed: PhaseSet::empty(),
     };
-    lookout.push(&seen, tables, PhaseSet::empty(), false);
-    lookout
+    frame_history.push(&seen, tables, PhaseSet::empty(), false);
+    frame_history
 }
 
 /// The preempts whose input is on, after that of one, 1 to 8, has turned on or off.
@@ -90,7 +78,7 @@ impl Observer {
     ghost use Rattle.sig_tables.specs.Showing.{ShownAfter};
     ghost use Rattle.tick_context.specs.Modes.{is_flash};
     ghost use Rattle.tick_context.specs.Told.{CanRun, NamesPlace};
-    ghost use Rattle.observer.specs.Remembers.{StandsFor, tick_count, install_count};
+    ghost use Rattle.observer.specs.Remembers.{ObserverStands, tick_count, install_count};
 
     /// Of a cabinet that is opened with these tables, in Start, with a pattern in command, 0 to 255 (254 and those that are
     /// not defined run free, 255 flashes), and a clock in ticks of the day. The tables' limits of adding and subtracting
@@ -103,38 +91,30 @@ impl Observer {
     ) -> Result<Observer, NoMemory>
         requires tables { CanRun tables }
         requires of_day { clock < 864000 }
-        ensures stands { IfOk result (λ observer. StandsFor observer (opening tables command clock)) }
+        ensures stands { IfOk result (λ observer. ObserverStands observer (opening tables command clock)) }
         ensures ticks { IfOk result (λ observer. tick_count observer ≡ 0) }
         ensures installs { IfOk result (λ observer. install_count observer ≡ 0) }
     {
-        match first_lookout(alloc, &tables) {
-            Ok(lookout) => Ok(Observer::over(lookout, tables, command, clock)),
+        match first_frame_history(alloc, &tables) {
+            Ok(frame_history) => Ok(Observer::over(frame_history, tables, command, clock)),
             Err(refused) => Err(refused),
         }
     }
 
-    /// The same with a lookout over the moment before any tick.
-    fn over(lookout: Lookout, tables: Tables, command: u8, clock: u32) -> Observer
+    /// The same with a frame history of the moment before any tick.
+    fn over(frame_history: FrameHistory, tables: Tables, command: u8, clock: u32) -> Observer
         requires tables { CanRun tables }
         requires of_day { clock < 864000 }
-        requires lookout { LooksOver lookout (first_moment tables ∷ []) }
-        ensures stands { StandsFor result (opening tables command clock) }
+        requires frame_history { LooksOver frame_history (first_moment tables ∷ []) }
+        ensures stands { ObserverStands result (opening tables command clock) }
         ensures ticks { tick_count result ≡ 0 }
         ensures installs { install_count result ≡ 0 }
     {
-        let layout = Layout::of(&tables, 1);
         Observer {
-            layout,
-            binding: Binding::none(&tables, layout),
-            tables,
-            version: 0,
-            frame: first_frame(),
-            calls: Calls::new(),
+            context: TickContext::open(tables, command, clock),
             inputs: PhaseSet::empty(),
-            requests: Queue::new(),
-            orders: Orders::of(command, clock),
             commanded: true,
-            lookout,
+            frame_history,
         }
     }
 
@@ -142,11 +122,11 @@ impl Observer {
     /// frames show what comes of it from the next tick on.
     pub fn input(&mut self, field: Field)
         requires place { NamesPlace field }
-        ensures stands { (h : History) → StandsFor self.old h → StandsFor self.new (with_one h (Input field)) }
+        ensures stands { (h : History) → ObserverStands self.old h → ObserverStands self.new (with_one h (Input field)) }
         ensures counted { tick_count self.new ≡ tick_count self.old }
         ensures installs { install_count self.new ≡ install_count self.old }
     {
-        self.calls.input(field, &self.layout, &self.frame);
+        self.context.input(field);
         match field {
             Field::Veh { .. } => {}
             Field::Ped { .. } => {}
@@ -159,103 +139,90 @@ impl Observer {
     pub fn install(&mut self, tables: Tables)
         requires tables { CanRun tables }
         requires few { install_count self.old < 4294967295 }
-        ensures stands { (h : History) → StandsFor self.old h → StandsFor self.new (with_one h (Install tables)) }
+        ensures stands { (h : History) → ObserverStands self.old h → ObserverStands self.new (with_one h (Install tables)) }
         ensures counted { tick_count self.new ≡ tick_count self.old }
         ensures installs { install_count self.new ≡ install_count self.old + 1 }
     {
-        self.layout = Layout::of(&tables, 1);
-        self.binding = Binding::none(&tables, self.layout);
-        self.tables = tables;
-        self.version += 1;
+        self.context.install(tables);
     }
 
     /// Commands a pattern, 0 to 255; it counts from the next tick on, and of several between two ticks the last one does.
     pub fn pattern(&mut self, command: u8)
-        ensures stands { (h : History) → StandsFor self.old h → StandsFor self.new (with_one h (SetPattern command)) }
+        ensures stands { (h : History) → ObserverStands self.old h → ObserverStands self.new (with_one h (SetPattern command)) }
         ensures counted { tick_count self.new ≡ tick_count self.old }
         ensures installs { install_count self.new ≡ install_count self.old }
     {
-        self.orders.pattern(command);
+        self.context.pattern(command);
         self.commanded = true;
     }
 
     /// Sets the clock, in ticks of the day.
     pub fn clock(&mut self, time: u32)
         requires of_day { time < 864000 }
-        ensures stands { (h : History) → StandsFor self.old h → StandsFor self.new (with_one h (SetClock time)) }
+        ensures stands { (h : History) → ObserverStands self.old h → ObserverStands self.new (with_one h (SetClock time)) }
         ensures counted { tick_count self.new ≡ tick_count self.old }
         ensures installs { install_count self.new ≡ install_count self.old }
     {
-        self.orders.set_clock(time);
+        self.context.set_clock(time);
     }
 
     /// Sets the drift of the clock: after how many ticks each time it gains one more, and after how many it loses one; 0
     /// for never.
     pub fn drift(&mut self, gain: u32, lose: u32)
-        ensures stands { (h : History) → StandsFor self.old h → StandsFor self.new (with_one h (SetDrift gain lose)) }
+        ensures stands { (h : History) → ObserverStands self.old h → ObserverStands self.new (with_one h (SetDrift gain lose)) }
         ensures counted { tick_count self.new ≡ tick_count self.old }
         ensures installs { install_count self.new ≡ install_count self.old }
     {
-        self.orders.drift(gain, lose);
+        self.context.drift(gain, lose);
     }
 
     /// A priority request (NTCIP 1211), whose number is 1 to 10. It replaces the one of its number.
     pub fn request(&mut self, request: Request)
         requires above { 0 < request.number }
         requires within { request.number ≤ 10 }
-        ensures stands { (h : History) → StandsFor self.old h → StandsFor self.new (with_one h (Ask request)) }
+        ensures stands { (h : History) → ObserverStands self.old h → ObserverStands self.new (with_one h (Ask request)) }
         ensures counted { tick_count self.new ≡ tick_count self.old }
         ensures installs { install_count self.new ≡ install_count self.old }
     {
-        let ticks = self.orders.ticks();
-        self.requests.request(request, ticks);
+        self.context.request(request);
     }
 
     /// Cancels the priority request of a number, 1 to 10.
     pub fn cancel(&mut self, number: u8)
         requires above { 0 < number }
         requires within { number ≤ 10 }
-        ensures stands { (h : History) → StandsFor self.old h → StandsFor self.new (with_one h (Cancel number)) }
+        ensures stands { (h : History) → ObserverStands self.old h → ObserverStands self.new (with_one h (Cancel number)) }
         ensures counted { tick_count self.new ≡ tick_count self.old }
         ensures installs { install_count self.new ≡ install_count self.old }
     {
-        let ticks = self.orders.ticks();
-        self.requests.cancel(number, ticks);
+        self.context.cancel(number);
     }
 
     /// The tables in force.
     pub fn tables(&self) -> &Tables
-        ensures tables { (h : History) → StandsFor self.now h → result.now ≡ (past_at h).tables }
+        ensures tables { (h : History) → ObserverStands self.now h → result.now ≡ (past_at h).tables }
     {
-        &self.tables
+        &self.context.tables
     }
 
     /// The last frame; before any tick, that of Start.
     pub fn frame(&self) -> Frame
-        ensures frame { (h : History) → StandsFor self.now h → result ≡ last_frame_of h }
+        ensures frame { (h : History) → ObserverStands self.now h → result ≡ last_frame_of h }
     {
-        self.frame
+        self.context.frame
     }
 
     /// Whether the cabinet flashes: its last frame is in Flash.
     pub fn flashing(&self) -> bool
-        ensures flashing { (h : History) → StandsFor self.now h → result ≡ is_flash (last_frame_of h).mode }
+        ensures flashing { (h : History) → ObserverStands self.now h → result ≡ is_flash (last_frame_of h).mode }
     {
-        is_flash(self.frame.mode)
+        is_flash(self.context.frame.mode)
     }
 
     /// What the cabinet shows to management software.
     pub fn shown(&self) -> Shown
-        ensures shown { (h : History) → StandsFor self.now h → ShownAfter result (past_at h) }
+        ensures shown { (h : History) → ObserverStands self.now h → ShownAfter result (past_at h) }
     {
-        Shown {
-            frame: self.frame,
-            command: self.orders.command(),
-            clock: self.orders.clock(),
-            veh_calls: self.calls.vehicle(),
-            ped_calls: self.calls.pedestrian(),
-            requests: self.requests.states(self.orders.ticks()),
-            version: self.version,
-        }
+        self.context.shown()
     }
 }

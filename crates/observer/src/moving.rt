@@ -1,22 +1,19 @@
 //! What the rings do at a tick: by the rules of actuated control, within the room that a pattern leaves, or on the way to a
 //! goal.
 
-ghost use Rattle.std.specs.Prelude.{◌≡◌, ◌<◌, ◌≤◌, ◌&&◌, ◌==◌, ◌||◌, ℕ, List};
+ghost use Rattle.std.specs.Prelude.{◌≡◌, ◌≤◌, ◌==◌, ◌||◌, ℕ, List};
 ghost use Rattle.sig_types.specs.Phases.{is_in};
 ghost use Rattle.sig_types.specs.PhaseSet.{phases_of};
-ghost use Rattle.sig_tables.specs.Past.{Moment};
 ghost use Rattle.sig_tables.specs.Layout.{Has};
-ghost use Rattle.sig_tables.specs.View.{ended_of, is_forced};
 ghost use Rattle.sig_tables.specs.Moves.{ring_moves};
 ghost use Rattle.ring_barrier.specs.Shows.{Opens};
 ghost use Rattle.tick_context.specs.Moves.{AreMoves};
 
 use crate::Observer;
-use flash_mode::Turn;
-use ring_barrier::{Changes, RingView, View, changes, changes_toward, is_idle};
-use sig_tables::Layout;
+use flash_mode::RingTurn;
+use ring_barrier::{Changes, RingView, changes_toward, is_idle};
 use sig_types::PhaseSet;
-use tick_context::{Course, Sight, is_coord, is_resting, no_changes};
+use tick_context::{RingState, TickInputs, TickState, is_resting, no_changes};
 
 /// Whether a ring is open, of which this phase is on, or 0: nothing is on, or its clearance is among those that end.
 fn is_open(on: u8, ended: PhaseSet) -> bool
@@ -32,16 +29,11 @@ fn is_open(on: u8, ended: PhaseSet) -> bool
 }
 
 impl Observer {
-    ghost use Rattle.sig_types.specs.PhaseSet.{has};
     ghost use Rattle.sig_tables.specs.Past.{Past};
-    ghost use Rattle.sig_tables.specs.Modes.{bound, sequence_in};
-    ghost use Rattle.sig_tables.specs.Splits.{omits};
-    ghost use Rattle.sig_tables.specs.Coordinating.{has_room};
-    ghost use Rattle.sig_tables.specs.Course.{course_of, Rings};
-    ghost use Rattle.sig_tables.specs.Layout.{LaidOut, Ordered};
-    ghost use Rattle.sig_tables.specs.View.{is_forced, is_startable, clearance_of};
-    ghost use Rattle.sig_tables.specs.Moves.{can_join, ring_moves, goal_moves};
-    ghost use Rattle.sig_tables.specs.Seen.{mode_seen, turn_seen, view_seen, moves_seen};
+    ghost use Rattle.sig_tables.specs.TickState.{Rings};
+    ghost use Rattle.sig_tables.specs.View.{is_startable};
+    ghost use Rattle.sig_tables.specs.Moves.{ring_moves, goal_moves};
+    ghost use Rattle.sig_tables.specs.Seen.{ring_turn_seen, view_seen, moves_seen};
     ghost use Rattle.ring_barrier.specs.Shows.{Opens};
     ghost use Rattle.tick_context.specs.Sees.{Sees};
     ghost use Rattle.observer.specs.Remembers.{Remembers};
@@ -51,8 +43,10 @@ impl Observer {
     fn opening(&self) -> [bool; 2]
         ensures opening { (past : Past) → Remembers self.now past → Opens result (view_seen past) }
     {
-        let ended = self.lookout.ended(&self.tables, &self.frame.veh);
-        let [first, second] = self.frame.on;
+        let ended = self
+            .frame_history
+            .ended(&self.context.tables, &self.context.frame.veh);
+        let [first, second] = self.context.frame.on;
         [is_open(first, ended), is_open(second, ended)]
     }
 
@@ -60,147 +54,66 @@ impl Observer {
     fn startable(&self) -> PhaseSet
         ensures startable { (past : Past) → Remembers self.now past → Has result (is_startable (view_seen past)) }
     {
-        let red = self.layout.enabled.meet(self.red());
-        self.lookout.startable(&self.tables, red)
+        let red = self.context.layout.enabled.meet(self.red());
+        self.frame_history.startable(&self.context.tables, red)
     }
 
-    /// Those of the phases that have room where they begin after so many ticks: all of them where no pattern binds.
-    fn with_room(&self, course: &Course, after: u32, among: PhaseSet) -> PhaseSet
-        ensures room { (past : Past) → Runs self.now course.now past
-            → Has result (λ p. has among p && has_room (bound (mode_seen past)) past.tables (course_of past).counter after p) }
-    {
-        if is_coord(course.mode) {
-            self.binding.with_room(course.counter, after, among)
-        } else {
-            among
-        }
-    }
-
-    /// The phases that the pattern which binds never serves; none where no pattern does.
-    fn omitted(&self, course: &Course) -> PhaseSet
-        ensures omitted { (past : Past) → Runs self.now course.now past → Has result (omits (bound (mode_seen past)) past.tables) }
-    {
-        if is_coord(course.mode) {
-            self.binding.options.omitted
-        } else {
-            PhaseSet::empty()
-        }
-    }
-
-    /// The green phases that the pattern which binds forces off; none where no pattern does.
-    fn forced(&self, course: &Course) -> PhaseSet
-        ensures forced { (past : Past) → Runs self.now course.now past → Has result (is_forced (view_seen past)) }
-    {
-        if is_coord(course.mode) {
-            let green = self.layout.enabled.meet(self.green());
-            self.binding.forced(course.counter, green)
-        } else {
-            PhaseSet::empty()
-        }
-    }
-
-    /// The phases that may join the other ring without a call, of these that may begin.
-    fn joining(&self, course: &Course, startable: PhaseSet) -> PhaseSet
-        ensures joining { (past : Past) → Runs self.now course.now past → Has startable (is_startable (view_seen past))
-            → Has result (can_join (view_seen past)) }
-    {
-        let able = self.layout.dual_entry.meet(startable);
-        self.with_room(course, 0, able).minus(self.omitted(course))
-    }
-
-    /// How long what is on in a ring clears, 0 where nothing is, in ticks.
-    fn clearance_of(&self, on: u8) -> u32
-        ensures clearance { (past : Past) → Remembers self.now past → on ≤ 16 → result ≡ clearance_of past.tables on }
-    {
-        if on == 0 {
-            0
-        } else if on > 16 {
-            0
-        } else {
-            self.tables.clearance(on)
-        }
-    }
-
-    /// What both rings do at this tick by the rules of actuated control, with the phases in the order of the sequence in force.
-    fn looking(&self, course: &Course, sight: &Sight, layout: &Layout) -> Changes
-        ensures changes { (past : Past) → Runs self.now course.now past → Sees sight.now past → LaidOut layout.now past.tables
-            → Ordered layout.now past.tables (sequence_in past.tables (mode_seen past)) → AreMoves result (ring_moves (view_seen past)) }
-    {
-        let on = self.frame.on;
-        let first = self.clearance_of(on[0]);
-        let second = self.clearance_of(on[1]);
-        let startable = self.startable();
-        let further = self.lookout.further();
-        let demand = sight.demand;
-        changes(&View {
-            rings: RingView {
-                layout,
-                on,
-                opening: self.opening(),
-                startable,
-            },
-            last: [further.last_on(1), further.last_on(2)],
-            latest: further.latest_on(),
-            wanted: self.with_room(course, 0, demand),
-            wanted_after: [
-                self.with_room(course, first, demand),
-                self.with_room(course, second, demand),
-            ],
-            wanted_across: self.with_room(course, first.max(second), demand),
-            joining: self.joining(course, startable),
-            done: self.done(course, sight),
-            forced: self.forced(course),
-        })
-    }
-
-    /// What both rings do at this tick by the rules of actuated control: in the order of the sequence of the pattern that binds,
-    /// and of the first one where none does.
-    fn ring_changes(&self, course: &Course, sight: &Sight) -> Changes
-        ensures changes { (past : Past) → Runs self.now course.now past → Sees sight.now past → turn_seen past ≡ Rings
+    /// What both rings do at this tick by the rules of actuated control. Where no ring is open and no phase has demand, is
+    /// done or is forced off, they need not look.
+    fn ring_changes(&self, tick_state: &TickState, tick_inputs: &TickInputs) -> Changes
+        ensures changes { (past : Past) → Runs self.now tick_state.now past → Sees tick_inputs.now past → ring_turn_seen past ≡ Rings
             → AreMoves result (ring_moves (view_seen past)) }
     {
         let opening = self.opening();
-        let forced = self.forced(course);
-        if is_resting(opening, sight.demand, forced) {
+        let forced = self.context.forced(tick_state, self.green());
+        if is_resting(opening, tick_inputs.demand, forced) {
             return no_changes();
         }
-        let done = self.done(course, sight);
+        let done = self.done(tick_state, tick_inputs);
         if is_idle(opening, done, forced) {
             return no_changes();
         }
-        if is_coord(course.mode) {
-            self.looking(course, sight, &self.binding.layout)
-        } else {
-            self.looking(course, sight, &self.layout)
-        }
+        let long_counts = self.frame_history.long_counts();
+        let rings = RingState {
+            opening,
+            startable: self.startable(),
+            last: [long_counts.last_on(1), long_counts.last_on(2)],
+            latest: long_counts.latest_on(),
+            done,
+            forced,
+        };
+        self.context
+            .ring_changes(tick_state, tick_inputs.demand, &rings)
     }
 
     /// What both rings do at this tick on the way to a goal.
-    fn goal_changes(&self, course: &Course, goal: PhaseSet) -> Changes
-        ensures changes { (past : Past) → Runs self.now course.now past → AreMoves result (goal_moves (view_seen past) (phases_of goal)) }
+    fn goal_changes(&self, tick_state: &TickState, goal: PhaseSet) -> Changes
+        ensures changes { (past : Past) → Runs self.now tick_state.now past → AreMoves result (goal_moves (view_seen past) (phases_of goal)) }
     {
         let rings = RingView {
-            layout: &self.layout,
-            on: self.frame.on,
+            layout: &self.context.layout,
+            on: self.context.frame.on,
             opening: self.opening(),
             startable: self.startable(),
         };
-        let cleared = self.lookout.cleared(&self.tables, course.mode, &self.frame);
+        let cleared = self
+            .frame_history
+            .cleared(&self.context.tables, tick_state.mode, &self.context.frame);
         changes_toward(&rings, goal, cleared)
     }
 
     /// The phases that end and those that begin at this tick.
-    pub(crate) fn moves(&self, course: &Course, sight: &Sight) -> Changes
-        ensures moves { (past : Past) → Runs self.now course.now past → Sees sight.now past → AreMoves result (moves_seen past) }
+    pub(crate) fn moves(&self, tick_state: &TickState, tick_inputs: &TickInputs) -> Changes
+        ensures moves { (past : Past) → Runs self.now tick_state.now past → Sees tick_inputs.now past → AreMoves result (moves_seen past) }
     {
-        match course.turn {
-            Turn::Rest => no_changes(),
-            Turn::StartUp => Changes {
+        match tick_state.ring_turn {
+            RingTurn::Rest => no_changes(),
+            RingTurn::StartUp => Changes {
                 ends: PhaseSet::empty(),
-                begins: self.layout.starts_up,
+                begins: self.context.layout.starts_up,
             },
-            Turn::Rings => self.ring_changes(course, sight),
-            Turn::Goal(goal) => self.goal_changes(course, goal),
+            RingTurn::Rings => self.ring_changes(tick_state, tick_inputs),
+            RingTurn::Goal(goal) => self.goal_changes(tick_state, goal),
         }
     }
 }

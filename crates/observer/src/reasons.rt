@@ -8,7 +8,7 @@ use crate::Observer;
 use coord_gate::released;
 use sig_tables::time_of;
 use sig_types::{Colour, Mode, PhaseSet};
-use tick_context::{Course, Sight, is_asked, is_coord};
+use tick_context::{TickInputs, TickState, is_asked, is_coord};
 
 impl Observer {
     ghost use Rattle.sig_types.specs.declared.frame.Mode.TheVariants.{Coord};
@@ -27,31 +27,31 @@ impl Observer {
     ghost use Rattle.observer.specs.Runs.{Runs};
 
     /// Whether a phase, 1 to 16, is held to its maximum, by its options or by the pattern that binds.
-    fn keeps_maximum(&self, course: &Course, phase: u8) -> bool
+    fn keeps_maximum(&self, tick_state: &TickState, phase: u8) -> bool
         requires above { 0 < phase }
         requires within { phase ≤ 16 }
-        ensures keeps { (past : Past) → Runs self.now course.now past → result ≡ keeps_maximum (bound (mode_seen past)) past.tables phase }
+        ensures keeps { (past : Past) → Runs self.now tick_state.now past → result ≡ keeps_maximum (bound (mode_seen past)) past.tables phase }
     {
-        if self.layout.maximum_recall.has(phase) {
+        if self.context.layout.maximum_recall.has(phase) {
             true
-        } else if is_coord(course.mode) {
-            self.binding.options.maximum.has(phase)
+        } else if is_coord(tick_state.mode) {
+            self.context.active_pattern.options.maximum.has(phase)
         } else {
             false
         }
     }
 
     /// Whether a green phase, 1 to 16, which is active at this tick or is not, has a gap: it was not for its passage time.
-    fn has_gap(&self, course: &Course, phase: u8, active: bool) -> bool
+    fn has_gap(&self, tick_state: &TickState, phase: u8, active: bool) -> bool
         requires above { 0 < phase }
         requires within { phase ≤ 16 }
-        ensures gap { (past : Past) → Runs self.now course.now past → active ≡ not (is_in (quiet_seen past) phase)
+        ensures gap { (past : Past) → Runs self.now tick_state.now past → active ≡ not (is_in (quiet_seen past) phase)
             → result ≡ has_gap (view_seen past) phase }
     {
-        let held = self.keeps_maximum(course, phase);
-        self.lookout
+        let held = self.keeps_maximum(tick_state, phase);
+        self.frame_history
             .window()
-            .has_gap(&self.tables, phase, held, !active)
+            .has_gap(&self.context.tables, phase, held, !active)
     }
 
     /// Whether a green phase, 1 to 16, which is opposed at this tick or is not, is at its maximum: it was so for that time.
@@ -61,19 +61,19 @@ impl Observer {
         ensures maximum { (past : Past) → Remembers self.now past → opposed ≡ is_in (opposed_seen past) phase
             → result ≡ has_maximum (view_seen past) phase }
     {
-        self.lookout
+        self.frame_history
             .window()
-            .has_maximum(&self.tables, phase, opposed)
+            .has_maximum(&self.context.tables, phase, opposed)
     }
 
     /// Whether there is a reason to end a green phase, 1 to 16, where no pattern binds: gap or maximum.
-    fn free_reason(&self, course: &Course, phase: u8, active: bool, opposed: bool) -> bool
+    fn free_reason(&self, tick_state: &TickState, phase: u8, active: bool, opposed: bool) -> bool
         requires above { 0 < phase }
         requires within { phase ≤ 16 }
-        ensures reason { (past : Past) → Runs self.now course.now past → active ≡ not (is_in (quiet_seen past) phase)
+        ensures reason { (past : Past) → Runs self.now tick_state.now past → active ≡ not (is_in (quiet_seen past) phase)
             → opposed ≡ is_in (opposed_seen past) phase → result ≡ is_reasoned None (view_seen past) phase }
     {
-        if self.has_gap(course, phase, active) {
+        if self.has_gap(tick_state, phase, active) {
             true
         } else {
             self.has_maximum(phase, opposed)
@@ -86,7 +86,7 @@ impl Observer {
             → result ≡ extension_of past.tables n }
     {
         match active {
-            Some(_) => u32::from(self.tables.unit().extension),
+            Some(_) => u32::from(self.context.tables.unit().extension),
             None => 0,
         }
     }
@@ -98,28 +98,33 @@ impl Observer {
         requires within { phase ≤ 16 }
         ensures filled { (past : Past) → Remembers self.now past → result ≡ has_filled_split (view_seen past) pattern phase }
     {
-        if self.tables.unit().force_mode != 2 {
+        if self.context.tables.unit().force_mode != 2 {
             return false;
         }
-        let split = time_of(self.tables.entries(pattern), phase);
-        let least = split.saturating_sub(self.tables.clearance(phase));
-        self.lookout.window().run(phase, Colour::Green, least) >= least
+        let split = time_of(self.context.tables.entries(pattern), phase);
+        let least = split.saturating_sub(self.context.tables.clearance(phase));
+        self.frame_history.window().run(phase, Colour::Green, least) >= least
     }
 
     /// Whether there is a reason to end a green phase, 1 to 16, where this pattern binds: its release, where the pattern holds
     /// it, else an active priority request, a gap or a filled split.
-    fn bound_reason(&self, course: &Course, pattern: u8, phase: u8, active: bool) -> bool
+    fn bound_reason(&self, tick_state: &TickState, pattern: u8, phase: u8, active: bool) -> bool
         requires above { 0 < phase }
         requires within { phase ≤ 16 }
-        ensures reason { (past : Past) → Runs self.now course.now past → mode_seen past ≡ Coord pattern
+        ensures reason { (past : Past) → Runs self.now tick_state.now past → mode_seen past ≡ Coord pattern
             → active ≡ not (is_in (quiet_seen past) phase) → result ≡ is_reasoned (Some pattern) (view_seen past) phase }
     {
-        if self.binding.options.coordinated.has(phase) {
-            let held = self.extension(course.active);
-            released(&self.binding.plan, course.counter, held, phase)
-        } else if is_asked(course.active) {
+        if self.context.active_pattern.options.coordinated.has(phase) {
+            let held = self.extension(tick_state.active);
+            released(
+                &self.context.active_pattern.plan,
+                tick_state.counter,
+                held,
+                phase,
+            )
+        } else if is_asked(tick_state.active) {
             true
-        } else if self.has_gap(course, phase, active) {
+        } else if self.has_gap(tick_state, phase, active) {
             true
         } else {
             self.has_filled_split(pattern, phase)
@@ -127,15 +132,15 @@ impl Observer {
     }
 
     /// Whether there is a reason to end a green phase, 1 to 16.
-    fn has_reason(&self, course: &Course, phase: u8, active: bool, opposed: bool) -> bool
+    fn has_reason(&self, tick_state: &TickState, phase: u8, active: bool, opposed: bool) -> bool
         requires above { 0 < phase }
         requires within { phase ≤ 16 }
-        ensures reason { (past : Past) → Runs self.now course.now past → active ≡ not (is_in (quiet_seen past) phase)
+        ensures reason { (past : Past) → Runs self.now tick_state.now past → active ≡ not (is_in (quiet_seen past) phase)
             → opposed ≡ is_in (opposed_seen past) phase → result ≡ is_reasoned (bound (mode_seen past)) (view_seen past) phase }
     {
-        match course.mode {
-            Mode::Coord(pattern) => self.bound_reason(course, pattern, phase, active),
-            _ => self.free_reason(course, phase, active, opposed),
+        match tick_state.mode {
+            Mode::Coord(pattern) => self.bound_reason(tick_state, pattern, phase, active),
+            _ => self.free_reason(tick_state, phase, active, opposed),
         }
     }
 
@@ -146,40 +151,44 @@ impl Observer {
         ensures service { (past : Past) → Remembers self.now past
             → result ≡ (is_enabled past.tables phase && is_green (frame_seen past) phase) }
     {
-        if self.layout.enabled.has(phase) {
-            self.frame.veh[phase as usize - 1] == Colour::Green
+        if self.context.layout.enabled.has(phase) {
+            self.context.frame.veh[phase as usize - 1] == Colour::Green
         } else {
             false
         }
     }
 
     /// Whether a phase, 1 to 16, is done: it is enabled and green, there is a reason to end it, and it is served.
-    fn is_done(&self, course: &Course, sight: &Sight, phase: u8) -> bool
+    fn is_done(&self, tick_state: &TickState, tick_inputs: &TickInputs, phase: u8) -> bool
         requires above { 0 < phase }
         requires within { phase ≤ 16 }
-        ensures done { (past : Past) → Runs self.now course.now past → Sees sight.now past → result ≡ is_done (view_seen past) phase }
+        ensures done { (past : Past) → Runs self.now tick_state.now past → Sees tick_inputs.now past → result ≡ is_done (view_seen past) phase }
     {
         if !self.is_in_service(phase) {
             return false;
         }
-        let active = sight.active.has(phase);
-        let opposed = sight.opposed.has(phase);
-        if !self.has_reason(course, phase, active, opposed) {
+        let active = tick_inputs.active.has(phase);
+        let opposed = tick_inputs.opposed.has(phase);
+        if !self.has_reason(tick_state, phase, active, opposed) {
             return false;
         }
         let place = phase as usize - 1;
-        let signal = self.frame.ped[place];
-        self.lookout
-            .is_served(&self.tables, phase, self.frame.veh[place], signal)
+        let signal = self.context.frame.ped[place];
+        self.frame_history.is_served(
+            &self.context.tables,
+            phase,
+            self.context.frame.veh[place],
+            signal,
+        )
     }
 
     /// The green phases that are done.
-    pub(crate) fn done(&self, course: &Course, sight: &Sight) -> PhaseSet
-        ensures done { (past : Past) → Runs self.now course.now past → Sees sight.now past → Has result (is_done (view_seen past)) }
+    pub(crate) fn done(&self, tick_state: &TickState, tick_inputs: &TickInputs) -> PhaseSet
+        ensures done { (past : Past) → Runs self.now tick_state.now past → Sees tick_inputs.now past → Has result (is_done (view_seen past)) }
     {
         let mut done = PhaseSet::empty();
         for phase in 1..17u8 {
-            done = done.with_if(phase, self.is_done(course, sight, phase));
+            done = done.with_if(phase, self.is_done(tick_state, tick_inputs, phase));
         }
         done
     }

@@ -33,7 +33,7 @@ impl Observer {
     ghost use Rattle.prio_queue.specs.Idle.{IsIdle};
     ghost use Rattle.tick_context.specs.Lasting.{IsFresh};
     ghost use Rattle.tick_context.specs.Strides.{is_told, ticks_more};
-    ghost use Rattle.observer.specs.Remembers.{Remembers, StandsFor, tick_count, install_count};
+    ghost use Rattle.observer.specs.Remembers.{Remembers, ObserverStands, tick_count, install_count};
     ghost use Rattle.tick_context.specs.Even.{IsEven};
     ghost use Rattle.observer.specs.Rests.{GoesFree, Rests};
 
@@ -42,17 +42,22 @@ impl Observer {
     fn goes_free(&self) -> bool
         ensures { (past : Past) → Remembers self.now past → IsFresh past → IsTrue result → GoesFree past }
     {
-        if !is_free(self.frame.mode) {
+        if !is_free(self.context.frame.mode) {
             false
         } else if !self.inputs.is_empty() {
             false
-        } else if self.frame.counter != 0 {
+        } else if self.context.frame.counter != 0 {
             false
-        } else if self.frame.target != 0 {
+        } else if self.context.frame.target != 0 {
             false
         } else {
-            let command = self.orders.command();
-            is_free(running(&self.tables, self.version, command, &self.frame))
+            let command = self.context.unit_commands.command();
+            is_free(running(
+                &self.context.tables,
+                self.context.version,
+                command,
+                &self.context.frame,
+            ))
         }
     }
 
@@ -62,10 +67,19 @@ impl Observer {
         ensures walks { (past : Past) (p : ℕ) → Remembers self.now past → IsTrue result → is_phase p ≡ true
             → ((has_walk past.tables p && is_in (pedestrian_seen past) p) && same_colour (colour_of (frame_seen past) p) Green) ≡ false }
     {
-        let red = showing(&self.frame.veh, Colour::Red);
-        if self.calls.demand(&self.layout, red, None).is_empty() {
-            let green = showing(&self.frame.veh, Colour::Green);
-            let called = self.layout.walks.meet(self.calls.pedestrian());
+        let red = showing(&self.context.frame.veh, Colour::Red);
+        if self
+            .context
+            .calls
+            .demand(&self.context.layout, red, None)
+            .is_empty()
+        {
+            let green = showing(&self.context.frame.veh, Colour::Green);
+            let called = self
+                .context
+                .layout
+                .walks
+                .meet(self.context.calls.pedestrian());
             called.meet(green).is_empty()
         } else {
             false
@@ -75,17 +89,17 @@ impl Observer {
     /// Whether the cabinet rests in free operation, where nothing has been told since the last tick: so it does until something
     /// is told.
     fn is_at_rest(&self) -> bool
-        ensures rests { (h : History) → StandsFor self.now (ticked h) → IsTrue result → Rests (past_at (ticked h)) }
+        ensures rests { (h : History) → ObserverStands self.now (ticked h) → IsTrue result → Rests (past_at (ticked h)) }
     {
-        shows_sixteen(self.frame);
+        shows_sixteen(self.context.frame);
         if !self.goes_free() {
             false
         } else if !self.is_unasked() {
             false
-        } else if !running_out(&self.frame).is_empty() {
+        } else if !running_out(&self.context.frame).is_empty() {
             false
         } else {
-            are_both_on(self.frame.on)
+            are_both_on(self.context.frame.on)
         }
     }
 
@@ -93,11 +107,11 @@ impl Observer {
     /// is active in free operation.
     fn even_left(&self, most: u32) -> u32
         ensures within { result ≤ most }
-        ensures even { 0 < result → IsEven self.now.orders self.now.tables result }
-        ensures idle { 0 < result → IsIdle self.now.requests }
+        ensures even { 0 < result → IsEven self.now.context.unit_commands self.now.context.tables result }
+        ensures idle { 0 < result → IsIdle self.now.context.requests }
     {
-        if self.requests.is_idle() {
-            self.orders.even(&self.tables, most)
+        if self.context.requests.is_idle() {
+            self.context.unit_commands.even(&self.context.tables, most)
         } else {
             0
         }
@@ -107,15 +121,17 @@ impl Observer {
     fn pass(&mut self, ticks: u32)
         requires some { 0 < ticks }
         requires few { tick_count self.old + ticks ≤ 4294967295 }
-        requires even { IsEven self.old.orders self.old.tables ticks }
-        requires idle { IsIdle self.old.requests }
-        ensures stands { (h : History) → StandsFor self.old h → Rests (past_at h) → StandsFor self.new (ticks_more ticks h) }
+        requires even { IsEven self.old.context.unit_commands self.old.context.tables ticks }
+        requires idle { IsIdle self.old.context.requests }
+        ensures stands { (h : History) → ObserverStands self.old h → Rests (past_at h) → ObserverStands self.new (ticks_more ticks h) }
         ensures ticks { tick_count self.new ≡ tick_count self.old + ticks }
         ensures installs { install_count self.new ≡ install_count self.old }
     {
-        let active = self.calls.active(&self.layout, None);
-        self.orders.pass(ticks, &self.tables);
-        self.lookout.push_again(active, PhaseSet::empty(), ticks);
+        let context = &mut self.context;
+        let active = context.calls.active(&context.layout, None);
+        context.unit_commands.pass(ticks, &context.tables);
+        self.frame_history
+            .push_again(active, PhaseSet::empty(), ticks);
     }
 
     /// Passes over ticks that come, at most so many, and says how many, where nothing has been told since the last tick: none but
@@ -123,8 +139,8 @@ impl Observer {
     pub(crate) fn pass_on(&mut self, most: u32) -> u32
         requires few { tick_count self.old + most ≤ 4294967295 }
         ensures within { result ≤ most }
-        ensures stands { (h : History) → StandsFor self.old (ticked h) → StandsFor self.new (ticks_more result (ticked h)) }
-        ensures plain { (h : History) (k : ℕ) → StandsFor self.old (ticked h) → k < result → is_told (ticked h) (suc k) ≡ false }
+        ensures stands { (h : History) → ObserverStands self.old (ticked h) → ObserverStands self.new (ticks_more result (ticked h)) }
+        ensures plain { (h : History) (k : ℕ) → ObserverStands self.old (ticked h) → k < result → is_told (ticked h) (suc k) ≡ false }
         ensures ticks { tick_count self.new ≡ tick_count self.old + result }
         ensures installs { install_count self.new ≡ install_count self.old }
     {

@@ -10,20 +10,20 @@ impl Observer {
     ghost use Rattle.sig_tables.specs.Past.{History};
     ghost use Rattle.sig_tables.specs.Decide.{decide, ticked};
     ghost use Rattle.tick_context.specs.Strides.{IsStride, is_told, ticks_more};
-    ghost use Rattle.observer.specs.Remembers.{StandsFor, tick_count, install_count};
+    ghost use Rattle.observer.specs.Remembers.{ObserverStands, tick_count, install_count};
 
     /// The frame of the next tick.
     pub fn tick(&mut self) -> Frame
         requires few { tick_count self.old < 4294967295 }
-        ensures decided { (h : History) → StandsFor self.old h → result ≡ decide h }
-        ensures stands { (h : History) → StandsFor self.old h → StandsFor self.new (ticked h) }
+        ensures decided { (h : History) → ObserverStands self.old h → result ≡ decide h }
+        ensures stands { (h : History) → ObserverStands self.old h → ObserverStands self.new (ticked h) }
         ensures counted { tick_count self.new ≡ tick_count self.old + 1 }
         ensures installs { install_count self.new ≡ install_count self.old }
     {
-        let course = self.course();
-        let sight = self.sight(&course);
-        let frame = self.next_frame(&course, &sight);
-        self.keep(&frame, &course, &sight);
+        let tick_state = self.tick_state();
+        let tick_inputs = self.tick_inputs(&tick_state);
+        let frame = self.next_frame(&tick_state, &tick_inputs);
+        self.keep(&frame, &tick_state, &tick_inputs);
         frame
     }
 
@@ -34,9 +34,9 @@ impl Observer {
     pub fn stride_told(&mut self, n: u32) -> (u32, bool)
         requires some { 1 ≤ n }
         requires few { tick_count self.old + n ≤ 4294967295 }
-        ensures least { (h : History) → StandsFor self.old h → IsStride h n result.0 }
-        ensures told { (h : History) → StandsFor self.old h → result.1 ≡ is_told h result.0 }
-        ensures stands { (h : History) → StandsFor self.old h → StandsFor self.new (ticks_more result.0 h) }
+        ensures least { (h : History) → ObserverStands self.old h → IsStride h n result.0 }
+        ensures told { (h : History) → ObserverStands self.old h → result.1 ≡ is_told h result.0 }
+        ensures stands { (h : History) → ObserverStands self.old h → ObserverStands self.new (ticks_more result.0 h) }
         ensures some { 1 ≤ result.0 }
         ensures within { result.0 ≤ n }
         ensures counted { tick_count self.new ≡ tick_count self.old + result.0 }
@@ -44,7 +44,7 @@ impl Observer {
     {
         let mut done = 0;
         while done < n {
-            let last = self.frame;
+            let last = self.context.frame;
             let next = self.tick();
             done += 1;
             if has_line(&last, &next) {

@@ -2,16 +2,13 @@
 //! walk, pedestrian clearance, steady don't walk).
 
 ghost use Rattle.std.specs.Prelude.{◌≡◌, ℕ, Bool, if◌then◌else◌, List, map};
-ghost use Rattle.sig_types.specs.declared.frame.Mode.TheVariants.{Coord};
 
 use crate::Observer;
-use call_store::signalling;
+use call_store::{Crosswalks, signalling, walks};
 use look_back::cut_in;
-use pattern_plan::SplitOptions;
-use ped_clock::{Crosswalks, walks};
 use ring_barrier::Changes;
 use sig_types::{Mode, Ped, PhaseSet};
-use tick_context::{Course, Sight, greens, is_coord, is_coord_of};
+use tick_context::{TickInputs, TickState, greens};
 
 impl Observer {
     ghost use Rattle.sig_types.specs.declared.frame.Colour.{Colour};
@@ -19,81 +16,55 @@ impl Observer {
     ghost use Rattle.sig_types.specs.Phases.{all_phases};
     ghost use Rattle.sig_tables.specs.Past.{Past};
     ghost use Rattle.sig_tables.specs.Choosing.{mode_reached};
-    ghost use Rattle.sig_tables.specs.Course.{course_of};
-    ghost use Rattle.sig_tables.specs.Walking.{is_local_zero};
     ghost use Rattle.sig_tables.specs.Moves.{Moves};
     ghost use Rattle.sig_tables.specs.Decide.{colours_of};
     ghost use Rattle.sig_tables.specs.Layout.{Has};
     ghost use Rattle.sig_tables.specs.Seen.{frame_seen, mode_seen};
-    ghost use Rattle.ped_clock.specs.Walks.{SaysInCoord};
-    ghost use Rattle.tick_context.specs.Binds.{IsBound};
     ghost use Rattle.tick_context.specs.Walks.{walk_after, signal_seen};
     ghost use Rattle.tick_context.specs.Moves.{AreMoves};
     ghost use Rattle.tick_context.specs.Sees.{Sees};
     ghost use Rattle.observer.specs.Runs.{Runs};
 
-    /// What the split asks of the pattern whose coordination a frame of this mode is in, which may be its pickup.
-    fn options_reached(&self, mode: Mode) -> Option<&SplitOptions>
-        ensures options { (past : Past) (veh : List Colour) → IsBound self.now.binding past.tables (mode_seen past)
-            → mode ≡ mode_reached (mode_seen past) past.tables veh → SaysInCoord result mode past.tables }
-    {
-        if is_coord(mode) {
-            Some(&self.binding.options)
-        } else {
-            None
-        }
-    }
-
-    /// Whether a frame of this mode, whose colours this tick gives, is a local zero.
-    fn is_zero(&self, course: &Course, mode: Mode) -> bool
-        ensures zero { (past : Past) → Runs self.now course.now past
-            → result ≡ is_local_zero mode (course_of past).counter (frame_seen past) }
-    {
-        match mode {
-            Mode::Coord(pattern) => {
-                if course.counter != 0 {
-                    false
-                } else if self.frame.counter != 0 {
-                    true
-                } else {
-                    !is_coord_of(self.frame.mode, pattern)
-                }
-            }
-            _ => false,
-        }
-    }
-
     /// The phases on which walk begins at this tick, after these moves, in a frame of this mode.
     pub(crate) fn walks(
         &self,
-        course: &Course,
-        sight: &Sight,
+        tick_state: &TickState,
+        tick_inputs: &TickInputs,
         moves: Changes,
         mode: Mode,
     ) -> PhaseSet
-        ensures walks { (past : Past) (w : Moves) (veh : List Colour) → Runs self.now course.now past → Sees sight.now past → AreMoves moves w
+        ensures walks { (past : Past) (w : Moves) (veh : List Colour) → Runs self.now tick_state.now past → Sees tick_inputs.now past → AreMoves moves w
             → mode ≡ mode_reached (mode_seen past) past.tables veh → Has result (walk_after past mode (colours_of past w)) }
     {
-        let steady = signalling(&self.frame.ped, Ped::Dont);
+        let steady = signalling(&self.context.frame.ped, Ped::Dont);
         let crosswalks = Crosswalks {
             mode,
-            is_zero: self.is_zero(course, mode),
-            greens: greens(course.turn),
+            is_zero: self.context.is_zero(tick_state, mode),
+            greens: greens(tick_state.ring_turn),
             begins: self.red().meet(moves.begins),
             rests: self.green().minus(moves.ends).meet(steady),
-            called: self.calls.pedestrian(),
-            opposed: sight.opposed,
+            called: self.context.calls.pedestrian(),
+            opposed: tick_inputs.opposed,
         };
-        walks(&self.layout, self.options_reached(mode), &crosswalks)
+        walks(
+            &self.context.layout,
+            self.context.options_reached(mode),
+            &crosswalks,
+        )
     }
 
     /// The signals of this tick, where walk begins on these phases.
-    pub(crate) fn signals(&self, course: &Course, walks: PhaseSet) -> [Ped; 16]
-        ensures signals { (past : Past) (begins : ℕ → Bool) → Runs self.now course.now past → Has walks begins
+    pub(crate) fn signals(&self, tick_state: &TickState, walks: PhaseSet) -> [Ped; 16]
+        ensures signals { (past : Past) (begins : ℕ → Bool) → Runs self.now tick_state.now past → Has walks begins
             → result ≡ map (λ p. if begins p then Walk else signal_seen past p) all_phases }
     {
-        let cut = cut_in(&self.tables, course.mode);
-        self.lookout
-            .signals(&self.tables, &self.frame.ped, walks, course.goal, cut)
+        let cut = cut_in(&self.context.tables, tick_state.mode);
+        self.frame_history.signals(
+            &self.context.tables,
+            &self.context.frame.ped,
+            walks,
+            tick_state.goal,
+            cut,
+        )
     }
 }

@@ -1,80 +1,87 @@
 -- What holds of the counter whatever the targets are.
 use Rattle.std.proofs.Common.{◌≡◌, ◌⊎◌, inl, inr, ℕ, zero, suc, Bool, true, false, not, nat_le, ◌==◌, ◌&&◌, ◌||◌, if◌then◌else◌, ◌+◌, ◌<◌, ◌≤◌, max, List, ◌∷◌, refl, sym, subst, arith}
-use Rattle.std.proofs.lemmas.Bool.{cases_order, leb-true, leb-false, eqb-true}
+use Rattle.std.proofs.lemmas.Bool.{cases_order, leb-false, eqb-true}
 use Rattle.sig_tables.specs.Counting.{Correction, HasRoom, tick_later, ahead, adds_sooner, dwelling, adding, skipping, stands, last_step_changed, begins_cycle, next_counter, corrected, counter_after, last_counter, most_a_cycle}
-use Rattle.offset_laws.specs.Stepping.{Steps, Stands, Plain, Skips, Zero, KeepsLimits, to_zero, StepsOn, ZeroComes}
+use Rattle.tick_laws.specs.Steps.{Steps, Stands, Plain, Skips, Zero}
+use Rattle.tick_laws.proofs.Steps.{counter-steps}
+use Rattle.offset_laws.specs.Stepping.{KeepsLimits, to_zero, StepsOn, ZeroComes}
 use Rattle.offset_laws.proofs.Steps.{later-within, later-end}
 use Rattle.offset_laws.proofs.Looks.{other, stands-stood, stands-moved, begins-at}
 
--- a step, and where it stands, what was left to stand
+-- where the step stands, a stand was left in the cycle
+abbrev HasStand : Correction → List ℕ → ℕ → ℕ → Type 0
+HasStand k past c d = d ≡ c → stands past < most_a_cycle k
+
+-- a step, and what was left to stand
 pub record Goes (k : Correction) (past : List ℕ) (c d : ℕ) : Type 0 where
   pub how : Steps k.cycle k.window c d
-  pub room : d ≡ c → stands past < most_a_cycle k
+  pub room : HasStand k past c d
 
-goes-plain : (k : Correction) (past : List ℕ) (c : ℕ) → 10 ≤ k.cycle → c < k.cycle → Goes k past c (tick_later k.cycle c)
-goes-plain k past c long below = elim (cases_order (c + 1) k.cycle) [
-  | inl e ↦ let z : tick_later k.cycle c ≡ 0 = later-end k.cycle c e in
-      record { how = Zero z e; room = λ same. absurd (omega arith) }
-  | inr (inl l) ↦ let z : tick_later k.cycle c ≡ c + 1 = later-within k.cycle c l in
-      record { how = Plain z l; room = λ same. absurd (omega arith) }
+stand-plain : (k : Correction) (past : List ℕ) (c : ℕ) → 10 ≤ k.cycle → c < k.cycle → HasStand k past c (tick_later k.cycle c)
+stand-plain k past c long below = elim (cases_order (c + 1) k.cycle) [
+  | inl e ↦ let z : tick_later k.cycle c ≡ 0 = later-end k.cycle c e in λ same. absurd (omega arith)
+  | inr (inl l) ↦ let z : tick_later k.cycle c ≡ c + 1 = later-within k.cycle c l in λ same. absurd (omega arith)
   | inr (inr g) ↦ absurd (omega arith)
 ]
 
-goes-dwelling : (k : Correction) (past : List ℕ) (c : ℕ) → HasRoom k → k.mode ≡ 2 → c < k.window → c < k.cycle → Goes k past c (dwelling k past c)
-goes-dwelling k past c room mode inside below = pick (c == 0) (nat_le k.dwell (stands past)) refl
+stand-dwelling : (k : Correction) (past : List ℕ) (c : ℕ) → HasRoom k → k.mode ≡ 2 → c < k.cycle → HasStand k past c (dwelling k past c)
+stand-dwelling k past c room mode below = pick (c == 0) (nat_le k.dwell (stands past)) refl
   where
     dwells : (k : Correction) → k.mode ≡ 2 → most_a_cycle k ≡ k.dwell
     dwells k h = rw h refl
 
-    pick : (a b : Bool) → nat_le k.dwell (stands past) ≡ b → Goes k past c (if a && not b then c else tick_later k.cycle c)
-    pick true true e = goes-plain k past c room.cycle below
-    pick true false e = record { how = Stands refl inside; room = λ _. omega (arith, leb-false k.dwell (stands past) e, dwells k mode) }
-    pick false b e = goes-plain k past c room.cycle below
+    pick : (a b : Bool) → nat_le k.dwell (stands past) ≡ b → HasStand k past c (if a && not b then c else tick_later k.cycle c)
+    pick true true e = stand-plain k past c room.cycle below
+    pick true false e = λ _. omega (arith, leb-false k.dwell (stands past) e, dwells k mode)
+    pick false b e = stand-plain k past c room.cycle below
 
-goes-adding : (k : Correction) (past : List ℕ) (c : ℕ) → HasRoom k → k.add ≤ most_a_cycle k → c < k.window → c < k.cycle → Goes k past c (adding k past c)
-goes-adding k past c room most inside below = pick (last_step_changed past) (nat_le k.add (stands past)) refl
+stand-adding : (k : Correction) (past : List ℕ) (c : ℕ) → HasRoom k → k.add ≤ most_a_cycle k → c < k.cycle → HasStand k past c (adding k past c)
+stand-adding k past c room most below = pick (last_step_changed past) (nat_le k.add (stands past)) refl
   where
-    pick : (a b : Bool) → nat_le k.add (stands past) ≡ b → Goes k past c (if a && not b then c else tick_later k.cycle c)
-    pick true true e = goes-plain k past c room.cycle below
-    pick true false e = record { how = Stands refl inside; room = λ _. omega (arith, leb-false k.add (stands past) e) }
-    pick false b e = goes-plain k past c room.cycle below
+    pick : (a b : Bool) → nat_le k.add (stands past) ≡ b → HasStand k past c (if a && not b then c else tick_later k.cycle c)
+    pick true true e = stand-plain k past c room.cycle below
+    pick true false e = λ _. omega (arith, leb-false k.add (stands past) e)
+    pick false b e = stand-plain k past c room.cycle below
 
-goes-skipping : (k : Correction) (past : List ℕ) (c : ℕ) (more : Bool) → HasRoom k → c < k.cycle
-    → Goes k past c (if nat_le (c + 2) k.window && more then c + 2 else tick_later k.cycle c)
-goes-skipping k past c more room below = pick (nat_le (c + 2) k.window) more refl
+stand-skipping : (k : Correction) (past : List ℕ) (c : ℕ) (more : Bool) → HasRoom k → c < k.cycle
+    → HasStand k past c (if nat_le (c + 2) k.window && more then c + 2 else tick_later k.cycle c)
+stand-skipping k past c more room below = pick (nat_le (c + 2) k.window) more
   where
-    pick : (a b : Bool) → nat_le (c + 2) k.window ≡ a → Goes k past c (if a && b then c + 2 else tick_later k.cycle c)
-    pick true true e = record { how = Skips refl (leb-true (c + 2) k.window e); room = λ same. absurd (omega arith) }
-    pick true false e = goes-plain k past c room.cycle below
-    pick false b e = goes-plain k past c room.cycle below
+    pick : (a b : Bool) → HasStand k past c (if a && b then c + 2 else tick_later k.cycle c)
+    pick true true = λ same. absurd (omega arith)
+    pick true false = stand-plain k past c room.cycle below
+    pick false b = stand-plain k past c room.cycle below
 
 add-most : (k : Correction) → (k.mode ≡ 4) ⊎ (k.mode ≡ 3) → k.add ≤ most_a_cycle k
 add-most k (inl h) = let e : most_a_cycle k ≡ k.add = rw h refl in omega arith
 add-most k (inr h) = let e : most_a_cycle k ≡ max k.add k.subtract = rw h refl in omega arith
 
-goes-corrected : (k : Correction) (past : List ℕ) (c e : ℕ) → HasRoom k → c < k.window → c < k.cycle → Goes k past c (corrected k past c e)
-goes-corrected k past c e room inside below = pick (k.mode == 2) (k.mode == 4) (k.mode == 3) (adds_sooner k e) refl refl refl
+stand-corrected : (k : Correction) (past : List ℕ) (c e : ℕ) → HasRoom k → c < k.cycle → HasStand k past c (corrected k past c e)
+stand-corrected k past c e room below = pick (k.mode == 2) (k.mode == 4) (k.mode == 3) (adds_sooner k e) refl refl refl
   where
     pick : (a b d s : Bool) → (k.mode == 2) ≡ a → (k.mode == 4) ≡ b → (k.mode == 3) ≡ d
-        → Goes k past c (if a then dwelling k past c else if b then adding k past c else if d then
+        → HasStand k past c (if a then dwelling k past c else if b then adding k past c else if d then
         (if s then adding k past c else skipping k past c) else tick_later k.cycle c)
-    pick true b d s x y z = goes-dwelling k past c room (eqb-true k.mode 2 x) inside below
-    pick false true d s x y z = goes-adding k past c room (add-most k (inl (eqb-true k.mode 4 y))) inside below
-    pick false false true true x y z = goes-adding k past c room (add-most k (inr (eqb-true k.mode 3 z))) inside below
-    pick false false true false x y z = goes-skipping k past c _ room below
-    pick false false false s x y z = goes-plain k past c room.cycle below
+    pick true b d s x y z = stand-dwelling k past c room (eqb-true k.mode 2 x) below
+    pick false true d s x y z = stand-adding k past c room (add-most k (inl (eqb-true k.mode 4 y))) below
+    pick false false true true x y z = stand-adding k past c room (add-most k (inr (eqb-true k.mode 3 z))) below
+    pick false false true false x y z = stand-skipping k past c _ room below
+    pick false false false s x y z = stand-plain k past c room.cycle below
 
-goes-after : (k : Correction) (past : List ℕ) (c e : ℕ) → HasRoom k → c < k.cycle → Goes k past c (counter_after k past c e)
-goes-after k past c e room below = pick (e == 0) (nat_le k.window c) refl
+stand-after : (k : Correction) (past : List ℕ) (c e : ℕ) → HasRoom k → c < k.cycle → HasStand k past c (counter_after k past c e)
+stand-after k past c e room below = pick (e == 0) (nat_le k.window c)
   where
-    pick : (a b : Bool) → nat_le k.window c ≡ b → Goes k past c (if a || b then tick_later k.cycle c else corrected k past c e)
-    pick true b h = goes-plain k past c room.cycle below
-    pick false true h = goes-plain k past c room.cycle below
-    pick false false h = goes-corrected k past c e room (leb-false k.window c h) below
+    pick : (a b : Bool) → HasStand k past c (if a || b then tick_later k.cycle c else corrected k past c e)
+    pick true b = stand-plain k past c room.cycle below
+    pick false true = stand-plain k past c room.cycle below
+    pick false false = stand-corrected k past c e room below
 
 pub goes : (k : Correction) (past : List ℕ) (target : ℕ) → HasRoom k → last_counter past < k.cycle
     → Goes k past (last_counter past) (next_counter k past target)
-goes k past target room below = goes-after k past (last_counter past) (ahead k.cycle target (last_counter past)) room below
+goes k past target room below = record {
+  how = counter-steps k past target below;
+  room = stand-after k past (last_counter past) (ahead k.cycle target (last_counter past)) room below;
+}
 
 -- what the step makes of the limits and of the way to local zero
 nearer : (k : Correction) (c : ℕ) (before : List ℕ) (d target : ℕ) → HasRoom k → KeepsLimits k (c ∷ before) → Goes k (c ∷ before) c d

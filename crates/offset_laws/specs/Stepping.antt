@@ -1,14 +1,7 @@
 -- What holds of the counter whatever the targets are, also where a clock that is set moves them within a cycle.
 use Rattle.std.specs.Prelude.{ℕ, zero, suc, true, ◌≡◌, ◌≤◌, ◌<◌, ◌⊎◌, ◌+◌, ◌-◌, List, ◌∷◌}
 use Rattle.sig_tables.specs.Counting.{Correction, next_counter, last_counter, stands, begins_cycle, most_a_cycle}
-
--- how the counter goes on from c to d: it stands within the window, goes on as time does, skips one tick up to the window, or
--- comes to local zero
-pub data Steps (cycle window c d : ℕ) : Type 0 where
-  Stands : (same : d ≡ c) → (inside : c < window) → Steps cycle window c d
-  Plain : (next : d ≡ c + 1) → (within : c + 1 < cycle) → Steps cycle window c d
-  Skips : (over : d ≡ c + 2) → (inside : d ≤ window) → Steps cycle window c d
-  Zero : (zero : d ≡ 0) → (last : c + 1 ≡ cycle) → Steps cycle window c d
+use Rattle.tick_laws.specs.Steps.{Steps}
 
 -- the counter lies in the cycle, and has stood no more often than one cycle may
 pub record KeepsLimits (k : Correction) (past : List ℕ) : Type 0 where

@@ -1,5 +1,6 @@
-//! Laws of offset correction: the counter of a cycle is brought onto its target, and a local zero comes whatever the targets
-//! are (FHWA Signal Timing Manual, offset transition). The functions have no bodies: each stands for the laws of its contract.
+//! Laws of offset correction, in numbers: the counter of a cycle is brought onto its target, a local zero comes whatever the
+//! targets are, and under a clock that drifts the offset is held to within one tick (FHWA Signal Timing Manual, offset
+//! transition). The functions have no bodies: each stands for the laws of its contract.
 #![tactic(auto)]
 
 mod drift_held;

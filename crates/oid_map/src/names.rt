@@ -17,7 +17,7 @@ pub const ASC: [u32; 10] = [1, 3, 6, 1, 4, 1, 1206, 4, 2, 1];
 pub const OWN: [u32; 8] = [1, 3, 6, 1, 4, 1, 32473, 1];
 
 /// A table of objects with indices.
-#[derive(Clone, Copy, Debug, PartialEq, Eq)]
+#[derive(Clone, Copy, PartialEq, Eq)]
 pub enum TableName {
     Phase,
     Group,
@@ -28,7 +28,7 @@ pub enum TableName {
 }
 
 /// What an instance is: a cell of the tables, an index of one of them, or something that the cabinet shows or takes.
-#[derive(Clone, Copy, Debug, PartialEq, Eq)]
+#[derive(Clone, Copy, PartialEq, Eq)]
 pub enum Name {
     /// A cell of the tables.
     Cell(Cell),

@@ -2,14 +2,14 @@
 //! written, the object stands in two rows.
 
 /// The numbers from the least to the most.
-#[derive(Clone, Copy, Debug, PartialEq, Eq)]
+#[derive(Clone, Copy, PartialEq, Eq)]
 pub struct Range {
     pub least: u32,
     pub most: u32,
 }
 
 /// An object, or objects of one form. The arcs of a table's entry come before its column.
-#[derive(Clone, Copy, Debug, PartialEq, Eq)]
+#[derive(Clone, Copy, PartialEq, Eq)]
 pub enum Object {
     /// A scalar: its group and number. The instance ends in 0.
     Scalar(u32, u32),

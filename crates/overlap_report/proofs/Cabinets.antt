@@ -1,11 +1,11 @@
--- A scenario has a cabinet with a number or it has none; a cabinet comes to one standing; and the tables of its versions are one list.
+-- A scenario has a cabinet with a number or it has none; a cabinet comes to one state; and the tables of its versions are one list.
 use Rattle.std.proofs.Common.{◌≡◌, ◌⊎◌, inl, inr, ℕ, suc, ◌+◌, ◌<◌, ◌≤◌, ◌==◌, false, List, [], ◌∷◌, length, get_or, refl, sym, ◌∙◌, ap, arith}
 use Rattle.std.proofs.lemmas.Bool.{cases_Bool, false≢true, eq-eqb}
 use Rattle.sig_types.proofs.Lists.{eq-true}
 use Rattle.sig_tables.specs.declared.tables.Tables.{Tables}
 use Rattle.scenario_data.specs.Content.{CabinetContent}
 use Rattle.runnable.specs.Cabinets.{IsNumbered}
-use Rattle.run_definition.specs.Standing.{Standing, HasComeTo}
+use Rattle.run_definition.specs.CabinetState.{CabinetState, HasComeTo}
 use Rattle.overlap_run.specs.Trace.{AreByVersion}
 
 -- one of these cabinets has the number, or none has
@@ -29,23 +29,23 @@ some-or-none cab first (d ∷ cabinets) = elim (cases_Bool (cab == first)) [
   | inr miss ↦ behind-first cab first d cabinets miss (some-or-none cab (first + 1) cabinets)
 ]
 
-come-late : (cab first : ℕ) (t : Standing) (ts : List Standing) → HasComeTo cab t first ts → first ≤ cab
+come-late : (cab first : ℕ) (t : CabinetState) (ts : List CabinetState) → HasComeTo cab t first ts → first ≤ cab
 come-late cab first t [] is = absurd is
 come-late cab first t (u ∷ ts) (inl here) = let e : cab ≡ first = here.0 in omega (arith, e)
 come-late cab first t (u ∷ ts) (inr later) = let l : first + 1 ≤ cab = come-late cab (first + 1) t ts later in omega (arith, l)
 
-pub one-standing : (cab first : ℕ) (t u : Standing) (ts : List Standing) → HasComeTo cab t first ts → HasComeTo cab u first ts → t ≡ u
-one-standing cab first t u [] a b = absurd a
-one-standing cab first t u (v ∷ ts) (inl a) (inl b) = a.1 ∙ sym b.1
-one-standing cab first t u (v ∷ ts) (inl a) (inr b) =
+pub one-cabinet_state : (cab first : ℕ) (t u : CabinetState) (ts : List CabinetState) → HasComeTo cab t first ts → HasComeTo cab u first ts → t ≡ u
+one-cabinet_state cab first t u [] a b = absurd a
+one-cabinet_state cab first t u (v ∷ ts) (inl a) (inl b) = a.1 ∙ sym b.1
+one-cabinet_state cab first t u (v ∷ ts) (inl a) (inr b) =
     let here : cab ≡ first = a.0 in
     let late : first + 1 ≤ cab = come-late cab (first + 1) u ts b in
     absurd (omega (arith, here, late))
-one-standing cab first t u (v ∷ ts) (inr a) (inl b) =
+one-cabinet_state cab first t u (v ∷ ts) (inr a) (inl b) =
     let here : cab ≡ first = b.0 in
     let late : first + 1 ≤ cab = come-late cab (first + 1) t ts a in
     absurd (omega (arith, here, late))
-one-standing cab first t u (v ∷ ts) (inr a) (inr b) = one-standing cab (first + 1) t u ts a b
+one-cabinet_state cab first t u (v ∷ ts) (inr a) (inr b) = one-cabinet_state cab (first + 1) t u ts a b
 
 same-each : (xs ys : List Tables) → length xs ≡ length ys → ((v : ℕ) (d : Tables) → v < length xs → get_or xs v d ≡ get_or ys v d) → xs ≡ ys
 same-each [] [] e same = refl

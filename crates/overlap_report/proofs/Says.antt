@@ -16,8 +16,8 @@ use Rattle.runnable.specs.Cabinets.{IsCabinet}
 use Rattle.runnable.specs.Runnable.{Runnable}
 use Rattle.cabinet_history.specs.Coming.{history_of}
 use Rattle.cabinet_history.specs.Frames.{has_line}
-use Rattle.cabinet_laws.proofs.Telling.{story-tells}
-use Rattle.run_definition.specs.Standing.{Standing, opened_standings, standings_after}
+use Rattle.cabinet_laws.proofs.Telling.{cabinet_history-tells}
+use Rattle.run_definition.specs.CabinetState.{CabinetState, opened_cabinet_states, cabinet_states_after}
 use Rattle.run_definition.specs.Lines.{run_lines}
 use Rattle.run_definition.specs.Orders.{AreJournals}
 use Rattle.run_definition.specs.Safe.{Kept}
@@ -36,7 +36,7 @@ use Rattle.trace_laws.specs.Seen.{HasSeen, IsSeenOf}
 use Rattle.overlap_report.specs.declared.asking.Asked.{Asked}
 use Rattle.overlap_report.specs.Overlaps.{HasEnded, AreInForce, AtCabinet, NoCabinet, times_of, verdict_of, BreaksRule, street_of, TellsOverlap}
 use Rattle.overlap_report.specs.BySeen.{IsUnbroken, SaysOfOverlap}
-use Rattle.overlap_report.proofs.Cabinets.{SomeOrNone, some-or-none, one-standing, one-by-version}
+use Rattle.overlap_report.proofs.Cabinets.{SomeOrNone, some-or-none, one-cabinet_state, one-by-version}
 use Rattle.overlap_report.proofs.Shown.{lines-show}
 
 -- a fact of every overlap at a cabinet of which lines have told, where it breaks no rule
@@ -76,11 +76,11 @@ run_of text cab seen hs = record {
 record Found (text : List ℕ) (cab : ℕ) (seen : Seen) : Type 0 where
   run : TellsOfRun text
   cabinet : CabinetContent
-  end : Standing
+  end : CabinetState
   own : IsCabinet run.scenario cab cabinet
   ended : HasEnded run.scenario run.journals cab end
-  all : seen.ticks + 1 ≡ length (frames (history_of end.story))
-  lines_told : IsToldOf cab (tables_of (history_of end.story)) run.kept.lines seen.tables.items
+  all : seen.ticks + 1 ≡ length (frames (history_of end.cabinet_history))
+  lines_told : IsToldOf cab (tables_of (history_of end.cabinet_history)) run.kept.lines seen.tables.items
   shown : told cab run.kept.lines ≡ frames_told seen.frames.items
   rise : AreFrames seen.frames.items seen.ticks
 
@@ -88,14 +88,14 @@ found-at : Laws → (text : List ℕ) (cab : ℕ) (seen : Seen) (hs : HasSeen te
 found-at laws text cab seen hs c is =
     let e : Ended hs.scenario hs.journals cab c = run-ended hs.scenario hs.journals cab c hs.are is in
     let k : Kept hs.scenario hs.journals hs.kept.lines cab c = hs.kept.kept cab c is in
-    let h : History = history_of e.end.story in
+    let h : History = history_of e.end.cabinet_history in
     let all_seen : IsSeenOf seen h = hs.own c e.end is e.come in
     let lines : run_lines hs.scenario hs.journals ≡ hs.kept.lines =
     hs.kept.its.only (run_lines hs.scenario hs.journals) (laws.proper hs.scenario hs.runs hs.journals hs.are) hs.text_is in
     let tells : told_in cab hs.kept.lines ≡ history_told has_line h =
-    ap (told_in cab) (sym lines) ∙ e.told ∙ story-tells e.end.story (opening_tables c) (drift_in c) e.opens in
+    ap (told_in cab) (sym lines) ∙ e.told ∙ cabinet_history-tells e.end.cabinet_history (opening_tables c) (drift_in c) e.opens in
     let same : k.end ≡ e.end =
-    one-standing cab 1 k.end e.end (standings_after hs.scenario (opened_standings hs.scenario hs.scenario.cabinets) hs.journals) k.come e.come in
+    one-cabinet_state cab 1 k.end e.end (cabinet_states_after hs.scenario (opened_cabinet_states hs.scenario hs.scenario.cabinets) hs.journals) k.come e.come in
     record {
       run = run_of text cab seen hs;
       cabinet = c;
@@ -104,7 +104,7 @@ found-at laws text cab seen hs c is =
       ended = e.come;
       all = all_seen.ticks;
       lines_told = record {
-        safe = subst (λ (t : Standing). Safe (intersection_of cab (tables_of (history_of t.story)) hs.kept.lines)) same k.safe;
+        safe = subst (λ (t : CabinetState). Safe (intersection_of cab (tables_of (history_of t.cabinet_history)) hs.kept.lines)) same k.safe;
         whole = k.whole;
         versions = subst (λ (n : ℕ). AreByVersion seen.tables.items (tables_of h) n) (sym (laws.versions h has_line cab hs.kept.lines tells)) all_seen.tables;
       };
@@ -146,7 +146,7 @@ some-tables (t ∷ tables) asked ok = λ none. absurd (let empty : length (t ∷
 same-tables : (text : List ℕ) (cab : ℕ) (seen : Seen) (hs : HasSeen text cab seen) (tables : List Tables) → AreInForce hs.scenario hs.journals cab tables
     → tables ≡ seen.tables.items
 same-tables text cab seen hs tables (AtCabinet c end is come are) =
-    one-by-version tables seen.tables.items (tables_of (history_of end.story)) (past_at (history_of end.story)).version are (hs.own c end is come).tables
+    one-by-version tables seen.tables.items (tables_of (history_of end.cabinet_history)) (past_at (history_of end.cabinet_history)).version are (hs.own c end is come).tables
 same-tables text cab seen hs tables (NoCabinet none e) = e ∙ sym (hs.none none)
 
 in-force : (text : List ℕ) (cab : ℕ) (seen : Seen) (hs : HasSeen text cab seen) → AreInForce hs.scenario hs.journals cab seen.tables.items
@@ -186,7 +186,7 @@ module _ (laws : Laws) (text : List ℕ) (asked : Asked) (seen : Seen) (hs : Has
   told-here : IsUnbroken seen asked → Found text asked.cabinet seen
       → TellsOverlap text asked (overlap_text (times_of asked) (green_at asked.parents.items seen.frames.items) seen.ticks)
   told-here ok f =
-      let tables : ℕ → Tables = tables_of (history_of f.end.story) in
+      let tables : ℕ → Tables = tables_of (history_of f.end.cabinet_history) in
       record {
         run = f.run;
         cabinet = f.cabinet;
@@ -203,7 +203,7 @@ module _ (laws : Laws) (text : List ℕ) (asked : Asked) (seen : Seen) (hs : Has
 
   can-here : IsUnbroken seen asked → (f : Found text asked.cabinet seen)
       → CanOverlap (times_of asked) asked.parents.items (street_of asked.cabinet f.end f.run.kept.lines) (downloads asked.cabinet f.run.kept.lines)
-  can-here ok f = laws.can asked.cabinet (tables_of (history_of f.end.story)) f.run.kept.lines seen.tables.items
+  can-here ok f = laws.can asked.cabinet (tables_of (history_of f.end.cabinet_history)) f.run.kept.lines seen.tables.items
       asked.parents.items asked.trail asked.yellow asked.red f.lines_told ok
 
   pub says : SaysOfOverlap text asked seen

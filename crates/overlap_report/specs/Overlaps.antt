@@ -9,7 +9,7 @@ use Rattle.safety_laws.specs.Written.{tables_of}
 use Rattle.scenario_data.specs.Content.{CabinetContent, ScenarioContent}
 use Rattle.runnable.specs.Cabinets.{IsCabinet}
 use Rattle.cabinet_history.specs.Coming.{history_of}
-use Rattle.run_definition.specs.Standing.{Standing, HasComeTo, opened_standings, standings_after}
+use Rattle.run_definition.specs.CabinetState.{CabinetState, HasComeTo, opened_cabinet_states, cabinet_states_after}
 use Rattle.trace_laws.specs.Laws.{TellsOfRun}
 use Rattle.overlap_run.specs.declared.overlap.Timing.{Timing}
 use Rattle.overlap_run.specs.Overlap.{timed}
@@ -20,14 +20,14 @@ use Rattle.overlap_run.specs.Trace.{AreByVersion, text_of}
 use Rattle.overlap_report.specs.declared.asking.Asked.{Asked}
 
 -- by the end of a run with these journals the cabinet with this number has come to this
-abbrev pub HasEnded : ScenarioContent → List (List (List ℕ)) → ℕ → Standing → Type 0
-HasEnded s journals cab end = HasComeTo cab end 1 (standings_after s (opened_standings s s.cabinets) journals)
+abbrev pub HasEnded : ScenarioContent → List (List (List ℕ)) → ℕ → CabinetState → Type 0
+HasEnded s journals cab end = HasComeTo cab end 1 (cabinet_states_after s (opened_cabinet_states s s.cabinets) journals)
 
 -- in a run with these journals these tables were in force at the cabinet with this number, in the order of their versions: those that it
 -- opened with, and those of each accepted download. There are none where the scenario has no such cabinet
 pub data AreInForce (s : ScenarioContent) (journals : List (List (List ℕ))) (cab : ℕ) (tables : List Tables) : Type 0 where
-  AtCabinet : (c : CabinetContent) (end : Standing) → IsCabinet s cab c → HasEnded s journals cab end
-      → AreByVersion tables (tables_of (history_of end.story)) (past_at (history_of end.story)).version → AreInForce s journals cab tables
+  AtCabinet : (c : CabinetContent) (end : CabinetState) → IsCabinet s cab c → HasEnded s journals cab end
+      → AreByVersion tables (tables_of (history_of end.cabinet_history)) (past_at (history_of end.cabinet_history)).version → AreInForce s journals cab tables
   NoCabinet : ((c : CabinetContent) → IsCabinet s cab c → ⊥) → tables ≡ [] → AreInForce s journals cab tables
 
 -- the times of the overlap that is asked for
@@ -46,8 +46,8 @@ pub record BreaksRule (text : List ℕ) (asked : Asked) (fault : OverlapFault) :
   pub broken : verdict_of tables asked ≡ Err fault
 
 -- a cabinet as the street sees it by these lines, with the tables of each version of what it came to
-abbrev pub street_of : ℕ → Standing → List Line → Intersection
-street_of cab end lines = intersection_of cab (tables_of (history_of end.story)) lines
+abbrev pub street_of : ℕ → CabinetState → List Line → Intersection
+street_of cab end lines = intersection_of cab (tables_of (history_of end.cabinet_history)) lines
 
 -- the text is a trace with such a cabinet, at which the overlap breaks no rule. What is written is the text of the overlap over all ticks of
 -- the cabinet, by the lines of the trace; and by these lines, at every tick at which the overlap isn't Red some parent isn't either, so
@@ -55,12 +55,12 @@ street_of cab end lines = intersection_of cab (tables_of (history_of end.story))
 pub record TellsOverlap (text : List ℕ) (asked : Asked) (written : List ℕ) : Type 0 where
   pub run : TellsOfRun text
   pub cabinet : CabinetContent
-  pub end : Standing
+  pub end : CabinetState
   pub own : IsCabinet run.scenario asked.cabinet cabinet
   pub ended : HasEnded run.scenario run.journals asked.cabinet end
   pub unbroken : (fault : OverlapFault) → BreaksRule text asked fault → ⊥
   pub ticks : ℕ
-  pub all : ticks + 1 ≡ length (frames (history_of end.story))
-  pub written_is : written ≡ text_of (times_of asked) asked.parents.items asked.cabinet (tables_of (history_of end.story)) run.kept.lines ticks
+  pub all : ticks + 1 ≡ length (frames (history_of end.cabinet_history))
+  pub written_is : written ≡ text_of (times_of asked) asked.parents.items asked.cabinet (tables_of (history_of end.cabinet_history)) run.kept.lines ticks
   pub covered : (tick : ℕ) → IsCovered (times_of asked) asked.parents.items (street_of asked.cabinet end run.kept.lines) tick
   pub apart : (tick : ℕ) → IsApart (times_of asked) asked.parents.items (street_of asked.cabinet end run.kept.lines) tick

@@ -3,7 +3,7 @@
 use arrayvec::ArrayVec;
 
 /// An overlap that is asked for: the number of its cabinet, its parent phases, and its times, in ticks of 0.1 s.
-#[derive(Debug, PartialEq, Drop)]
+#[derive(PartialEq, Drop)]
 pub struct Asked {
     pub cabinet: u32,
     /// Each is to be an enabled phase, and none is to stand twice.

@@ -14,7 +14,7 @@ use std::alloc::Global;
 use trace_laws::Seen;
 
 /// Why there is no text of an overlap.
-#[derive(Clone, Copy, Debug, PartialEq, Eq)]
+#[derive(Clone, Copy, PartialEq, Eq)]
 pub enum ReportFail {
     /// It breaks a rule: the first that it breaks, and at which row.
     Overlap(OverlapFault),

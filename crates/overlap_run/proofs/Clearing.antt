@@ -22,12 +22,12 @@ record Since (s : Intersection) (p : ℕ) (colour : Colour) (first tick : ℕ) :
   before : (k : ℕ) → k + 1 ≡ first → colour_at s p k ≢ colour
 
 -- where the phase stands since it was Green at a tick: still or again Green; Yellow since later; or Clear, a whole yellow later
-data Stands (s : Intersection) (last p g tick : ℕ) : Type 0 where
-  IsGreen : colour_at s p tick ≡ Green → Stands s last p g tick
-  IsYellow : (first : ℕ) → g < first → Since s p Yellow first tick → Stands s last p g tick
-  IsClear : (first v : ℕ) → v ≤ last → g + 1 + yellow_time (s.tables v) p ≤ first → Since s p Clear first tick → Stands s last p g tick
+data ClearingStands (s : Intersection) (last p g tick : ℕ) : Type 0 where
+  IsGreen : colour_at s p tick ≡ Green → ClearingStands s last p g tick
+  IsYellow : (first : ℕ) → g < first → Since s p Yellow first tick → ClearingStands s last p g tick
+  IsClear : (first v : ℕ) → v ≤ last → g + 1 + yellow_time (s.tables v) p ≤ first → Since s p Clear first tick → ClearingStands s last p g tick
 
-not-red : (s : Intersection) (last p g tick : ℕ) → Stands s last p g tick → colour_at s p tick ≢ Red
+not-red : (s : Intersection) (last p g tick : ℕ) → ClearingStands s last p g tick → colour_at s p tick ≢ Red
 not-red s last p g tick (IsGreen is) = λ e. differs Green Red refl (sym is ∙ e)
 not-red s last p g tick (IsYellow first late since) = λ e. differs Yellow Red refl (sym (since.during tick since.some (omega arith)) ∙ e)
 not-red s last p g tick (IsClear first v old late since) = λ e. differs Clear Red refl (sym (since.during tick since.some (omega arith)) ∙ e)
@@ -75,7 +75,7 @@ module _ (s : Intersection) (last p bound g : ℕ) (safe : Safe s) (is-phase : i
       ∙ ap (next_colour (in_force s (tick + 1)) p) before
 
   -- from Green only Yellow follows
-  from-green : (tick : ℕ) (now : Colour) → colour_at s p (tick + 1) ≡ now → colour_at s p tick ≡ Green → g ≤ tick → Stands s last p g (tick + 1)
+  from-green : (tick : ℕ) (now : Colour) → colour_at s p (tick + 1) ≡ now → colour_at s p tick ≡ Green → g ≤ tick → ClearingStands s last p g (tick + 1)
   from-green tick Green after is late = IsGreen after
   from-green tick Yellow after is late = IsYellow (tick + 1) (omega (arith, late)) (since-now s p tick Yellow Green after is refl)
   from-green tick Clear after is late = absurd (differs Clear Yellow refl (follows tick Green Clear is after refl))
@@ -90,7 +90,7 @@ module _ (s : Intersection) (last p bound g : ℕ) (safe : Safe s) (is-phase : i
 
   -- Yellow lasts its time, and then Clear follows, or Red where no red clearance is due
   from-yellow : (first tick : ℕ) (now : Colour) → colour_at s p (tick + 1) ≡ now → g < first → Since s p Yellow first tick → tick + 1 ≤ g + bound
-      → Stands s last p g (tick + 1)
+      → ClearingStands s last p g (tick + 1)
   from-yellow first tick Yellow after late since short = IsYellow first late (since-on s p first tick Yellow since after)
   from-yellow first tick Green after late since short =
       absurd (elim (clear-follows tick Green (follows tick Yellow Green (since.during tick since.some (omega arith)) after refl)) [
@@ -114,7 +114,7 @@ module _ (s : Intersection) (last p bound g : ℕ) (safe : Safe s) (is-phase : i
 
   -- Clear lasts its time
   from-clear : (first v tick : ℕ) (now : Colour) → colour_at s p (tick + 1) ≡ now → v ≤ last → g + 1 + yellow_time (s.tables v) p ≤ first
-      → Since s p Clear first tick → tick + 1 ≤ g + bound → Stands s last p g (tick + 1)
+      → Since s p Clear first tick → tick + 1 ≤ g + bound → ClearingStands s last p g (tick + 1)
   from-clear first v tick Clear after old late since short = IsClear first v old late (since-on s p first tick Clear since after)
   from-clear first v tick Green after old late since short =
       absurd (differs Green Red refl (follows tick Clear Green (since.during tick since.some (omega arith)) after refl))
@@ -126,16 +126,16 @@ module _ (s : Intersection) (last p bound g : ℕ) (safe : Safe s) (is-phase : i
       let fits : bound ≤ yellow_time (s.tables v) p + red_clear_time (in_force s first) p = least v (s.shown first).version old (versions first) in
       absurd (omega (arith, long, late, short, fits))
 
-  goes-on : (tick : ℕ) → Stands s last p g tick → g ≤ tick → tick + 1 ≤ g + bound → Stands s last p g (tick + 1)
+  goes-on : (tick : ℕ) → ClearingStands s last p g tick → g ≤ tick → tick + 1 ≤ g + bound → ClearingStands s last p g (tick + 1)
   goes-on tick (IsGreen is) late short = from-green tick (colour_at s p (tick + 1)) refl is late
   goes-on tick (IsYellow first from since) late short = from-yellow first tick (colour_at s p (tick + 1)) refl from since short
   goes-on tick (IsClear first v old from since) late short = from-clear first v tick (colour_at s p (tick + 1)) refl old from since short
 
-  stands-after : (d : ℕ) → colour_at s p g ≡ Green → d ≤ bound → Stands s last p g (g + d)
+  stands-after : (d : ℕ) → colour_at s p g ≡ Green → d ≤ bound → ClearingStands s last p g (g + d)
   stands-after zero green short = IsGreen (ap (colour_at s p) (omega arith) ∙ green)
   stands-after (suc d) green short =
       let next : g + d + 1 ≡ g + suc d = omega arith in
-      subst (λ (k : ℕ). Stands s last p g k) next
+      subst (λ (k : ℕ). ClearingStands s last p g k) next
       (goes-on (g + d) (stands-after d green (omega (arith, short))) (omega arith) (omega (arith, short)))
 
   -- so it isn't Red for as long as its least clearance after it was Green

@@ -5,7 +5,7 @@ use Rattle.sig_types.specs.declared.frame.Colour.TheVariants.{Green, Red}
 use Rattle.overlap_run.specs.declared.overlap.Timing.{Timing}
 use Rattle.overlap_run.specs.declared.overlap.Overlap.{Overlap}
 use Rattle.overlap_run.specs.Overlap.{has_trail, shown_after, last_colour, colours}
-use Rattle.overlap_run.specs.StandsFor.{StandsFor}
+use Rattle.overlap_run.specs.StandsFor.{OverlapStands}
 
 after-red : (t : Timing) (greens : List Bool) (shown : Colour) (past : List Colour) → Red ≡ shown → shown_after t (true ∷ greens) (shown ∷ past) ≡ Green
 after-red t greens shown past is = rw (sym is) refl
@@ -23,7 +23,7 @@ whole-trail trail left n is = grind arith
 
 -- where a parent is Green the overlap has its whole trail left
 pub begun : (o : Overlap) (t : Timing) (greens : List Bool) → o.shown ≡ Green → o.times ≡ t → o.left ≡ t.trail → greens ≢ []
-    → Red ≡ last_colour (colours t greens) → StandsFor o t (true ∷ greens)
+    → Red ≡ last_colour (colours t greens) → OverlapStands o t (true ∷ greens)
 begun o t greens green times left some was = record {
   some = grind arith;
   times = times;

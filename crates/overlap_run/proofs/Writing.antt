@@ -4,7 +4,7 @@ use Rattle.sig_types.specs.declared.frame.Colour.{Colour}
 use Rattle.overlap_run.specs.declared.overlap.Timing.{Timing}
 use Rattle.overlap_run.specs.declared.overlap.Overlap.{Overlap}
 use Rattle.overlap_run.specs.Overlap.{last_colour, colours, greens_to, overlap_at}
-use Rattle.overlap_run.specs.StandsFor.{StandsFor}
+use Rattle.overlap_run.specs.StandsFor.{OverlapStands}
 use Rattle.overlap_run.specs.Text.{line_where, changes_to}
 
 greens-more : (shows : ℕ → Bool) (n : ℕ) → greens_to shows (n + 1) ≡ shows (n + 1) ∷ greens_to shows n
@@ -21,9 +21,9 @@ shown-next t shows n green shown now is =
     ∙ ap (λ (gs : List Bool). last_colour (colours t gs)) (sym (greens-more shows n))
 
 pub stands-next : (o : Overlap) (t : Timing) (shows : ℕ → Bool) (n : ℕ) (green : Bool) → shows (n + 1) ≡ green
-    → StandsFor o t (green ∷ greens_to shows n) → StandsFor o t (greens_to shows (n + 1))
+    → OverlapStands o t (green ∷ greens_to shows n) → OverlapStands o t (greens_to shows (n + 1))
 stands-next o t shows n green now stands =
-    subst (λ (gs : List Bool). StandsFor o t gs) (ap (λ (g : Bool). g ∷ greens_to shows n) (sym now) ∙ sym (greens-more shows n)) stands
+    subst (λ (gs : List Bool). OverlapStands o t gs) (ap (λ (g : Bool). g ∷ greens_to shows n) (sym now) ∙ sym (greens-more shows n)) stands
 
 pub lines-next : (shown : ℕ → Colour) (n : ℕ) (old mid new : List ℕ) (before after : Colour) → mid ≡ old ++ changes_to shown n
     → before ≡ shown n → after ≡ shown (n + 1) → new ≡ mid ++ line_where before (n + 1) after → new ≡ old ++ changes_to shown (n + 1)

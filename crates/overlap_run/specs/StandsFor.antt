@@ -19,7 +19,7 @@ IsLeft left t greens past Clear = left + run Clear past ≡ t.red
 IsLeft left t greens past Red = Unit {0}
 
 -- the overlap shows what these times give at the newest of these ticks, and counts down from there
-pub record StandsFor (o : Overlap) (t : Timing) (greens : List Bool) : Type 0 where
+pub record OverlapStands (o : Overlap) (t : Timing) (greens : List Bool) : Type 0 where
   pub some : greens ≢ []
   pub times : o.times ≡ t
   pub shown : o.shown ≡ last_colour (colours t greens)
@@ -27,4 +27,4 @@ pub record StandsFor (o : Overlap) (t : Timing) (greens : List Bool) : Type 0 wh
 
 -- the overlap stands at tick 0, whatever its parents show there
 abbrev pub IsOpened : Overlap → Timing → Type 0
-IsOpened o t = (green : Bool) → StandsFor o t (green ∷ [])
+IsOpened o t = (green : Bool) → OverlapStands o t (green ∷ [])

@@ -1,10 +1,8 @@
 //! An overlap: an arrow that shows green with any of several parent phases, as the right turn beside two through movements
-//! (NEMA TS 2, overlaps). It is timed from what a controller did: `Overlap` counts down tick by tick, and `text`
-//! writes its changes over all ticks of a cabinet.
+//! (NEMA TS 2, overlaps). `Overlap` counts down tick by tick, and `text` writes its changes over all ticks of a cabinet.
 //!
-//! Whether an overlap can be timed from what a cabinet did, and by which rule it cannot. The rules rest on the tables that were in force: the
-//! overlap is to be over before any of its parents can have cleared (NEMA TS 2, overlaps; yellow change of three seconds at least,
-//! MUTCD).
+//! By which rule an overlap can't be timed from what a cabinet did: it is to be over before any of its parents can have cleared
+//! (yellow change of three seconds at least, MUTCD). And the law that its parents cover it at every tick.
 #![tactic(auto)]
 
 mod changes;

@@ -7,7 +7,7 @@ use sig_types::Colour;
 
 /// How long an overlap holds green behind the last green of its parents, how long yellow change lasts, and how long red clearance
 /// lasts; in ticks of 0.1 s.
-#[derive(Clone, Copy, Debug, PartialEq, Eq)]
+#[derive(Clone, Copy, PartialEq, Eq)]
 pub struct Timing {
     pub trail: u32,
     pub yellow: u32,
@@ -16,7 +16,7 @@ pub struct Timing {
 
 /// An overlap at a tick: its times, what it shows, and how many ticks are left of that. Trail and red clearance last 0 to 255 ticks,
 /// yellow change 1 to 255.
-#[derive(Clone, Copy, Debug, PartialEq, Eq)]
+#[derive(Clone, Copy, PartialEq, Eq)]
 pub struct Overlap {
     times: Timing,
     shown: Colour,
@@ -26,7 +26,7 @@ pub struct Overlap {
 
 impl Overlap {
     ghost use Rattle.overlap_run.specs.Overlap.{timed, colours, last_colour};
-    ghost use Rattle.overlap_run.specs.StandsFor.{StandsFor, IsOpened};
+    ghost use Rattle.overlap_run.specs.StandsFor.{OverlapStands, IsOpened};
 
     /// An overlap at tick 0: Red, whatever its parents show.
     pub fn open(trail: u32, yellow: u32, red: u32) -> Overlap
@@ -45,15 +45,15 @@ impl Overlap {
 
     /// What is shown at this tick.
     pub fn shown(&self) -> Colour
-        ensures { (t : Timing) (greens : List Bool) → StandsFor self.now t greens → result ≡ last_colour (colours t greens) }
+        ensures { (t : Timing) (greens : List Bool) → OverlapStands self.now t greens → result ≡ last_colour (colours t greens) }
     {
         self.shown
     }
 
     /// The next tick, at which some parent shows Green or none does: what the overlap shows then.
     pub fn step(&mut self, green: bool) -> Colour
-        ensures shown { (t : Timing) (greens : List Bool) → StandsFor self.old t greens → result ≡ last_colour (colours t (green ∷ greens)) }
-        ensures stands { (t : Timing) (greens : List Bool) → StandsFor self.old t greens → StandsFor self.new t (green ∷ greens) }
+        ensures shown { (t : Timing) (greens : List Bool) → OverlapStands self.old t greens → result ≡ last_colour (colours t (green ∷ greens)) }
+        ensures stands { (t : Timing) (greens : List Bool) → OverlapStands self.old t greens → OverlapStands self.new t (green ∷ greens) }
     {
         match self.shown {
             Colour::Red => self.begin(green),
@@ -67,7 +67,7 @@ impl Overlap {
     /// From Red: Green where a parent is.
     fn begin(&mut self, green: bool)
         requires { self.old.shown ≡ Colour.Red }
-        ensures { (t : Timing) (greens : List Bool) → StandsFor self.old t greens → StandsFor self.new t (green ∷ greens) }
+        ensures { (t : Timing) (greens : List Bool) → OverlapStands self.old t greens → OverlapStands self.new t (green ∷ greens) }
     {
         if green {
             self.shown = Colour::Green;
@@ -78,7 +78,7 @@ impl Overlap {
     /// From Green: held while a parent is Green and for the trail behind it, then Yellow.
     fn hold(&mut self, green: bool)
         requires { self.old.shown ≡ Colour.Green }
-        ensures { (t : Timing) (greens : List Bool) → StandsFor self.old t greens → StandsFor self.new t (green ∷ greens) }
+        ensures { (t : Timing) (greens : List Bool) → OverlapStands self.old t greens → OverlapStands self.new t (green ∷ greens) }
     {
         if green {
             self.left = self.times.trail;
@@ -93,7 +93,7 @@ impl Overlap {
     /// From Yellow: when it is over, Clear, or Red where there is no red clearance.
     fn change(&mut self)
         requires { self.old.shown ≡ Colour.Yellow }
-        ensures { (t : Timing) (green : Bool) (greens : List Bool) → StandsFor self.old t greens → StandsFor self.new t (green ∷ greens) }
+        ensures { (t : Timing) (green : Bool) (greens : List Bool) → OverlapStands self.old t greens → OverlapStands self.new t (green ∷ greens) }
     {
         if self.left > 0 {
             self.left -= 1;
@@ -108,7 +108,7 @@ impl Overlap {
     /// From Clear: when it is over, Red.
     fn clear(&mut self)
         requires { self.old.shown ≡ Colour.Clear }
-        ensures { (t : Timing) (green : Bool) (greens : List Bool) → StandsFor self.old t greens → StandsFor self.new t (green ∷ greens) }
+        ensures { (t : Timing) (green : Bool) (greens : List Bool) → OverlapStands self.old t greens → OverlapStands self.new t (green ∷ greens) }
     {
         if self.left > 0 {
             self.left -= 1;

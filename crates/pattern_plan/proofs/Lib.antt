@@ -1,4 +1,4 @@
 mod Walks
 mod Sides
 mod Points
-pub mod Binding
+pub mod ActivePattern

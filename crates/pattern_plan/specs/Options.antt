@@ -17,8 +17,8 @@ pub record SplitSays (o : SplitOptions) (t : Tables) (n : ℕ) : Type 0 where
   pub pedestrian : Has o.pedestrian (split_pedestrian t n)
 
 -- the options that are handed in are those of the pattern that binds; there are none where none does
-abbrev pub AreBinding : Option (Bor SplitOptions) → Option ℕ → Tables → Type 0
-AreBinding None None t = Unit {0}
-AreBinding (Some o) (Some n) t = SplitSays o.now t n
-AreBinding None (Some n) t = ⊥
-AreBinding (Some o) None t = ⊥
+abbrev pub AreActivePattern : Option (Bor SplitOptions) → Option ℕ → Tables → Type 0
+AreActivePattern None None t = Unit {0}
+AreActivePattern (Some o) (Some n) t = SplitSays o.now t n
+AreActivePattern None (Some n) t = ⊥
+AreActivePattern (Some o) None t = ⊥

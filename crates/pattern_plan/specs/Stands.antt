@@ -1,4 +1,4 @@
--- What a street says of its tables, and how a side is measured.
+-- What a ring layout says of its tables, and how a side is measured.
 use Rattle.std.specs.Prelude.{ℕ, ◌≡◌, ◌-◌, List, get_or, if◌then◌else◌}
 use Rattle.sig_types.specs.PhaseSet.{phases_of}
 use Rattle.sig_tables.specs.declared.tables.Tables.{Tables}
@@ -7,11 +7,11 @@ use Rattle.sig_tables.specs.Sides.{are_of_one_side}
 use Rattle.sig_tables.specs.Sums.{greatest}
 use Rattle.sig_tables.specs.Slots.{slot_end}
 use Rattle.sig_tables.specs.Layout.{Has, EachHas}
-use Rattle.pattern_plan.specs.declared.street.Street.{Street}
+use Rattle.pattern_plan.specs.declared.ring_layout.RingLayout.{RingLayout}
 use Rattle.pattern_plan.specs.declared.side.Side.{Side}
 
 -- its sets are those of its tables
-pub record Stands (s : Street) : Type 0 where
+pub record RingLayoutStands (s : RingLayout) : Type 0 where
   pub enabled : Has s.enabled (is_enabled s.tables.now)
   pub sides : EachHas s.sides.now (are_of_one_side s.tables.now)
 

@@ -5,11 +5,11 @@ ghost use Rattle.sig_tables.specs.Tables.{is_enabled};
 ghost use Rattle.sig_tables.specs.Slots.{is_coordinated, is_omitted, least_service, zero_point, force_point, permissive_end};
 ghost use Rattle.sig_tables.specs.Layout.{Has};
 ghost use Rattle.sig_tables.specs.Laying.{EachIs};
-ghost use Rattle.pattern_plan.specs.Stands.{Stands};
+ghost use Rattle.pattern_plan.specs.Stands.{RingLayoutStands};
 
 use crate::laying::{clearances, ends};
+use crate::ring_layout::RingLayout;
 use crate::side::Side;
-use crate::street::Street;
 use sig_tables::Tables;
 use sig_types::PhaseSet;
 
@@ -53,22 +53,22 @@ fn force_if(enabled: bool, cycle: Cycle, end: u32, clear: u32, side: &Side) -> u
 }
 
 /// The force point of each phase in a pattern whose local zero is given; 0 where it is not enabled.
-pub fn forces(street: &Street, pattern: u8, zero: u32) -> [u32; 16]
-    requires stands { Stands street.now }
-    requires zero { zero ≡ zero_point street.now.tables.now pattern }
-    ensures each { EachIs result (force_point street.now.tables.now pattern) }
+pub fn forces(ring_layout: &RingLayout, pattern: u8, zero: u32) -> [u32; 16]
+    requires stands { RingLayoutStands ring_layout.now }
+    requires zero { zero ≡ zero_point ring_layout.now.tables.now pattern }
+    ensures each { EachIs result (force_point ring_layout.now.tables.now pattern) }
     ensures sixteen { length result ≡ 16 }
 {
-    let time = 10 * u32::from(street.tables.pattern(pattern).cycle);
+    let time = 10 * u32::from(ring_layout.tables.pattern(pattern).cycle);
     let cycle = Cycle { time, zero };
-    let ends = ends(street, pattern);
-    let clears = clearances(street.tables);
+    let ends = ends(ring_layout, pattern);
+    let clears = clearances(ring_layout.tables);
     let mut side = Side::none();
     let mut forces = [0; 16];
     for phase in 1..17u8 {
         let place = phase as usize - 1;
-        side = side.of(street.sides[place], &ends, &clears);
-        let enabled = street.enabled.has(phase);
+        side = side.of(ring_layout.sides[place], &ends, &clears);
+        let enabled = ring_layout.enabled.has(phase);
         forces[place] = force_if(enabled, cycle, ends[place], clears[place], &side);
     }
     forces

@@ -6,9 +6,9 @@ ghost use Rattle.sig_tables.specs.Tables.{clearance};
 ghost use Rattle.sig_tables.specs.Sums.{sum_of, before};
 ghost use Rattle.sig_tables.specs.Slots.{split_time, slot_start, slot_end, least_service};
 ghost use Rattle.sig_tables.specs.Laying.{time_of, EachIs};
-ghost use Rattle.pattern_plan.specs.Stands.{Stands, enabled_end};
+ghost use Rattle.pattern_plan.specs.Stands.{RingLayoutStands, enabled_end};
 
-use crate::street::Street;
+use crate::ring_layout::RingLayout;
 use sig_tables::{SplitEntry, Tables, time_of};
 
 /// The least time that serves each phase, in ticks. Phase p stands at place p - 1.
@@ -86,13 +86,18 @@ fn end_if(enabled: bool, tables: &Tables, pattern: u8, phase: u8) -> u32
 }
 
 /// Where the slot of each enabled phase ends in a pattern; 0 for the others.
-pub fn ends(street: &Street, pattern: u8) -> [u32; 16]
-    requires stands { Stands street.now }
-    ensures { EachIs result (enabled_end street.now.tables.now pattern) }
+pub fn ends(ring_layout: &RingLayout, pattern: u8) -> [u32; 16]
+    requires stands { RingLayoutStands ring_layout.now }
+    ensures { EachIs result (enabled_end ring_layout.now.tables.now pattern) }
 {
     let mut ends = [0; 16];
     for phase in 1..17u8 {
-        ends[phase as usize - 1] = end_if(street.enabled.has(phase), street.tables, pattern, phase);
+        ends[phase as usize - 1] = end_if(
+            ring_layout.enabled.has(phase),
+            ring_layout.tables,
+            pattern,
+            phase,
+        );
     }
     ends
 }

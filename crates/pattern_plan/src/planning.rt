@@ -7,12 +7,12 @@ ghost use Rattle.sig_tables.specs.Splits.{coordinated_phases};
 ghost use Rattle.sig_tables.specs.Plan.{plan_of};
 ghost use Rattle.sig_tables.specs.Layout.{Has};
 ghost use Rattle.sig_tables.specs.Laying.{EachIs};
-ghost use Rattle.pattern_plan.specs.Stands.{Stands};
+ghost use Rattle.pattern_plan.specs.Stands.{RingLayoutStands};
 
 use crate::forcing::{forces, permissives};
 use crate::holding::{coordinated, coordinated_in, omitted};
 use crate::laying::{splits, start_of};
-use crate::street::{Street, sides_of};
+use crate::ring_layout::{RingLayout, sides_of};
 use sig_tables::{Plan, Tables, enabled_phases};
 use sig_types::PhaseSet;
 
@@ -89,25 +89,25 @@ pub fn plan(t: &Tables, pattern: u8) -> Plan
 {
     let enabled = enabled_phases(t);
     let sides = sides_of(t, enabled);
-    let street = Street {
+    let ring_layout = RingLayout {
         tables: t,
         enabled,
         sides: &sides,
     };
-    plan_on(&street, pattern)
+    plan_on(&ring_layout, pattern)
 }
 
-/// The same, where the street of the tables is known already.
-pub fn plan_on(street: &Street, pattern: u8) -> Plan
-    requires stands { Stands street.now }
-    ensures { result ≡ plan_of street.now.tables.now pattern }
+/// The same, where the ring layout of the tables is known already.
+pub fn plan_on(ring_layout: &RingLayout, pattern: u8) -> Plan
+    requires stands { RingLayoutStands ring_layout.now }
+    ensures { result ≡ plan_of ring_layout.now.tables.now pattern }
 {
-    let tables = street.tables;
+    let tables = ring_layout.tables;
     let row = tables.pattern(pattern);
-    let coordinated = coordinated(tables, street.enabled, pattern);
+    let coordinated = coordinated(tables, ring_layout.enabled, pattern);
     let held = held_phases(tables, coordinated, pattern);
-    let force = forces(street, pattern, zero_of(tables, pattern, held));
-    let timed = timed_phases(tables, street.enabled, coordinated, pattern);
+    let force = forces(ring_layout, pattern, zero_of(tables, pattern, held));
+    let timed = timed_phases(tables, ring_layout.enabled, coordinated, pattern);
     let window = window_of(tables, pattern, held, &force);
     Plan {
         cycle: ticks(row.cycle),

@@ -22,7 +22,7 @@ const MAXIMUM_AND_PEDESTRIAN_RECALL: u8 = 6;
 const OMITTED: u8 = 7;
 
 /// The phases by what the split of one pattern asks of them.
-#[derive(Clone, Copy, Debug, PartialEq, Eq)]
+#[derive(Clone, Copy, PartialEq, Eq)]
 pub struct SplitOptions {
     /// Those that the pattern holds onto the offset.
     pub coordinated: PhaseSet,

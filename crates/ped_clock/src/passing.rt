@@ -13,7 +13,8 @@ impl PedClocks {
     ghost use Rattle.sig_tables.specs.Looking.{last_frame, signal_run, signal_latched};
     ghost use Rattle.ped_clock.specs.Signals.{signal_time};
     ghost use Rattle.ped_clock.specs.Stands.{SignalsStand, step_count};
-    ghost use Rattle.ped_clock.specs.Passed.{passed, SignalLasts};
+    ghost use Rattle.ped_clock.specs.Passed.{passed};
+    ghost use Rattle.call_store.specs.Signals.{SignalLasts};
 
     /// How much of its time is left of the signal that a phase, 1 to 16, shows, in ticks.
     fn rest(&self, phase: u8) -> u32

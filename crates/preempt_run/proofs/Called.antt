@@ -1,26 +1,23 @@
 -- When a preempt is called, by the count of ticks at which its input has been on.
-use Rattle.std.proofs.Common.{◌≡◌, ◌+◌, ◌*◌, ◌<◌, ◌≤◌, ◌⊎◌, ℕ, Bool, true, false, not, ◌&&◌, ◌||◌, ◌==◌, nat_le, nat_lt, List, [], refl, sym, ◌∙◌, ap, arith, add-one}
+use Rattle.std.proofs.Common.{◌≡◌, ◌+◌, ◌*◌, ◌<◌, ◌≤◌, ℕ, Bool, true, false, not, ◌&&◌, ◌||◌, ◌==◌, nat_le, nat_lt, List, [], refl, sym, ◌∙◌, ap, arith, add-one}
 use Rattle.std.proofs.Math.Dec.{leb-suc-suc}
 use Rattle.std.proofs.lemmas.Bool.Decides.{nat_tests}
 use Rattle.sig_types.specs.PhaseSet.{has, phases_of}
 use Rattle.sig_types.specs.Phases.{is_in, has_some, those}
-use Rattle.sig_types.proofs.Sets.{in-those-is, in-phases, those-same}
+use Rattle.sig_types.proofs.Sets.{in-phases, those-same}
 use Rattle.sig_tables.specs.declared.tables.Tables.{Tables}
 use Rattle.sig_tables.specs.Cells.{preempt_of}
 use Rattle.sig_tables.specs.Past.{Past, Moment}
-use Rattle.sig_tables.specs.Looking.{in_a_row, last_moment}
+use Rattle.sig_tables.specs.Looking.{in_a_row}
 use Rattle.sig_tables.specs.Seen.{moment_seen}
-use Rattle.sig_tables.specs.Preempts.{all_preempts, preempt_on, preempts_on, has_been_on, dwell_set, is_preempt_called, preempt_called}
+use Rattle.sig_tables.specs.Preempts.{all_preempts, preempt_on, has_been_on, dwell_set, is_preempt_called, preempt_called}
 use Rattle.sig_tables.proofs.Below.{phase-is}
 use Rattle.sig_tables.proofs.Lasting.{lasts_now-counted}
 use Rattle.preempt_run.specs.declared.Preempts.{Preempts}
-use Rattle.preempt_run.specs.Stands.{PreemptsStand, preempts_seen}
-use Rattle.preempt_run.proofs.Least.{in-preempts, unlisted, preempt-above, preempt-within, least-none}
-
--- the preempts whose input is on, as a tick looks at them
-pub seen-is : (past : Past) → preempts_seen past ≡ preempts_on past.heard (last_moment past.tables past.moments)
-unfolding preempts_seen
-seen-is past = refl
+use Rattle.preempt_stages.specs.Inputs.{preempts_seen}
+use Rattle.preempt_run.specs.Stands.{PreemptsStand}
+use Rattle.preempt_stages.proofs.Inputs.{not-called}
+use Rattle.preempt_stages.proofs.Least.{in-preempts, preempt-above, preempt-within, least-none}
 
 -- the input of a preempt is on where the set has it
 pub seen-on : (c : Preempts) (past : Past) → PreemptsStand c past → (i : ℕ) → 0 < i → i ≤ 8 → is_in (preempts_seen past) i ≡ has c.on i
@@ -28,10 +25,6 @@ unfolding preempts_seen
 seen-on c past stands i above within =
     in-preempts (λ k. preempt_on (is_in (moment_seen past).preempts k) past.heard k) i above within
     ∙ sym (stands.on past.tables i above within)
-
--- what is called is on
-pub not-called : (t : Tables) (on : List ℕ) (past : List Moment) (i : ℕ) → is_in on i ≡ false → is_preempt_called t on past i ≡ false
-not-called t on past i off = rw off refl
 
 -- the preempts of the set are those whose input is on
 pub those-on : (c : Preempts) (past : Past) → PreemptsStand c past → those (has c.on) all_preempts ≡ preempts_seen past
@@ -50,17 +43,6 @@ none-called t c past stands empty =
     (seen-on c past stands k above within
     ∙ sym (in-phases (has c.on) k (phase-is k above few))
     ∙ ap (λ (xs : List ℕ). is_in xs k) empty))
-
--- no number but 1 to 8 is on
-pub none-beyond : (past : Past) (i : ℕ) → (i ≡ 0) ⊎ (8 < i) → is_in (preempts_seen past) i ≡ false
-unfolding preempts_seen
-none-beyond past i h =
-    in-those-is (λ k. preempt_on (is_in (moment_seen past).preempts k) past.heard k) all_preempts i
-    ∙ rw (unlisted i h) (and-false (preempt_on (is_in (moment_seen past).preempts i) past.heard i))
-  where
-    and-false : (b : Bool) → (b && false) ≡ false
-    and-false true = refl
-    and-false false = refl
 
 -- an input that is on now has been on for one tick more than so many last ones in a row
 been-on : (ticks i k : ℕ) (on : List ℕ) (past : List Moment) → is_in on i ≡ true → k ≡ in_a_row (λ m. is_in m.preempts i) past

@@ -12,9 +12,9 @@ use Rattle.sig_tables.specs.Modes.{same_mode}
 use Rattle.sig_tables.specs.Past.{Moment}
 use Rattle.sig_tables.specs.Looking.{lasts}
 use Rattle.sig_tables.specs.Preempts.{has_reached}
-use Rattle.preempt_run.specs.Dwelling.{is_dwell, is_off, dwells, dwells_green, dwells_off, each_green, each_off, NamesPhases, EachFits}
-use Rattle.preempt_run.proofs.Each.{every-true, every-same, every-both}
-use Rattle.preempt_run.proofs.Covered.{on-listed, past-green}
+use Rattle.preempt_stages.specs.Dwelling.{is_dwell, is_off, dwells, dwells_green, dwells_off, each_green, each_off, NamesPhases, EachFits}
+use Rattle.preempt_stages.proofs.Each.{every-true, every-same, every-both}
+use Rattle.preempt_stages.proofs.Covered.{on-listed, past-green}
 
 -- a dwell of a preempt is a dwell
 dwell-is : (mode : Mode) (i : ℕ) → same_mode mode (Dwell i) ≡ true → is_dwell mode ≡ true

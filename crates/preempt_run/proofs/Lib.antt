@@ -1,13 +1,6 @@
-pub mod Tallies
-pub mod Each
-pub mod Least
 pub mod Called
-pub mod Covered
 pub mod Dwelt
 pub mod First
-pub mod Goes
 pub mod Runs
-pub mod Listed
 pub mod Others
-pub mod OnPhases
 pub mod Passed

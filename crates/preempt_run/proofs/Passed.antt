@@ -13,12 +13,12 @@ use Rattle.sig_tables.specs.Past.{Past, Moment}
 use Rattle.sig_tables.specs.Decide.{with_moment}
 use Rattle.sig_tables.proofs.Below.{phase-is}
 use Rattle.preempt_run.specs.declared.Preempts.{Preempts}
-use Rattle.preempt_run.specs.declared.tally.Tally.{Tally}
-use Rattle.preempt_run.specs.Tally.{TallyStands}
-use Rattle.preempt_run.specs.Dwelling.{is_off, dwells_green, dwells_off}
+use Rattle.phase_clock.specs.declared.tally.Tally.{Tally}
+use Rattle.phase_clock.specs.Tally.{TallyStands}
+use Rattle.preempt_stages.specs.Dwelling.{is_off, dwells_green, dwells_off}
 use Rattle.preempt_run.specs.Stands.{PreemptsStand, StaysBeside}
 use Rattle.preempt_run.specs.Passed.{IsClear, passed}
-use Rattle.preempt_run.proofs.Goes.{same_mode-itself}
+use Rattle.preempt_stages.proofs.Goes.{same_mode-itself}
 use Rattle.preempt_run.proofs.Called.{seen-on}
 use Rattle.preempt_run.proofs.Runs.{mode-steps, stage-steps}
 

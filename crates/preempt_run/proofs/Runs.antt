@@ -7,12 +7,12 @@ use Rattle.sig_tables.specs.Past.{Past, Moment}
 use Rattle.sig_tables.specs.Looking.{in_a_row, lasts, last_frame}
 use Rattle.sig_tables.specs.Seen.{frame_seen}
 use Rattle.sig_tables.proofs.Lasting.{lasts-counted}
-use Rattle.preempt_run.specs.declared.tally.Tally.{Tally}
+use Rattle.phase_clock.specs.declared.tally.Tally.{Tally}
 use Rattle.preempt_run.specs.declared.Preempts.{Preempts}
-use Rattle.preempt_run.specs.Tally.{TallyStands, count_of}
+use Rattle.phase_clock.specs.Tally.{TallyStands, count_of}
 use Rattle.preempt_run.specs.Stands.{PreemptsStand}
-use Rattle.preempt_run.proofs.Tallies.{counted}
-use Rattle.preempt_run.proofs.Goes.{goes_on, begins, same_mode-itself, one-mode}
+use Rattle.phase_clock.proofs.Tallies.{counted}
+use Rattle.preempt_stages.proofs.Goes.{goes_on, begins, same_mode-itself, one-mode}
 use Rattle.std.proofs.lemmas.Bool.Decides.{Decides-eqb, eqb_tells}
 use Rattle.std.proofs.Common.{inl, inr}
 

@@ -1,5 +1,2 @@
-pub mod Tally
-pub mod Dwelling
 pub mod Stands
-pub mod Goals
 pub mod Passed

@@ -6,24 +6,21 @@ use Rattle.sig_tables.specs.declared.tables.Tables.{Tables}
 use Rattle.sig_tables.specs.Modes.{same_mode, stage_of}
 use Rattle.sig_tables.specs.Past.{Heard, Moment, Past}
 use Rattle.sig_tables.specs.Looking.{in_a_row, last_frame, last_moment}
-use Rattle.sig_tables.specs.Preempts.{preempt_on, preempts_on}
-use Rattle.sig_tables.specs.Seen.{moment_seen, frame_seen}
+use Rattle.sig_tables.specs.Preempts.{preempt_on}
+use Rattle.sig_tables.specs.Seen.{frame_seen}
 use Rattle.preempt_run.specs.declared.Preempts.{Preempts}
-use Rattle.preempt_run.specs.Tally.{TallyStands}
-use Rattle.preempt_run.specs.Dwelling.{dwells_green, dwells_off, is_dwell, NamesPhases, EachFits}
+use Rattle.phase_clock.specs.Tally.{TallyStands}
+use Rattle.preempt_stages.specs.Inputs.{preempts_seen}
+use Rattle.preempt_stages.specs.Dwelling.{dwells_green, dwells_off, is_dwell, NamesPhases, EachFits}
 
 -- how many frames have come
 abbrev pub step_count : Preempts → ℕ
 step_count c = c.steps
 
--- the preempts whose input is on
-unfoldable pub preempts_seen : Past → List ℕ
-preempts_seen past = preempts_on past.heard (moment_seen past)
-
 -- what is kept is what these inputs since the last frame, and these moments, give: the inputs that are on and for how many ticks
 -- each has been; the mode of the last frame, when it began, and when the stages of its preempt began; and for each phase
 -- for how many ticks of dwell it has been Green, and on in no ring
-pub record Keeps (c : Preempts) (heard : List Heard) (past : List Moment) : Type 0 where
+pub record PreemptsKeep (c : Preempts) (heard : List Heard) (past : List Moment) : Type 0 where
   pub steps : length past ≡ c.steps + 1
   pub on : (t : Tables) (i : ℕ) → 0 < i → i ≤ 8 → has c.on i ≡ preempt_on (is_in (last_moment t past).preempts i) heard i
   pub inputs : (i : ℕ) → 0 < i → i ≤ 8 → TallyStands c.inputs c.steps i (λ m. is_in m.preempts i) past
@@ -37,7 +34,7 @@ pub record Keeps (c : Preempts) (heard : List Heard) (past : List Moment) : Type
 -- the registers stand for the past: of all that has come they look at the inputs and the moments alone, so that a download, a
 -- command, a clock set or a priority request leaves them as they stand
 abbrev pub PreemptsStand : Preempts → Past → Type 0
-PreemptsStand c past = Keeps c past.heard past.moments
+PreemptsStand c past = PreemptsKeep c past.heard past.moments
 
 -- a moment goes on with the last one beside all preempts: no input is on at it, and its frame has the mode of the last, which is no
 -- dwell; what its rings have on are phases, or nothing

@@ -1,25 +1,20 @@
-//! Preemption: which preempt is called, and the stage in which a cabinet serves one (NTCIP 1202, preempt objects; the
-//! stages and their rules are this project's own). Nothing is counted from tick to tick: an input that turns on and a
+//! Preemption: which preempt is called, and for how long a cabinet has been in a stage of one (NTCIP 1202, preempt objects;
+//! the stages and their rules are this project's own). Nothing is counted from tick to tick: an input that turns on and a
 //! stage that begins are stamped with the number of the step, so that a tick without a preempt does little.
 #![tactic(auto)]
 
 ghost use Rattle.std.specs.Prelude.{◌≡◌, ◌<◌, ◌≤◌, ◌+◌, ◌*◌, ◌&&◌, ◌||◌, ◌==◌, ◌∷◌, [], ℕ, true, false, IsTrue};
 
+use phase_clock::Tally;
+use preempt_stages::{
+    after_entry, after_exit, began, breaks_in, calls, due_green, dwelling_green, dwelling_off,
+    exit_from, holds_dwell, is_dwell, phases_in, row_of, same_mode, same_stage, shows_sixteen,
+    ticks,
+};
 use sig_tables::{PhaseList, Tables};
 use sig_types::{Frame, Mode, PhaseSet};
 
-mod goals;
 mod passing;
-mod reached;
-mod stages;
-mod tally;
-
-pub use goals::{goal, lesser, lesser_green, row_of, stage_of};
-use goals::{phases_in, ticks};
-use reached::{due_green, dwelling_green, dwelling_off, is_dwell, shows_sixteen};
-pub use stages::{after_entry, after_exit, breaks_in, exit_from};
-use stages::{began, calls, holds_dwell, same_mode, same_stage};
-use tally::Tally;
 
 /// What is kept of the preempt inputs and of the frames so far. Preempts are 1 to 8; those whose input is on stand in a
 /// set as phases do. All times are in ticks of a tenth of a second.
@@ -53,8 +48,9 @@ impl Preempts {
     ghost use Rattle.sig_tables.specs.Seen.{frame_seen};
     ghost use Rattle.sig_tables.specs.Decide.{opened, with_event, with_moment};
     ghost use Rattle.sig_tables.specs.Preempts.{all_preempts, is_preempt_called, preempt_called, has_reached, is_track_over, is_dwell_over, stage_after, stage_now};
-    ghost use Rattle.preempt_run.specs.Dwelling.{NamesPhases, is_dwell, dwells, each_green, each_off};
-    ghost use Rattle.preempt_run.specs.Stands.{PreemptsStand, StaysBeside, step_count, preempts_seen};
+    ghost use Rattle.preempt_stages.specs.Dwelling.{NamesPhases, is_dwell, dwells, each_green, each_off};
+    ghost use Rattle.preempt_stages.specs.Inputs.{preempts_seen};
+    ghost use Rattle.preempt_run.specs.Stands.{PreemptsStand, StaysBeside, step_count};
 
     /// No input on, and the moment before any tick.
     pub fn new() -> Preempts

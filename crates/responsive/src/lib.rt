@@ -8,7 +8,7 @@ ghost use Rattle.responsive.specs.declared.Step.{Step as StepRow};
 ghost use Rattle.responsive.specs.Level.{up_met, down_met, greatest, level, Stays};
 
 /// A step of a rule: its level is reached at a volume of `up`, and held down to one of `down`.
-#[derive(Clone, Copy, Debug, PartialEq, Eq)]
+#[derive(Clone, Copy, PartialEq, Eq)]
 pub struct Step {
     /// Vehicles in a period, 1 to 1,000,000.
     pub up: u32,
@@ -19,7 +19,7 @@ pub struct Step {
 }
 
 /// What a section's pattern follows: a pattern at level 0, and a step for each level from 1 on.
-#[derive(Debug, PartialEq, Drop)]
+#[derive(PartialEq, Drop)]
 pub struct Rule {
     /// The section of the master's schedule, 1 to 8.
     pub section: u8,

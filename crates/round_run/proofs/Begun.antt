@@ -7,12 +7,12 @@ use Rattle.scenario_data.specs.Content.{ScenarioContent}
 use Rattle.sig_types.specs.declared.streams.Streams.{Streams}
 use Rattle.sig_types.specs.Items.{Item, items_of}
 use Rattle.cabinet_history.specs.Journals.{times}
-use Rattle.run_definition.specs.Standing.{Standing, coming_streams}
+use Rattle.run_definition.specs.CabinetState.{CabinetState, coming_streams}
 use Rattle.cab_book.specs.declared.book.Book.{Book}
 use Rattle.cab_book.specs.Books.{BookStands, CanBeTaken, streams_in, journal_of, left_of, ticks_by_end}
 use Rattle.cab_book.proofs.OnePart.{one-tally}
 use Rattle.cab_book.proofs.Beginning.{taken-small}
-use Rattle.round_run.specs.Standings.{IsAt, AreAt, HasRun, HaveRun, no_journals, TicksWithin}
+use Rattle.round_run.specs.CabinetStates.{IsAt, AreAt, HasRun, HaveRun, no_journals, TicksWithin}
 use Rattle.round_run.specs.Joined.{AreFresh, HaveFewLeft}
 use Rattle.round_run.specs.Opening.{CanOpen, AreComing, TicksAtMost, Begins, BeginsSome}
 
@@ -95,7 +95,7 @@ begun-some streams old now k was new below begun is stays = record {
 }
 
 -- a book that was at what its cabinet had come to has then run nothing of the streams that come
-pub begins-run : (s : ScenarioContent) (cab : ℕ) (t : Standing) (old new : Book) (one : Streams) → IsAt old t
+pub begins-run : (s : ScenarioContent) (cab : ℕ) (t : CabinetState) (old new : Book) (one : Streams) → IsAt old t
     → items_of one ≡ coming_streams s cab t → Begins old new one → HasRun s cab t [] new
 begins-run s cab t old new one at coming begins = record {
   stands = subst (BookStands new) at.now (begins.stands at.began at.stands);
@@ -104,7 +104,7 @@ begins-run s cab t old new one at coming begins = record {
   one = begins.whole;
 }
 
-pub begun-run : (s : ScenarioContent) (ts : List Standing) (streams : List Streams) (old now : List Book) (k : ℕ) → length old ≤ k
+pub begun-run : (s : ScenarioContent) (ts : List CabinetState) (streams : List Streams) (old now : List Book) (k : ℕ) → length old ≤ k
     → BegunTo streams old now k → AreAt old ts → AreComing s ts streams → HaveRun s ts (no_journals ts) now
 begun-run s ts streams old now k all begun at coming = record {
   many = begun.many ∙ at.many;
@@ -112,7 +112,7 @@ begun-run s ts streams old now k all begun at coming = record {
   each = λ j b t journal below.
       let less : j < k = omega (arith, below, all, at.many) in
       let one : Streams = some_of streams j (omega (arith, below, coming.many)) in
-      subst (λ (passes : List ℕ). HasRun s (j + 1) (get_or ts j t) passes (get_or now j b)) (sym (get_or-map (λ (u : Standing). []) ts j t journal below))
+      subst (λ (passes : List ℕ). HasRun s (j + 1) (get_or ts j t) passes (get_or now j b)) (sym (get_or-map (λ (u : CabinetState). []) ts j t journal below))
       (begins-run s (j + 1) (get_or ts j t) (get_or old j b) (get_or now j b) (get_or streams j one) (at.each j b t below) (coming.each j t one below)
       ((begun.each b).done j less one));
 }

@@ -6,15 +6,15 @@ use Rattle.std.proofs.lemmas.Bool.Decides.{eqb_tells}
 use Rattle.sig_types.proofs.InTurn.{InTurn, InTurn-start, InTurn-set}
 use Rattle.scenario_data.specs.Content.{ScenarioContent}
 use Rattle.sig_types.specs.Items.{Item}
-use Rattle.cabinet_history.specs.Story.{Story}
+use Rattle.cabinet_history.specs.CabinetHistory.{CabinetHistory}
 use Rattle.cabinet_history.specs.Journals.{times, serial_from, serial}
-use Rattle.run_definition.specs.Standing.{Standing, coming_streams}
+use Rattle.run_definition.specs.CabinetState.{CabinetState, coming_streams}
 use Rattle.run_definition.specs.Orders.{serial_round}
 use Rattle.cab_book.specs.declared.book.Book.{Book}
 use Rattle.cab_book.specs.Books.{BookStands, IsOnePart, streams_in, journal_of, left_of, ticks_by_end}
 use Rattle.cab_book.specs.Shares.{read_journal}
 use Rattle.cab_book.proofs.OnePart.{one-tally, one-stays}
-use Rattle.round_run.specs.Standings.{HasRun, HaveRun, no_journals, TicksWithin}
+use Rattle.round_run.specs.CabinetStates.{HasRun, HaveRun, no_journals, TicksWithin}
 use Rattle.round_run.specs.Joined.{Finishes}
 
 -- so many items more of those of a pass: what is left of them comes behind these
@@ -29,14 +29,14 @@ journal-more pass left many rest before now whole is count so =
     ∙ so
 
 -- what all passes before this one bring was brought
-pub record BroughtTo (s : ScenarioContent) (cab : ℕ) (t : Standing) (pass : ℕ) (b : Book) : Type 0 where
-  pub stands : BookStands b t.story
+pub record BroughtTo (s : ScenarioContent) (cab : ℕ) (t : CabinetState) (pass : ℕ) (b : Book) : Type 0 where
+  pub stands : BookStands b t.cabinet_history
   pub streams : streams_in b ≡ coming_streams s cab t
   pub journal : journal_of b ++ serial_from pass (drop pass (coming_streams s cab t)) ≡ serial (coming_streams s cab t)
   pub left : (p : ℕ) → pass ≤ p → left_of b p ≡ length (get_or (coming_streams s cab t) p [])
   pub one : IsOnePart b
 
-pub brought-none : (s : ScenarioContent) (cab : ℕ) (t : Standing) (b : Book) → HasRun s cab t [] b → BroughtTo s cab t 0 b
+pub brought-none : (s : ScenarioContent) (cab : ℕ) (t : CabinetState) (b : Book) → HasRun s cab t [] b → BroughtTo s cab t 0 b
 brought-none s cab t b run = record {
   stands = run.stands;
   streams = run.streams;
@@ -51,19 +51,19 @@ brought-none s cab t b run = record {
 
 -- what a pass does where it brings all that is left of its stream
 pub record BringsAll (old new : Book) (pass : ℕ) : Type 0 where
-  pub stands : (story : Story) → BookStands old story → BookStands new story
+  pub stands : (cabinet_history : CabinetHistory) → BookStands old cabinet_history → BookStands new cabinet_history
   pub streams : streams_in new ≡ streams_in old
   pub journal : journal_of new ≡ journal_of old ++ replicate (left_of old pass) pass
   pub own : left_of new pass ≡ 0
   pub others : (p : ℕ) → p ≢ pass → left_of new p ≡ left_of old p
 
-pub brought-more : (s : ScenarioContent) (cab : ℕ) (t : Standing) (pass : ℕ) (old new : Book) → pass < 5 → BringsAll old new pass
+pub brought-more : (s : ScenarioContent) (cab : ℕ) (t : CabinetState) (pass : ℕ) (old new : Book) → pass < 5 → BringsAll old new pass
     → BroughtTo s cab t pass old → BroughtTo s cab t (pass + 1) new
 brought-more s cab t pass old new below brings so =
     let streams : List (List Item) = coming_streams s cab t in
     let next : drop pass streams ≡ get_or streams pass [] ∷ drop (suc pass) streams = drop-cons streams pass [] below in
     record {
-      stands = brings.stands t.story so.stands;
+      stands = brings.stands t.cabinet_history so.stands;
       streams = brings.streams ∙ so.streams;
       journal =
           ap (λ (passes : List ℕ). passes ++ serial_from (pass + 1) (drop (pass + 1) streams)) brings.journal
@@ -78,7 +78,7 @@ brought-more s cab t pass old new below brings so =
       one = one-stays old new pass (left_of old pass) below brings.journal brings.others so.one;
     }
 
-pub brought-whole : (s : ScenarioContent) (cab : ℕ) (t : Standing) (pass : ℕ) (b : Book) → pass ≡ 5 → BroughtTo s cab t pass b
+pub brought-whole : (s : ScenarioContent) (cab : ℕ) (t : CabinetState) (pass : ℕ) (b : Book) → pass ≡ 5 → BroughtTo s cab t pass b
     → HasRun s cab t (serial (coming_streams s cab t)) b
 brought-whole s cab t pass b last so = record {
   stands = so.stands;
@@ -91,10 +91,10 @@ brought-whole s cab t pass b last so = record {
 }
 
 -- a book whose shares of ticks were joined has run what it had
-pub joined-first : (s : ScenarioContent) (cab : ℕ) (t : Standing) (old new : Book) → ((story : Story) → BookStands old story → BookStands new story)
+pub joined-first : (s : ScenarioContent) (cab : ℕ) (t : CabinetState) (old new : Book) → ((cabinet_history : CabinetHistory) → BookStands old cabinet_history → BookStands new cabinet_history)
     → streams_in new ≡ streams_in old → journal_of new ≡ read_journal (journal_of old) → IsOnePart new → HasRun s cab t [] old → HasRun s cab t [] new
 joined-first s cab t old new stands streams journal one run = record {
-  stands = stands t.story run.stands;
+  stands = stands t.cabinet_history run.stands;
   streams = streams ∙ run.streams;
   journal_is = journal ∙ ap read_journal run.journal_is;
   one = one;
@@ -102,18 +102,18 @@ joined-first s cab t old new stands streams journal one run = record {
 
 -- the passes before this one have brought all that was left of their streams
 pub record FinishedTo (old new : Book) (pass : ℕ) : Type 0 where
-  pub stands : (story : Story) → BookStands old story → BookStands new story
+  pub stands : (cabinet_history : CabinetHistory) → BookStands old cabinet_history → BookStands new cabinet_history
   pub streams : streams_in new ≡ streams_in old
   pub none : (p : ℕ) → p < pass → left_of new p ≡ 0
   pub one : IsOnePart new
 
-pub finished-none : (old new : Book) → ((story : Story) → BookStands old story → BookStands new story) → streams_in new ≡ streams_in old → IsOnePart new
+pub finished-none : (old new : Book) → ((cabinet_history : CabinetHistory) → BookStands old cabinet_history → BookStands new cabinet_history) → streams_in new ≡ streams_in old → IsOnePart new
     → FinishedTo old new 0
 finished-none old new stands streams one = record { stands = stands; streams = streams; none = λ p below. absurd (omega (arith, below)); one = one }
 
 pub finished-more : (old now new : Book) (pass : ℕ) → pass < 5 → BringsAll now new pass → FinishedTo old now pass → FinishedTo old new (pass + 1)
 finished-more old now new pass low brings so = record {
-  stands = λ story stood. brings.stands story (so.stands story stood);
+  stands = λ cabinet_history stood. brings.stands cabinet_history (so.stands cabinet_history stood);
   streams = brings.streams ∙ so.streams;
   none = λ p below. elim (eqb_tells p pass) [
     | inl (t, same) ↦ subst (λ (q : ℕ). left_of new q ≡ 0) (sym same) brings.own
@@ -136,7 +136,7 @@ finished-whole old new pass last ticks so = record {
 
 -- a book has run what was left of its round in the serial order
 pub record BringsRound (old new : Book) : Type 0 where
-  pub run : (s : ScenarioContent) (cab : ℕ) (t : Standing) → HasRun s cab t [] old → HasRun s cab t (serial (coming_streams s cab t)) new
+  pub run : (s : ScenarioContent) (cab : ℕ) (t : CabinetState) → HasRun s cab t [] old → HasRun s cab t (serial (coming_streams s cab t)) new
   pub finishes : Finishes old new
   pub ticks : ticks_by_end new ≡ ticks_by_end old
 
@@ -158,11 +158,11 @@ run-more old now k was new below so is brings = record {
       InTurn-set (λ j x y. BringsRound x y) b old now k new here (so.each b) (subst (λ (x : Book). BringsRound x new) same brings);
 }
 
-serial-length : (s : ScenarioContent) (first : ℕ) (ts : List Standing) → length (serial_round s first ts) ≡ length ts
+serial-length : (s : ScenarioContent) (first : ℕ) (ts : List CabinetState) → length (serial_round s first ts) ≡ length ts
 serial-length s first [] = refl
 serial-length s first (t ∷ ts) = ap suc (serial-length s (first + 1) ts)
 
-serial-here : (s : ScenarioContent) (first : ℕ) (ts : List Standing) (k : ℕ) (t : Standing) (journal : List ℕ) → k < length ts
+serial-here : (s : ScenarioContent) (first : ℕ) (ts : List CabinetState) (k : ℕ) (t : CabinetState) (journal : List ℕ) → k < length ts
     → get_or (serial_round s first ts) k journal ≡ serial (coming_streams s (first + k) (get_or ts k t))
 serial-here s first [] k t journal below = absurd (omega (arith, below))
 serial-here s first (u ∷ ts) zero t journal below =
@@ -172,7 +172,7 @@ serial-here s first (u ∷ ts) (suc k) t journal below =
     let there : first + 1 + k ≡ first + suc k = omega arith in
     serial-here s (first + 1) ts k t journal (omega (arith, below)) ∙ ap (λ (cab : ℕ). serial (coming_streams s cab (get_or ts k t))) there
 
-pub run-whole : (s : ScenarioContent) (ts : List Standing) (old now : List Book) (k : ℕ) → length old ≤ k → RunTo old now k
+pub run-whole : (s : ScenarioContent) (ts : List CabinetState) (old now : List Book) (k : ℕ) → length old ≤ k → RunTo old now k
     → HaveRun s ts (no_journals ts) old → HaveRun s ts (serial_round s 1 ts) now
 run-whole s ts old now k all so have = record {
   many = so.many ∙ have.many;
@@ -181,7 +181,7 @@ run-whole s ts old now k all so have = record {
       let less : j < k = omega (arith, below, all, have.many) in
       let number : 1 + j ≡ j + 1 = omega arith in
       let own : HasRun s (j + 1) (get_or ts j t) [] (get_or old j b) =
-      subst (λ (passes : List ℕ). HasRun s (j + 1) (get_or ts j t) passes (get_or old j b)) (get_or-map (λ (u : Standing). []) ts j t journal below)
+      subst (λ (passes : List ℕ). HasRun s (j + 1) (get_or ts j t) passes (get_or old j b)) (get_or-map (λ (u : CabinetState). []) ts j t journal below)
       (have.each j b t journal below) in
       subst (λ (passes : List ℕ). HasRun s (j + 1) (get_or ts j t) passes (get_or now j b))
       (sym (serial-here s 1 ts j t journal below ∙ ap (λ (cab : ℕ). serial (coming_streams s cab (get_or ts j t))) number))

@@ -5,12 +5,12 @@ use Rattle.std.proofs.lemmas.List.{get_or-map, length-map}
 use Rattle.scenario_data.specs.Content.{ScenarioContent}
 use Rattle.sig_types.specs.Items.{Item}
 use Rattle.cabinet_history.specs.Journals.{IsMerge}
-use Rattle.run_definition.specs.Standing.{Standing, coming_streams}
+use Rattle.run_definition.specs.CabinetState.{CabinetState, coming_streams}
 use Rattle.run_definition.specs.Orders.{EachMerges}
 use Rattle.cab_row.specs.Whole.{ComesFrom}
 use Rattle.cab_book.specs.declared.book.Book.{Book}
 use Rattle.cab_book.specs.Books.{Replays, journal_of, left_of}
-use Rattle.round_run.specs.Standings.{HasRun, HaveRun, no_journals, TicksWithin}
+use Rattle.round_run.specs.CabinetStates.{HasRun, HaveRun, no_journals, TicksWithin}
 use Rattle.round_run.specs.Joined.{journals_in, AreShared, HaveMerged, Finishes}
 use Rattle.round_run.proofs.Sharing.{shared-whole}
 
@@ -35,7 +35,7 @@ BookComes first left = ComesFrom journal_of left_of Replays first left
 -- once all that was left has been brought, all that came to the first one has
 pub whole-book : (first left now : Book) → BookComes first left → Finishes left now → Finishes first now
 whole-book first left now comes finishes = record {
-  stands = λ story stood. finishes.stands story (comes.replays.stories story stood);
+  stands = λ cabinet_history stood. finishes.stands cabinet_history (comes.replays.cabinet_histories cabinet_history stood);
   streams = finishes.streams ∙ comes.replays.streams;
   merges = finishes.merges;
   one = finishes.one;
@@ -43,16 +43,16 @@ whole-book first left now comes finishes = record {
 }
 
 -- it has run the round to come by its journal
-run_whole : (s : ScenarioContent) (cab : ℕ) (t : Standing) (first now : Book) → HasRun s cab t [] first → Finishes first now → HasRun s cab t (journal_of now) now
+run_whole : (s : ScenarioContent) (cab : ℕ) (t : CabinetState) (first now : Book) → HasRun s cab t [] first → Finishes first now → HasRun s cab t (journal_of now) now
 run_whole s cab t first now run whole = record {
-  stands = whole.stands t.story run.stands;
+  stands = whole.stands t.cabinet_history run.stands;
   streams = whole.streams ∙ run.streams;
   journal_is = refl;
   one = whole.one;
 }
 
-each_merges : (s : ScenarioContent) (first : ℕ) (ts : List Standing) (books : List Book) → length books ≡ length ts
-    → ((k : ℕ) (t : Standing) (b : Book) → k < length ts → IsMerge (coming_streams s (first + k) (get_or ts k t)) (journal_of (get_or books k b)))
+each_merges : (s : ScenarioContent) (first : ℕ) (ts : List CabinetState) (books : List Book) → length books ≡ length ts
+    → ((k : ℕ) (t : CabinetState) (b : Book) → k < length ts → IsMerge (coming_streams s (first + k) (get_or ts k t)) (journal_of (get_or books k b)))
     → EachMerges s first ts (journals_in books)
 each_merges s first [] [] many each = tt
 each_merges s first [] (b ∷ books) many each = absurd (omega (arith, many))
@@ -66,10 +66,10 @@ each_merges s first (t ∷ ts) (b ∷ books) many each =
     )
 
 -- nothing was brought to the book at a place yet
-own_round : (s : ScenarioContent) (ts : List Standing) (books : List Book) (k : ℕ) (b : Book) (t : Standing) → k < length ts
+own_round : (s : ScenarioContent) (ts : List CabinetState) (books : List Book) (k : ℕ) (b : Book) (t : CabinetState) → k < length ts
     → HaveRun s ts (no_journals ts) books → HasRun s (k + 1) (get_or ts k t) [] (get_or books k b)
 own_round s ts books k b t below have =
-    subst (λ (passes : List ℕ). HasRun s (k + 1) (get_or ts k t) passes (get_or books k b)) (get_or-map (λ (u : Standing). []) ts k t [] below)
+    subst (λ (passes : List ℕ). HasRun s (k + 1) (get_or ts k t) passes (get_or books k b)) (get_or-map (λ (u : CabinetState). []) ts k t [] below)
     (have.each k b t [] below)
 
 -- the books have brought all that came to the first ones
@@ -90,11 +90,11 @@ all-whole parts old shared left now so come many finishes =
           (finishes k b (omega (arith, within, same))));
     }
 
-pub joined-run : (s : ScenarioContent) (ts : List Standing) (old now : List Book) → AreWhole old now → HaveRun s ts (no_journals ts) old
+pub joined-run : (s : ScenarioContent) (ts : List CabinetState) (old now : List Book) → AreWhole old now → HaveRun s ts (no_journals ts) old
     → HaveMerged s ts now
 joined-run s ts old now whole have =
     let many : length now ≡ length ts = whole.many ∙ have.many in
-    let run : (k : ℕ) (b : Book) (t : Standing) → k < length ts → HasRun s (k + 1) (get_or ts k t) (journal_of (get_or now k b)) (get_or now k b) =
+    let run : (k : ℕ) (b : Book) (t : CabinetState) → k < length ts → HasRun s (k + 1) (get_or ts k t) (journal_of (get_or now k b)) (get_or now k b) =
     λ k b t below. run_whole s (k + 1) (get_or ts k t) (get_or old k b) (get_or now k b) (own_round s ts old k b t below have)
     (whole.each k b (omega (arith, below, have.many))) in
     record {

@@ -1,4 +1,4 @@
--- A corridor before its first round.
+-- A closed loop before its first round.
 use Rattle.std.proofs.Common.{◌≡◌, ◌<◌, ◌≤◌, ◌+◌, ◌⊎◌, inl, inr, ◌∙◌, ℕ, zero, suc, List, [], ◌∷◌, ◌++◌, length, map, drop, get_or, refl, sym, ap, subst, arith}
 use Rattle.std.proofs.lemmas.List.{get_or_push, length_push, get_or_default, get_or_append_left, length-map, get_or-map}
 use Rattle.std.proofs.lemmas.Bool.{cases_lt}
@@ -14,14 +14,14 @@ use Rattle.rule_facts.proofs.Facts.{times-hold}
 use Rattle.tick_context.specs.Told.{CanRun}
 use Rattle.runnable.specs.Runnable.{CanOpen, AllOpen}
 use Rattle.runnable.specs.Cabinets.{opening_history}
-use Rattle.cabinet_history.specs.Story.{opened}
+use Rattle.cabinet_history.specs.CabinetHistory.{opened}
 use Rattle.cab_book.specs.declared.cabinet.Cabinet.{Cabinet}
 use Rattle.cab_book.specs.declared.book.Book.{Book}
 use Rattle.cab_book.specs.Stands.{IsNew, CabinetStands}
 use Rattle.cab_book.specs.Books.{BookStands, journal_of, ticks_by_end}
-use Rattle.run_definition.specs.Standing.{Standing, opened_standing, opened_standings}
-use Rattle.round_run.specs.Standings.{IsAt, AreAt, TicksWithin}
-use Rattle.round_run.specs.Corridor.{AreAnswered, cabinets_of}
+use Rattle.run_definition.specs.CabinetState.{CabinetState, opened_cabinet_state, opened_cabinet_states}
+use Rattle.round_run.specs.CabinetStates.{IsAt, AreAt, TicksWithin}
+use Rattle.round_run.specs.ClosedLoop.{AreAnswered, cabinets_of}
 use Rattle.round_run.proofs.Places.{next_item, pick}
 
 -- consistent tables can be run
@@ -39,13 +39,13 @@ pub others_open : (setups : List Setup) (i : ℕ) (c : Setup) → i < length set
 others_open setups i c more is can = (subst (λ (xs : List Setup). AllOpen (map cabinet_content xs)) (next_item setups i c more is) can).1
 
 -- what a cabinet has come to before any round, by its place
-opened-at : (s : ScenarioContent) (cabinets : List CabinetContent) (k : ℕ) (t : Standing) (c : CabinetContent) → k < length cabinets
-    → get_or (opened_standings s cabinets) k t ≡ opened_standing s (get_or cabinets k c)
+opened-at : (s : ScenarioContent) (cabinets : List CabinetContent) (k : ℕ) (t : CabinetState) (c : CabinetContent) → k < length cabinets
+    → get_or (opened_cabinet_states s cabinets) k t ≡ opened_cabinet_state s (get_or cabinets k c)
 opened-at s [] k t c below = absurd (omega (arith, below))
 opened-at s (d ∷ cabinets) zero t c below = refl
 opened-at s (d ∷ cabinets) (suc k) t c below = opened-at s cabinets k t c (omega (arith, below))
 
-opened-many : (s : ScenarioContent) (cabinets : List CabinetContent) → length (opened_standings s cabinets) ≡ length cabinets
+opened-many : (s : ScenarioContent) (cabinets : List CabinetContent) → length (opened_cabinet_states s cabinets) ≡ length cabinets
 opened-many s [] = refl
 opened-many s (c ∷ cabinets) = ap suc (opened-many s cabinets)
 
@@ -89,8 +89,8 @@ opened_next community books book setups i c more is here so = record {
 
 -- all of them
 pub opened_all : (s : ScenarioContent) (community : List ℕ) (books : List Book) (setups : List Setup) (i : ℕ) → s.community ≡ community → length setups ≤ i
-    → i ≤ length setups → ((b : Book) (t : Standing) → BookStands b t.story → journal_of b ≡ [] → IsAt b t)
-    → OpenedTo community books setups i → AreAt books (opened_standings s (map cabinet_content setups))
+    → i ≤ length setups → ((b : Book) (t : CabinetState) → BookStands b t.cabinet_history → journal_of b ≡ [] → IsAt b t)
+    → OpenedTo community books setups i → AreAt books (opened_cabinet_states s (map cabinet_content setups))
 opened_all s community books setups i same all within new so = record {
   many = omega (arith, so.many, all, within, opened-many s (map cabinet_content setups), length-map setups cabinet_content);
   each = λ k b t below.
@@ -98,17 +98,17 @@ opened_all s community books setups i same all within new so = record {
       each-at k b t place (omega (arith, place, length-map setups cabinet_content, all));
 }
   where
-    each-at : (k : ℕ) (b : Book) (t : Standing) → k < length (map cabinet_content setups) → k < i
-        → IsAt (get_or books k b) (get_or (opened_standings s (map cabinet_content setups)) k t)
+    each-at : (k : ℕ) (b : Book) (t : CabinetState) → k < length (map cabinet_content setups) → k < i
+        → IsAt (get_or books k b) (get_or (opened_cabinet_states s (map cabinet_content setups)) k t)
     each-at k b t place less =
         let d : Setup = (pick setups k (omega (arith, place, length-map setups cabinet_content))).item in
         let here : OpenedHere community (get_or books k b) (get_or setups k d) = so.each k b d less in
-        let standing : Standing = opened_standing s (cabinet_content (get_or setups k d)) in
-        let is : get_or (opened_standings s (map cabinet_content setups)) k t ≡ standing =
+        let cabinet_state : CabinetState = opened_cabinet_state s (cabinet_content (get_or setups k d)) in
+        let is : get_or (opened_cabinet_states s (map cabinet_content setups)) k t ≡ cabinet_state =
         opened-at s (map cabinet_content setups) k t (cabinet_content d) place
-        ∙ ap (λ (c : CabinetContent). opened_standing s c) (get_or-map cabinet_content setups k d (cabinet_content d) (omega (arith, place, length-map setups cabinet_content))) in
-        subst (λ (u : Standing). IsAt (get_or books k b) u) (sym is)
-        (new (get_or books k b) standing
+        ∙ ap (λ (c : CabinetContent). opened_cabinet_state s c) (get_or-map cabinet_content setups k d (cabinet_content d) (omega (arith, place, length-map setups cabinet_content))) in
+        subst (λ (u : CabinetState). IsAt (get_or books k b) u) (sym is)
+        (new (get_or books k b) cabinet_state
         (subst (λ (w : List ℕ). BookStands (get_or books k b) (opened w (opening_history (cabinet_content (get_or setups k d))))) (sym same) here.stands)
         here.journal)
 
@@ -130,16 +130,16 @@ no-ticks cabinet community c stands =
     omega (arith, one, so)
 
 -- no cabinet has answered anything
-none-answered : (s : ScenarioContent) (cabinets : List CabinetContent) (k : ℕ) (t : Standing) → k < length (opened_standings s cabinets)
-    → [] ≡ (get_or (opened_standings s cabinets) k t).answered
+none-answered : (s : ScenarioContent) (cabinets : List CabinetContent) (k : ℕ) (t : CabinetState) → k < length (opened_cabinet_states s cabinets)
+    → [] ≡ (get_or (opened_cabinet_states s cabinets) k t).answered
 none-answered s [] k t below = absurd (omega (arith, below))
 none-answered s (c ∷ cabinets) zero t below = refl
 none-answered s (c ∷ cabinets) (suc k) t below = none-answered s cabinets k t (omega (arith, below))
 
-pub opened-answered : (s : ScenarioContent) → AreAnswered (λ cab. []) (opened_standings s s.cabinets)
+pub opened-answered : (s : ScenarioContent) → AreAnswered (λ cab. []) (opened_cabinet_states s s.cabinets)
 opened-answered s = λ k t below. none-answered s s.cabinets k t below
 
 -- they are the cabinets of the scenario
-pub opened-cabinets : (s : ScenarioContent) (cabinets : List CabinetContent) → cabinets_of (opened_standings s cabinets) ≡ cabinets
+pub opened-cabinets : (s : ScenarioContent) (cabinets : List CabinetContent) → cabinets_of (opened_cabinet_states s cabinets) ≡ cabinets
 opened-cabinets s [] = refl
 opened-cabinets s (c ∷ cabinets) = ap (λ (cs : List CabinetContent). c ∷ cs) (opened-cabinets s cabinets)

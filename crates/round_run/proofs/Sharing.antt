@@ -6,7 +6,7 @@ use Rattle.std.proofs.lemmas.List.{ext_get_or, get_or_default, length-set}
 use Rattle.sig_types.proofs.InTurn.{InTurn, InTurn-start, InTurn-set}
 use Rattle.sig_types.specs.declared.streams.Streams.{Streams}
 use Rattle.sig_types.specs.Items.{items_of}
-use Rattle.cabinet_history.specs.Story.{Story}
+use Rattle.cabinet_history.specs.CabinetHistory.{CabinetHistory}
 use Rattle.cab_book.specs.declared.book.Book.{Book}
 use Rattle.cab_book.specs.declared.cabinet.Cabinet.{Cabinet}
 use Rattle.cab_book.specs.declared.happened.Happened.{Happened}
@@ -16,11 +16,11 @@ use Rattle.cab_book.specs.Books.{BookStands, IsOnePart, Shares, streams_in, jour
 use Rattle.cab_book.proofs.Bringing.{pass-within}
 use Rattle.round_run.specs.Joined.{AreFresh, AreShared, HaveFewLeft, IsShared, Finishes}
 
-shared-stands : (old new : Book) → Shares old new → (story : Story) → BookStands old story → BookStands new story
-shared-stands old new is story so =
-    subst (λ (c : Box Cabinet). RoundStands c.value new.streams new.happened story) (sym is.cabinet)
-    (subst (λ (s : Streams). RoundStands old.cabinet.value s new.happened story) (sym is.streams)
-    (subst (λ (h : Happened). RoundStands old.cabinet.value old.streams h story) (sym is.happened) so))
+shared-stands : (old new : Book) → Shares old new → (cabinet_history : CabinetHistory) → BookStands old cabinet_history → BookStands new cabinet_history
+shared-stands old new is cabinet_history so =
+    subst (λ (c : Box Cabinet). RoundStands c.value new.streams new.happened cabinet_history) (sym is.cabinet)
+    (subst (λ (s : Streams). RoundStands old.cabinet.value s new.happened cabinet_history) (sym is.streams)
+    (subst (λ (h : Happened). RoundStands old.cabinet.value old.streams h cabinet_history) (sym is.happened) so))
 
 shared-streams : (old new : Book) → Shares old new → streams_in new ≡ streams_in old
 shared-streams old new is = ap items_of is.streams
@@ -45,7 +45,7 @@ shared-small old new is above one few p = elim (cases_lt p 4) [
 -- all that came to a book whose ticks were shared is all that came to it before
 pub shared-whole : (parts : ℕ) (old new now : Book) → IsShared parts old new → Finishes new now → Finishes old now
 shared-whole parts old new now is finishes = record {
-  stands = λ story so. finishes.stands story (shared-stands old new is.shares story so);
+  stands = λ cabinet_history so. finishes.stands cabinet_history (shared-stands old new is.shares cabinet_history so);
   streams = finishes.streams ∙ shared-streams old new is.shares;
   merges = finishes.merges;
   one = finishes.one;

@@ -17,15 +17,15 @@ use Rattle.master_rounds.specs.Rounds.{noted, streams_of}
 use Rattle.runnable.specs.Runnable.{HasPlace, AllHeard, Runnable}
 use Rattle.master_rounds.specs.Served.{CanBeServed}
 use Rattle.master_rounds.specs.Bounds.{IsShort, IsInput, AreInputs}
-use Rattle.master_rounds.specs.declared.desk.Begun.{Begun}
+use Rattle.master_rounds.specs.declared.master_rounds.Begun.{Begun}
 use Rattle.master_rounds.specs.Begun.{noted_from, IsBegun}
 use Rattle.cab_book.specs.declared.book.Book.{Book}
 use Rattle.cab_book.specs.Books.{CanBeTaken, ticks_by_end}
-use Rattle.run_definition.specs.Standing.{Standing, coming_streams}
+use Rattle.run_definition.specs.CabinetState.{CabinetState, coming_streams}
 use Rattle.run_definition.specs.Lines.{notes_lines}
-use Rattle.round_run.specs.Standings.{AreAt, TicksWithin}
+use Rattle.round_run.specs.CabinetStates.{AreAt, TicksWithin}
 use Rattle.round_run.specs.Opening.{CanOpen, AreComing, TicksAtMost}
-use Rattle.round_run.specs.Corridor.{AreAnswered, cabinets_of}
+use Rattle.round_run.specs.ClosedLoop.{AreAnswered, cabinets_of}
 use Rattle.round_run.proofs.Places.{got}
 
 -- a scenario that can be run can be served
@@ -63,17 +63,17 @@ can-be-taken s one runnable short heard = record {
 }
 
 -- there are as many as cabinets
-pub many-of : (s : ScenarioContent) (ts : List Standing) → cabinets_of ts ≡ s.cabinets → length ts ≡ length s.cabinets
-many-of s ts own = sym (length-map ts (λ (t : Standing). t.cabinet)) ∙ ap (λ (cs : List CabinetContent). length cs) own
+pub many-of : (s : ScenarioContent) (ts : List CabinetState) → cabinets_of ts ≡ s.cabinets → length ts ≡ length s.cabinets
+many-of s ts own = sym (length-map ts (λ (t : CabinetState). t.cabinet)) ∙ ap (λ (cs : List CabinetContent). length cs) own
 
 -- the streams with which a round begins are those that come to the cabinets
-module _ (s : ScenarioContent) (ts : List Standing) (own : cabinets_of ts ≡ s.cabinets) (b : Begun) (answered : ℕ → List (List Reply))
+module _ (s : ScenarioContent) (ts : List CabinetState) (own : cabinets_of ts ≡ s.cabinets) (b : Begun) (answered : ℕ → List (List Reply))
     (told : AreAnswered answered ts) (is : IsBegun b s answered) where
-  begun-here : (k : ℕ) (t : Standing) (one : Streams) → k < length ts → items_of (get_or b.streams.items k one) ≡ coming_streams s (k + 1) (get_or ts k t)
+  begun-here : (k : ℕ) (t : CabinetState) (one : Streams) → k < length ts → items_of (get_or b.streams.items k one) ≡ coming_streams s (k + 1) (get_or ts k t)
   begun-here k t one below =
       let here : slice_get s.cabinets k ≡ Some (get_or ts k t).cabinet =
       subst (λ (cs : List CabinetContent). slice_get cs k ≡ Some (get_or ts k t).cabinet) own
-      (got (λ (u : Standing). u.cabinet) ts k t below) in
+      (got (λ (u : CabinetState). u.cabinet) ts k t below) in
       is.streams k (get_or ts k t).cabinet one here
       ∙ ap (λ (a : List (List Reply)). streams_of s (k + 1) (get_or ts k t).cabinet a) (told k t below)
 
@@ -101,14 +101,14 @@ module _ (s : ScenarioContent) (ts : List Standing) (own : cabinets_of ts ≡ s.
   ticks-small = λ k one below. let few : (get_or b.streams.items k one).ticks ≤ 600 = ticks-most k one below in omega (arith, few)
 
 -- the notes are those of the run
-notes-from : (s : ScenarioContent) (answered : ℕ → List (List Reply)) (first : ℕ) (ts : List Standing)
-    → ((k : ℕ) (t : Standing) → k < length ts → answered (k + first) ≡ (get_or ts k t).answered)
+notes-from : (s : ScenarioContent) (answered : ℕ → List (List Reply)) (first : ℕ) (ts : List CabinetState)
+    → ((k : ℕ) (t : CabinetState) → k < length ts → answered (k + first) ≡ (get_or ts k t).answered)
     → map M (noted_from s answered first (cabinets_of ts)) ≡ notes_lines s first ts
 notes-from s answered first [] told = refl
 notes-from s answered first (t ∷ ts) told =
     let here : first ≡ 0 + first = omega arith in
     let own : answered first ≡ t.answered = ap answered here ∙ told 0 t (omega arith) in
-    let others : (k : ℕ) (u : Standing) → k < length ts → answered (k + (first + 1)) ≡ (get_or ts k u).answered =
+    let others : (k : ℕ) (u : CabinetState) → k < length ts → answered (k + (first + 1)) ≡ (get_or ts k u).answered =
     λ k u below.
     let place : k + (first + 1) ≡ suc k + first = omega arith in
     ap answered place ∙ told (suc k) u (omega (arith, below)) in
@@ -116,7 +116,7 @@ notes-from s answered first (t ∷ ts) told =
     ∙ ap (λ (a : List (List Reply)). map M (noted s first t.cabinet a) ++ map M (noted_from s answered (first + 1) (cabinets_of ts))) own
     ∙ ap (λ (lines : List Line). map M (noted s first t.cabinet t.answered) ++ lines) (notes-from s answered (first + 1) ts others)
 
-pub notes-told : (s : ScenarioContent) (ts : List Standing) → cabinets_of ts ≡ s.cabinets → (b : Begun) (answered : ℕ → List (List Reply)) → AreAnswered answered ts
+pub notes-told : (s : ScenarioContent) (ts : List CabinetState) → cabinets_of ts ≡ s.cabinets → (b : Begun) (answered : ℕ → List (List Reply)) → AreAnswered answered ts
     → IsBegun b s answered → map M b.notes.items ≡ notes_lines s 1 ts
 notes-told s ts own b answered told is =
     ap (λ (notes : List MasterNote). map M notes) is.notes

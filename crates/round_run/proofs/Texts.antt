@@ -4,7 +4,7 @@ use Rattle.std.proofs.lemmas.Bool.{cases_lt}
 use Rattle.std.proofs.lemmas.List.{get_or_default, get_or_append_left, get_or-append_right}
 use Rattle.sig_types.specs.declared.streams.Answers.{Answers}
 use Rattle.sig_types.specs.Replies.{replied_on}
-use Rattle.run_definition.specs.Standing.{answers_in}
+use Rattle.run_definition.specs.CabinetState.{answers_in}
 use Rattle.cab_book.specs.declared.book.Book.{Book}
 use Rattle.cab_book.specs.declared.happened.Answered.{Answered}
 use Rattle.cab_book.specs.Happenings.{replies_in}

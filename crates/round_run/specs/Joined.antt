@@ -1,14 +1,14 @@
 -- What workers in threads make of a round: each book has brought all that came to its cabinet, in an order that they settled.
 use Rattle.std.specs.Prelude.{ℕ, ◌≡◌, ◌≢◌, ◌<◌, ◌≤◌, ◌+◌, ◌++◌, List, [], length, get_or, map, replicate, All}
 use Rattle.scenario_data.specs.Content.{ScenarioContent}
-use Rattle.run_definition.specs.Standing.{Standing}
+use Rattle.run_definition.specs.CabinetState.{CabinetState}
 use Rattle.run_definition.specs.Orders.{EachMerges}
 use Rattle.cab_book.specs.declared.book.Book.{Book}
-use Rattle.cabinet_history.specs.Story.{Story}
+use Rattle.cabinet_history.specs.CabinetHistory.{CabinetHistory}
 use Rattle.cabinet_history.specs.Journals.{IsMerge}
 use Rattle.cab_book.specs.Books.{BookStands, IsOnePart, Shares, streams_in, journal_of, left_of, ticks_by_end}
 use Rattle.cab_book.specs.Shares.{shares}
-use Rattle.round_run.specs.Standings.{HaveRun}
+use Rattle.round_run.specs.CabinetStates.{HaveRun}
 
 -- nothing of its round was brought to any book yet, and no ticks were shared
 abbrev pub AreFresh : List Book → Type 0
@@ -23,13 +23,13 @@ abbrev pub journals_in : List Book → List (List ℕ)
 journals_in books = map journal_of books
 
 -- the books have run the round to come by their own journals, and these bring each item of each stream once, in its stream's order
-pub record HaveMerged (s : ScenarioContent) (ts : List Standing) (books : List Book) : Type 0 where
+pub record HaveMerged (s : ScenarioContent) (ts : List CabinetState) (books : List Book) : Type 0 where
   pub merges : EachMerges s 1 ts (journals_in books)
   pub run : HaveRun s ts (journals_in books) books
 
 -- a pass has brought so many of the next items of its stream
 pub record BringsSome (old new : Book) (pass many : ℕ) : Type 0 where
-  pub stands : (story : Story) → BookStands old story → BookStands new story
+  pub stands : (cabinet_history : CabinetHistory) → BookStands old cabinet_history → BookStands new cabinet_history
   pub streams : streams_in new ≡ streams_in old
   pub journal : journal_of new ≡ journal_of old ++ replicate many pass
   pub own : left_of new pass + many ≡ left_of old pass
@@ -39,7 +39,7 @@ pub record BringsSome (old new : Book) (pass many : ℕ) : Type 0 where
 -- all that was left of a book's round has been brought, whatever was brought before: its journal has each pass just as often as its
 -- stream has items
 pub record Finishes (old new : Book) : Type 0 where
-  pub stands : (story : Story) → BookStands old story → BookStands new story
+  pub stands : (cabinet_history : CabinetHistory) → BookStands old cabinet_history → BookStands new cabinet_history
   pub streams : streams_in new ≡ streams_in old
   pub merges : IsMerge (streams_in new) (journal_of new)
   pub one : IsOnePart new

@@ -1,6 +1,6 @@
-pub mod Standings
+pub mod CabinetStates
 pub mod Opening
 pub mod Replied
 pub mod Lines
 pub mod Joined
-pub mod Corridor
+pub mod ClosedLoop

@@ -3,10 +3,10 @@ use Rattle.std.specs.Prelude.{ℕ, ◌+◌, ◌≡◌, ◌<◌, ◌≤◌, ◌�
 use Rattle.scenario_data.specs.Content.{ScenarioContent}
 use Rattle.sig_types.specs.declared.streams.Streams.{Streams}
 use Rattle.sig_types.specs.Items.{items_of}
-use Rattle.cabinet_history.specs.Story.{Story}
-use Rattle.run_definition.specs.Standing.{Standing, coming_streams}
+use Rattle.cabinet_history.specs.CabinetHistory.{CabinetHistory}
+use Rattle.run_definition.specs.CabinetState.{CabinetState, coming_streams}
 use Rattle.cab_book.specs.declared.book.Book.{Book}
-use Rattle.cab_book.specs.Books.{BookStands, CanBeTaken, IsOnePart, streams_in, journal_of, story_now, ticks_by_end}
+use Rattle.cab_book.specs.Books.{BookStands, CanBeTaken, IsOnePart, streams_in, journal_of, cabinet_history_now, ticks_by_end}
 
 -- there are streams for each book, a cabinet can take them, and it has had few ticks
 pub record CanOpen (books : List Book) (streams : List Streams) : Type 0 where
@@ -15,9 +15,9 @@ pub record CanOpen (books : List Book) (streams : List Streams) : Type 0 where
   pub few : (k : ℕ) (b : Book) (one : Streams) → k < length books → ticks_by_end (get_or books k b) + (get_or streams k one).ticks ≤ 4294967294
 
 -- the streams are those that come to the cabinets, which have come to this
-pub record AreComing (s : ScenarioContent) (ts : List Standing) (streams : List Streams) : Type 0 where
+pub record AreComing (s : ScenarioContent) (ts : List CabinetState) (streams : List Streams) : Type 0 where
   pub many : length streams ≡ length ts
-  pub each : (k : ℕ) (t : Standing) (one : Streams) → k < length ts → items_of (get_or streams k one) ≡ coming_streams s (k + 1) (get_or ts k t)
+  pub each : (k : ℕ) (t : CabinetState) (one : Streams) → k < length ts → items_of (get_or streams k one) ≡ coming_streams s (k + 1) (get_or ts k t)
 
 -- a round has so many ticks at most
 abbrev pub TicksAtMost : ℕ → List Streams → Type 0
@@ -25,7 +25,7 @@ TicksAtMost ticks streams = (k : ℕ) (one : Streams) → k < length streams →
 
 -- a round with these streams was begun on a book: nothing of it was brought yet
 pub record Begins (old new : Book) (one : Streams) : Type 0 where
-  pub stands : (story : Story) → BookStands old story → BookStands new (story_now old story)
+  pub stands : (cabinet_history : CabinetHistory) → BookStands old cabinet_history → BookStands new (cabinet_history_now old cabinet_history)
   pub streams : streams_in new ≡ items_of one
   pub journal : journal_of new ≡ []
   pub whole : IsOnePart new

@@ -3,7 +3,7 @@ use Rattle.std.specs.Prelude.{ℕ, ◌≡◌, ◌<◌, List, length, get_or}
 use Rattle.sig_types.specs.declared.streams.Answers.{Answers}
 use Rattle.sig_types.specs.Items.{texts_of}
 use Rattle.sig_types.specs.Replies.{Reply, replied_on}
-use Rattle.run_definition.specs.Standing.{answers_in}
+use Rattle.run_definition.specs.CabinetState.{answers_in}
 use Rattle.cab_book.specs.declared.book.Book.{Book}
 use Rattle.cab_book.specs.Happenings.{replies_in}
 use Rattle.cab_book.specs.Books.{answered_in}

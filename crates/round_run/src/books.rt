@@ -4,11 +4,11 @@ ghost use Rattle.std.specs.Prelude.{◌≡◌, [], IfOk, map};
 ghost use Rattle.scenario_data.specs.Content.{ScenarioContent, cabinet_content};
 ghost use Rattle.runnable.specs.Runnable.{CanOpen, AllOpen};
 ghost use Rattle.runnable.specs.Cabinets.{opening_history};
-ghost use Rattle.cab_book.specs.Controls.{StandsFor};
-ghost use Rattle.cabinet_history.specs.Story.{opened};
+ghost use Rattle.cab_book.specs.Controls.{ControlStands};
+ghost use Rattle.cabinet_history.specs.CabinetHistory.{opened};
 ghost use Rattle.cab_book.specs.Books.{BookStands, journal_of, ticks_by_end};
-ghost use Rattle.run_definition.specs.Standing.{opened_standings};
-ghost use Rattle.round_run.specs.Standings.{AreAt, TicksWithin};
+ghost use Rattle.run_definition.specs.CabinetState.{opened_cabinet_states};
+ghost use Rattle.round_run.specs.CabinetStates.{AreAt, TicksWithin};
 
 use crate::books_follow_runs;
 use arrayvec::ArrayVec;
@@ -30,7 +30,7 @@ fn same_community(community: &ArrayVec<u8, 32>) -> ArrayVec<u8, 32>
 /// The control of a cabinet to which nothing has happened, but that its clock may drift.
 fn control_of(alloc: Global, way: Way, setup: &Setup) -> Result<Control, NoMemory>
     requires { CanOpen (cabinet_content setup.now) }
-    ensures { IfOk result (λ control. StandsFor control (opening_history (cabinet_content setup.now))) }
+    ensures { IfOk result (λ control. ControlStands control (opening_history (cabinet_content setup.now))) }
 {
     let opened = Control::open(
         alloc,
@@ -56,7 +56,7 @@ fn book_by(
     community: &ArrayVec<u8, 32>,
 ) -> Result<Book, NoMemory>
     requires can { CanOpen (cabinet_content setup.now) }
-    requires control { StandsFor control (opening_history (cabinet_content setup.now)) }
+    requires control { ControlStands control (opening_history (cabinet_content setup.now)) }
     ensures stands { IfOk result (λ book. BookStands book (opened community.now.items (opening_history (cabinet_content setup.now)))) }
     ensures journal { IfOk result (λ book. journal_of book ≡ []) }
     ensures ticks { IfOk result (λ book. ticks_by_end book ≡ 0) }
@@ -99,7 +99,7 @@ pub fn open_books(
 ) -> Result<Vec<Book>, NoMemory>
     requires { AllOpen (map cabinet_content setups.now) }
     ensures at { IfOk result (λ books. (s : ScenarioContent) → s.community ≡ community.now.items
-        → AreAt books.items (opened_standings s (map cabinet_content setups.now))) }
+        → AreAt books.items (opened_cabinet_states s (map cabinet_content setups.now))) }
     ensures ticks { IfOk result (λ books. TicksWithin 0 books.items) }
 {
     books_follow_runs();

@@ -2,10 +2,10 @@
 
 ghost use Rattle.std.specs.Prelude.{ℕ, ◌≡◌, ◌≤◌, ◌⊎◌, List, [], All, length, vec_len, vec_capacity, IfOk, IfErr};
 ghost use Rattle.scenario_data.specs.Content.{ScenarioContent};
-ghost use Rattle.run_definition.specs.Standing.{Standing};
+ghost use Rattle.run_definition.specs.CabinetState.{CabinetState};
 ghost use Rattle.cab_book.specs.declared.book.Book.{Book as BookRow};
 ghost use Rattle.cab_book.specs.Books.{journal_of};
-ghost use Rattle.round_run.specs.Standings.{HaveRun, no_journals, TicksWithin};
+ghost use Rattle.round_run.specs.CabinetStates.{HaveRun, no_journals, TicksWithin};
 ghost use Rattle.round_run.specs.Joined.{AreFresh, AreShared, HaveFewLeft, HaveMerged};
 
 use crate::serial::serial_round;
@@ -72,7 +72,7 @@ pub fn joined_round<R: Threads + Sync, G: Gate + Sync>(
     requires small { HaveFewLeft books.items }
     requires workers { 1 ≤ workers }
     ensures many { IfOk result (λ v. length v.items ≡ length books.items) }
-    ensures run { IfOk result (λ v. (s : ScenarioContent) (ts : List Standing) → HaveRun s ts (no_journals ts) books.items
+    ensures run { IfOk result (λ v. (s : ScenarioContent) (ts : List CabinetState) → HaveRun s ts (no_journals ts) books.items
         → HaveMerged s ts v.items) }
     ensures ticks { IfOk result (λ v. (most : ℕ) → TicksWithin most books.items → TicksWithin most v.items) }
     ensures room { IfOk result (λ v. vec_capacity v ≡ vec_capacity books) }

@@ -1,7 +1,7 @@
 //! A round of all cabinets: their books begin it with what comes to each, all that comes is brought, and what they replied goes back
-//! to the master's desk. What a book has come to, and the lines that are written of it, are those of a run.
+//! to the master. What a book has come to, and the lines that are written of it, are those of a run.
 //!
-//! The corridor of a run: the master's desk, and the books of all cabinets. It is opened from a
+//! The closed loop of a run: the master, and the books of all cabinets. It is opened from a
 //! scenario, and each round is begun and ended here; what comes to the cabinets in between, in
 //! whatever order, others bring. Nothing is read or written.
 #![tactic(auto)]
@@ -16,7 +16,7 @@ mod starting;
 
 pub use joined::joined_round;
 pub use replying::answers;
-pub use rounds::Corridor;
+pub use rounds::ClosedLoop;
 pub use run_laws::books_follow_runs;
 pub use serial::serial_round;
 pub use starting::open_rounds;

@@ -1,9 +1,9 @@
-//! What the cabinets have replied in a round, on its way to the master's desk.
+//! What the cabinets have replied in a round, on its way to the master.
 
 ghost use Rattle.std.specs.Prelude.{ℕ, ◌≡◌, ◌++◌, IfOk, OnOk};
 ghost use Rattle.sig_types.specs.Items.{texts_of};
 ghost use Rattle.sig_types.specs.Replies.{replied_on};
-ghost use Rattle.run_definition.specs.Standing.{answers_in, answer_of};
+ghost use Rattle.run_definition.specs.CabinetState.{answers_in, answer_of};
 ghost use Rattle.cab_book.specs.Happenings.{replies_in};
 ghost use Rattle.round_run.specs.Replied.{replied_in, AreAnswers, EachAnswers};
 

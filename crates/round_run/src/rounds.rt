@@ -1,49 +1,52 @@
-//! The corridor between the rounds and in them.
+//! The closed loop between the rounds and in them.
 
 ghost use Rattle.std.specs.Prelude.{◌≡◌, ◌<◌, ◌+◌, ◌*◌, ℕ, List, length, IfOk, OnOk, map};
 ghost use Rattle.trace_text.specs.declared.lines.Line.{Line as LineRow};
 ghost use Rattle.scenario_data.specs.Content.{scenario_content};
 ghost use Rattle.runnable.specs.Runnable.{Runnable};
-ghost use Rattle.run_definition.specs.Standing.{Standing, opened_standings, each_standing};
+ghost use Rattle.run_definition.specs.CabinetState.{CabinetState, opened_cabinet_states, each_cabinet_state};
 ghost use Rattle.run_definition.specs.Lines.{notes_lines};
-ghost use Rattle.round_run.specs.Standings.{HaveRun, no_journals, TicksWithin};
+ghost use Rattle.round_run.specs.CabinetStates.{HaveRun, no_journals, TicksWithin};
 ghost use Rattle.round_run.specs.Joined.{AreFresh, HaveFewLeft};
 
 use crate::books::open_books;
 use crate::{answers, books_follow_runs, open_rounds};
 use cab_book::{Book, Way};
-use master_rounds::{Begun, Desk};
+use master_rounds::{Begun, MasterRounds};
 use scenario_data::Scenario;
 use sig_types::{MasterNote, NoMemory};
 use std::alloc::Global;
 
-/// The master's desk, and the book of each cabinet.
+/// Master and line, and the book of each cabinet.
 #[derive(Drop)]
-pub struct Corridor {
-    desk: Desk,
+pub struct ClosedLoop {
+    master_rounds: MasterRounds,
     pub books: Vec<Book>,
 }
 
-impl Corridor {
-    ghost use Rattle.round_run.specs.Corridor.{Between, InRound};
+impl ClosedLoop {
+    ghost use Rattle.round_run.specs.ClosedLoop.{Between, InRound};
 
-    /// The corridor of a scenario before its first round, in which the frames of the cabinets come about this way.
-    pub fn open(alloc: Global, way: Way, s: &Scenario) -> Result<Corridor, NoMemory>
+    /// The closed loop of a scenario before its first round, in which the frames of the cabinets come about this way.
+    pub fn open(alloc: Global, way: Way, s: &Scenario) -> Result<ClosedLoop, NoMemory>
         requires { Runnable (scenario_content s.now) }
-        ensures { IfOk result (Between (scenario_content s.now) 0 (opened_standings (scenario_content s.now) (scenario_content s.now).cabinets)) }
+        ensures { IfOk result (Between (scenario_content s.now) 0 (opened_cabinet_states (scenario_content s.now) (scenario_content s.now).cabinets)) }
     {
-        let desk = match Desk::open(alloc, s) {
-            Ok(desk) => desk,
+        let master_rounds = match MasterRounds::open(alloc, s) {
+            Ok(master_rounds) => master_rounds,
             Err(NoMemory) => return Err(NoMemory),
         };
         match open_books(alloc, way, s.cabinets.as_slice(), &s.community) {
-            Ok(books) => Ok(Corridor { desk, books }),
+            Ok(books) => Ok(ClosedLoop {
+                master_rounds,
+                books,
+            }),
             Err(NoMemory) => Err(NoMemory),
         }
     }
 
     /// Begins the round after so many, and gives what the master notes at its start: each book has the streams that come to its cabinet,
-    /// of which nothing was brought yet. Where memory is wanting the corridor is of no more use.
+    /// of which nothing was brought yet. Where memory is wanting the closed loop is of no more use.
     pub fn begin_round(
         &mut self,
         alloc: Global,
@@ -52,18 +55,18 @@ impl Corridor {
     ) -> Result<Vec<MasterNote>, NoMemory>
         requires runnable { Runnable (scenario_content s.now) }
         requires few { done < s.now.rounds }
-        requires between { (ts : List Standing) × Between (scenario_content s.now) done ts self.old }
-        ensures notes { IfOk result (λ notes. (ts : List Standing) → Between (scenario_content s.now) done ts self.old
+        requires between { (ts : List CabinetState) × Between (scenario_content s.now) done ts self.old }
+        ensures notes { IfOk result (λ notes. (ts : List CabinetState) → Between (scenario_content s.now) done ts self.old
             → map LineRow.M notes.items ≡ notes_lines (scenario_content s.now) 1 ts) }
-        ensures begun { OnOk result ((ts : List Standing) → Between (scenario_content s.now) done ts self.old
+        ensures begun { OnOk result ((ts : List CabinetState) → Between (scenario_content s.now) done ts self.old
             → InRound (scenario_content s.now) done ts self.new) }
-        ensures books { OnOk result ((ts : List Standing) → Between (scenario_content s.now) done ts self.old
+        ensures books { OnOk result ((ts : List CabinetState) → Between (scenario_content s.now) done ts self.old
             → HaveRun (scenario_content s.now) ts (no_journals ts) self.new.books.items) }
         ensures fresh { OnOk result (AreFresh self.new.books.items) }
         ensures small { OnOk result (HaveFewLeft self.new.books.items) }
         ensures ticks { OnOk result (TicksWithin (done * 600 + 600) self.new.books.items) }
     {
-        let Begun { notes, streams } = match self.desk.begin(alloc, done + 1, s) {
+        let Begun { notes, streams } = match self.master_rounds.begin(alloc, done + 1, s) {
             Ok(begun) => begun,
             Err(NoMemory) => return Err(NoMemory),
         };
@@ -73,14 +76,14 @@ impl Corridor {
         }
     }
 
-    /// Ends the round after so many, of which all was brought, by some journals: what the cabinets replied goes back to the desk. Where
-    /// memory is wanting the corridor is of no more use.
+    /// Ends the round after so many, of which all was brought, by some journals: what the cabinets replied goes back to the master. Where
+    /// memory is wanting the closed loop is of no more use.
     pub fn end_round(&mut self, alloc: Global, done: u32, s: &Scenario) -> Result<(), NoMemory>
         requires few { done < 4294967295 }
-        requires begun { (ts : List Standing) × InRound (scenario_content s.now) done ts self.old × (length self.old.books.items ≡ length ts) }
-        ensures between { OnOk result ((ts : List Standing) (journals : List (List ℕ)) → InRound (scenario_content s.now) done ts self.old
+        requires begun { (ts : List CabinetState) × InRound (scenario_content s.now) done ts self.old × (length self.old.books.items ≡ length ts) }
+        ensures between { OnOk result ((ts : List CabinetState) (journals : List (List ℕ)) → InRound (scenario_content s.now) done ts self.old
             → HaveRun (scenario_content s.now) ts journals self.old.books.items → TicksWithin (done * 600 + 600) self.old.books.items
-            → Between (scenario_content s.now) (done + 1) (each_standing (scenario_content s.now) 1 ts journals) self.new) }
+            → Between (scenario_content s.now) (done + 1) (each_cabinet_state (scenario_content s.now) 1 ts journals) self.new) }
         ensures books { self.new.books ≡ self.old.books }
     {
         books_follow_runs();
@@ -88,7 +91,10 @@ impl Corridor {
             Ok(replies) => replies,
             Err(NoMemory) => return Err(NoMemory),
         };
-        match self.desk.end(alloc, done + 1, s, replies.as_slice()) {
+        match self
+            .master_rounds
+            .end(alloc, done + 1, s, replies.as_slice())
+        {
             Ok(()) => Ok(()),
             Err(NoMemory) => Err(NoMemory),
         }

@@ -3,13 +3,13 @@
 
 ghost use Rattle.std.specs.Prelude.{ℕ, ◌≡◌, ◌≢◌, ◌<◌, ◌≤◌, ◌+◌, ◌++◌, List, [], length, replicate, get_or, vec_capacity};
 ghost use Rattle.scenario_data.specs.Content.{ScenarioContent};
-ghost use Rattle.cabinet_history.specs.Story.{Story};
+ghost use Rattle.cabinet_history.specs.CabinetHistory.{CabinetHistory};
 ghost use Rattle.cabinet_history.specs.Journals.{serial};
 ghost use Rattle.cab_book.specs.declared.book.Book.{Book as BookRow};
 ghost use Rattle.cab_book.specs.Books.{BookStands, streams_in, journal_of, left_of, ticks_by_end};
-ghost use Rattle.run_definition.specs.Standing.{Standing, coming_streams};
+ghost use Rattle.run_definition.specs.CabinetState.{CabinetState, coming_streams};
 ghost use Rattle.run_definition.specs.Orders.{serial_round as serial_journals};
-ghost use Rattle.round_run.specs.Standings.{HasRun, HaveRun, no_journals, TicksWithin};
+ghost use Rattle.round_run.specs.CabinetStates.{HasRun, HaveRun, no_journals, TicksWithin};
 ghost use Rattle.round_run.specs.Joined.{BringsSome, Finishes};
 
 use cab_book::Book;
@@ -30,7 +30,7 @@ fn bring_some(book: &mut Book, pass: u32) -> u32
 
 /// A pass brings all that is left of its stream.
 fn bring_all(book: &mut Book, pass: u32)
-    ensures stands { (story : Story) → BookStands book.old story → BookStands book.new story }
+    ensures stands { (cabinet_history : CabinetHistory) → BookStands book.old cabinet_history → BookStands book.new cabinet_history }
     ensures streams { streams_in book.new ≡ streams_in book.old }
     ensures journal { journal_of book.new ≡ journal_of book.old ++ replicate (left_of book.old pass) pass }
     ensures own { left_of book.new pass ≡ 0 }
@@ -44,7 +44,7 @@ fn bring_all(book: &mut Book, pass: u32)
 
 /// Each pass in turn brings all that is left to come to a cabinet in a round, of whose passes of ticks one is made first.
 fn bring_round(book: &mut Book)
-    ensures run { (s : ScenarioContent) (cab : ℕ) (t : Standing) → HasRun s cab t [] book.old
+    ensures run { (s : ScenarioContent) (cab : ℕ) (t : CabinetState) → HasRun s cab t [] book.old
         → HasRun s cab t (serial (coming_streams s cab t)) book.new }
     ensures finishes { Finishes book.old book.new }
     ensures ticks { ticks_by_end book.new ≡ ticks_by_end book.old }
@@ -59,7 +59,7 @@ fn bring_round(book: &mut Book)
 /// of the three streams of messages, and the ticks. It takes no memory.
 pub fn serial_round(books: &mut Vec<Book>)
     ensures many { length books.new.items ≡ length books.old.items }
-    ensures run { (s : ScenarioContent) (ts : List Standing) → HaveRun s ts (no_journals ts) books.old.items
+    ensures run { (s : ScenarioContent) (ts : List CabinetState) → HaveRun s ts (no_journals ts) books.old.items
         → HaveRun s ts (serial_journals s 1 ts) books.new.items }
     ensures finishes { (k : ℕ) (b : BookRow) → k < length books.old.items → Finishes (get_or books.old.items k b) (get_or books.new.items k b) }
     ensures ticks { (most : ℕ) → TicksWithin most books.old.items → TicksWithin most books.new.items }

@@ -2,8 +2,8 @@
 
 ghost use Rattle.std.specs.Prelude.{ℕ, ◌≡◌, ◌<◌, ◌+◌, List, length, OnOk, OnErr};
 ghost use Rattle.scenario_data.specs.Content.{ScenarioContent};
-ghost use Rattle.run_definition.specs.Standing.{Standing};
-ghost use Rattle.round_run.specs.Standings.{AreAt, HaveRun, no_journals, TicksWithin};
+ghost use Rattle.run_definition.specs.CabinetState.{CabinetState};
+ghost use Rattle.round_run.specs.CabinetStates.{AreAt, HaveRun, no_journals, TicksWithin};
 ghost use Rattle.round_run.specs.Joined.{AreFresh, HaveFewLeft};
 ghost use Rattle.round_run.specs.Opening.{CanOpen, AreComing, TicksAtMost, BeginsSome};
 
@@ -21,7 +21,7 @@ pub fn open_rounds(
 ) -> Result<(), NoMemory>
     requires { CanOpen books.old.items streams.items }
     ensures many { length books.new.items ≡ length books.old.items }
-    ensures run { OnOk result ((s : ScenarioContent) (ts : List Standing) → AreAt books.old.items ts → AreComing s ts streams.items
+    ensures run { OnOk result ((s : ScenarioContent) (ts : List CabinetState) → AreAt books.old.items ts → AreComing s ts streams.items
         → HaveRun s ts (no_journals ts) books.new.items) }
     ensures fresh { OnOk result (AreFresh books.new.items) }
     ensures small { OnOk result (TicksAtMost 2147483648 streams.items → HaveFewLeft books.new.items) }

@@ -1,24 +1,26 @@
 -- Tables that are accepted beside those in force have their layout, and keep the rules alone.
 use Rattle.std.proofs.Common.{◌≡◌, inl, inr, ℕ, Bool, true, false, not, ◌&&◌, ◌||◌, if◌then◌else◌, ◌==◌, List, [], ◌∷◌, refl, sym, ◌∙◌, subst}
 use Rattle.std.proofs.lemmas.Bool.{cases_Bool, and_parts, and_from, both_ways, not-true}
-use Rattle.std.proofs.lemmas.Bool.Decides.{Decides-eqb, eqb_tells}
+use Rattle.std.proofs.lemmas.Bool.Decides.{Decides-eqb}
 use Rattle.sig_types.specs.Phases.{is_phase, all_phases, is_in}
 use Rattle.sig_types.proofs.Lists.{eq-true}
 use Rattle.sig_tables.specs.declared.tables.Tables.{Tables}
 use Rattle.sig_tables.specs.Tables.{ring_of, is_enabled}
 use Rattle.sig_tables.specs.Sides.{names, are_concurrent}
-use Rattle.rule_book.specs.Street.{neighbours, same_phases, keeps_layout}
+use Rattle.rule_book.specs.RingLayout.{neighbours, same_phases, keeps_layout}
 use Rattle.sig_tables.specs.Sums.{every}
-use Rattle.rule_book.specs.Rules.{all_rules, rows_of, breaks, broken, Consistent}
+use Rattle.rule_book.specs.declared.rules.Rule.{Rule}
+use Rattle.rule_book.specs.declared.rules.Rule.TheVariants.{OnPhase, OnSequence, OnPattern, TwoSides, Correction, PreemptPhases, LayoutInForce}
+use Rattle.rule_book.specs.Rules.{breaks, broken, Consistent}
 use Rattle.tick_laws.proofs.OneSide.{concurrent-enabled, concurrent-from}
 use Rattle.rule_facts.proofs.Kept.{kept, unbroken}
 use Rattle.tick_laws.specs.Lawful.{SameLayout}
-use Rattle.tick_laws.proofs.Standing.{enabled-phase}
+use Rattle.tick_laws.proofs.FrameStands.{enabled-phase}
 use Rattle.rule_facts.proofs.Numbered.{layout-kept}
 use Rattle.rule_facts.proofs.Members.{same-answer}
-use Rattle.rule_facts.proofs.Street.{neighbour-is, same-member}
+use Rattle.rule_facts.proofs.RingLayout.{neighbour-is, same-member}
 
--- what rule 21 says of a phase
+-- what the rule on the layout in force says of a phase
 record Kept (new old : Tables) (p : ℕ) : Type 0 where
   enabled : is_enabled new p ≡ is_enabled old p
   ring : is_enabled old p ≡ true → ring_of new p ≡ ring_of old p
@@ -108,14 +110,14 @@ keeps-own t p = split (is_enabled t p) refl
     split false e = rw e refl
 
 -- the other rules speak of one table alone
-other-rules : (t u : Tables) (flashing : Bool) (rule row : ℕ) → (rule == 21) ≡ false → breaks t u flashing rule row ≡ breaks t t false rule row
-other-rules t u flashing rule row e = rw e refl
+other-rules : (t u : Tables) (flashing : Bool) (rule : Rule) (row : ℕ) → breaks t u flashing rule row ≡ false → breaks t t false rule row ≡ false
+other-rules t u flashing (OnPhase rule) row e = e
+other-rules t u flashing (OnSequence rule) row e = e
+other-rules t u flashing (OnPattern rule) row e = e
+other-rules t u flashing TwoSides row e = e
+other-rules t u flashing Correction row e = e
+other-rules t u flashing PreemptPhases row e = e
+other-rules t u flashing LayoutInForce row e = rw (keeps-own t row) refl
 
 pub alone : (t u : Tables) (flashing : Bool) → broken t u flashing ≡ [] → Consistent t
-alone t u flashing h = unbroken t t false each
-  where
-    each : (rule row : ℕ) → is_in all_rules rule ≡ true → is_in (rows_of rule) row ≡ true → breaks t t false rule row ≡ false
-    each rule row i j = elim (eqb_tells rule 21) [
-      | inl (b, e) ↦ subst (λ (x : ℕ). breaks t t false x row ≡ false) (sym e) (rw (keeps-own t row) refl)
-      | inr (b, ne) ↦ sym (other-rules t u flashing rule row b) ∙ kept t u flashing h rule row i j
-    ]
+alone t u flashing h = unbroken t t false (λ rule row j. other-rules t u flashing rule row (kept t u flashing h rule row j))

@@ -13,13 +13,13 @@ use Rattle.sig_tables.specs.Sums.{every, sum_of, greatest, before}
 use Rattle.sig_tables.specs.Cells.{pattern_of}
 use Rattle.sig_tables.specs.Slots.{cycle_time, pattern_order, split_time, slot_start, slot_end, side_of, side_end}
 use Rattle.rule_book.specs.Patterns.{fills_cycle, side_time}
-use Rattle.tick_laws.proofs.Standing.{enabled-phase}
+use Rattle.tick_laws.proofs.FrameStands.{enabled-phase}
 use Rattle.tick_laws.proofs.OneSide.{side-enabled, own, side-mutual}
 use Rattle.rule_facts.specs.Rules.{KeepsRules}
 use Rattle.rule_facts.specs.Sequences.{earlier_sides}
 use Rattle.rule_facts.proofs.Kept.{none-listed}
 use Rattle.rule_facts.proofs.Members.{under, same-answer}
-use Rattle.rule_facts.proofs.Street.{in-ring}
+use Rattle.rule_facts.proofs.RingLayout.{in-ring}
 use Rattle.rule_facts.proofs.Sides.{side-joined, sides-hold}
 use Rattle.rule_facts.proofs.Orders.{before-head, before-tail, in-rest, sum-within, in-before, one-before, before-before}
 use Rattle.rule_facts.proofs.Sequences.{InUse, serves, in-own-ring, before-comes, ordered, both-rings, other-mutual, is_earlier, earlier-before, same-test, before-side}

@@ -5,7 +5,7 @@ use Rattle.sig_tables.specs.declared.tables.Tables.{Tables}
 use Rattle.sig_tables.specs.Tables.{is_enabled}
 use Rattle.sig_tables.specs.Slots.{is_defined, force_point}
 use Rattle.sig_tables.specs.Splits.{coordinated_phases}
-use Rattle.rule_book.specs.Street.{is_used}
+use Rattle.rule_book.specs.RingLayout.{is_used}
 use Rattle.rule_book.specs.Rules.{broken, Consistent}
 use Rattle.tick_laws.specs.Lawful.{Sound, SameLayout}
 use Rattle.rule_facts.specs.Rules.{KeepsRules}

@@ -10,14 +10,14 @@ use Rattle.sig_tables.specs.Sums.{every}
 use Rattle.sig_tables.specs.Slots.{is_defined, coordinated_phase}
 use Rattle.sig_tables.specs.Splits.{coordinated_phases}
 use Rattle.sig_tables.specs.Preempts.{track_set, dwell_set, exit_set}
-use Rattle.rule_book.specs.Street.{may_be_on_together}
+use Rattle.rule_book.specs.RingLayout.{may_be_on_together}
 use Rattle.rule_book.specs.Rules.{all_preempts}
 use Rattle.tick_laws.proofs.OneSide.{concurrent-enabled, concurrent-mutual, own, beside}
 use Rattle.rule_facts.specs.Rules.{KeepsRules}
 use Rattle.plan_facts.specs.Goals.{GoTogether, PreemptFits}
 use Rattle.rule_facts.proofs.Numbered.{in-counted}
 use Rattle.sig_types.proofs.Sets.{in-every}
-use Rattle.rule_facts.proofs.Street.{across}
+use Rattle.rule_facts.proofs.RingLayout.{across}
 use Rattle.rule_facts.proofs.Plan.{pair-together}
 
 -- enabled phases that are pairwise concurrent

@@ -8,7 +8,7 @@ use Rattle.sig_tables.specs.Past.{Moment}
 use Rattle.tick_laws.specs.InStep.{Coordinated}
 use Rattle.tick_laws.proofs.Choices.{differs}
 use Rattle.rule_facts.specs.Needed.{slow_clearance}
-use Rattle.rule_facts.specs.Street.{Brief, brief, long_revert}
+use Rattle.rule_facts.specs.BrokenPlans.{Brief, brief, long_revert}
 
 pub late-fails : (t : Tables) (m : Moment) (b : Brief) → brief m ≡ b → b.counter ≡ 0 → b.two ≡ Red → is_coordinated t 1 2 ≡ true → ¬ Coordinated t 1 m
 late-fails t m b e zero red held c =

@@ -12,13 +12,13 @@ use Rattle.sig_tables.specs.Sides.{are_concurrent}
 use Rattle.sig_tables.specs.Sums.{every, sum_of, before}
 use Rattle.sig_tables.specs.Cells.{pattern_of}
 use Rattle.sig_tables.specs.Slots.{is_defined, cycle_time, pattern_order, split_time, is_omitted, is_coordinated, coordinated_in, coordinated_phase, slot_start, slot_end, side_end, side_clearance, least_service, leaves_room, zero_point, force_point, window}
-use Rattle.rule_book.specs.Street.{is_listed}
+use Rattle.rule_book.specs.RingLayout.{is_listed}
 use Rattle.rule_book.specs.Patterns.{has_coordinated_pair, holds_for, has_window, side_time}
-use Rattle.tick_laws.proofs.Standing.{enabled-phase}
+use Rattle.tick_laws.proofs.FrameStands.{enabled-phase}
 use Rattle.rule_facts.specs.Rules.{SequenceRules, KeepsRules}
 use Rattle.plan_facts.specs.Plan.{NamesThere, Coordinates, SlotsLie, SidesLie, WindowHolds, HeldForce, OtherForce, PlanHolds}
 use Rattle.rule_facts.proofs.Members.{counted-member}
-use Rattle.rule_facts.proofs.Street.{in-ring}
+use Rattle.rule_facts.proofs.RingLayout.{in-ring}
 use Rattle.rule_facts.proofs.Sequences.{listed-once}
 use Rattle.rule_facts.proofs.Barriers.{Laid, sides-apart, same-end}
 use Rattle.rule_facts.proofs.Times.{long-clearance, corrected}

@@ -10,14 +10,14 @@ use Rattle.sig_tables.specs.declared.tables.Tables.{Tables}
 use Rattle.sig_tables.specs.Tables.{ring_of, is_enabled, order_of}
 use Rattle.sig_tables.specs.Sides.{are_of_one_side}
 use Rattle.sig_tables.specs.Sums.{times_in, every, before}
-use Rattle.rule_book.specs.Street.{serves_ring, is_of_ring, comes_after, side_comes_before}
-use Rattle.tick_laws.proofs.Standing.{enabled-phase}
+use Rattle.rule_book.specs.RingLayout.{serves_ring, is_of_ring, comes_after, side_comes_before}
+use Rattle.tick_laws.proofs.FrameStands.{enabled-phase}
 use Rattle.tick_laws.proofs.OneSide.{side-enabled, own, side-mutual}
 use Rattle.rule_facts.specs.Rules.{SequenceRules, KeepsRules}
 use Rattle.rule_facts.specs.Sequences.{RingServed, earlier_sides, SequenceServes}
 use Rattle.rule_facts.proofs.Kept.{none-listed}
 use Rattle.rule_facts.proofs.Members.{Found, some-found, found-some, counted-member, under, same-answer}
-use Rattle.rule_facts.proofs.Street.{in-ring}
+use Rattle.rule_facts.proofs.RingLayout.{in-ring}
 use Rattle.rule_facts.proofs.Sides.{side-joined}
 use Rattle.rule_facts.proofs.Orders.{cut-at, in-before, one-before, before-after, those-append}
 

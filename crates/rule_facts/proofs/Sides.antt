@@ -8,13 +8,13 @@ use Rattle.sig_types.proofs.Sets.{every-phase}
 use Rattle.sig_tables.specs.declared.tables.Tables.{Tables}
 use Rattle.sig_tables.specs.Tables.{ring_of, is_enabled, starts_up}
 use Rattle.sig_tables.specs.Sides.{are_concurrent, are_incompatible, are_of_one_side}
-use Rattle.rule_book.specs.Street.{neighbours}
+use Rattle.rule_book.specs.RingLayout.{neighbours}
 use Rattle.rule_facts.specs.Sides.{SidesCut, SidesHold}
-use Rattle.tick_laws.proofs.Standing.{enabled-phase}
+use Rattle.tick_laws.proofs.FrameStands.{enabled-phase}
 use Rattle.rule_facts.specs.Rules.{KeepsRules}
 use Rattle.rule_facts.proofs.Members.{Found, some-found, under}
 use Rattle.tick_laws.proofs.OneSide.{Same, Beside, Through, one-side, concurrent-enabled, concurrent-mutual, side-enabled, own, beside, through, side-mutual}
-use Rattle.rule_facts.proofs.Street.{concurrent-neighbour, across, in-ring, third, in-common}
+use Rattle.rule_facts.proofs.RingLayout.{concurrent-neighbour, across, in-ring, third, in-common}
 
 -- phases of one side and ring have the same concurrent phases; those of different rings are concurrent
 alike : (t : Tables) (p q x : ℕ) → KeepsRules t → are_of_one_side t p q ≡ true → ring_of t p ≡ ring_of t q

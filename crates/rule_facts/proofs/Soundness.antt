@@ -9,7 +9,7 @@ use Rattle.plan_facts.specs.Plan.{NamesThere}
 use Rattle.tick_laws.specs.Lawful.{Sound}
 use Rattle.rule_facts.specs.Rules.{KeepsRules}
 use Rattle.rule_facts.specs.Sequences.{SequenceServes}
-use Rattle.rule_facts.proofs.Street.{across, in-ring}
+use Rattle.rule_facts.proofs.RingLayout.{across, in-ring}
 use Rattle.rule_facts.proofs.Sides.{around, started}
 use Rattle.rule_facts.proofs.Goals.{preempt-fits, coordinated-fits}
 use Rattle.rule_facts.proofs.Times.{times-hold}

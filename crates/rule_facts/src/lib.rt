@@ -1,5 +1,6 @@
-//! What consistent tables give the layers above: laws of sides, sequences, goals and patterns that follow from the
-//! consistency rules. The functions do nothing: each stands for the law of its contract, which callers cite.
+//! What consistent tables give the layers above: laws of sides, sequences, goals and patterns that follow from the consistency
+//! rules; and what each rule of a plan is for, by a plan that breaks it alone. The functions do nothing: each stands for the law
+//! of its contract, which callers cite.
 #![tactic(auto)]
 
 mod broken_plans;
@@ -12,12 +13,17 @@ ghost use Rattle.sig_tables.specs.Standard.{std8, max8};
 ghost use Rattle.sig_tables.specs.Sides.{are_concurrent, are_of_one_side};
 ghost use Rattle.sig_tables.specs.Slots.{is_defined, cycle_time, slot_end, least_service, zero_point, force_point, window, permissive_end};
 ghost use Rattle.sig_tables.specs.Splits.{coordinated_phases};
-ghost use Rattle.rule_book.specs.Street.{is_used, comes_after};
+ghost use Rattle.rule_book.specs.RingLayout.{is_used, comes_after};
+ghost use Rattle.rule_book.specs.declared.rules.Rule.TheVariants.{OnPhase, OnSequence, OnPattern};
+ghost use Rattle.rule_book.specs.declared.rules.PhaseRule.TheVariants.{SharedList, StartUp};
+ghost use Rattle.rule_book.specs.declared.rules.SequenceRule.TheVariants.{SideOrder};
+ghost use Rattle.rule_book.specs.declared.rules.PatternRule.TheVariants.{SplitSum, LeastService, CorrectionWindow};
 ghost use Rattle.rule_book.specs.Rules.{broken, Consistent};
 ghost use Rattle.sig_tables.specs.Past.{Event, History};
-ghost use Rattle.sig_tables.specs.Decide.{since_opening};
+ghost use Rattle.sig_tables.specs.Decide.{past_at, since_opening};
 ghost use Rattle.tick_laws.specs.Lawful.{Sound, SameLayout, Lawful};
 ghost use Rattle.rule_facts.specs.Admitted.{Admitted, KeepsApart};
+ghost use Rattle.rule_facts.specs.GivesWay.{EachGivesWay};
 ghost use Rattle.rule_facts.specs.Rules.{KeepsRules};
 ghost use Rattle.rule_facts.specs.Sides.{SidesCut, SidesHold};
 ghost use Rattle.rule_facts.specs.Sequences.{SequenceServes};
@@ -28,8 +34,8 @@ ghost use Rattle.rule_facts.specs.Forces.{AreEnough, force_with, first_turn_out}
 ghost use Rattle.rule_facts.specs.Needed.{BreaksOnly, slow_clearance, long_slots, slots_past, crossed_sides, half_named, both_streets};
 
 pub use broken_plans::{
-    keeps_the_standard_plan, needs_rule_11_on_the_street, needs_rule_18_on_the_street,
-    needs_rule_19_on_the_street,
+    keeps_the_standard_plan, local_zero_needs_least_service, local_zero_needs_red_revert,
+    offset_needs_correction_window,
 };
 use rule_book::standard_consistent;
 
@@ -135,49 +141,51 @@ pub fn omitted_force_point()
     ensures permissive { permissive_end first_turn_out 1 1 ≡ 0 }
 {}
 
-/// Without rule 18 a phase may be forced off too late to clear within the cycle.
-pub fn needs_rule_18()
-    ensures broken { BreaksOnly slow_clearance 18 (1 ∷ []) }
+/// Without the rule on the least service (18) a phase may be forced off too late to clear within the cycle.
+pub fn needs_least_service()
+    ensures broken { BreaksOnly slow_clearance (OnPattern LeastService) (1 ∷ []) }
     ensures cycle { cycle_time slow_clearance 1 ≡ 900 }
     ensures forced { force_point slow_clearance 1 3 ≡ 840 }
     ensures clears { force_point slow_clearance 1 3 + clearance slow_clearance 3 ≡ 1350 }
 {}
 
-/// Without rule 17 a slot may end past the cycle, and its phase be forced off before it is served.
-pub fn needs_rule_17()
-    ensures broken { BreaksOnly long_slots 17 (1 ∷ []) }
+/// Without the rule on the sum of the splits (17) a slot may end past the cycle, and its phase be forced off before
+/// it is served.
+pub fn needs_split_sum()
+    ensures broken { BreaksOnly long_slots (OnPattern SplitSum) (1 ∷ []) }
     ensures cycle { cycle_time long_slots 1 ≡ 900 }
     ensures past { slot_end long_slots 1 4 ≡ 1200 }
     ensures forced { force_point long_slots 1 4 ≡ 95 }
     ensures served { least_service long_slots 4 ≡ 190 }
 {}
 
-/// Without rule 19 local zero may come after the end of a coordinated slot.
-pub fn needs_rule_19()
-    ensures broken { BreaksOnly slots_past 19 (1 ∷ []) }
+/// Without the rule on the window of the correction (19) local zero may come after the end of a coordinated slot.
+pub fn needs_correction_window()
+    ensures broken { BreaksOnly slots_past (OnPattern CorrectionWindow) (1 ∷ []) }
     ensures zero { zero_point slots_past 1 ≡ 200 }
     ensures end { slot_end slots_past 1 6 ≡ 150 }
 {}
 
-/// Without rule 9 a side that comes before another in one ring may come after it in the other.
-pub fn needs_rule_9()
-    ensures broken { BreaksOnly crossed_sides 9 (1 ∷ []) }
+/// Without the rule on the order of the sides (9) a side that comes before another in one ring may come after it in
+/// the other.
+pub fn needs_side_order()
+    ensures broken { BreaksOnly crossed_sides (OnSequence SideOrder) (1 ∷ []) }
     ensures first { comes_after crossed_sides 1 1 3 ≡ true }
     ensures second { comes_after crossed_sides 1 7 5 ≡ true }
     ensures sides { (are_of_one_side crossed_sides 1 5 ≡ true) × (are_of_one_side crossed_sides 3 7 ≡ true) }
 {}
 
-/// Without rule 6 two phases of the side of a third, in different rings, may not be concurrent.
-pub fn needs_rule_6()
-    ensures broken { BreaksOnly half_named 6 (1 ∷ 2 ∷ 5 ∷ 6 ∷ []) }
+/// Without the rule on shared lists (6) two phases of the side of a third, in different rings, may not be concurrent.
+pub fn needs_shared_list()
+    ensures broken { BreaksOnly half_named (OnPhase SharedList) (1 ∷ 2 ∷ 5 ∷ 6 ∷ []) }
     ensures sides { (are_of_one_side half_named 1 2 ≡ true) × (are_of_one_side half_named 1 5 ≡ true) }
     ensures rings { (ring_of half_named 2 ≡ 1) × (ring_of half_named 5 ≡ 2) }
     ensures apart { are_concurrent half_named 2 5 ≡ false }
 {}
 
-/// Without rule 12 start-up phases may be incompatible.
-pub fn needs_rule_12()
-    ensures broken { BreaksOnly both_streets 12 (2 ∷ 4 ∷ 6 ∷ []) }
+/// Without the rule on start-up (12) start-up phases may be incompatible.
+pub fn needs_start_up()
+    ensures broken { BreaksOnly both_streets (OnPhase StartUp) (2 ∷ 4 ∷ 6 ∷ []) }
     ensures up { (starts_up both_streets 4 ≡ true) × (starts_up both_streets 6 ≡ true) }
     ensures apart { are_concurrent both_streets 4 6 ≡ false }
 {}
@@ -189,4 +197,10 @@ pub fn needs_rule_12()
 pub fn admitted_is_safe()
     ensures lawful { (opening : Tables) (events : List Event) → Admitted opening events → Lawful opening events }
     ensures apart { (h : History) → Admitted h.tables (since_opening h) → KeepsApart h }
+{}
+
+/// In a history that the rules admitted a green gives way in free operation: once its gap or its maximum is over and it is served, it ends for
+/// each phase that is called and may not be on with it, as soon as the other ring can leave its side of the barrier.
+pub fn greens_give_way()
+    ensures { (h : History) → Admitted h.tables (since_opening h) → EachGivesWay (past_at h).moments }
 {}

@@ -239,7 +239,7 @@ fn other_words_are_usage(rt: HostRuntime) -> Result<(), Fail> {
             (1, 0),
             10_000,
         )?;
-        assert_eq!(rt; said.as_str(), "usage");
+        assert!(rt; said.as_str() == "usage");
         assert!(rt; written.is_empty());
     }
     Ok(())
@@ -304,12 +304,12 @@ fn each_first_fault_is_told(rt: HostRuntime) -> Result<(), Fail> {
     let alloc = rt.alloc();
     for (input, due) in REFUSED {
         let (said, written) = run(&rt, alloc, input)?;
-        assert_eq!(rt; said.as_str(), due);
+        assert!(rt; said.as_str() == due);
         assert!(rt; written.is_empty());
     }
     let bytes = vec![in alloc; 34, 255, 34]?;
     let (said, written) = answer(&rt, alloc, &["run"], bytes, (0, 0), 10_000)?;
-    assert_eq!(rt; said.as_str(), "not JSON");
+    assert!(rt; said.as_str() == "not JSON");
     assert!(rt; written.is_empty());
     Ok(())
 }
@@ -324,8 +324,8 @@ fn there_are_at_most_64_cabinets(rt: HostRuntime) -> Result<(), Fail> {
         }
         input.extend_from_slice(b"],\"rounds\":1,\"ticks\":1,\"version\":1}")?;
         let (said, written) = answer(&rt, alloc, &["run"], input, (0, 0), 10_000)?;
-        assert_eq!(rt; said.as_str(), due);
-        assert_eq!(rt; written.is_empty(), due != "done");
+        assert!(rt; said.as_str() == due);
+        assert!(rt; written.is_empty() == (due != "done"));
     }
     Ok(())
 }
@@ -337,8 +337,8 @@ fn an_input_past_the_limit_is_refused(rt: HostRuntime) -> Result<(), Fail> {
         let mut input = bytes_of(alloc, ONE_ROUND)?;
         input.resize(16_777_216 + more, b' ')?;
         let (said, written) = answer(&rt, alloc, &["run"], input, (0, 0), 10_000)?;
-        assert_eq!(rt; said.as_str(), due);
-        assert_eq!(rt; written.is_empty(), more == 1);
+        assert!(rt; said.as_str() == due);
+        assert!(rt; written.is_empty() == (more == 1));
     }
     Ok(())
 }
@@ -350,8 +350,8 @@ fn each_read_may_fail(rt: HostRuntime) -> Result<(), Fail> {
     for (fails, due) in [(1, "read fault"), (2, "read fault"), (3, "done")] {
         let input = bytes_of(alloc, ONE_ROUND)?;
         let (said, written) = answer(&rt, alloc, &["run"], input, (fails, 0), 10_000)?;
-        assert_eq!(rt; said.as_str(), due);
-        assert_eq!(rt; written.is_empty(), fails < 3);
+        assert!(rt; said.as_str() == due);
+        assert!(rt; written.is_empty() == (fails < 3));
     }
     Ok(())
 }
@@ -362,7 +362,7 @@ fn each_write_may_fail(rt: HostRuntime) -> Result<(), Fail> {
     // About 90,000 bytes: three writes.
     let input = "{\"cabinets\":[{\"base\":\"max8\"}],\"rounds\":6000,\"ticks\":1,\"version\":1}";
     let (said, whole) = run(&rt, alloc, input)?;
-    assert_eq!(rt; said.as_str(), "done");
+    assert!(rt; said.as_str() == "done");
     for (fails, room, due) in [
         (1, 100_000, "write fault"),
         (2, 100_000, "write fault"),
@@ -373,9 +373,9 @@ fn each_write_may_fail(rt: HostRuntime) -> Result<(), Fail> {
     ] {
         let bytes = bytes_of(alloc, input)?;
         let (said, written) = answer(&rt, alloc, &["run"], bytes, (0, fails), room)?;
-        assert_eq!(rt; said.as_str(), due);
+        assert!(rt; said.as_str() == due);
         assert!(rt; whole.starts_with(written.as_slice()));
-        assert_eq!(rt; written.len() == whole.len(), due == "done");
+        assert!(rt; (written.len() == whole.len()) == (due == "done"));
     }
     Ok(())
 }
@@ -389,11 +389,11 @@ fn help_and_version_write_their_text_and_read_nothing(rt: HostRuntime) -> Result
     ] {
         // The first read would fail.
         let (said, written) = answer(&rt, alloc, &[word], Vec::new(alloc), (1, 0), 10_000)?;
-        assert_eq!(rt; said.as_str(), "done");
+        assert!(rt; said.as_str() == "done");
         assert!(rt; written.as_slice().starts_with(text.as_bytes()));
         // The first write fails.
         let (said, written) = answer(&rt, alloc, &[word], Vec::new(alloc), (0, 1), 10_000)?;
-        assert_eq!(rt; said.as_str(), "write fault");
+        assert!(rt; said.as_str() == "write fault");
         assert!(rt; written.is_empty());
     }
     Ok(())
@@ -422,9 +422,9 @@ fn the_smallest_scenario_is_generated_and_nothing_is_read(rt: HostRuntime) -> Re
         (0, 100, "write fault"),
     ] {
         let (said, written) = answer(&rt, alloc, &words, Vec::new(alloc), (1, fails), room)?;
-        assert_eq!(rt; said.as_str(), due);
+        assert!(rt; said.as_str() == due);
         assert!(rt; SMALLEST.as_bytes().starts_with(written.as_slice()));
-        assert_eq!(rt; written.len() == SMALLEST.len(), due == "done");
+        assert!(rt; (written.len() == SMALLEST.len()) == (due == "done"));
     }
     Ok(())
 }
@@ -437,11 +437,8 @@ fn the_smallest_scenario_is_surveyed_and_nothing_is_read(rt: HostRuntime) -> Res
     // The first read would fail; a write fails.
     for (fails, told) in [(0, "done"), (1, "write fault")] {
         let (said, written) = answer(&rt, alloc, &words, Vec::new(alloc), (1, fails), 10_000)?;
-        assert_eq!(rt; said.as_str(), told);
-        assert_eq!(rt;
-            written.as_slice(),
-            if fails == 0 { due.as_bytes() } else { b"" }
-        );
+        assert!(rt; said.as_str() == told);
+        assert!(rt; written.as_slice() == (if fails == 0 { due.as_bytes() } else { b"" }));
     }
     Ok(())
 }

@@ -38,12 +38,12 @@ fn band_tells_the_greatest_bands_and_else_the_first_fault(rt: HostRuntime) -> Re
             "{{\"scenario\":{scenario},\"section\":{section},\"pattern\":1,\"travel\":{travel}}}"
         )?;
         let (said, written) = passing(&rt, alloc, &["band"], text.as_str(), &OpenGate)?;
-        assert_eq!(rt; said.as_str(), due);
-        assert_eq!(rt; written.as_slice(), lines.as_bytes());
+        assert!(rt; said.as_str() == due);
+        assert!(rt; written.as_slice() == lines.as_bytes());
     }
     let bytes = STREET.as_bytes().to_vec(alloc)?;
     let (said, written) = answer(&rt, alloc, &["band"], bytes, (1, 0), 0)?;
-    assert_eq!(rt; said.as_str(), "read fault");
+    assert!(rt; said.as_str() == "read fault");
     assert!(rt; written.is_empty());
     Ok(())
 }

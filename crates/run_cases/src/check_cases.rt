@@ -35,12 +35,12 @@ fn check_says_yes_to_a_trace_and_else_names_the_first_fault(rt: HostRuntime) -> 
     ] {
         let text = format!(in alloc; "{front}{end}")?;
         let (said, written) = passing(&rt, alloc, &["check"], text.as_str(), &OpenGate)?;
-        assert_eq!(rt; said.as_str(), due);
+        assert!(rt; said.as_str() == due);
         assert!(rt; written.is_empty());
     }
     let bytes = FRONT.as_bytes().to_vec(alloc)?;
     let (said, written) = answer(&rt, alloc, &["check"], bytes, (1, 0), 0)?;
-    assert_eq!(rt; said.as_str(), "read fault");
+    assert!(rt; said.as_str() == "read fault");
     assert!(rt; written.is_empty());
     Ok(())
 }

@@ -1,10 +1,5 @@
-//! Worked cases of the top call over sources and sinks in memory, each with its expected answer
-//! from outside. They stand in a crate of their own, above it, so that it is proved once and not
-//! again for its tests.
-//!
-//! Worked cases of cabinets shared by threads, and of sources and sinks that move small pieces.
-//! The cabinets are books as simple as can be. The cases stand in a crate of their own, above the parts, so that a part is proved
-//! once and not again for its tests.
+//! Worked cases of the top call over sources and sinks in memory, and of cabinets shared by threads, each with its expected answer
+//! from outside. They stand in a crate of their own, above the parts, so that a part is proved once and not again for its tests.
 #![tactic(auto)]
 
 mod acts;

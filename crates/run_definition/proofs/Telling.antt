@@ -1,4 +1,4 @@
--- What the lines of a cabinet's acts tell of it is what its story tells of them; the lines of others tell nothing of it.
+-- What the lines of a cabinet's acts tell of it is what its cabinet history tells of them; the lines of others tell nothing of it.
 use Rattle.std.proofs.Common.{◌≡◌, ◌≢◌, ◌∙◌, ◌==◌, if◌then◌else◌, ℕ, Bool, true, false, List, [], ◌∷◌, ◌++◌, map, Option, Some, None, Result, Ok, Err, refl, ap, append-nil}
 use Rattle.std.proofs.lemmas.Bool.{ne_eqb, eq-eqb}
 use Rattle.sig_types.specs.declared.frame.Frame.{Frame}
@@ -10,7 +10,7 @@ use Rattle.safety_laws.specs.Written.{shown_by}
 use Rattle.safety_laws.specs.Told.{Told, Shows, Loads, told_in}
 use Rattle.sig_types.specs.Items.{Item, Told as Input, Came, Ticked}
 use Rattle.cabinet_history.specs.declared.Load.{Load}
-use Rattle.cabinet_history.specs.Story.{Story, with_item}
+use Rattle.cabinet_history.specs.CabinetHistory.{CabinetHistory, with_item}
 use Rattle.cabinet_history.specs.Journals.{Act}
 use Rattle.cabinet_history.specs.Told.{load_end, reply_to, in_frame, item_written}
 use Rattle.cabinet_laws.specs.Telling.{version_told, load_told, frames_told, item_told, acts_told}
@@ -67,20 +67,20 @@ load-tells : (cab : ℕ) (load : Option Load) (more : List Line) → told_in cab
 load-tells cab None more = refl
 load-tells cab (Some load) more = result-tells cab load.id load.result more
 
-item-tells : (cab : ℕ) (story : Story) (pass : ℕ) (item : Item) → told_in cab (item_lines cab story pass item) ≡ item_told story item
-item-tells cab story pass (Input field) = refl
-item-tells cab story pass (Came octets) =
-    load-tells cab (load_end story octets) (A cab pass (in_frame (reply_to story octets)) ∷ []) ∙ append-nil (load_told (load_end story octets))
-item-tells cab story pass Ticked =
-    ap (told_in cab) (append-nil (frame_lines cab (item_written story Ticked))) ∙ frames-tell cab (item_written story Ticked)
+item-tells : (cab : ℕ) (cabinet_history : CabinetHistory) (pass : ℕ) (item : Item) → told_in cab (item_lines cab cabinet_history pass item) ≡ item_told cabinet_history item
+item-tells cab cabinet_history pass (Input field) = refl
+item-tells cab cabinet_history pass (Came octets) =
+    load-tells cab (load_end cabinet_history octets) (A cab pass (in_frame (reply_to cabinet_history octets)) ∷ []) ∙ append-nil (load_told (load_end cabinet_history octets))
+item-tells cab cabinet_history pass Ticked =
+    ap (told_in cab) (append-nil (frame_lines cab (item_written cabinet_history Ticked))) ∙ frames-tell cab (item_written cabinet_history Ticked)
 
-pub acts-lines-tell : (cab : ℕ) (story : Story) (acts : List Act) → told_in cab (acts_lines cab story acts) ≡ acts_told story acts
-acts-lines-tell cab story [] = refl
-acts-lines-tell cab story (act ∷ acts) =
-    let later : List Line = acts_lines cab (with_item story act.item) acts in
-    told-append cab (item_lines cab story act.pass act.item) later
-    ∙ ap (λ (x : List Told). x ++ told_in cab later) (item-tells cab story act.pass act.item)
-    ∙ ap (λ (x : List Told). item_told story act.item ++ x) (acts-lines-tell cab (with_item story act.item) acts)
+pub acts-lines-tell : (cab : ℕ) (cabinet_history : CabinetHistory) (acts : List Act) → told_in cab (acts_lines cab cabinet_history acts) ≡ acts_told cabinet_history acts
+acts-lines-tell cab cabinet_history [] = refl
+acts-lines-tell cab cabinet_history (act ∷ acts) =
+    let later : List Line = acts_lines cab (with_item cabinet_history act.item) acts in
+    told-append cab (item_lines cab cabinet_history act.pass act.item) later
+    ∙ ap (λ (x : List Told). x ++ told_in cab later) (item-tells cab cabinet_history act.pass act.item)
+    ∙ ap (λ (x : List Told). item_told cabinet_history act.item ++ x) (acts-lines-tell cab (with_item cabinet_history act.item) acts)
 
 -- ---- the lines of another cabinet, and notes
 
@@ -97,18 +97,18 @@ other-load : (cab n : ℕ) (load : Option Load) (more : List Line) → n ≢ cab
 other-load cab n None more other = refl
 other-load cab n (Some load) more other = other-result cab n load.id load.result more other
 
-other-item : (cab n : ℕ) (story : Story) (pass : ℕ) (item : Item) → n ≢ cab → told_in cab (item_lines n story pass item) ≡ []
-other-item cab n story pass (Input field) other = refl
-other-item cab n story pass (Came octets) other =
-    other-load cab n (load_end story octets) (A n pass (in_frame (reply_to story octets)) ∷ []) other
-other-item cab n story pass Ticked other =
-    ap (told_in cab) (append-nil (frame_lines n (item_written story Ticked))) ∙ other-frames cab n (item_written story Ticked) other
+other-item : (cab n : ℕ) (cabinet_history : CabinetHistory) (pass : ℕ) (item : Item) → n ≢ cab → told_in cab (item_lines n cabinet_history pass item) ≡ []
+other-item cab n cabinet_history pass (Input field) other = refl
+other-item cab n cabinet_history pass (Came octets) other =
+    other-load cab n (load_end cabinet_history octets) (A n pass (in_frame (reply_to cabinet_history octets)) ∷ []) other
+other-item cab n cabinet_history pass Ticked other =
+    ap (told_in cab) (append-nil (frame_lines n (item_written cabinet_history Ticked))) ∙ other-frames cab n (item_written cabinet_history Ticked) other
 
-pub other-acts : (cab n : ℕ) (story : Story) (acts : List Act) → n ≢ cab → told_in cab (acts_lines n story acts) ≡ []
-other-acts cab n story [] other = refl
-other-acts cab n story (act ∷ acts) other =
-    told-behind cab (item_lines n story act.pass act.item) (acts_lines n (with_item story act.item) acts) (other-item cab n story act.pass act.item other)
-    ∙ other-acts cab n (with_item story act.item) acts other
+pub other-acts : (cab n : ℕ) (cabinet_history : CabinetHistory) (acts : List Act) → n ≢ cab → told_in cab (acts_lines n cabinet_history acts) ≡ []
+other-acts cab n cabinet_history [] other = refl
+other-acts cab n cabinet_history (act ∷ acts) other =
+    told-behind cab (item_lines n cabinet_history act.pass act.item) (acts_lines n (with_item cabinet_history act.item) acts) (other-item cab n cabinet_history act.pass act.item other)
+    ∙ other-acts cab n (with_item cabinet_history act.item) acts other
 
 pub notes-tell : (cab : ℕ) (notes : List MasterNote) (more : List Line) → told_in cab (map M notes ++ more) ≡ told_in cab more
 notes-tell cab [] more = refl

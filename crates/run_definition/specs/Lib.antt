@@ -1,4 +1,4 @@
-pub mod Standing
+pub mod CabinetState
 pub mod Lines
 pub mod Orders
 pub mod Safe

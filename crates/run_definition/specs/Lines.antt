@@ -10,12 +10,12 @@ use Rattle.scenario_data.specs.Content.{ScenarioContent}
 use Rattle.sig_types.specs.Items.{Item}
 use Rattle.cabinet_history.specs.declared.Load.{Load}
 use Rattle.cabinet_history.specs.declared.Reply.{Reply}
-use Rattle.cabinet_history.specs.Story.{Story, with_item}
+use Rattle.cabinet_history.specs.CabinetHistory.{CabinetHistory, with_item}
 use Rattle.cabinet_history.specs.Journals.{Act, runs_of}
 use Rattle.cabinet_history.specs.Coming.{history_of}
 use Rattle.cabinet_history.specs.Told.{item_replies, item_written}
 use Rattle.master_rounds.specs.Rounds.{noted}
-use Rattle.run_definition.specs.Standing.{Standing, opened_standings, round_acts, each_standing}
+use Rattle.run_definition.specs.CabinetState.{CabinetState, opened_cabinet_states, round_acts, each_cabinet_state}
 
 -- the line of a frame that a cabinet shows after so many ticks
 abbrev pub shown_line : ℕ → ℕ → Frame → Line
@@ -36,52 +36,52 @@ abbrev pub reply_lines : ℕ → List Reply → List Line
 reply_lines cab [] = []
 reply_lines cab (r ∷ replies) = load_lines cab r.load ++ A cab r.pass r.text ∷ reply_lines cab replies
 
--- the lines of an item that a pass brings after a story: of a tick its frame's, where that has a line; of a frame of octets its reply's
-abbrev pub item_lines : ℕ → Story → ℕ → Item → List Line
-item_lines cab story pass item = frame_lines cab (item_written story item) ++ reply_lines cab (item_replies story pass item)
+-- the lines of an item that a pass brings after a cabinet history: of a tick its frame's, where that has a line; of a frame of octets its reply's
+abbrev pub item_lines : ℕ → CabinetHistory → ℕ → Item → List Line
+item_lines cab cabinet_history pass item = frame_lines cab (item_written cabinet_history item) ++ reply_lines cab (item_replies cabinet_history pass item)
 
 -- the lines of these acts, in order
-abbrev pub acts_lines : ℕ → Story → List Act → List Line
-acts_lines cab story [] = []
-acts_lines cab story (act ∷ acts) = item_lines cab story act.pass act.item ++ acts_lines cab (with_item story act.item) acts
+abbrev pub acts_lines : ℕ → CabinetHistory → List Act → List Line
+acts_lines cab cabinet_history [] = []
+acts_lines cab cabinet_history (act ∷ acts) = item_lines cab cabinet_history act.pass act.item ++ acts_lines cab (with_item cabinet_history act.item) acts
 
 -- the lines of a cabinet's round: its journal in longest runs, and those of its acts
-abbrev pub cabinet_lines : ScenarioContent → ℕ → Standing → List ℕ → List Line
-cabinet_lines s cab t journal = J cab (runs_of journal) ∷ acts_lines cab t.story (round_acts s cab t journal)
+abbrev pub cabinet_lines : ScenarioContent → ℕ → CabinetState → List ℕ → List Line
+cabinet_lines s cab t journal = J cab (runs_of journal) ∷ acts_lines cab t.cabinet_history (round_acts s cab t journal)
 
 -- the lines of each cabinet in turn, counted from a first number, by the journals of the round
-abbrev pub each_lines : ScenarioContent → ℕ → List Standing → List (List ℕ) → List Line
+abbrev pub each_lines : ScenarioContent → ℕ → List CabinetState → List (List ℕ) → List Line
 each_lines s first (t ∷ ts) (journal ∷ journals) = cabinet_lines s first t journal ++ each_lines s (first + 1) ts journals
 each_lines s first _ _ = []
 
 -- the lines of what the master notes of each cabinet at the start of the round to come
-abbrev pub notes_lines : ScenarioContent → ℕ → List Standing → List Line
+abbrev pub notes_lines : ScenarioContent → ℕ → List CabinetState → List Line
 notes_lines s first [] = []
 notes_lines s first (t ∷ ts) = map M (noted s first t.cabinet t.answered) ++ notes_lines s (first + 1) ts
 
 -- the head of a round: its number and the notes
-abbrev pub head_lines : ScenarioContent → ℕ → List Standing → List Line
+abbrev pub head_lines : ScenarioContent → ℕ → List CabinetState → List Line
 head_lines s round ts = R round ∷ notes_lines s 1 ts
 
 -- the lines of a round: its head, and those of each cabinet
-abbrev pub round_lines : ScenarioContent → ℕ → List Standing → List (List ℕ) → List Line
+abbrev pub round_lines : ScenarioContent → ℕ → List CabinetState → List (List ℕ) → List Line
 round_lines s round ts journals = head_lines s round ts ++ each_lines s 1 ts journals
 
 -- the lines of the rounds from this number on, one list of journals for each
-abbrev pub rounds_lines : ScenarioContent → ℕ → List Standing → List (List (List ℕ)) → List Line
+abbrev pub rounds_lines : ScenarioContent → ℕ → List CabinetState → List (List (List ℕ)) → List Line
 rounds_lines s round ts [] = []
 rounds_lines s round ts (journals ∷ later) =
-    round_lines s round ts journals ++ rounds_lines s (round + 1) (each_standing s 1 ts journals) later
+    round_lines s round ts journals ++ rounds_lines s (round + 1) (each_cabinet_state s 1 ts journals) later
 
 -- the lines of what each cabinet shows before any tick
-abbrev pub opening_lines : ℕ → List Standing → List Line
+abbrev pub opening_lines : ℕ → List CabinetState → List Line
 opening_lines first [] = []
-opening_lines first (t ∷ ts) = shown_line first 0 (last_frame_of (history_of t.story)) ∷ opening_lines (first + 1) ts
+opening_lines first (t ∷ ts) = shown_line first 0 (last_frame_of (history_of t.cabinet_history)) ∷ opening_lines (first + 1) ts
 
 -- the lines of the first rounds of a run, behind its scenario: what each cabinet shows before any tick, and these rounds
 abbrev pub front_lines : ScenarioContent → List (List (List ℕ)) → List Line
 front_lines s journals =
-    opening_lines 1 (opened_standings s s.cabinets) ++ rounds_lines s 1 (opened_standings s s.cabinets) journals
+    opening_lines 1 (opened_cabinet_states s s.cabinets) ++ rounds_lines s 1 (opened_cabinet_states s s.cabinets) journals
 
 -- the lines of a run behind its scenario
 abbrev pub rest_lines : ScenarioContent → List (List (List ℕ)) → List Line

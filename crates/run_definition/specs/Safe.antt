@@ -11,44 +11,44 @@ use Rattle.plan_facts.specs.Meets.{Meets}
 use Rattle.scenario_data.specs.Content.{CabinetContent, ScenarioContent}
 use Rattle.scenario_data.specs.Opening.{opening_tables}
 use Rattle.sig_types.specs.Items.{Item, Came}
-use Rattle.cabinet_history.specs.Story.{Story, with_item}
+use Rattle.cabinet_history.specs.CabinetHistory.{CabinetHistory, with_item}
 use Rattle.cabinet_history.specs.Coming.{coming, history_of}
 use Rattle.cabinet_history.specs.Downloads.{accepted_by, deeds_of, with_downloads}
 use Rattle.cabinet_history.specs.Told.{load_end}
 use Rattle.cabinet_laws.specs.Judging.{IsVerdict}
 use Rattle.runnable.specs.Cabinets.{IsCabinet}
-use Rattle.run_definition.specs.Standing.{Standing, HasComeTo, opened_standings, standings_after}
+use Rattle.run_definition.specs.CabinetState.{CabinetState, HasComeTo, opened_cabinet_states, cabinet_states_after}
 
 -- the tables of each version are the opening ones with the whole content of each download that was accepted up to it put in order, and
 -- nothing else: so many downloads were accepted later
-abbrev pub AreMadeOfDownloads : CabinetContent → Story → Type 0
-AreMadeOfDownloads c story = (version later : ℕ) → version + later ≡ length (accepted_by (deeds_of (coming story)))
-    → tables_of (history_of story) version ≡ with_downloads (opening_tables c) (drop later (accepted_by (deeds_of (coming story))))
+abbrev pub AreMadeOfDownloads : CabinetContent → CabinetHistory → Type 0
+AreMadeOfDownloads c cabinet_history = (version later : ℕ) → version + later ≡ length (accepted_by (deeds_of (coming cabinet_history)))
+    → tables_of (history_of cabinet_history) version ≡ with_downloads (opening_tables c) (drop later (accepted_by (deeds_of (coming cabinet_history))))
 
--- the story as far as these of its items, of which the newest stands first
-abbrev pub as_far_as : Story → List Item → Story
-as_far_as story items = record { community = story.community; opening = story.opening; items = items }
+-- the cabinet history as far as these of its items, of which the newest stands first
+abbrev pub as_far_as : CabinetHistory → List Item → CabinetHistory
+as_far_as cabinet_history items = record { community = cabinet_history.community; opening = cabinet_history.opening; items = items }
 
 -- each frame that ended a download told what the rules said of the staged tables when it came
-abbrev pub EndAsJudged : Story → Type 0
-EndAsJudged story = (later earlier : List Item) (octets : List ℕ) → story.items ≡ later ++ (Came octets ∷ earlier)
-    → IfSome (load_end (as_far_as story earlier) octets)
-    (λ load. IsVerdict (coming (as_far_as story earlier)) (coming (with_item (as_far_as story earlier) (Came octets))) load.result)
+abbrev pub EndAsJudged : CabinetHistory → Type 0
+EndAsJudged cabinet_history = (later earlier : List Item) (octets : List ℕ) → cabinet_history.items ≡ later ++ (Came octets ∷ earlier)
+    → IfSome (load_end (as_far_as cabinet_history earlier) octets)
+    (λ load. IsVerdict (coming (as_far_as cabinet_history earlier)) (coming (with_item (as_far_as cabinet_history earlier) (Came octets))) load.result)
 
 -- what a cabinet has come to by the end of a run with these journals, and what is promised of it where these lines are read: by those
 -- of the cabinet alone its street is safe with the tables of each version of its history, and its versions are whole; these tables are
 -- those of whole downloads, accepted or refused by the rules; its history meets coordination; and in each frame of a pattern its phases
 -- keep to the plan, so that a coordinated one is Green where the counter is below its force point
 pub record Kept (s : ScenarioContent) (journals : List (List (List ℕ))) (lines : List Line) (cab : ℕ) (c : CabinetContent) : Type 0 where
-  pub end : Standing
+  pub end : CabinetState
   pub own : end.cabinet ≡ c
-  pub come : HasComeTo cab end 1 (standings_after s (opened_standings s s.cabinets) journals)
-  pub safe : Safe (intersection_of cab (tables_of (history_of end.story)) lines)
+  pub come : HasComeTo cab end 1 (cabinet_states_after s (opened_cabinet_states s s.cabinets) journals)
+  pub safe : Safe (intersection_of cab (tables_of (history_of end.cabinet_history)) lines)
   pub whole : Whole cab lines
-  pub tables : AreMadeOfDownloads c end.story
-  pub judged : EndAsJudged end.story
-  pub meets : Meets (history_of end.story)
-  pub greens : EachCoordinated (past_at (history_of end.story)).moments
+  pub tables : AreMadeOfDownloads c end.cabinet_history
+  pub judged : EndAsJudged end.cabinet_history
+  pub meets : Meets (history_of end.cabinet_history)
+  pub greens : EachCoordinated (past_at (history_of end.cabinet_history)).moments
 
 -- this is so of each cabinet
 abbrev pub AllKept : ScenarioContent → List (List (List ℕ)) → List Line → Type 0

@@ -6,15 +6,15 @@
 ghost use Rattle.std.specs.Prelude.{◌≡◌, ◌+◌, ◌++◌, ℕ, List, length};
 ghost use Rattle.scenario_data.specs.Content.{ScenarioContent};
 ghost use Rattle.runnable.specs.Runnable.{AllOpen};
-ghost use Rattle.run_definition.specs.Standing.{opened_standings, standings_after};
+ghost use Rattle.run_definition.specs.CabinetState.{opened_cabinet_states, cabinet_states_after};
 ghost use Rattle.run_definition.specs.Lines.{front_lines, rounds_lines, run_lines};
 ghost use Rattle.run_definition.specs.Orders.{AreJournals, BeginJournals, Continues, serial_journals};
 ghost use Rattle.run_definition.specs.Safe.{AllKept};
 ghost use Rattle.run_definition.specs.Smallest.{smallest, one_tick, smallest_lines};
 
 use cabinet_laws::{
-    downloads_are_whole, downloads_end_as_judged, stories_are_safe, stories_keep_to_plan,
-    stories_meet_coordination,
+    cabinet_histories_are_safe, cabinet_histories_keep_to_plan,
+    cabinet_histories_meet_coordination, downloads_are_whole, downloads_end_as_judged,
 };
 
 /// The smallest run: one cabinet with the standard tables, to which one tick comes, shows all red throughout.
@@ -36,11 +36,11 @@ pub fn any_order_is_safe()
     ensures { (s : ScenarioContent) → AllOpen s.cabinets → (journals : List (List (List ℕ))) → AreJournals s journals
         → AllKept s journals (run_lines s journals) }
 {
-    stories_are_safe();
+    cabinet_histories_are_safe();
     downloads_are_whole();
     downloads_end_as_judged();
-    stories_meet_coordination();
-    stories_keep_to_plan();
+    cabinet_histories_meet_coordination();
+    cabinet_histories_keep_to_plan();
 }
 
 /// The lines of fewer rounds begin those of more: later rounds only add theirs. And whatever journals the first rounds had, they are
@@ -48,7 +48,7 @@ pub fn any_order_is_safe()
 pub fn rounds_only_add()
     ensures adds { (s : ScenarioContent) (journals : List (List (List ℕ))) (later : List (List (List ℕ)))
         → front_lines s (journals ++ later)
-        ≡ front_lines s journals ++ rounds_lines s (length journals + 1) (standings_after s (opened_standings s s.cabinets) journals) later }
+        ≡ front_lines s journals ++ rounds_lines s (length journals + 1) (cabinet_states_after s (opened_cabinet_states s s.cabinets) journals) later }
     ensures continued { (s : ScenarioContent) (journals : List (List (List ℕ))) → BeginJournals s journals → Continues s journals }
 {}
 

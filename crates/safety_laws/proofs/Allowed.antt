@@ -14,9 +14,9 @@ use Rattle.sig_tables.specs.Tables.{is_enabled, pedestrian_clear_time}
 use Rattle.sig_tables.specs.Sides.{are_incompatible, are_concurrent}
 use Rattle.sig_tables.specs.Standard.{max8, standard, pair}
 use Rattle.tick_laws.proofs.Choices.{differs, differs-signal}
-use Rattle.tick_laws.proofs.Standing.{enabled-phase}
+use Rattle.tick_laws.proofs.FrameStands.{enabled-phase}
 use Rattle.safety_laws.specs.Safe.{Intersection, intersection_of, colour_at, signal_at, mode_at, in_force, way_at, Apart, clearance_due, next_signal}
-use Rattle.safety_laws.specs.Safe.{Follows, Interval, Lasts, Safe}
+use Rattle.safety_laws.specs.Safe.{PhaseFollows, Interval, Lasts, Safe}
 use Rattle.safety_laws.specs.Rows.{IsRefusedWith, preempted, cut_flash}
 
 -- of sixteen the second alone differs from the first
@@ -160,7 +160,7 @@ by-phase P second others p ph = elim (is-second p) [ inl e ↦ subst P (sym e) s
 colours-stay : (p tick : ℕ) → colour_at street p (tick + 1) ≡ colour_at street p tick
 colours-stay p tick = ap (λ (x : List Colour). get_or x (p - 1) Green) (green-stands tables (tick + 1) ∙ sym (green-stands tables tick))
 
-second-follows : (tick : ℕ) → Follows street 2 tick
+second-follows : (tick : ℕ) → PhaseFollows street 2 tick
 second-follows tick = record {
   colour = λ ne. absurd (ne (colours-stay 2 tick));
   signal = λ ne. elim (cases_lt (tick + 1) 80) [
@@ -174,8 +174,8 @@ second-follows tick = record {
   ];
 }
 
-cut-follows : (p tick : ℕ) → is_phase p ≡ true → Follows street p tick
-cut-follows p tick = by-phase (λ x. Follows street x tick) (second-follows tick) (λ q ph ne. record {
+cut-follows : (p tick : ℕ) → is_phase p ≡ true → PhaseFollows street p tick
+cut-follows p tick = by-phase (λ x. PhaseFollows street x tick) (second-follows tick) (λ q ph ne. record {
   colour = λ other. absurd (other (colours-stay q tick));
   signal = λ other. absurd (other (other-dont tables q (tick + 1) ph ne ∙ sym (other-dont tables q tick ph ne)));
 }) p

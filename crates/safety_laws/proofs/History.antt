@@ -5,7 +5,7 @@ use Rattle.sig_tables.specs.declared.tables.Tables.{Tables}
 use Rattle.sig_tables.specs.Past.{Event, History, Moment}
 use Rattle.sig_tables.specs.Ticking.{colours_of}
 use Rattle.sig_tables.specs.Seen.{moves_seen}
-use Rattle.sig_tables.specs.Course.{course_of}
+use Rattle.sig_tables.specs.TickState.{tick_state_of}
 use Rattle.sig_tables.specs.Decide.{frames, past_of, past_at, since_opening}
 use Rattle.trace_text.specs.declared.lines.Line.{Line}
 use Rattle.tick_laws.specs.Each.{EachMoment}
@@ -85,7 +85,7 @@ all-known s (m ∷ past) l = (
 each-numbered : (opening : Tables) (events : List Event) → EachMoment (λ past m. Numbered m.frame.mode) (past_of opening events).moments
 each-numbered opening events =
     each-moment opening (λ past m. Numbered m.frame.mode) tt
-    (λ past h. reached-numbered (course_of past).mode past.tables (colours_of past (moves_seen past))
+    (λ past h. reached-numbered (tick_state_of past).mode past.tables (colours_of past (moves_seen past))
     (sought-known _ _ _ _ past.moments (at-last (λ f. Numbered f.mode) tt past.moments h))) events
 
 pub history-safe : (h : History) (tables : ℕ → Tables) (has_line : Frame → Frame → Bool) (cab : ℕ) (lines : List Line)

@@ -20,7 +20,7 @@ use Rattle.tick_laws.specs.Walking.{WalkLasted, FlashLasted}
 use Rattle.tick_laws.proofs.Each.{each-weaker}
 use Rattle.tick_laws.proofs.Intervals.{so-far}
 use Rattle.safety_laws.specs.Safe.{Indications, Intersection, colour_at, signal_at, in_force, makes_way_for, green_due, walk_due, clearance_due}
-use Rattle.safety_laws.specs.Safe.{Follows, Interval, way_at, Safe}
+use Rattle.safety_laws.specs.Safe.{PhaseFollows, Interval, way_at, Safe}
 use Rattle.safety_laws.specs.Written.{shown_by}
 use Rattle.safety_laws.proofs.SoFar.{so_far, so_far-all, so_far-next, so_far-some, so_far-holds}
 use Rattle.safety_laws.proofs.Intervals.{HasTables, Run, ran, force, Ended}
@@ -55,7 +55,7 @@ module _ (s : Intersection) (moments : List Moment) (some : 0 < length moments)
       ∙ ap (λ (x : List Moment). shown_by (last_frame x)) (so_far-all (tick + 1) moments more ∙ sym (so_far-all tick moments l))
       ∙ sym (shows tick)
 
-  follows-each : (p tick : ℕ) → is_phase p ≡ true → Follows s p tick
+  follows-each : (p tick : ℕ) → is_phase p ≡ true → PhaseFollows s p tick
   follows-each p tick ph = elim (cases_lt (tick + 1) (length moments)) [
     | inl l ↦
         let next : (m : Moment) × (so_far (tick + 1) moments ≡ m ∷ so_far tick moments) = so_far-next tick moments l in

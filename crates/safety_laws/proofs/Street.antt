@@ -16,12 +16,12 @@ use Rattle.sig_tables.specs.Past.{Moment}
 use Rattle.sig_tables.specs.Looking.{last_frame}
 use Rattle.sig_tables.specs.Lesser.{Lesser, lesser_clear}
 use Rattle.sig_tables.specs.Goals.{lesser_in}
-use Rattle.tick_laws.specs.Safe.{is_on, Apart as ColoursApart, ClearanceEnds, GreenEnds, Follows as ColoursFollow}
+use Rattle.tick_laws.specs.Safe.{is_on, Apart as ColoursApart, ClearanceEnds, GreenEnds, ColourFollows as ColoursFollow}
 use Rattle.tick_laws.specs.Walking.{OnGreen, Quiet, SignalEnds, WalkWithin, FlashWithin}
 use Rattle.tick_laws.proofs.Choices.{same-is, same-is-signal}
 use Rattle.tick_laws.proofs.Sought.{Numbered}
 use Rattle.safety_laws.specs.Safe.{Indications, Intersection, colour_at, signal_at, mode_at, in_force, Apart, makes_way_for, clearance_due}
-use Rattle.safety_laws.specs.Safe.{next_colour, next_signal, Follows, way_at}
+use Rattle.safety_laws.specs.Safe.{next_colour, next_signal, PhaseFollows, way_at}
 use Rattle.safety_laws.specs.Written.{shown_by}
 use Rattle.safety_laws.proofs.AfterDont.{AfterDont}
 use Rattle.safety_laws.proofs.Ways.{lesser-is, clear-is}
@@ -119,7 +119,7 @@ module _ (s : Intersection) where
 
   -- from one tick to the next
   pub follows-at : (tick : ℕ) (past : List Moment) (m : Moment) → s.shown tick ≡ shown_by (last_frame past) → s.shown (tick + 1) ≡ shown_by m.frame
-      → Known s past m → (p : ℕ) → is_phase p ≡ true → Follows s p tick
+      → Known s past m → (p : ℕ) → is_phase p ≡ true → PhaseFollows s p tick
   follows-at tick past m e f k p ph =
       let was : colour_at s p tick ≡ colour_of (last_frame past) p = colour-shown tick p (last_frame past) e in
       let now : colour_at s p (tick + 1) ≡ colour_of m.frame p = colour-shown (tick + 1) p m.frame f in

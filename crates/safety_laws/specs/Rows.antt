@@ -104,7 +104,7 @@ unfoldable pub slow_yellow : ℕ → Tables
 slow_yellow version =
     if version == 0 then max8 else record max8 { phases = set max8.phases 1 (record (row max8 2) { yellow_change = 50 }) }
 
--- a Yellow that began with 40 ticks is drawn out to the 50 of tables that came in its course
+-- a Yellow that began with 40 ticks is drawn out to the 50 of tables that came while it lasted
 abbrev pub newest_yellow : List Line
 newest_yellow = second_line 0 Yellow Dont ∷ line_in Free 1 10 Yellow Dont ∷ line_in Free 1 50 Clear Dont ∷ []
 
@@ -135,6 +135,6 @@ short_walk_on_entry = second_line 0 Green Walk ∷ line_in (Entry 1) 0 39 Green 
 abbrev pub short_flash_on_entry : List Line
 short_flash_on_entry = second_line 0 Green Flash ∷ line_in (Entry 1) 0 79 Green Dont ∷ []
 
--- Flash lasts the 80 ticks that the preempt leaves of its 120, and the preempt is called in its course
+-- Flash lasts the 80 ticks that the preempt leaves of its 120, and the preempt is called while it lasts
 abbrev pub cut_flash : List Line
 cut_flash = second_line 0 Green Flash ∷ line_in (Entry 1) 0 30 Green Flash ∷ line_in (Entry 1) 0 80 Green Dont ∷ []

@@ -106,7 +106,7 @@ next_signal t mode p Walk = if clearance_due (makes_way_for t mode p) (pedestria
 next_signal t mode p Flash = Dont
 
 -- where the colour or the signal of phase p changes at the tick after this one, the new one is the one that follows
-pub record Follows (s : Intersection) (p tick : ℕ) : Type 0 where
+pub record PhaseFollows (s : Intersection) (p tick : ℕ) : Type 0 where
   pub colour : colour_at s p (tick + 1) ≢ colour_at s p tick
       → colour_at s p (tick + 1) ≡ next_colour (in_force s (tick + 1)) p (colour_at s p tick)
   pub signal : signal_at s p (tick + 1) ≢ signal_at s p tick
@@ -140,6 +140,6 @@ pub record Lasts (s : Intersection) (p first end : ℕ) : Type 0 where
 -- the street is safe at every tick
 pub record Safe (s : Intersection) : Type 0 where
   pub apart : (tick : ℕ) → Apart s tick
-  pub follows : (p tick : ℕ) → is_phase p ≡ true → Follows s p tick
+  pub follows : (p tick : ℕ) → is_phase p ≡ true → PhaseFollows s p tick
   pub lasts : (p first end : ℕ) → is_phase p ≡ true → Lasts s p first end
   pub on_green : (p tick : ℕ) → is_phase p ≡ true → (signal_at s p tick ≡ Dont) ⊎ (colour_at s p tick ≡ Green)

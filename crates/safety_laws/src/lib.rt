@@ -1,5 +1,5 @@
-//! A trace is safe: what its frame lines alone show of a cabinet's street, at every tick of 0.1 s.
-//! The definitions know nothing of histories or of the rules of a tick; the laws tie them to every history.
+//! A trace is safe: what its frame lines alone show of a cabinet's street, at every tick of 0.1 s. The definitions know nothing of
+//! histories or of the rules of a tick; the laws tie them to every history, and to every history whose tables keep the rules.
 //! What may be shown together, in which order and how long follows NEMA TS 2 and the FHWA Signal Timing Manual.
 #![tactic(auto)]
 
@@ -44,7 +44,7 @@ pub fn undisturbed_is_whole()
 
 /// What the definition refuses on the table max8: a conflict of colours or of walks; a disabled phase that is lit; a yellow or a red
 /// clearance left out, cut short or drawn out; a green cut short; a walk or a pedestrian clearance cut short or drawn out, a pedestrian
-/// clearance left out; and walk beside red. A yellow keeps the time of its first tick, whatever tables come in its course.
+/// clearance left out; and walk beside red. A yellow keeps the time of its first tick, whatever tables come while it lasts.
 pub fn unsafe_traces_are_refused()
     ensures conflict { IsRefused conflict }
     ensures two_walks { IsRefused two_walks }

@@ -85,7 +85,7 @@ fn a_call_comes_after_its_delay_and_is_extended(rt: HostRuntime) -> Result<(), F
             on: false,
         },
     ];
-    assert_eq!(rt; calls.as_slice(), due.as_slice());
+    assert!(rt; calls.as_slice() == due.as_slice());
     Ok(())
 }
 
@@ -112,6 +112,6 @@ fn edges_are_counted_by_rounds(rt: HostRuntime) -> Result<(), Fail> {
             count: 1,
         },
     ];
-    assert_eq!(rt; found.as_slice(), due.as_slice());
+    assert!(rt; found.as_slice() == due.as_slice());
     Ok(())
 }

@@ -1,8 +1,5 @@
-//! Worked cases of the generator of scenarios, with texts from outside.
-//! They stand in a crate of their own, above it, so that it is proved once and not again for its tests.
-//!
-//! Worked cases of a bank of detectors and of levels by counted traffic, with their values from outside. They stand in a crate of
-//! their own, above the parts, so that a part is proved once and not again for its tests.
+//! Worked cases of the generator of scenarios, of a bank of detectors and of levels by counted traffic, with values from outside.
+//! They stand in a crate of their own, above the parts, so that a part is proved once and not again for its tests.
 #![tactic(auto)]
 
 #[cfg(test)]

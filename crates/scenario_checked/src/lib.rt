@@ -1,5 +1,5 @@
-//! Every scenario that is read without a fault can be run. This law alone needs both the reading, with its JSON, and what a run asks of
-//! a scenario, so it stands apart from both. There is no code here.
+//! Every scenario that is read without a fault can be run; and a scenario that stands inside another object, as a field file or a
+//! file of bands has it. Both need the reading, with its JSON, and what a run asks of a scenario.
 #![tactic(auto)]
 
 mod inside;

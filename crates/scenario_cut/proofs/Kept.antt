@@ -16,7 +16,7 @@ use Rattle.scenario_read.specs.Table
 use Rattle.scenario_read.specs.Table.{number_at, act_of, request_of, load, full_faults, load_cabinet, priority_item, departure_faults, drift_faults, drifts_both_ways, round, cabinet_number}
 use Rattle.scenario_cut.specs.Cutting.{Form, Whole, Cabinets, Cabinet, Events, Event, Master, Entries, Entry, Rows, Row, Bare, is_of_a_round, cut, member_form}
 use Rattle.scenario_cut.proofs.Same.{Same, Faulty, same-both, faulty-first, faulty-later}
-use Rattle.scenario_cut.proofs.Members.{IsObject, Keeps, AllKeep, object-same, held-cut, some-cut}
+use Rattle.scenario_cut.proofs.Members.{IsObject, CutKeeps, AllKeep, object-same, held-cut, some-cut}
 use Rattle.scenario_cut.proofs.Items.{IsArray, KeepsItem, Stops, each-kept, each-counted, list-same}
 use Rattle.scenario_cut.proofs.Bare.{bare-says, cell-fits}
 

@@ -65,19 +65,19 @@ held-cut f is field says same d = ap (λ o. says (unwrap_or (either o field.defa
 -- ---- the faults of an object
 
 -- what is kept at the field's name has the same first fault
-abbrev pub Keeps : Form → Field → Type 0
-Keeps f field = (path : List Step) (d : Data) → Same (field.kind path (cut (member_form f field.name) d)) (field.kind path d)
+abbrev pub CutKeeps : Form → Field → Type 0
+CutKeeps f field = (path : List Step) (d : Data) → Same (field.kind path (cut (member_form f field.name) d)) (field.kind path d)
 
 abbrev pub AllKeep : Form → List Field → Type 0
 AllKeep f [] = Unit {0}
-AllKeep f (field ∷ fields) = Keeps f field × AllKeep f fields
+AllKeep f (field ∷ fields) = CutKeeps f field × AllKeep f fields
 
 abbrev pub EachKeeps : Form → List (List Field) → Type 0
 EachKeeps f [] = Unit {0}
 EachKeeps f (fields ∷ more) = AllKeep f fields × EachKeeps f more
 
 module _ (f : Form) (is : IsObject f) where
-  field-same : (path : List Step) (d : Data) (field : Field) → Keeps f field → Same (field_faults path (cut f d) field) (field_faults path d field)
+  field-same : (path : List Step) (d : Data) (field : Field) → CutKeeps f field → Same (field_faults path (cut f d) field) (field_faults path d field)
   field-same path d field keeps =
       ap (λ o. first_cause (faults_of field.kind (then_named path field.name) (either o field.default))) (get-cut f is field.name d) ∙ at (get field.name d)
     where

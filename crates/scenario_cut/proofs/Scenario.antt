@@ -19,7 +19,7 @@ use Rattle.scenario_read.specs.Content.{each_of, list_in, base_of, cabinet_of, d
 use Rattle.scenario_read.specs.Faults.{named_faults, product_faults, all_table_faults, faults, first_cause}
 use Rattle.scenario_cut.specs.Cutting.{Form, Whole, Cabinets, Cabinet, Events, Event, Rows, Row, Bare, cut, cut_items, member_form}
 use Rattle.scenario_cut.proofs.Same.{Same, Faulty, same-both, same-ended}
-use Rattle.scenario_cut.proofs.Members.{IsObject, Keeps, AllKeep, object-same, held-cut, get-cut}
+use Rattle.scenario_cut.proofs.Members.{IsObject, CutKeeps, AllKeep, object-same, held-cut, get-cut}
 use Rattle.scenario_cut.proofs.Items.{KeepsItem, Stops, items-len, kept, list-same, each-counted, each-event, each-behind-event, behind-same, says-kept, says-counted}
 use Rattle.scenario_cut.proofs.Bare.{bare-says, cell-said}
 use Rattle.scenario_cut.proofs.Kept.{whole-same, text-same, bare-number, is-cabinet, cabinet-same, master-same, input-same, load-same, load-cabinet-same, priority-same, frame-same, fault-same, object-stops, load-stops, priority-stops, le-of}

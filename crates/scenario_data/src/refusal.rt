@@ -2,7 +2,7 @@
 
 /// The first fault of a text. A path names a value from the top, as in `cabinets[0].cells[3]`; places in lists are counted
 /// from 0, and `.` is the whole text's value.
-#[derive(Debug, PartialEq, Drop)]
+#[derive(PartialEq, Drop)]
 pub enum Refusal {
     /// The text has no reading in JSON (RFC 8259).
     Syntax,
@@ -16,7 +16,7 @@ pub enum Refusal {
 }
 
 /// Why a read gave no scenario.
-#[derive(Debug, PartialEq, Drop)]
+#[derive(PartialEq, Drop)]
 pub enum ReadFail {
     Refused(Refusal),
     NoMemory,

@@ -8,14 +8,14 @@ use sig_types::{Field, Request, Way};
 
 /// The tables that a cabinet begins with, before its cells: an eight-phase intersection after NEMA TS 2, with values of our
 /// own: minimum recall on the main street, or maximum recall on every phase.
-#[derive(Clone, Copy, Debug, PartialEq, Eq)]
+#[derive(Clone, Copy, PartialEq, Eq)]
 pub enum Base {
     Std8,
     Max8,
 }
 
 /// One cabinet: its tables, and what it opens with.
-#[derive(Debug, PartialEq, Drop)]
+#[derive(PartialEq, Drop)]
 pub struct Cabinet {
     pub base: Base,
     /// Cells that are put over the base, in order.
@@ -33,7 +33,7 @@ pub struct Cabinet {
 }
 
 /// One entry of the master's schedule: from a second of the day on, a section has a pattern.
-#[derive(Clone, Copy, Debug, PartialEq, Eq)]
+#[derive(Clone, Copy, PartialEq, Eq)]
 pub struct Entry {
     pub second: u32,
     pub section: u8,
@@ -41,7 +41,7 @@ pub struct Entry {
 }
 
 /// What the master does: every how many rounds (0 is never), how often it tries, and its schedule.
-#[derive(Debug, PartialEq, Drop)]
+#[derive(PartialEq, Drop)]
 pub struct MasterSetup {
     /// The master's opening time of day, 0 to 863,999.
     pub clock: u32,
@@ -53,7 +53,7 @@ pub struct MasterSetup {
 }
 
 /// An input from the street, in a round, at a cabinet.
-#[derive(Clone, Copy, Debug, PartialEq, Eq)]
+#[derive(Clone, Copy, PartialEq, Eq)]
 pub struct Input {
     pub round: u32,
     pub cabinet: u32,
@@ -62,7 +62,7 @@ pub struct Input {
 
 /// A download that the master begins in a round, or later where one before it still runs: the cells that it puts into a
 /// cabinet's tables.
-#[derive(Debug, PartialEq, Drop)]
+#[derive(PartialEq, Drop)]
 pub struct LoadItem {
     pub round: u32,
     pub cabinet: u32,
@@ -70,14 +70,14 @@ pub struct LoadItem {
 }
 
 /// What a vehicle with priority asks: to be served (after NTCIP 1211), or that the request with this number be dropped.
-#[derive(Clone, Copy, Debug, PartialEq, Eq)]
+#[derive(Clone, Copy, PartialEq, Eq)]
 pub enum PriorityAct {
     Request(Request),
     Cancel(u8),
 }
 
 /// A priority request in a round, at a cabinet.
-#[derive(Clone, Copy, Debug, PartialEq, Eq)]
+#[derive(Clone, Copy, PartialEq, Eq)]
 pub struct PriorityItem {
     pub round: u32,
     pub cabinet: u32,
@@ -94,14 +94,14 @@ pub struct FrameItem {
 }
 
 /// Towards a cabinet, or from it.
-#[derive(Clone, Copy, Debug, PartialEq, Eq)]
+#[derive(Clone, Copy, PartialEq, Eq)]
 pub enum Direction {
     Down,
     Up,
 }
 
 /// What a fault of the link does to a frame: it is lost, comes twice, comes again later, has an octet changed, or is cut.
-#[derive(Clone, Copy, Debug, PartialEq, Eq)]
+#[derive(Clone, Copy, PartialEq, Eq)]
 pub enum FaultKind {
     Lose,
     Repeat,
@@ -112,7 +112,7 @@ pub enum FaultKind {
 
 /// A fault of the link: which frame of a stream in a round it meets, counted from 0, and what it does. `by` is a number of
 /// rounds where the frame is late, a place where an octet is changed, a length where it is cut.
-#[derive(Clone, Copy, Debug, PartialEq, Eq)]
+#[derive(Clone, Copy, PartialEq, Eq)]
 pub struct Fault {
     pub round: u32,
     pub cabinet: u32,

@@ -11,7 +11,7 @@ use Rattle.scenario_read.specs.Fields.{Field, either, faults_of, field_faults, f
 use Rattle.scenario_read.specs.Table.{optional_list}
 use Rattle.scenario_read.specs.Content.{whole_of, number_at}
 use Rattle.scenario_read.proofs.Walks.{within-fits}
-use Rattle.scenario_file.specs.Listing.{Told}
+use Rattle.scenario_file.specs.Listing.{ListTold}
 use Rattle.scenario_file.specs.Framing.{filled, filled_in, IsHeld}
 use Rattle.scenario_file.proofs.Growth.{none-left, none-both, each_of-len}
 use Rattle.scenario_file.proofs.Frames.{get-in}
@@ -67,7 +67,7 @@ stood name fill d ds becomes held = ap (λ o. either o (Some (array no_items))) 
     counts (Some e) h = ap Some (becomes e)
 
 pub list-faults : {A : Type 0} (name : List ℕ) (path : List Step) (most : ℕ) (any kind : Kind) (says : Data → A) (found : List A) (fill : List ℕ → Data → Data) (d : Data) (ds : Items)
-    → Becomes fill name ds → IsHeld name (get name d) ds → Told (then_named path name) any says most found ds → each kind (then_named path name) 0 ds ≡ []
+    → Becomes fill name ds → IsHeld name (get name d) ds → ListTold (then_named path name) any says most found ds → each kind (then_named path name) 0 ds ≡ []
     → field_faults path (filled_in fill d) (optional_list name most kind) ≡ []
 list-faults name path most any kind says found fill d ds becomes held told none =
     let here = then_named path name in

@@ -13,7 +13,7 @@ use Rattle.scenario_cut.specs.Growing.{both}
 use Rattle.scenario_file.specs.Growing.{written, inner_text, follows}
 use Rattle.scenario_file.specs.declared.found.Reach.{Reach}
 use Rattle.scenario_file.specs.declared.listed.Listed.{Listed}
-use Rattle.scenario_file.specs.Listing.{Told, ToldLoads, Adds, AllOf, AsksWithin, UnlessEntry, Further, Within, Holds, Lists, any_load, asked_version, list_path, name_of}
+use Rattle.scenario_file.specs.Listing.{ListTold, ToldLoads, Adds, AllOf, AsksWithin, UnlessEntry, Further, Within, Holds, Lists, any_load, asked_version, list_path, name_of}
 
 pub none-left : (xs ys : List Cause) → xs ++ ys ≡ [] → (xs ≡ []) × (ys ≡ [])
 none-left [] ys e = (refl, e)
@@ -56,7 +56,7 @@ each_of-len f no_items = refl
 each_of-len f (item d ds) = ap suc (each_of-len f ds)
 
 pub told-next : {A : Type 0} (path : List Step) (kind : Kind) (says : Data → A) (most : ℕ) (old new : List A) (ds : Items) (d : Data)
-    → Told path kind says most old ds → Adds path kind says most old new d → Told path kind says most new (both ds (item d no_items))
+    → ListTold path kind says most old ds → Adds path kind says most old new d → ListTold path kind says most new (both ds (item d no_items))
 told-next path kind says most old new ds d t a =
     let counted : length old ≡ items_len ds = ap length t.said ∙ each_of-len says ds in
     record {

@@ -55,30 +55,30 @@ one-within fields alternatives rounds cabinets path (object ms) e r c =
     (none-both (field_faults path d (round rounds)) (field_faults path d (cabinet_number cabinets) ++ behind) first (none-both (field_faults path d (cabinet_number cabinets)) behind second g.1)) b.1)
 
 -- where an item of a round and a cabinet that there are is without fault under one kind, it is under the other
-abbrev Follows : Kind → Kind → ℕ → ℕ → Type 0
-Follows kind now rounds cabinets = (path : List Step) (d : Data) → kind path d ≡ [] → number_at (round 86400) d ≤ rounds → number_at (cabinet_number 64) d ≤ cabinets → now path d ≡ []
+abbrev KindFollows : Kind → Kind → ℕ → ℕ → Type 0
+KindFollows kind now rounds cabinets = (path : List Step) (d : Data) → kind path d ≡ [] → number_at (round 86400) d ≤ rounds → number_at (cabinet_number 64) d ≤ cabinets → now path d ≡ []
 
-pub input-within : (rounds cabinets : ℕ) → Follows any_input (object_of (input_shape rounds cabinets)) rounds cabinets
+pub input-within : (rounds cabinets : ℕ) → KindFollows any_input (object_of (input_shape rounds cabinets)) rounds cabinets
 input-within rounds cabinets path d = one-within [] input_fields rounds cabinets path d
 
-pub frame-within : (rounds cabinets : ℕ) → Follows any_frame (object_of (frame_shape rounds cabinets)) rounds cabinets
+pub frame-within : (rounds cabinets : ℕ) → KindFollows any_frame (object_of (frame_shape rounds cabinets)) rounds cabinets
 frame-within rounds cabinets path d = one-within (stream ∷ frame_hex ∷ []) [] rounds cabinets path d
 
-pub fault-within : (rounds cabinets : ℕ) → Follows any_fault (object_of (fault_shape rounds cabinets)) rounds cabinets
+pub fault-within : (rounds cabinets : ℕ) → KindFollows any_fault (object_of (fault_shape rounds cabinets)) rounds cabinets
 fault-within rounds cabinets path d = one-within (stream ∷ way ∷ index ∷ fault_kind ∷ by ∷ octet ∷ []) [] rounds cabinets path d
 
-pub priority-within : (rounds cabinets : ℕ) → Follows any_priority (priority_item rounds cabinets) rounds cabinets
+pub priority-within : (rounds cabinets : ℕ) → KindFollows any_priority (priority_item rounds cabinets) rounds cabinets
 priority-within rounds cabinets path d e r c =
     let parts = none-left (object_of (priority_shape 86400 64) path d) (departure_faults path (act_of d)) e in
     none-both (object_of (priority_shape rounds cabinets) path d) (departure_faults path (act_of d)) (one-within [] priority_fields rounds cabinets path d parts.0 r c) parts.1
 
-pub load-within : (rounds cabinets : ℕ) (earlier : List ℕ) → Follows (any_load earlier) (load rounds cabinets earlier) rounds cabinets
+pub load-within : (rounds cabinets : ℕ) (earlier : List ℕ) → KindFollows (any_load earlier) (load rounds cabinets earlier) rounds cabinets
 load-within rounds cabinets earlier path d e r c =
     let full = full_faults earlier path (load_cabinet 64 d) in
     let parts = none-left (object_of (load_shape 86400 64) path d) full e in
     none-both (object_of (load_shape rounds cabinets) path d) full (one-within (load_cells ∷ []) [] rounds cabinets path d parts.0 r c) parts.1
 
-pub each-within : (kind now : Kind) (rounds cabinets : ℕ) → Follows kind now rounds cabinets → (path : List Step) (ds : Items) (place : ℕ) → each kind path place ds ≡ [] → AllOf (InRounds rounds cabinets) ds → each now path place ds ≡ []
+pub each-within : (kind now : Kind) (rounds cabinets : ℕ) → KindFollows kind now rounds cabinets → (path : List Step) (ds : Items) (place : ℕ) → each kind path place ds ≡ [] → AllOf (InRounds rounds cabinets) ds → each now path place ds ≡ []
 each-within kind now rounds cabinets follows path no_items place e within = refl
 each-within kind now rounds cabinets follows path (item d ds) place e within =
     let parts = none-left (kind (then_item path place) d) (each kind path (place + 1) ds) e in

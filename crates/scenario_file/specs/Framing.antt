@@ -103,7 +103,7 @@ IsHeld name None ds = ds ≡ no_items
 IsHeld name (Some d) ds = d ≡ stand_in name ds
 
 -- this was found for the list that may stand in the frame
-pub record Stands (found : Found) (text : Written) (last : Reach) (frame : Members) (ds : Items) : Type 0 where
+pub record FramingStands (found : Found) (text : Written) (last : Reach) (frame : Members) (ds : Items) : Type 0 where
   pub holds : Holds found ds
   pub text_is : written text ≡ inner_text false ds
   pub within : AllOf (Within (name_of found) last) ds
@@ -127,12 +127,12 @@ pub record ScheduleStands (found : Found) (text : Written) (frame : Members) (ds
 
 -- this was found for all lists
 pub record AllStand (lists : Lists) (frame : Members) (rows : List ℕ → Items) : Type 0 where
-  pub cabinets : Stands (Cabinets lists.cabinets) lists.texts.cabinets lists.last frame (rows (codes "cabinets"))
-  pub inputs : Stands (Inputs lists.events.inputs) lists.texts.inputs lists.last frame (rows (codes "inputs"))
-  pub loads : Stands (Loads lists.events.loads) lists.texts.loads lists.last frame (rows (codes "loads"))
-  pub priority : Stands (Priority lists.events.priority) lists.texts.priority lists.last frame (rows (codes "priority"))
-  pub frames : Stands (Frames lists.events.frames) lists.texts.frames lists.last frame (rows (codes "frames"))
-  pub faults : Stands (Faults lists.events.faults) lists.texts.faults lists.last frame (rows (codes "faults"))
+  pub cabinets : FramingStands (Cabinets lists.cabinets) lists.texts.cabinets lists.last frame (rows (codes "cabinets"))
+  pub inputs : FramingStands (Inputs lists.events.inputs) lists.texts.inputs lists.last frame (rows (codes "inputs"))
+  pub loads : FramingStands (Loads lists.events.loads) lists.texts.loads lists.last frame (rows (codes "loads"))
+  pub priority : FramingStands (Priority lists.events.priority) lists.texts.priority lists.last frame (rows (codes "priority"))
+  pub frames : FramingStands (Frames lists.events.frames) lists.texts.frames lists.last frame (rows (codes "frames"))
+  pub faults : FramingStands (Faults lists.events.faults) lists.texts.faults lists.last frame (rows (codes "faults"))
   pub schedule : ScheduleStands (Schedule lists.schedule) lists.texts.schedule frame (rows (codes "schedule"))
 
 -- a value was read at a name, and what stands for it goes into the frame

@@ -49,7 +49,7 @@ abbrev pub any_entry : Kind
 any_entry = object_of entry_shape
 
 -- the items of a list at this path are of the kind, at most so many, and these say the same
-pub record Told {A : Type 0} (path : List Step) (kind : Kind) (says : Data → A) (most : ℕ) (found : List A) (ds : Items) : Type 0 where
+pub record ListTold {A : Type 0} (path : List Step) (kind : Kind) (says : Data → A) (most : ℕ) (found : List A) (ds : Items) : Type 0 where
   pub causes : each kind path 0 ds ≡ []
   pub said : found ≡ each_of says ds
   pub few : length found ≤ most
@@ -61,22 +61,22 @@ pub record ToldLoads (found : List LoadContent) (cabinets : List ℕ) (ds : Item
   pub whose : cabinets ≡ each_of (load_cabinet 64) ds
 
 abbrev pub ToldCabinets : List CabinetContent → Items → Type 0
-ToldCabinets = Told (list_path (codes "cabinets")) any_cabinet (cabinet_of 2) 64
+ToldCabinets = ListTold (list_path (codes "cabinets")) any_cabinet (cabinet_of 2) 64
 
 abbrev pub ToldInputs : List Input → Items → Type 0
-ToldInputs = Told (list_path (codes "inputs")) any_input (input_of 86400 64) 1000000
+ToldInputs = ListTold (list_path (codes "inputs")) any_input (input_of 86400 64) 1000000
 
 abbrev pub ToldPriority : List PriorityItem → Items → Type 0
-ToldPriority = Told (list_path (codes "priority")) any_priority (priority_of 86400 64) 100000
+ToldPriority = ListTold (list_path (codes "priority")) any_priority (priority_of 86400 64) 100000
 
 abbrev pub ToldFrames : List FrameContent → Items → Type 0
-ToldFrames = Told (list_path (codes "frames")) any_frame (frame_of 86400 64) 100000
+ToldFrames = ListTold (list_path (codes "frames")) any_frame (frame_of 86400 64) 100000
 
 abbrev pub ToldFaults : List Fault → Items → Type 0
-ToldFaults = Told (list_path (codes "faults")) any_fault (fault_of 86400 64) 100000
+ToldFaults = ListTold (list_path (codes "faults")) any_fault (fault_of 86400 64) 100000
 
 abbrev pub ToldEntries : List Entry → Items → Type 0
-ToldEntries = Told schedule_path any_entry entry_of 1000
+ToldEntries = ListTold schedule_path any_entry entry_of 1000
 
 -- what was found says what the items say, and these are without fault where the version has their names and there are rounds and cabinets enough
 abbrev pub Holds : Found → Items → Type 0

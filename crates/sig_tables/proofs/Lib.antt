@@ -8,7 +8,7 @@ pub mod CellLemmas
 pub mod Lasting
 pub mod Called
 pub mod Filled
-pub mod FreeCourse
+pub mod FreeTickState
 pub mod PlainRuns
 pub mod FreeFrame
 pub mod Histories

@@ -13,12 +13,12 @@ use Rattle.sig_tables.specs.Looking.{last_frame, last_moment}
 use Rattle.sig_tables.specs.Command.{command_told, command_now, is_backed_up, is_commanded}
 use Rattle.sig_tables.specs.Preempts.{all_preempts, preempts_on}
 use Rattle.sig_tables.specs.Choosing.{mode_reached}
-use Rattle.sig_tables.specs.Course.{course_of}
+use Rattle.sig_tables.specs.TickState.{tick_state_of}
 use Rattle.sig_tables.specs.Ticking.{colours_of}
 use Rattle.sig_tables.specs.Seen.{moves_seen}
-use Rattle.sig_tables.specs.Decide.{opening_orders, with_event, past_of}
+use Rattle.sig_tables.specs.Decide.{opening_commands, with_event, past_of}
 use Rattle.sig_tables.specs.Plain.{is_plain, RunsPlain, OnlyStreet, Plain}
-use Rattle.sig_tables.proofs.FreeCourse.{mode-plain}
+use Rattle.sig_tables.proofs.FreeTickState.{mode-plain}
 
 -- the command is the opening one or none, no preempt input is on, and the last frame is in Start or Free
 record Calm (t : Tables) (command : ℕ) (past : Past) : Type 0 where
@@ -62,19 +62,19 @@ ticked-calm t command past d f c = record {
   tables = c.tables;
   told = commands t command past c;
   preempts = ap (λ (on : List ℕ). those (λ i. is_in on i) all_preempts) c.preempts;
-  mode = plain-reached past.tables (colours_of past (moves_seen past)) (course_of past).mode _ (mode-plain past (calm-plain t command past d f c));
+  mode = plain-reached past.tables (colours_of past (moves_seen past)) (tick_state_of past).mode _ (mode-plain past (calm-plain t command past d f c));
 }
 
 calm : (t : Tables) (command clock : ℕ) (events : List Event) → is_defined t command ≡ false → (command == 255) ≡ false → OnlyStreet events
-    → Calm t command (past_of t (events ++ opening_orders command clock))
+    → Calm t command (past_of t (events ++ opening_commands command clock))
 calm t command clock [] d f h = record { tables = refl; told = inl refl; preempts = refl; mode = refl }
 calm t command clock (Tick ∷ events) d f h =
-    ticked-calm t command (past_of t (events ++ opening_orders command clock)) d f (calm t command clock events d f h.1)
+    ticked-calm t command (past_of t (events ++ opening_commands command clock)) d f (calm t command clock events d f h.1)
 calm t command clock (Input (Veh p on) ∷ events) d f h =
-    let c : Calm t command (past_of t (events ++ opening_orders command clock)) = calm t command clock events d f h.1 in
+    let c : Calm t command (past_of t (events ++ opening_commands command clock)) = calm t command clock events d f h.1 in
     record { tables = c.tables; told = c.told; preempts = c.preempts; mode = c.mode }
 calm t command clock (Input (Button p) ∷ events) d f h =
-    let c : Calm t command (past_of t (events ++ opening_orders command clock)) = calm t command clock events d f h.1 in
+    let c : Calm t command (past_of t (events ++ opening_commands command clock)) = calm t command clock events d f h.1 in
     record { tables = c.tables; told = c.told; preempts = c.preempts; mode = c.mode }
 calm t command clock (Input (PreemptInput i on) ∷ events) d f h = absurd h.0
 calm t command clock (Install u ∷ events) d f h = absurd h.0
@@ -83,18 +83,18 @@ calm t command clock (SetClock n ∷ events) d f h = absurd h.0
 calm t command clock (Ask request ∷ events) d f h = absurd h.0
 calm t command clock (Cancel number ∷ events) d f h = absurd h.0
 calm t command clock (SetDrift gain lose ∷ events) d f h =
-    let c : Calm t command (past_of t (events ++ opening_orders command clock)) = calm t command clock events d f h.1 in
+    let c : Calm t command (past_of t (events ++ opening_commands command clock)) = calm t command clock events d f h.1 in
     record { tables = c.tables; told = c.told; preempts = c.preempts; mode = c.mode }
 
 -- the next tick is about Start and Free alone
 pub runs-plain : (t : Tables) (command clock : ℕ) (events : List Event) → is_defined t command ≡ false → (command == 255) ≡ false → OnlyStreet events
-    → RunsPlain (past_of t (events ++ opening_orders command clock))
+    → RunsPlain (past_of t (events ++ opening_commands command clock))
 runs-plain t command clock events d f h =
-    calm-plain t command (past_of t (events ++ opening_orders command clock)) d f (calm t command clock events d f h)
+    calm-plain t command (past_of t (events ++ opening_commands command clock)) d f (calm t command clock events d f h)
 
 -- and so was each before
 pub all-plain : (t : Tables) (command clock : ℕ) (events : List Event) → is_defined t command ≡ false → (command == 255) ≡ false → OnlyStreet events
-    → Plain t (events ++ opening_orders command clock)
+    → Plain t (events ++ opening_commands command clock)
 all-plain t command clock [] d f h = (tt, (tt, tt))
 all-plain t command clock (Tick ∷ events) d f h = (runs-plain t command clock events d f h.1, all-plain t command clock events d f h.1)
 all-plain t command clock (Input field ∷ events) d f h = (tt, all-plain t command clock events d f h.1)

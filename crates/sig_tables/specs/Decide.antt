@@ -6,7 +6,7 @@ use Rattle.sig_tables.specs.Past.{Event, Tick, Input, Install, SetPattern, SetCl
 use Rattle.sig_tables.specs.Looking.{last_frame}
 pub use Rattle.sig_tables.specs.Looking.{last_moment}
 pub use Rattle.sig_tables.specs.Choosing.{leaves_start}
-pub use Rattle.sig_tables.specs.Course.{Turn, Rest, StartUp, Rings, Goal, startup_phases, first_turn, turn_of}
+pub use Rattle.sig_tables.specs.TickState.{RingTurn, Rest, StartUp, Rings, Goal, startup_phases, first_ring_turn, ring_turn_of}
 pub use Rattle.sig_tables.specs.Walking.{walks_at_green, walk_begins}
 pub use Rattle.sig_tables.specs.Ticking.{moves_of, colour_after, signal_after, on_of, frame_of, colours_of, view_of, moment_with, moment_seeing, next_moment}
 
@@ -56,12 +56,12 @@ frames_in [] = []
 frames_in (m ∷ past) = m.frame ∷ frames_in past
 
 -- the orders that a controller is opened with: its pattern is commanded and its clock is set before anything else comes
-abbrev pub opening_orders : ℕ → ℕ → List Event
-opening_orders command clock = SetPattern command ∷ SetClock clock ∷ []
+abbrev pub opening_commands : ℕ → ℕ → List Event
+opening_commands command clock = SetPattern command ∷ SetClock clock ∷ []
 
 -- the events of a history, its opening orders before all others
 abbrev pub since_opening : History → List Event
-since_opening h = h.events ++ opening_orders h.command h.clock
+since_opening h = h.events ++ opening_commands h.command h.clock
 
 -- what a history has come to
 abbrev pub past_at : History → Past

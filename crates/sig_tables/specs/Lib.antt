@@ -29,13 +29,13 @@ pub mod Preempts
 pub mod Choosing
 pub mod Goals
 pub mod Priority
-pub mod Course
+pub mod TickState
 pub mod Walking
 pub mod Ticking
 pub mod Showing
 pub mod Plain
 pub mod PlainFrame
-pub mod Sight
+pub mod TickInputs
 pub mod Events
 pub mod Putting
 pub mod InRange

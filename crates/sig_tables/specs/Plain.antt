@@ -14,7 +14,7 @@ use Rattle.sig_tables.specs.Looking.{last_frame, last_moment}
 use Rattle.sig_tables.specs.Command.{command_now}
 use Rattle.sig_tables.specs.Preempts.{preempts_on}
 use Rattle.sig_tables.specs.Choosing.{leaves_start}
-use Rattle.sig_tables.specs.Course.{Turn, Rest, Rings, startup_phases, first_turn}
+use Rattle.sig_tables.specs.TickState.{RingTurn, Rest, Rings, startup_phases, first_ring_turn}
 use Rattle.sig_tables.specs.Decide.{past_of}
 
 -- the mode is Start or Free
@@ -28,9 +28,9 @@ abbrev pub plain_mode : List Moment → Mode
 plain_mode past = if is_start (last_frame past).mode && not (leaves_start past) then Start else Free
 
 -- what the rings do at such a tick
-abbrev pub plain_turn : Tables → List Moment → Turn
+abbrev pub plain_turn : Tables → List Moment → RingTurn
 plain_turn t past =
-    if is_start (last_frame past).mode then (if leaves_start past then first_turn (startup_phases t) Rings else Rest) else Rings
+    if is_start (last_frame past).mode then (if leaves_start past then first_ring_turn (startup_phases t) Rings else Rest) else Rings
 
 -- no pattern and no flash is in command, no preempt input is on, and the last frame is in Start or Free
 pub record RunsPlain (past : Past) : Type 0 where

@@ -8,7 +8,7 @@ use Rattle.sig_types.specs.Phases.{all_phases}
 use Rattle.sig_types.specs.Colour.{colour_in, colour_of, signal_of}
 use Rattle.sig_tables.specs.Past.{Past}
 use Rattle.sig_tables.specs.Looking.{last_frame, signal_runs_on}
-use Rattle.sig_tables.specs.Course.{Turn}
+use Rattle.sig_tables.specs.TickState.{RingTurn}
 use Rattle.sig_tables.specs.Walking.{Crossing, walk_begins}
 use Rattle.sig_tables.specs.Ticking.{on_of}
 use Rattle.sig_tables.specs.Plain.{plain_mode}
@@ -21,9 +21,9 @@ plain_signal crossing past veh p =
     else signal_runs_on p past.tables past.moments (signal_of (last_frame past.moments) p)
 
 -- what decides the walks: there is no local zero
-abbrev pub plain_crossing : Turn → Past → List ℕ → List ℕ → Crossing
-plain_crossing turn past pedestrian opposed = record {
-  turn = turn;
+abbrev pub plain_crossing : RingTurn → Past → List ℕ → List ℕ → Crossing
+plain_crossing ring_turn past pedestrian opposed = record {
+  ring_turn = ring_turn;
   tables = past.tables;
   is_zero = false;
   pedestrian = pedestrian;

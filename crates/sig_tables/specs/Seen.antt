@@ -7,8 +7,8 @@ use Rattle.sig_tables.specs.Looking.{last_frame, last_moment}
 use Rattle.sig_tables.specs.Modes.{bound}
 use Rattle.sig_tables.specs.Calls.{vehicle_calls, pedestrian_calls, detectors_on, opposed_of}
 use Rattle.sig_tables.specs.SplitCalls.{demand_in, quiet_in}
-use Rattle.sig_tables.specs.Sight.{Sight, sight_of}
-use Rattle.sig_tables.specs.Course.{Turn, course_of}
+use Rattle.sig_tables.specs.TickInputs.{TickInputs, tick_inputs_of}
+use Rattle.sig_tables.specs.TickState.{RingTurn, tick_state_of}
 use Rattle.sig_tables.specs.View.{View}
 use Rattle.sig_tables.specs.Moves.{Moves}
 use Rattle.sig_tables.specs.Ticking.{view_of, moves_of}
@@ -35,7 +35,7 @@ detectors_seen past = detectors_on past.heard (moment_seen past)
 
 -- the mode of the tick before its colours are known
 abbrev pub mode_seen : Past → Mode
-mode_seen past = (course_of past).mode
+mode_seen past = (tick_state_of past).mode
 
 -- the phases with demand, where this pattern binds
 abbrev pub demand_with : Option ℕ → Past → List ℕ
@@ -59,17 +59,17 @@ abbrev pub opposed_seen : Past → List ℕ
 opposed_seen past = opposed_of past.tables (frame_seen past) (demand_seen past)
 
 -- all of it
-abbrev pub sight_seen : Past → Sight
-sight_seen past = sight_of (bound (mode_seen past)) past
+abbrev pub tick_inputs_seen : Past → TickInputs
+tick_inputs_seen past = tick_inputs_of (bound (mode_seen past)) past
 
 -- what the rings do at the tick
-abbrev pub turn_seen : Past → Turn
-turn_seen past = (course_of past).turn
+abbrev pub ring_turn_seen : Past → RingTurn
+ring_turn_seen past = (tick_state_of past).ring_turn
 
 -- what the rings look at
 abbrev pub view_seen : Past → View
-view_seen past = view_of (course_of past) past (sight_seen past)
+view_seen past = view_of (tick_state_of past) past (tick_inputs_seen past)
 
 -- the phases that end and those that begin
 abbrev pub moves_seen : Past → Moves
-moves_seen past = moves_of (turn_seen past) (view_seen past)
+moves_seen past = moves_of (ring_turn_seen past) (view_seen past)

@@ -14,16 +14,16 @@ use Rattle.sig_tables.specs.Past.{Moment, Past}
 use Rattle.sig_tables.specs.Looking.{last_frame, runs_on}
 use Rattle.sig_tables.specs.Lesser.{signal_runs_within}
 use Rattle.sig_tables.specs.Modes.{bound, sequence_in}
-use Rattle.sig_tables.specs.Sight.{Sight, sight_of}
+use Rattle.sig_tables.specs.TickInputs.{TickInputs, tick_inputs_of}
 use Rattle.sig_tables.specs.Goals.{lesser_in}
 use Rattle.sig_tables.specs.Choosing.{mode_reached}
-use Rattle.sig_tables.specs.Course.{Turn, Rest, StartUp, Rings, Goal, Course, startup_phases, course_of}
+use Rattle.sig_tables.specs.TickState.{RingTurn, Rest, StartUp, Rings, Goal, TickState, startup_phases, tick_state_of}
 use Rattle.sig_tables.specs.Walking.{Crossing, walk_begins, is_local_zero}
 use Rattle.sig_tables.specs.View.{View, ended_of}
 use Rattle.sig_tables.specs.Moves.{Moves, ring_moves, goal_moves}
 
 -- what ends and what begins in this turn
-abbrev pub moves_of : Turn → View → Moves
+abbrev pub moves_of : RingTurn → View → Moves
 moves_of Rest v = record { ends = []; begins = [] }
 moves_of StartUp v = record { ends = []; begins = startup_phases v.tables }
 moves_of Rings v = ring_moves v
@@ -37,92 +37,92 @@ colour_after moves p now past Clear = runs_on p now past Clear
 colour_after moves p now past Red = if is_in moves.begins p then Green else Red
 
 -- what decides the walks of a frame of this mode
-abbrev pub crossing_of : Course → Past → Sight → Mode → Crossing
-crossing_of course past sight mode = record {
-  turn = course.turn;
+abbrev pub crossing_of : TickState → Past → TickInputs → Mode → Crossing
+crossing_of tick_state past tick_inputs mode = record {
+  ring_turn = tick_state.ring_turn;
   tables = past.tables;
-  is_zero = is_local_zero mode course.counter (last_frame past.moments);
-  pedestrian = sight.calls.pedestrian;
-  opposed = sight.opposed;
+  is_zero = is_local_zero mode tick_state.counter (last_frame past.moments);
+  pedestrian = tick_inputs.calls.pedestrian;
+  opposed = tick_inputs.opposed;
 }
 
 -- the signal of phase p after these colours, in a frame of the last mode: Walk where one begins, else what follows by itself
-abbrev pub signal_after : Course → Past → Crossing → List Colour → Mode → ℕ → Ped
-signal_after course past crossing veh mode p =
+abbrev pub signal_after : TickState → Past → Crossing → List Colour → Mode → ℕ → Ped
+signal_after tick_state past crossing veh mode p =
     if walk_begins crossing mode p (colour_of (last_frame past.moments) p) (colour_in veh p) (signal_of (last_frame past.moments) p)
     then Walk
-    else signal_runs_within (lesser_in past.tables course.mode p) p past.tables past.moments (signal_of (last_frame past.moments) p)
+    else signal_runs_within (lesser_in past.tables tick_state.mode p) p past.tables past.moments (signal_of (last_frame past.moments) p)
 
 -- the phase of ring r that shows Green, Yellow or Clear, or 0
 abbrev pub on_of : Tables → List Colour → ℕ → ℕ
 on_of t veh r = only (first (λ p. is_enabled t p && ring_of t p == r && not (same_colour (colour_in veh p) Red)) all_phases)
 
 -- the frame of this mode from the colours; the signals by what decides the walks
-abbrev pub frame_crossing : Course → Past → Crossing → List Colour → Mode → Frame
-frame_crossing course past crossing veh mode = record {
+abbrev pub frame_crossing : TickState → Past → Crossing → List Colour → Mode → Frame
+frame_crossing tick_state past crossing veh mode = record {
   veh = veh;
-  ped = map (signal_after course past crossing veh mode) all_phases;
+  ped = map (signal_after tick_state past crossing veh mode) all_phases;
   on = on_of past.tables veh 1 ∷ on_of past.tables veh 2 ∷ [];
   mode = mode;
-  counter = course.counter;
-  target = course.target;
+  counter = tick_state.counter;
+  target = tick_state.target;
   version = past.version;
 }
 
 -- the frame of this mode from the colours
-abbrev pub frame_of : Course → Past → Sight → List Colour → Mode → Frame
-frame_of course past sight veh mode = frame_crossing course past (crossing_of course past sight mode) veh mode
+abbrev pub frame_of : TickState → Past → TickInputs → List Colour → Mode → Frame
+frame_of tick_state past tick_inputs veh mode = frame_crossing tick_state past (crossing_of tick_state past tick_inputs mode) veh mode
 
 -- the frame from the colours, whose mode they decide
-abbrev pub frame_with : Course → Past → Sight → List Colour → Frame
-frame_with course past sight veh = frame_of course past sight veh (mode_reached course.mode past.tables veh)
+abbrev pub frame_with : TickState → Past → TickInputs → List Colour → Frame
+frame_with tick_state past tick_inputs veh = frame_of tick_state past tick_inputs veh (mode_reached tick_state.mode past.tables veh)
 
 -- the colours of all phases after these moves
 abbrev pub colours_of : Past → Moves → List Colour
 colours_of past moves = map (λ p. colour_after moves p past.tables past.moments (colour_of (last_frame past.moments) p)) all_phases
 
 -- what the rings look at
-abbrev pub view_of : Course → Past → Sight → View
-view_of course past sight = record {
-  mode = course.mode;
-  counter = course.counter;
-  active = course.active;
+abbrev pub view_of : TickState → Past → TickInputs → View
+view_of tick_state past tick_inputs = record {
+  mode = tick_state.mode;
+  counter = tick_state.counter;
+  active = tick_state.active;
   tables = past.tables;
-  sequence = sequence_in past.tables course.mode;
+  sequence = sequence_in past.tables tick_state.mode;
   frame = last_frame past.moments;
   past = past.moments;
-  demand = sight.demand;
-  quiet = sight.quiet;
-  opposed = sight.opposed;
+  demand = tick_inputs.demand;
+  quiet = tick_inputs.quiet;
+  opposed = tick_inputs.opposed;
   ended = ended_of past.tables past.moments;
 }
 
 -- the moment that a tick gives: from what it is about, what it sees and the moves
-abbrev pub moment_with : Course → Past → Sight → Moves → Moment
-moment_with course past sight moves = record {
-  number = course.number;
-  clock = course.clock;
-  command = course.command;
-  is_commanded = course.is_commanded;
-  preempts = course.preempts;
-  active = course.active;
+abbrev pub moment_with : TickState → Past → TickInputs → Moves → Moment
+moment_with tick_state past tick_inputs moves = record {
+  number = tick_state.number;
+  clock = tick_state.clock;
+  command = tick_state.command;
+  is_commanded = tick_state.is_commanded;
+  preempts = tick_state.preempts;
+  active = tick_state.active;
   tables = past.tables;
-  vehicle = sight.calls.vehicle;
-  pedestrian = sight.calls.pedestrian;
-  detectors = sight.calls.detectors;
-  quiet = sight.quiet;
-  opposed = sight.opposed;
-  frame = frame_with course past sight (colours_of past moves);
+  vehicle = tick_inputs.calls.vehicle;
+  pedestrian = tick_inputs.calls.pedestrian;
+  detectors = tick_inputs.calls.detectors;
+  quiet = tick_inputs.quiet;
+  opposed = tick_inputs.opposed;
+  frame = frame_with tick_state past tick_inputs (colours_of past moves);
 }
 
 -- the same from what it sees: the moves are those of the turn, over the view
-abbrev pub moment_seeing : Course → Past → Sight → Moment
-moment_seeing course past sight = moment_with course past sight (moves_of course.turn (view_of course past sight))
+abbrev pub moment_seeing : TickState → Past → TickInputs → Moment
+moment_seeing tick_state past tick_inputs = moment_with tick_state past tick_inputs (moves_of tick_state.ring_turn (view_of tick_state past tick_inputs))
 
 -- the moment of a tick that is about this
-abbrev pub moment_on : Course → Past → Moment
-moment_on course past = moment_seeing course past (sight_of (bound course.mode) past)
+abbrev pub moment_on : TickState → Past → Moment
+moment_on tick_state past = moment_seeing tick_state past (tick_inputs_of (bound tick_state.mode) past)
 
 -- the moment that a tick now gives
 abbrev pub next_moment : Past → Moment
-next_moment past = moment_on (course_of past) past
+next_moment past = moment_on (tick_state_of past) past

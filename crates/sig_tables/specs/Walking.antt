@@ -13,7 +13,7 @@ use Rattle.sig_tables.specs.Tables.{row, has_pedestrian_recall, starts_with_walk
 use Rattle.sig_tables.specs.Slots.{is_coordinated}
 use Rattle.sig_tables.specs.Splits.{split_pedestrian, keeps_walk}
 use Rattle.sig_tables.specs.Modes.{same_mode}
-use Rattle.sig_tables.specs.Course.{Turn, Rest, StartUp, Rings, Goal}
+use Rattle.sig_tables.specs.TickState.{RingTurn, Rest, StartUp, Rings, Goal}
 
 -- a frame of this mode with this counter is a local zero: in Coord at 0, after a frame that was not at 0 or not in Coord of the pattern
 abbrev pub is_local_zero : Mode → ℕ → Frame → Bool
@@ -23,14 +23,14 @@ is_local_zero mode counter f = false
 -- what decides which walks begin at a tick: what the rings do, the tables in force, whether the frame is a local zero, the
 -- pedestrian calls, and the Green phases to which an incompatible phase has demand
 pub record Crossing : Type 0 where
-  pub turn : Turn
+  pub ring_turn : RingTurn
   pub tables : Tables
   pub is_zero : Bool
   pub pedestrian : List ℕ
   pub opposed : List ℕ
 
 -- whether Walk begins on p with its Green
-abbrev pub walks_at_green : Turn → Tables → List ℕ → ℕ → Bool
+abbrev pub walks_at_green : RingTurn → Tables → List ℕ → ℕ → Bool
 walks_at_green StartUp t pedestrian p = is_in pedestrian p || has_pedestrian_recall t p || starts_with_walk t p
 walks_at_green Rings t pedestrian p = is_in pedestrian p || has_pedestrian_recall t p
 walks_at_green (Goal goal) t pedestrian p = is_in pedestrian p || has_pedestrian_recall t p
@@ -44,10 +44,10 @@ has_walk t p = nat_le 1 (row t p).walk
 -- Coord here. With the phase's Green in Free, Seek and Coord; in a Green that stays in Free, where no other phase waits for it;
 -- and in the Green of a coordinated phase at a local zero
 abbrev pub walk_begins : Crossing → Mode → ℕ → Colour → Colour → Ped → Bool
-walk_begins c Free p Red Green signal = has_walk c.tables p && walks_at_green c.turn c.tables c.pedestrian p
-walk_begins c (Seek n) p Red Green signal = has_walk c.tables p && walks_at_green c.turn c.tables c.pedestrian p
+walk_begins c Free p Red Green signal = has_walk c.tables p && walks_at_green c.ring_turn c.tables c.pedestrian p
+walk_begins c (Seek n) p Red Green signal = has_walk c.tables p && walks_at_green c.ring_turn c.tables c.pedestrian p
 walk_begins c (Coord n) p Red Green signal =
-    has_walk c.tables p && (walks_at_green c.turn c.tables c.pedestrian p || split_pedestrian c.tables n p)
+    has_walk c.tables p && (walks_at_green c.ring_turn c.tables c.pedestrian p || split_pedestrian c.tables n p)
 walk_begins c Free p Green Green Dont = has_walk c.tables p && is_in c.pedestrian p && not (is_in c.opposed p)
 walk_begins c (Coord n) p Green Green Dont =
     c.is_zero && has_walk c.tables p && is_coordinated c.tables n p && (is_in c.pedestrian p || keeps_walk (Some n) c.tables p)

@@ -1,5 +1,5 @@
 -- What a cabinet has replied, and what of it stands on one stream.
-use Rattle.std.specs.Prelude.{ℕ, ◌==◌, if◌then◌else◌, List, [], ◌∷◌, map}
+use Rattle.std.specs.Prelude.{ℕ, ◌==◌, if◌then◌else◌, List, [], ◌∷◌}
 
 -- a reply: the pass that brought the frame, and the octets
 pub record Reply : Type 0 where

@@ -124,7 +124,7 @@ pdu_again text rest m is =
     ap (λ (t : List ℕ). pdu_at m.community.items (t ++ rest)) head ∙ rw (kind_again m.pdu) read
 
 -- what stands under a message's tag
-record Stands (content : List ℕ) (m : Message) : Type 0 where
+record MessageStands (content : List ℕ) (m : Message) : Type 0 where
   version : List ℕ
   community : List ℕ
   pdu : List ℕ
@@ -137,7 +137,7 @@ record Stands (content : List ℕ) (m : Message) : Type 0 where
 abbrev is_whole : ℤ → List ℕ → List ℕ → Bool
 is_whole version community rest = int_eq version (pos 0) && leb (length community) 32 && eqb (length rest) 0
 
-content_found : (content : List ℕ) (m : Message) → content_of content ≡ Some m → Stands content m
+content_found : (content : List ℕ) (m : Message) → content_of content ≡ Some m → MessageStands content m
 unfolding content_of
 content_found content m e =
     let a = bind_some (integer_at content)
@@ -154,7 +154,7 @@ content_found content m e =
     let zero : a.0.0 ≡ pos 0 = (Decides-int_eq a.0.0 (pos 0)).0 inner.0 in
     let at_pdu : b.0.1 ≡ pdu.text = pdu.parts ∙ ap (λ (t : List ℕ). pdu.text ++ t) nothing ∙ append-nil pdu.text in
     let at_community : a.0.1 ≡ community.0 ++ pdu.text = community.2 ∙ ap (λ (t : List ℕ). community.0 ++ t) at_pdu in
-    let is : Stands content c.0.0 = record {
+    let is : MessageStands content c.0.0 = record {
       version = version.0;
       community = community.0;
       pdu = pdu.text;
@@ -165,7 +165,7 @@ content_found content m e =
       parts = version.2 ∙ ap (λ (t : List ℕ). version.0 ++ t) at_community;
     } in
     let same : c.0.0 ≡ m = same_Some c.0.0 m d.1 in
-    subst (λ (x : Message). Stands content x) same is
+    subst (λ (x : Message). MessageStands content x) same is
 
 content_again : (version community pdu : List ℕ) (m : Message) → IsInteger version (pos 0) → IsOctets community m.community.items → length m.community.items ≤ 32 → IsPdu pdu m
     → content_of (version ++ (community ++ pdu)) ≡ Some m

@@ -7,7 +7,7 @@ use arrayvec::ArrayVec;
 use ber_code::Oid;
 
 /// The kind of a PDU (RFC 1157, 4.1.2 to 4.1.5).
-#[derive(Clone, Copy, Debug, PartialEq, Eq)]
+#[derive(Clone, Copy, PartialEq, Eq)]
 pub enum Pdu {
     /// GetRequest, tag A0.
     Get,
@@ -20,7 +20,7 @@ pub enum Pdu {
 }
 
 /// The value of a binding.
-#[derive(Clone, Debug, PartialEq, Eq, Drop)]
+#[derive(Clone, PartialEq, Eq, Drop)]
 pub enum Value {
     /// An INTEGER.
     Int(i32),
@@ -39,7 +39,7 @@ impl Default for Value {
 }
 
 /// A name and its value (RFC 1157, 4.1.6: VarBind).
-#[derive(Clone, Debug, Default, PartialEq, Eq, Drop)]
+#[derive(Clone, Default, PartialEq, Eq, Drop)]
 pub struct Bind {
     pub name: Oid,
     pub value: Value,
@@ -47,7 +47,7 @@ pub struct Bind {
 
 /// A message (RFC 1157, 4): community, kind, request id, error status, error index and at most 32
 /// bindings.
-#[derive(Clone, Debug, PartialEq, Eq, Drop)]
+#[derive(Clone, PartialEq, Eq, Drop)]
 pub struct Message {
     pub community: ArrayVec<u8, 32>,
     pub pdu: Pdu,
@@ -75,7 +75,7 @@ impl Message {
 }
 
 /// A message to be written, whose community and bindings, at most 32, stand elsewhere.
-#[derive(Clone, Copy, Debug)]
+#[derive(Clone, Copy)]
 pub struct Parts<'a> {
     pub community: &'a ArrayVec<u8, 32>,
     pub pdu: Pdu,
@@ -86,7 +86,7 @@ pub struct Parts<'a> {
 }
 
 /// The shortest text of the message has more than 1,472 octets.
-#[derive(Clone, Copy, Debug, PartialEq, Eq)]
+#[derive(Clone, Copy, PartialEq, Eq)]
 pub struct TooLong;
 
 /// The tag of SEQUENCE, and of SEQUENCE OF.

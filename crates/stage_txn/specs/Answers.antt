@@ -5,20 +5,20 @@ use Rattle.sig_types.specs.declared.notes.StageAnswer.{StageAnswer}
 use Rattle.sig_types.specs.declared.notes.StageAnswer.TheVariants.{Staged, Repeated, Verified, Accepted, WrongToken, WrongPart, NotVerified, Refused}
 use Rattle.sig_tables.specs.declared.tables.Tables.{Tables}
 use Rattle.rule_book.specs.Rules.{broken, first_of}
-use Rattle.stage_txn.specs.declared.Standing.{Standing}
-use Rattle.stage_txn.specs.declared.Standing.TheVariants.{Rest, Open, Checked, Done}
+use Rattle.stage_txn.specs.declared.StageState.{StageState}
+use Rattle.stage_txn.specs.declared.StageState.TheVariants.{Rest, Open, Checked, Done}
 use Rattle.stage_txn.specs.Calls.{Call, Begin, Part, Verify, Finish}
 use Rattle.stage_txn.specs.Calls.{Answered, Deed, Began, Took, Closed, Installed, Reopened, Idle, deeds, kept_by, taken_by, staged_by}
 
 -- where the stage stands: what came last of a begin, a verify that found all well, a finish that installed or that refused
-abbrev pub standing_by : List Deed → Standing
-standing_by [] = Rest
-standing_by (Began id in_force ∷ past) = Open
-standing_by (Took cells ∷ past) = standing_by past
-standing_by (Closed ∷ past) = Checked
-standing_by (Installed ∷ past) = Done
-standing_by (Reopened ∷ past) = Open
-standing_by (Idle ∷ past) = standing_by past
+abbrev pub stage_state_by : List Deed → StageState
+stage_state_by [] = Rest
+stage_state_by (Began id in_force ∷ past) = Open
+stage_state_by (Took cells ∷ past) = stage_state_by past
+stage_state_by (Closed ∷ past) = Checked
+stage_state_by (Installed ∷ past) = Done
+stage_state_by (Reopened ∷ past) = Open
+stage_state_by (Idle ∷ past) = stage_state_by past
 
 -- the id of the last download that began, or 0
 abbrev pub kept : List Answered → ℕ
@@ -33,16 +33,16 @@ abbrev pub staged : List Answered → Tables
 staged past = staged_by (deeds past)
 
 -- where the stage stands
-abbrev pub standing : List Answered → Standing
-standing past = standing_by (deeds past)
+abbrev pub stage_state : List Answered → StageState
+stage_state past = stage_state_by (deeds past)
 
 -- parts are taken
-abbrev pub is_open : Standing → Bool
+abbrev pub is_open : StageState → Bool
 is_open Open = true
 is_open _ = false
 
 -- the number that tells where a stage stands: 1 normal, 2 transaction, 3 verify, 6 done
-abbrev pub state_code : Standing → ℕ
+abbrev pub state_code : StageState → ℕ
 state_code Rest = 1
 state_code Open = 2
 state_code Checked = 3
@@ -66,20 +66,20 @@ abbrev pub begin_answer : ℕ → ℕ → StageAnswer
 begin_answer kept id = if id == kept then Repeated else if nat_lt id kept then WrongToken else Staged
 
 -- to a part, where the stage stands so and has taken so many: one that was taken, the next one while it is open, or another
-abbrev pub part_answer : Standing → ℕ → ℕ → StageAnswer
+abbrev pub part_answer : StageState → ℕ → ℕ → StageAnswer
 part_answer stands taken number =
     if nat_le 1 number && nat_le number taken then Repeated
     else if is_open stands && number == taken + 1 then Staged
     else WrongPart (taken + 1)
 
 -- to a verify of all parts or not, with the part that is due and the answer by the rules
-abbrev pub verify_answer : Standing → Bool → ℕ → StageAnswer → StageAnswer
+abbrev pub verify_answer : StageState → Bool → ℕ → StageAnswer → StageAnswer
 verify_answer Checked complete due by_rules = Repeated
 verify_answer Done complete due by_rules = Repeated
 verify_answer _ complete due by_rules = if complete then by_rules else WrongPart due
 
 -- to a finish, with the answer by the rules
-abbrev pub finish_answer : Standing → StageAnswer → StageAnswer
+abbrev pub finish_answer : StageState → StageAnswer → StageAnswer
 finish_answer Done by_rules = Repeated
 finish_answer Checked by_rules = by_rules
 finish_answer _ by_rules = NotVerified
@@ -88,14 +88,14 @@ finish_answer _ by_rules = NotVerified
 abbrev pub answer_to : List Answered → Call → StageAnswer
 answer_to past (Begin id in_force) = begin_answer (kept past) id
 answer_to past (Part id number cells) =
-    if id == kept past then part_answer (standing past) (taken past) number else WrongToken
+    if id == kept past then part_answer (stage_state past) (taken past) number else WrongToken
 answer_to past (Verify id total in_force flashing) =
     if id == kept past
-    then verify_answer (standing past) (total == taken past) (taken past + 1) (judged (staged past) in_force flashing Verified)
+    then verify_answer (stage_state past) (total == taken past) (taken past + 1) (judged (staged past) in_force flashing Verified)
     else WrongToken
 answer_to past (Finish id in_force flashing) =
     if id == kept past
-    then finish_answer (standing past) (judged (staged past) in_force flashing Accepted)
+    then finish_answer (stage_state past) (judged (staged past) in_force flashing Accepted)
     else WrongToken
 
 -- the calls with this one and its answer

@@ -5,15 +5,15 @@ use Rattle.sig_tables.specs.declared.tables.Tables.{Tables}
 use Rattle.sig_tables.specs.declared.cells.Cell.{Cell}
 use Rattle.sig_tables.specs.Cells.{Content}
 use Rattle.sig_tables.specs.Putting.{EachFits}
-use Rattle.stage_txn.specs.declared.Standing.TheVariants.{Open, Checked, Done}
+use Rattle.stage_txn.specs.declared.StageState.TheVariants.{Open, Checked, Done}
 use Rattle.stage_txn.specs.Calls.{Call, Answered, Begin, Part, Verify, Finish}
-use Rattle.stage_txn.specs.Answers.{kept, taken, staged, standing, answer_to, first_broken}
+use Rattle.stage_txn.specs.Answers.{kept, taken, staged, stage_state, answer_to, first_broken}
 
 -- the part is the next of the download that was begun last, and the stage is open
 pub record IsNext (past : List Answered) (id number : ℕ) : Type 0 where
   pub same : id ≡ kept past
   pub part : number ≡ taken past + 1
-  pub stands : standing past ≡ Open
+  pub stands : stage_state past ≡ Open
 
 -- a part that is taken is the next one of the download that is open
 abbrev pub PartsComeInOrder : List Answered → Type 0
@@ -23,7 +23,7 @@ PartsComeInOrder past =
 -- the staged tables were verified, and break no rule beside these in force
 pub record KeepsRules (past : List Answered) (id : ℕ) (in_force : Tables) (flashing : Bool) : Type 0 where
   pub same : id ≡ kept past
-  pub stands : standing past ≡ Checked
+  pub stands : stage_state past ≡ Checked
   pub rules : first_broken (staged past) in_force flashing ≡ Ok tt
 
 -- a finish is accepted only for tables that were verified, and that break no rule now
@@ -38,7 +38,7 @@ pub record IsQuiet (past : List Answered) : Type 0 where
 
 -- nothing more is staged or put in force where the stage is done
 abbrev pub NothingAfterDone : List Answered → Type 0
-NothingAfterDone past = standing past ≡ Done → IsQuiet past
+NothingAfterDone past = stage_state past ≡ Done → IsQuiet past
 
 -- each cell of the tables in force at each begin holds what may stand in it
 abbrev pub BeginInRange : List Call → Type 0

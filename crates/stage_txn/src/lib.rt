@@ -16,8 +16,8 @@ pub use laws::{
 };
 
 /// Where a stage stands: nothing was begun; parts are taken; all is verified; the tables were put in force.
-#[derive(Clone, Copy, Debug, PartialEq, Eq)]
-pub enum Standing {
+#[derive(Clone, Copy, PartialEq, Eq)]
+pub enum StageState {
     Rest,
     Open,
     Checked,
@@ -30,7 +30,7 @@ pub enum Standing {
 pub struct Stage {
     kept: u32,
     taken: u16,
-    standing: Standing,
+    stage_state: StageState,
     last: Option<StageAnswer>,
     tables: Tables,
     ghost few: { taken ≤ 60000 },
@@ -39,17 +39,17 @@ pub struct Stage {
 impl Stage {
     ghost use Rattle.sig_tables.specs.Putting.{put_content};
     ghost use Rattle.stage_txn.specs.Calls.{Call, Begin, Part, Verify, Finish};
-    ghost use Rattle.stage_txn.specs.Answers.{answered, answer_to, first_broken, staged, standing, state_code, last_answer};
-    ghost use Rattle.stage_txn.specs.Stands.{StandsFor};
+    ghost use Rattle.stage_txn.specs.Answers.{answered, answer_to, first_broken, staged, stage_state, state_code, last_answer};
+    ghost use Rattle.stage_txn.specs.Stands.{StageStands};
 
     /// A stage to which nothing was sent. Its tables are the standard ones until a download begins.
     pub fn new() -> Stage
-        ensures stands { StandsFor result [] }
+        ensures stands { StageStands result [] }
     {
         Stage {
             kept: 0,
             taken: 0,
-            standing: Standing::Rest,
+            stage_state: StageState::Rest,
             last: None,
             tables: Tables::std8(),
         }
@@ -61,7 +61,7 @@ impl Stage {
         ensures last { self.new.last ≡ Some answer }
         ensures kept { self.new.kept ≡ self.old.kept }
         ensures taken { self.new.taken ≡ self.old.taken }
-        ensures standing { self.new.standing ≡ self.old.standing }
+        ensures stage_state { self.new.stage_state ≡ self.old.stage_state }
         ensures tables { self.new.tables ≡ self.old.tables }
     {
         self.last = Some(answer);
@@ -79,8 +79,8 @@ impl Stage {
     /// A download begins under this id, 1 or greater, over the tables in force.
     pub fn begin(&mut self, id: u32, in_force: &Tables) -> StageAnswer
         requires some { 1 ≤ id }
-        ensures answer { (calls : List Call) → StandsFor self.old calls → result ≡ answer_to (answered calls) (Begin id in_force.now) }
-        ensures stands { (calls : List Call) → StandsFor self.old calls → StandsFor self.new (Begin id in_force.now ∷ calls) }
+        ensures answer { (calls : List Call) → StageStands self.old calls → result ≡ answer_to (answered calls) (Begin id in_force.now) }
+        ensures stands { (calls : List Call) → StageStands self.old calls → StageStands self.new (Begin id in_force.now ∷ calls) }
     {
         if id == self.kept {
             return self.answered(StageAnswer::Repeated);
@@ -90,7 +90,7 @@ impl Stage {
         }
         self.kept = id;
         self.taken = 0;
-        self.standing = Standing::Open;
+        self.stage_state = StageState::Open;
         self.tables = *in_force;
         self.answered(StageAnswer::Staged)
     }
@@ -101,10 +101,10 @@ impl Stage {
         requires some { 1 ≤ id }
         requires some_part { 1 ≤ number }
         requires few_parts { number ≤ 60000 }
-        ensures answer { (calls : List Call) → StandsFor self.old calls
+        ensures answer { (calls : List Call) → StageStands self.old calls
             → result ≡ answer_to (answered calls) (Part id number (map put_content cells.now)) }
-        ensures stands { (calls : List Call) → StandsFor self.old calls
-            → StandsFor self.new (Part id number (map put_content cells.now) ∷ calls) }
+        ensures stands { (calls : List Call) → StageStands self.old calls
+            → StageStands self.new (Part id number (map put_content cells.now) ∷ calls) }
     {
         if id != self.kept {
             return self.answered(StageAnswer::WrongToken);
@@ -112,7 +112,7 @@ impl Stage {
         if number <= self.taken {
             return self.answered(StageAnswer::Repeated);
         }
-        if self.standing != Standing::Open || number != self.taken + 1 {
+        if self.stage_state != StageState::Open || number != self.taken + 1 {
             return self.answered(StageAnswer::WrongPart(self.taken + 1));
         }
         self.tables.put_each(cells);
@@ -124,24 +124,24 @@ impl Stage {
     /// cabinet that flashes or not.
     pub fn verify(&mut self, id: u32, total: u16, in_force: &Tables, flashing: bool) -> StageAnswer
         requires some { 1 ≤ id }
-        ensures answer { (calls : List Call) → StandsFor self.old calls
+        ensures answer { (calls : List Call) → StageStands self.old calls
             → result ≡ answer_to (answered calls) (Verify id total in_force.now flashing) }
-        ensures stands { (calls : List Call) → StandsFor self.old calls
-            → StandsFor self.new (Verify id total in_force.now flashing ∷ calls) }
+        ensures stands { (calls : List Call) → StageStands self.old calls
+            → StageStands self.new (Verify id total in_force.now flashing ∷ calls) }
     {
         if id != self.kept {
             return self.answered(StageAnswer::WrongToken);
         }
-        match self.standing {
-            Standing::Checked | Standing::Done => return self.answered(StageAnswer::Repeated),
-            Standing::Rest | Standing::Open => {}
+        match self.stage_state {
+            StageState::Checked | StageState::Done => return self.answered(StageAnswer::Repeated),
+            StageState::Rest | StageState::Open => {}
         }
         if total != self.taken {
             return self.answered(StageAnswer::WrongPart(self.taken + 1));
         }
         match self.judged(in_force, flashing) {
             Ok(()) => {
-                self.standing = Standing::Checked;
+                self.stage_state = StageState::Checked;
                 self.answered(StageAnswer::Verified)
             }
             Err(broken) => self.answered(StageAnswer::Refused(broken)),
@@ -151,26 +151,26 @@ impl Stage {
     /// The download ends. Where the answer is `Accepted` the staged tables are to be put in force, and nowhere else.
     pub fn finish(&mut self, id: u32, in_force: &Tables, flashing: bool) -> StageAnswer
         requires some { 1 ≤ id }
-        ensures answer { (calls : List Call) → StandsFor self.old calls
+        ensures answer { (calls : List Call) → StageStands self.old calls
             → result ≡ answer_to (answered calls) (Finish id in_force.now flashing) }
-        ensures stands { (calls : List Call) → StandsFor self.old calls
-            → StandsFor self.new (Finish id in_force.now flashing ∷ calls) }
+        ensures stands { (calls : List Call) → StageStands self.old calls
+            → StageStands self.new (Finish id in_force.now flashing ∷ calls) }
     {
         if id != self.kept {
             return self.answered(StageAnswer::WrongToken);
         }
-        match self.standing {
-            Standing::Done => return self.answered(StageAnswer::Repeated),
-            Standing::Rest | Standing::Open => return self.answered(StageAnswer::NotVerified),
-            Standing::Checked => {}
+        match self.stage_state {
+            StageState::Done => return self.answered(StageAnswer::Repeated),
+            StageState::Rest | StageState::Open => return self.answered(StageAnswer::NotVerified),
+            StageState::Checked => {}
         }
         match self.judged(in_force, flashing) {
             Ok(()) => {
-                self.standing = Standing::Done;
+                self.stage_state = StageState::Done;
                 self.answered(StageAnswer::Accepted)
             }
             Err(broken) => {
-                self.standing = Standing::Open;
+                self.stage_state = StageState::Open;
                 self.answered(StageAnswer::Refused(broken))
             }
         }
@@ -178,26 +178,26 @@ impl Stage {
 
     /// The staged tables, as they would be put in force.
     pub fn staged(&self) -> &Tables
-        ensures { (calls : List Call) → StandsFor self.now calls → result.now ≡ staged (answered calls) }
+        ensures { (calls : List Call) → StageStands self.now calls → result.now ≡ staged (answered calls) }
     {
         &self.tables
     }
 
     /// Where the stage stands: 1 normal, 2 transaction, 3 verify, 6 done.
     pub fn state(&self) -> u8
-        ensures { (calls : List Call) → StandsFor self.now calls → result ≡ state_code (standing (answered calls)) }
+        ensures { (calls : List Call) → StageStands self.now calls → result ≡ state_code (stage_state (answered calls)) }
     {
-        match self.standing {
-            Standing::Rest => 1,
-            Standing::Open => 2,
-            Standing::Checked => 3,
-            Standing::Done => 6,
+        match self.stage_state {
+            StageState::Rest => 1,
+            StageState::Open => 2,
+            StageState::Checked => 3,
+            StageState::Done => 6,
         }
     }
 
     /// The last answer that it gave, if any.
     pub fn last(&self) -> Option<StageAnswer>
-        ensures { (calls : List Call) → StandsFor self.now calls → result ≡ last_answer (answered calls) }
+        ensures { (calls : List Call) → StageStands self.now calls → result ≡ last_answer (answered calls) }
     {
         self.last
     }

@@ -8,7 +8,7 @@ use io_edge::{Failed, Source};
 use std::alloc::Global;
 
 /// Why a source was not read to its end.
-#[derive(Clone, Copy, Debug, PartialEq, Eq)]
+#[derive(Clone, Copy, PartialEq, Eq)]
 pub enum ReadEnd {
     Fault,
     TooLong,

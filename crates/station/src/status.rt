@@ -5,7 +5,7 @@ use scenario_data::Refusal;
 use trace_check::TraceFault;
 
 /// What the program answers.
-#[derive(Debug, Drop)]
+#[derive(Drop)]
 pub enum Status {
     /// All was read, done and written.
     Done,

@@ -22,12 +22,12 @@ use Rattle.sig_tables.specs.Calls.{is_green, opposed_of}
 use Rattle.sig_tables.specs.Modes.{bound}
 use Rattle.sig_tables.specs.Preempts.{all_preempts, stage_after, stage_now}
 use Rattle.sig_tables.specs.Choosing.{mode_sought, mode_after, mode_staged, mode_running, mode_reached, is_in_step}
-use Rattle.sig_tables.specs.Course.{Turn, Rings, turn_of, course_of}
+use Rattle.sig_tables.specs.TickState.{RingTurn, Rings, ring_turn_of, tick_state_of}
 use Rattle.sig_tables.specs.Walking.{Crossing, has_walk, walk_begins}
 use Rattle.sig_tables.specs.Moves.{Moves, ring_moves}
 use Rattle.sig_tables.specs.View.{is_open, is_done, ended_of}
 use Rattle.sig_tables.specs.Ticking.{on_of, moves_of, colours_of, frame_of, frame_with, next_moment}
-use Rattle.sig_tables.specs.Seen.{frame_seen, mode_seen, view_seen, moves_seen, sight_seen, demand_with, pedestrian_seen, opposed_seen}
+use Rattle.sig_tables.specs.Seen.{frame_seen, mode_seen, view_seen, moves_seen, tick_inputs_seen, demand_with, pedestrian_seen, opposed_seen}
 use Rattle.call_store.proofs.Listed.{none-has}
 use Rattle.tick_context.specs.Modes.{is_free}
 use Rattle.tick_context.specs.Shows.{is_clearing, is_signalling}
@@ -40,7 +40,7 @@ use Rattle.tick_context.proofs.Frames.{frame-parts}
 use Rattle.ring_barrier.proofs.Entering.{idle-moves}
 use Rattle.tick_context.proofs.Resting.{resting, none-done}
 use Rattle.tick_context.proofs.Seen.{clearance-none}
-use Rattle.sig_tables.proofs.FreeCourse.{forced-unbound}
+use Rattle.sig_tables.proofs.FreeTickState.{forced-unbound}
 
 pub free-is : (m : Mode) → is_free m ≡ true → m ≡ Free
 free-is Free e = refl
@@ -78,8 +78,8 @@ free-on t version n on past was none other undefined =
     ap (λ (m : Mode). mode_after m t version n on past) was
     ∙ ap (λ (s : Option Mode). mode_staged s t version n (last_frame past)) stage ∙ runs
 
-pub rings-turn : (t : Tables) (past : List Moment) (mode : Mode) → (last_frame past).mode ≡ Free → mode ≡ Free → turn_of t past mode ≡ Rings
-rings-turn t past mode was e = rw (was, e) refl
+pub rings-ring_turn : (t : Tables) (past : List Moment) (mode : Mode) → (last_frame past).mode ≡ Free → mode ≡ Free → ring_turn_of t past mode ≡ Rings
+rings-ring_turn t past mode was e = rw (was, e) refl
 
 -- no walk begins on a phase that keeps its colour, but on one in Green with Dont that is called to and isn't opposed
 pub no-walk : (c : Crossing) (mode : Mode) (p : ℕ) (before after : Colour) (signal : Ped) → mode ≡ Free → after ≡ before
@@ -131,13 +131,13 @@ rings-undone past mode none first second =
 
 moves-none : (past : Past) → (frame_seen past).mode ≡ Free → mode_seen past ≡ Free → ring_moves (view_seen past) ≡ record { ends = []; begins = [] }
     → moves_seen past ≡ record { ends = []; begins = [] }
-moves-none past was mode none = ap (λ (t : Turn). moves_of t (view_seen past)) (rings-turn past.tables past.moments (mode_seen past) was mode) ∙ none
+moves-none past was mode none = ap (λ (t : RingTurn). moves_of t (view_seen past)) (rings-ring_turn past.tables past.moments (mode_seen past) was mode) ∙ none
 
 -- no counter and no target in Free
-pub no-counter : (past : Past) → mode_seen past ≡ Free → (course_of past).counter ≡ 0
+pub no-counter : (past : Past) → mode_seen past ≡ Free → (tick_state_of past).counter ≡ 0
 no-counter past e = rw e refl
 
-pub no-target : (past : Past) → mode_seen past ≡ Free → (course_of past).target ≡ 0
+pub no-target : (past : Past) → mode_seen past ≡ Free → (tick_state_of past).target ≡ 0
 no-target past e = rw e refl
 
 -- what the last frame shows comes again, with the counter and the target of the tick, where its colours and its signals do
@@ -146,7 +146,7 @@ pub frame-like : (past : Past) (mode : Mode) → (frame_seen past).version ≡ p
     → (frame_seen past).mode ≡ mode → mode_seen past ≡ mode → mode_reached mode past.tables (frame_seen past).veh ≡ mode
     → (frame_seen past).veh ≡ colours_of past (moves_seen past)
     → (frame_seen past).ped ≡ map (λ p. if walk_after past mode (colours_of past (moves_seen past)) p then Walk else signal_seen past p) all_phases
-    → (next_moment past).frame ≡ timed true (course_of past).counter (course_of past).target (frame_seen past)
+    → (next_moment past).frame ≡ timed true (tick_state_of past).counter (tick_state_of past).target (frame_seen past)
 frame-like past mode version on was now reached veh ped =
     let f : Frame = frame_seen past in
     let at : f.ped ≡ map (λ (p : ℕ). if walk_after past f.mode f.veh p then Walk else signal_seen past p) all_phases =
@@ -155,10 +155,10 @@ frame-like past mode version on was now reached veh ped =
     ∙ ap (λ (x : Mode). map (λ (p : ℕ). if walk_after past x f.veh p then Walk else signal_seen past p) all_phases) (sym was) in
     let same : f.mode ≡ mode_reached (mode_seen past) past.tables f.veh =
     was ∙ sym reached ∙ sym (ap (λ (m : Mode). mode_reached m past.tables f.veh) now) in
-    sym (parts f _ _ (course_of past).counter (course_of past).target on
-    ∙ frame-parts past f.mode f.veh f.ped _ _ (course_of past).counter (course_of past).target f.version at refl refl refl refl version
-    ∙ ap (λ (m : Mode). frame_of (course_of past) past (sight_seen past) f.veh m) same
-    ∙ ap (λ (x : List Colour). frame_with (course_of past) past (sight_seen past) x) veh)
+    sym (parts f _ _ (tick_state_of past).counter (tick_state_of past).target on
+    ∙ frame-parts past f.mode f.veh f.ped _ _ (tick_state_of past).counter (tick_state_of past).target f.version at refl refl refl refl version
+    ∙ ap (λ (m : Mode). frame_of (tick_state_of past) past (tick_inputs_seen past) f.veh m) same
+    ∙ ap (λ (x : List Colour). frame_with (tick_state_of past) past (tick_inputs_seen past) x) veh)
   where
     parts : (f : Frame) (one two counter target : ℕ) → f.on ≡ one ∷ two ∷ [] → timed true counter target f ≡ record {
       veh = f.veh;
@@ -189,7 +189,7 @@ pub frame-going : (past : Past) (mode : Mode) → (frame_seen past).version ≡ 
     → runs_on p past.tables past.moments (colour_of (frame_seen past) p) ≡ colour_of (frame_seen past) p)
     → ((p : ℕ) → is_phase p ≡ true → is_signalling (frame_seen past) p ≡ true → signal_seen past p ≡ signal_of (frame_seen past) p)
     → ((p : ℕ) → is_phase p ≡ true → walk_after past mode (frame_seen past).veh p ≡ false)
-    → (next_moment past).frame ≡ timed true (course_of past).counter (course_of past).target (frame_seen past)
+    → (next_moment past).frame ≡ timed true (tick_state_of past).counter (tick_state_of past).target (frame_seen past)
 frame-going past mode version on was now reached moves wide long clear dark walks =
     let f : Frame = frame_seen past in
     let still : f.veh ≡ colours_of past no-moves = still-colours past no-moves f.veh wide refl (λ p h. refl) (λ p h. refl) clear in
@@ -201,7 +201,7 @@ frame-going past mode version on was now reached moves wide long clear dark walk
 
 -- a frame of Free has no counter and no target
 timed-free : (past : Past) → IsCurrent past → mode_seen past ≡ Free
-    → timed true (course_of past).counter (course_of past).target (frame_seen past) ≡ frame_seen past
+    → timed true (tick_state_of past).counter (tick_state_of past).target (frame_seen past) ≡ frame_seen past
 timed-free past now mode =
     none (frame_seen past) _ _ (no-counter past mode ∙ sym now.counter) (no-target past mode ∙ sym now.target)
   where

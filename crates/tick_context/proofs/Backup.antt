@@ -6,7 +6,7 @@ use Rattle.sig_tables.specs.Past.{Past, Moment}
 use Rattle.sig_tables.specs.Looking.{in_a_row}
 use Rattle.sig_tables.specs.Command.{is_commanded, is_backed_up}
 use Rattle.sig_tables.proofs.Lasting.{lasts_now-counted}
-use Rattle.tick_context.specs.Orders.{ticks_since}
+use Rattle.tick_context.specs.UnitCommands.{ticks_since}
 
 -- a bound within the numbers that are counted is reached where the count reaches it
 reached : (n count : ℕ) → n < 4294967295 → nat_le n (min count 4294967295) ≡ nat_le n count

@@ -20,23 +20,23 @@ use Rattle.sig_tables.specs.Splits.{coordinated_phases}
 use Rattle.sig_tables.specs.Layout.{Has}
 use Rattle.sig_types.specs.Phases.{is_in}
 use Rattle.sig_types.specs.declared.phase_set.PhaseSet.{PhaseSet}
-use Rattle.ped_clock.specs.Signals.{lesser_of}
+use Rattle.call_store.specs.Signals.{lesser_of}
 use Rattle.prio_queue.specs.Places.{some_number}
 use Rattle.flash_mode.specs.OwnMode.{AreSought as Listed}
-use Rattle.preempt_run.specs.Goals.{AreSought, ticks_of}
+use Rattle.preempt_stages.specs.Goals.{AreSought, ticks_of}
 use Rattle.std.proofs.lemmas.Bool.Decides.{Decides-eqb}
 use Rattle.sig_types.specs.declared.frame.Colour.{Colour}
 use Rattle.sig_types.specs.Colour.{same_mode}
 use Rattle.sig_tables.specs.Choosing.{mode_reached}
-use Rattle.ped_clock.specs.Walks.{SaysInCoord}
+use Rattle.call_store.specs.Walks.{SaysInCoord}
 use Rattle.tick_context.proofs.Sought.{reached-from}
-use Rattle.sig_tables.specs.Course.{StartUp, Rings, Goal, startup_phases, first_turn, turn_of}
+use Rattle.sig_tables.specs.TickState.{StartUp, Rings, Goal, startup_phases, first_ring_turn, ring_turn_of}
 use Rattle.pattern_plan.specs.declared.split_options.SplitOptions.{SplitOptions}
-use Rattle.pattern_plan.specs.Options.{SplitSays, AreBinding}
+use Rattle.pattern_plan.specs.Options.{SplitSays, AreActivePattern}
 use Rattle.sig_tables.specs.Modes.{bound, sequence_in}
-use Rattle.tick_context.specs.declared.binding.Binding.{Binding}
+use Rattle.tick_context.specs.declared.active_pattern.ActivePattern.{ActivePattern}
 use Rattle.tick_context.specs.Modes.{is_coord, has_pattern}
-use Rattle.tick_context.specs.Binds.{BindingIs, IsBound}
+use Rattle.tick_context.specs.Binds.{ActivePatternIs, IsBound}
 
 -- a mode in step with a pattern is that of some pattern, and binds it; any other binds none
 pub in-coord : (m : Mode) → is_coord m ≡ true → (n : ℕ) × (m ≡ Coord n)
@@ -64,19 +64,19 @@ unbound (Dwell i) e = refl
 unbound (Exit i) e = refl
 
 -- the options of the pattern that binds
-pub options-some : (o : Bor SplitOptions) (t : Tables) (n : ℕ) (m : Option ℕ) → m ≡ Some n → SplitSays o.now t n → AreBinding (Some o) m t
+pub options-some : (o : Bor SplitOptions) (t : Tables) (n : ℕ) (m : Option ℕ) → m ≡ Some n → SplitSays o.now t n → AreActivePattern (Some o) m t
 options-some o t n m e s = rw e s
 
-pub options-none : (t : Tables) (m : Option ℕ) → m ≡ None → AreBinding None m t
+pub options-none : (t : Tables) (m : Option ℕ) → m ≡ None → AreActivePattern None m t
 options-none t m e = rw e tt
 
 -- where the rings move by themselves and no pattern binds, the first sequence is in force
-not-rings : (b : Bool) (ps goal : List ℕ) → (if b then first_turn ps (Goal goal) else Goal goal) ≡ Rings → ⊥
+not-rings : (b : Bool) (ps goal : List ℕ) → (if b then first_ring_turn ps (Goal goal) else Goal goal) ≡ Rings → ⊥
 not-rings true [] goal e = let h : Goal goal ≡ Rings = e in cc h
 not-rings true (p ∷ ps) goal e = let h : StartUp ≡ Rings = e in cc h
 not-rings false ps goal e = let h : Goal goal ≡ Rings = e in cc h
 
-pub first-sequence : (t : Tables) (past : List Moment) (m : Mode) → turn_of t past m ≡ Rings → is_coord m ≡ false → sequence_in t m ≡ 1
+pub first-sequence : (t : Tables) (past : List Moment) (m : Mode) → ring_turn_of t past m ≡ Rings → is_coord m ≡ false → sequence_in t m ≡ 1
 first-sequence t past (Coord n) r e = absurd (false≢true (sym e))
 first-sequence t past (Seek n) r e = absurd (not-rings (is_start (last_frame past).mode) (startup_phases t) (goal_in t (Seek n)) r)
 first-sequence t past Start r e = refl
@@ -89,7 +89,7 @@ first-sequence t past (Dwell i) r e = refl
 first-sequence t past (Exit i) r e = refl
 
 -- the coordinated phases of a pattern that is sought, as two numbers and as a set
-pub sought-phases : (b : Binding) (t : Tables) (m k : Mode) → IsBound b t m → k ≡ m → Listed k b.plan.coordinated t
+pub sought-phases : (b : ActivePattern) (t : Tables) (m k : Mode) → IsBound b t m → k ≡ m → Listed k b.plan.coordinated t
 sought-phases b t (Seek n) k h e = rw e (ap (λ (x : Plan). x.coordinated) h.plan)
 sought-phases b t (Coord n) k h e = rw e tt
 sought-phases b t Start k h e = rw e tt
@@ -101,8 +101,8 @@ sought-phases b t (Track i) k h e = rw e tt
 sought-phases b t (Dwell i) k h e = rw e tt
 sought-phases b t (Exit i) k h e = rw e tt
 
-pub sought-set : (b : Binding) (t : Tables) (m : Mode) (s : PhaseSet) → IsBound b t m
-    → ((u : Tables) (n : ℕ) → BindingIs b u n → Has s (is_in (coordinated_phases u n))) → AreSought s t m
+pub sought-set : (b : ActivePattern) (t : Tables) (m : Mode) (s : PhaseSet) → IsBound b t m
+    → ((u : Tables) (n : ℕ) → ActivePatternIs b u n → Has s (is_in (coordinated_phases u n))) → AreSought s t m
 sought-set b t (Seek n) s h is = is t n h
 sought-set b t (Coord n) s h is = tt
 sought-set b t Start s h is = tt
@@ -115,8 +115,8 @@ sought-set b t (Dwell i) s h is = tt
 sought-set b t (Exit i) s h is = tt
 
 -- the target, where there is a pattern and where there is none
-pub target-some : (b : Binding) (t : Tables) (m : Mode) (clock x : ℕ) → has_pattern m ≡ true → IsBound b t m
-    → ((n : ℕ) → BindingIs b t n → x ≡ target_at t n clock) → x ≡ target_in t m clock
+pub target-some : (b : ActivePattern) (t : Tables) (m : Mode) (clock x : ℕ) → has_pattern m ≡ true → IsBound b t m
+    → ((n : ℕ) → ActivePatternIs b t n → x ≡ target_at t n clock) → x ≡ target_in t m clock
 target-some b t (Seek n) clock x e h is = is n h
 target-some b t (Coord n) clock x e h is = is n h
 target-some b t Start clock x e h is = absurd (false≢true e)
@@ -183,7 +183,7 @@ says-none t (Track i) e = tt
 says-none t (Dwell i) e = tt
 says-none t (Exit i) e = tt
 
-pub says-some : (o : Bor SplitOptions) (t : Tables) (sought reached : Mode) (veh : List Colour) (b : Binding) → is_coord reached ≡ true
+pub says-some : (o : Bor SplitOptions) (t : Tables) (sought reached : Mode) (veh : List Colour) (b : ActivePattern) → is_coord reached ≡ true
     → reached ≡ mode_reached sought t veh → IsBound b t sought → b.options ≡ o.now → SaysInCoord (Some o) reached t
 says-some o t sought reached veh b e f bound same =
     let (n, is) = in-coord reached e in
@@ -194,5 +194,5 @@ says-some o t sought reached veh b e f bound same =
     same-self n = (Decides-eqb n n).1 refl
 
     of-either : (n : ℕ) → (sought ≡ Coord n) ⊎ (sought ≡ Seek n) → SplitSays b.options t n
-    of-either n (inl s) = let is : BindingIs b t n = subst (λ (m : Mode). IsBound b t m) s bound in is.options
-    of-either n (inr s) = let is : BindingIs b t n = subst (λ (m : Mode). IsBound b t m) s bound in is.options
+    of-either n (inl s) = let is : ActivePatternIs b t n = subst (λ (m : Mode). IsBound b t m) s bound in is.options
+    of-either n (inr s) = let is : ActivePatternIs b t n = subst (λ (m : Mode). IsBound b t m) s bound in is.options

@@ -7,7 +7,7 @@ use Rattle.sig_tables.specs.Slots.{is_coordinated}
 use Rattle.sig_tables.specs.Past.{Past}
 use Rattle.sig_tables.specs.Looking.{run}
 use Rattle.sig_tables.specs.Coordinating.{is_released, extension_of, is_floating, has_floated}
-use Rattle.sig_tables.specs.Course.{course_of}
+use Rattle.sig_tables.specs.TickState.{tick_state_of}
 use Rattle.sig_tables.specs.View.{has_gap, has_filled_split, is_reasoned}
 use Rattle.sig_tables.specs.Seen.{view_seen}
 use Rattle.prio_queue.specs.Places.{some_number}
@@ -19,22 +19,22 @@ second-of : (b x y z : Bool) → b ≡ false → z ≡ y → z ≡ (if b then x 
 second-of b x y z e f = rw (e, f) refl
 
 pub held-reason : (past : Past) (n p : ℕ) (x : Bool) → is_coordinated past.tables n p ≡ true
-    → x ≡ is_released past.tables n (course_of past).counter (course_of past).active p → x ≡ is_reasoned (Some n) (view_seen past) p
+    → x ≡ is_released past.tables n (tick_state_of past).counter (tick_state_of past).active p → x ≡ is_reasoned (Some n) (view_seen past) p
 held-reason past n p x e f = first-of (is_coordinated past.tables n p) _ _ x e f
 
 -- the reasons that are not its release
 abbrev others : Past → ℕ → ℕ → Bool
-others past n p = not ((course_of past).active == 0) || has_gap (view_seen past) p || has_filled_split (view_seen past) n p
+others past n p = not ((tick_state_of past).active == 0) || has_gap (view_seen past) p || has_filled_split (view_seen past) n p
 
 other-reason : (past : Past) (n p : ℕ) (x : Bool) → is_coordinated past.tables n p ≡ false → x ≡ others past n p
     → x ≡ is_reasoned (Some n) (view_seen past) p
 other-reason past n p x e f = second-of (is_coordinated past.tables n p) _ _ x e f
 
-pub asked-reason : (past : Past) (n p : ℕ) → is_coordinated past.tables n p ≡ false → not ((course_of past).active == 0) ≡ true
+pub asked-reason : (past : Past) (n p : ℕ) → is_coordinated past.tables n p ≡ false → not ((tick_state_of past).active == 0) ≡ true
     → true ≡ is_reasoned (Some n) (view_seen past) p
 asked-reason past n p e asked =
     other-reason past n p true e
-    (one (not ((course_of past).active == 0)) (has_gap (view_seen past) p) (has_filled_split (view_seen past) n p) asked)
+    (one (not ((tick_state_of past).active == 0)) (has_gap (view_seen past) p) (has_filled_split (view_seen past) n p) asked)
   where
     one : (a b c : Bool) → a ≡ true → true ≡ (a || b || c)
     one a b c h = rw h refl
@@ -43,18 +43,18 @@ pub gap-reason : (past : Past) (n p : ℕ) → is_coordinated past.tables n p �
     → true ≡ is_reasoned (Some n) (view_seen past) p
 gap-reason past n p e gap =
     other-reason past n p true e
-    (two (not ((course_of past).active == 0)) (has_gap (view_seen past) p) (has_filled_split (view_seen past) n p) gap)
+    (two (not ((tick_state_of past).active == 0)) (has_gap (view_seen past) p) (has_filled_split (view_seen past) n p) gap)
   where
     two : (a b c : Bool) → b ≡ true → true ≡ (a || b || c)
     two true b c h = refl
     two false b c h = rw h refl
 
-pub fill-reason : (past : Past) (n p green : ℕ) (x : Bool) → is_coordinated past.tables n p ≡ false → not ((course_of past).active == 0) ≡ false
+pub fill-reason : (past : Past) (n p green : ℕ) (x : Bool) → is_coordinated past.tables n p ≡ false → not ((tick_state_of past).active == 0) ≡ false
     → has_gap (view_seen past) p ≡ false → green ≡ run p Green past.moments
     → x ≡ (if is_floating past.tables then has_floated past.tables n p green else false) → x ≡ is_reasoned (Some n) (view_seen past) p
 fill-reason past n p green x e asked gap is f =
     other-reason past n p x e
-    (f ∙ ap (λ (k : ℕ). if is_floating past.tables then has_floated past.tables n p k else false) is ∙ three (not ((course_of past).active == 0)) (has_gap
+    (f ∙ ap (λ (k : ℕ). if is_floating past.tables then has_floated past.tables n p k else false) is ∙ three (not ((tick_state_of past).active == 0)) (has_gap
     (view_seen past) p) (has_filled_split (view_seen past) n p) asked gap)
   where
     three : (a b c : Bool) → a ≡ false → b ≡ false → c ≡ (a || b || c)

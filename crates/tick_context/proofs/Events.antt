@@ -22,8 +22,8 @@ use Rattle.sig_tables.specs.Priority.{place_of, is_given_since}
 use Rattle.prio_queue.specs.declared.Queue.{Queue}
 use Rattle.prio_queue.specs.Places.{IsGivenBy}
 use Rattle.prio_queue.specs.Stands.{kept, QueueStands}
-use Rattle.tick_context.specs.declared.orders.Orders.{Orders}
-use Rattle.tick_context.specs.Orders.{OrdersStand}
+use Rattle.tick_context.specs.declared.unit_commands.UnitCommands.{UnitCommands}
+use Rattle.tick_context.specs.UnitCommands.{UnitCommandsStand}
 
 same-moment : (t u : Tables) (past : List Moment) (n : ℕ) → length past ≡ n + 1 → last_moment t past ≡ last_moment u past
 same-moment t u [] n h = absurd (omega arith)
@@ -42,9 +42,9 @@ calls-kept c past t e k = record {
   turned_on = k.turned_on;
 }
 
-pub orders-kept : (o : Orders) (past : Past) (t : Tables) → moment_seen past ≡ moment_seen (with_event (Install t) past) → OrdersStand o past
-    → OrdersStand o (with_event (Install t) past)
-orders-kept o past t e k = record {
+pub unit_commands-kept : (o : UnitCommands) (past : Past) (t : Tables) → moment_seen past ≡ moment_seen (with_event (Install t) past) → UnitCommandsStand o past
+    → UnitCommandsStand o (with_event (Install t) past)
+unit_commands-kept o past t e k = record {
   command = k.command ∙ ap (command_told past.commanded) e;
   since = k.since;
   clock = k.clock ∙ ap (clock_told past.clock_set) e;

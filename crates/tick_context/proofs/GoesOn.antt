@@ -16,20 +16,20 @@ use Rattle.sig_tables.specs.Goals.{lesser_in}
 use Rattle.sig_tables.specs.Command.{command_now}
 use Rattle.sig_tables.specs.Modes.{bound}
 use Rattle.sig_tables.specs.Choosing.{mode_reached}
-use Rattle.sig_tables.specs.Course.{Turn, Rings, turn_of, course_of}
+use Rattle.sig_tables.specs.TickState.{RingTurn, Rings, ring_turn_of, tick_state_of}
 use Rattle.sig_tables.specs.Priority.{active_in}
 use Rattle.sig_tables.specs.Walking.{has_walk}
 use Rattle.sig_tables.specs.Ticking.{moves_of}
 use Rattle.sig_tables.specs.Decide.{next_moment}
-use Rattle.sig_tables.specs.Seen.{frame_seen, moment_seen, mode_seen, turn_seen, view_seen, moves_seen, pedestrian_seen}
-use Rattle.preempt_run.specs.Dwelling.{is_dwell}
-use Rattle.preempt_run.specs.Stands.{preempts_seen}
-use Rattle.preempt_run.proofs.Called.{seen-is}
+use Rattle.sig_tables.specs.Seen.{frame_seen, moment_seen, mode_seen, ring_turn_seen, view_seen, moves_seen, pedestrian_seen}
+use Rattle.preempt_stages.specs.Dwelling.{is_dwell}
+use Rattle.preempt_stages.specs.Inputs.{preempts_seen}
+use Rattle.preempt_stages.proofs.Inputs.{seen-is}
 use Rattle.tick_context.specs.Shows.{is_clearing, is_signalling}
 use Rattle.tick_context.specs.Walks.{crossing_seen, walk_after}
 use Rattle.tick_context.specs.Lasting.{IsFresh, StaysFree, StaysInStep, Lasts, opposed_with}
 use Rattle.tick_context.specs.Passed.{timed}
-use Rattle.tick_context.proofs.Again.{free-on, rings-turn, no-counter, no-moves, no-walk, frame-going, shut}
+use Rattle.tick_context.proofs.Again.{free-on, rings-ring_turn, no-counter, no-moves, no-walk, frame-going, shut}
 use Rattle.tick_context.proofs.Stays.{colour-stays, signal-stays, rings-stay}
 use Rattle.tick_context.proofs.Free.{command-none}
 use Rattle.tick_context.proofs.InStep.{mode-in, counter-next, no-walk-in, no-zero}
@@ -37,10 +37,10 @@ use Rattle.tick_context.proofs.InStep.{mode-in, counter-next, no-walk-in, no-zer
 -- the mode goes on at the next tick
 pub record Goes (mode : Mode) (past : Past) : Type 0 where
   pub now : mode_seen past ≡ mode
-  pub turn : turn_seen past ≡ Rings
+  pub ring_turn : ring_turn_seen past ≡ Rings
   pub reached : mode_reached mode past.tables (frame_seen past).veh ≡ mode
-  pub active : (course_of past).active ≡ 0
-  pub counter : (course_of past).counter ≤ (frame_seen past).counter + 1
+  pub active : (tick_state_of past).active ≡ 0
+  pub counter : (tick_state_of past).counter ≤ (frame_seen past).counter + 1
   pub walks : (p : ℕ) → is_phase p ≡ true → walk_after past mode (frame_seen past).veh p ≡ false
   pub full : (p : ℕ) → lesser_in past.tables mode p ≡ InFull
   pub started : is_start mode ≡ false
@@ -51,10 +51,10 @@ goes-free past fresh was beside s =
     let none = command-none past fresh s.other s.undefined in
     let mode : mode_seen past ≡ Free =
     free-on past.tables past.version (command_now past) _ past.moments was (sym (seen-is past) ∙ beside) none.0 none.1 in
-    let zero : (course_of past).counter ≡ 0 = no-counter past mode in
+    let zero : (tick_state_of past).counter ≡ 0 = no-counter past mode in
     record {
       now = mode;
-      turn = rings-turn past.tables past.moments (mode_seen past) was mode;
+      ring_turn = rings-ring_turn past.tables past.moments (mode_seen past) was mode;
       reached = refl;
       active = ap (λ (m : Mode). active_in past.tables m ((moment_seen past).number + 1) past.asked) mode;
       counter = omega (arith, zero);
@@ -72,25 +72,25 @@ goes-coord : (n j : ℕ) (past : Past) → IsFresh past → (frame_seen past).mo
     → preempts_seen past ≡ [] → StaysInStep n (suc j) past → Goes (Coord n) past
 goes-coord n j past fresh was version beside s =
     let mode : mode_seen past ≡ Coord n = mode-in n j past fresh s was version beside in
-    let counter : (course_of past).counter ≡ (frame_seen past).counter + 1 = counter-next n j past fresh s was mode in
+    let counter : (tick_state_of past).counter ≡ (frame_seen past).counter + 1 = counter-next n j past fresh s was mode in
     let more : (moment_seen past).number < (moment_seen past).number + 1 = omega arith in
     record {
       now = mode;
-      turn = coord-turn past.tables past.moments (mode_seen past) n was mode;
+      ring_turn = coord-ring_turn past.tables past.moments (mode_seen past) n was mode;
       reached = refl;
       active = ap (λ (m : Mode). active_in past.tables m ((moment_seen past).number + 1) past.asked) mode
           ∙ s.unasked ((moment_seen past).number + 1) more;
       counter = omega (arith, counter);
       walks = λ p h.
           no-walk-in n (crossing_seen past (Coord n)) p (colour_of (frame_seen past) p) (signal_of (frame_seen past) p)
-          (no-zero (Coord n) (course_of past).counter (frame_seen past).counter (frame_seen past) counter);
+          (no-zero (Coord n) (tick_state_of past).counter (frame_seen past).counter (frame_seen past) counter);
       full = λ p. refl;
       started = refl;
       beside = refl;
     }
   where
-    coord-turn : (t : Tables) (past : List Moment) (mode : Mode) (n : ℕ) → (last_frame past).mode ≡ Coord n → mode ≡ Coord n → turn_of t past mode ≡ Rings
-    coord-turn t past mode n was e = rw (was, e) refl
+    coord-ring_turn : (t : Tables) (past : List Moment) (mode : Mode) (n : ℕ) → (last_frame past).mode ≡ Coord n → mode ≡ Coord n → ring_turn_of t past mode ≡ Rings
+    coord-ring_turn t past mode n was e = rw (was, e) refl
 
 pub tick-goes : (mode : Mode) (j : ℕ) (past : Past) → Lasts mode (suc j) past → Goes mode past
 tick-goes Free j past l = goes-free past l.fresh l.was l.beside l.goes
@@ -106,14 +106,14 @@ tick-goes (Exit i) j past l = absurd l.goes
 
 -- the tick shows what the last frame shows, with its own counter and target
 pub frame-goes : (mode : Mode) (j : ℕ) (past : Past) → Lasts mode (suc j) past
-    → (next_moment past).frame ≡ timed true (course_of past).counter (course_of past).target (frame_seen past)
+    → (next_moment past).frame ≡ timed true (tick_state_of past).counter (tick_state_of past).target (frame_seen past)
 frame-goes mode j past l =
     let g = tick-goes mode j past l in
     let clear : (p : ℕ) → is_phase p ≡ true → is_clearing (frame_seen past).veh p ≡ true
     → runs_on p past.tables past.moments (colour_of (frame_seen past) p) ≡ colour_of (frame_seen past) p =
     λ p h e. colour-stays j p past.tables past.moments (colour_of (frame_seen past) p) (l.phases p h).colour in
     let moves : moves_seen past ≡ no-moves =
-    ap (λ (t : Turn). moves_of t (view_seen past)) g.turn
+    ap (λ (t : RingTurn). moves_of t (view_seen past)) g.ring_turn
     ∙ rings-stay j past (bound mode) (ap bound g.now) g.active g.counter l.phases
     (shut past (on_in (frame_seen past) 1) l.first clear) (shut past (on_in (frame_seen past) 2) l.second clear) in
     frame-going past mode l.version l.on l.was g.now g.reached moves l.wide l.long clear

@@ -21,16 +21,16 @@ use Rattle.sig_tables.specs.Clock.{clock_now, clock_told, rise_at, offset_time, 
 use Rattle.sig_tables.specs.Command.{is_backed_up, is_commanded, command_now}
 use Rattle.sig_tables.specs.Counting.{Correction, ahead, counter_after, next_counter}
 use Rattle.sig_tables.specs.Counters.{correction_of, counter_in}
-use Rattle.sig_tables.specs.Course.{course_of}
+use Rattle.sig_tables.specs.TickState.{tick_state_of}
 use Rattle.sig_tables.specs.Walking.{Crossing, walk_begins, is_local_zero}
 use Rattle.sig_tables.specs.Preempts.{preempts_on, stage_after, stage_now}
 use Rattle.sig_tables.specs.Choosing.{is_in_step, mode_after, mode_running, mode_staged, mode_sought}
 use Rattle.sig_tables.specs.Seen.{frame_seen, moment_seen, mode_seen}
 use Rattle.sig_tables.proofs.Lasting.{lasts_now-counted}
-use Rattle.preempt_run.specs.Stands.{preempts_seen}
-use Rattle.preempt_run.proofs.Called.{seen-is}
-use Rattle.tick_context.specs.declared.orders.Orders.{Orders}
-use Rattle.tick_context.specs.Orders.{OrdersStand, most}
+use Rattle.preempt_stages.specs.Inputs.{preempts_seen}
+use Rattle.preempt_stages.proofs.Inputs.{seen-is}
+use Rattle.tick_context.specs.declared.unit_commands.UnitCommands.{UnitCommands}
+use Rattle.tick_context.specs.UnitCommands.{UnitCommandsStand, most}
 use Rattle.tick_context.specs.Even.{IsEven}
 use Rattle.tick_context.specs.Lasting.{IsFresh, StaysInStep}
 use Rattle.tick_context.proofs.Counted.{counters-head}
@@ -118,7 +118,7 @@ no-error cycle target c e =
     let whole : target + cycle - c - 1 ≡ cycle = omega (arith, e) in ap (λ (y : ℕ). y % cycle) whole ∙ mod_self cycle
 
 pub counter-next : (n j : ℕ) (past : Past) → IsFresh past → StaysInStep n (suc j) past → (frame_seen past).mode ≡ Coord n
-    → mode_seen past ≡ Coord n → (course_of past).counter ≡ (frame_seen past).counter + 1
+    → mode_seen past ≡ Coord n → (tick_state_of past).counter ≡ (frame_seen past).counter + 1
 counter-next n j past fresh s was mode =
     let c : ℕ = (frame_seen past).counter in
     let k : Correction = correction_of past.tables n in
@@ -162,7 +162,7 @@ no-zero m counter before f e =
     by (Exit i) z = refl
 
 -- so much of the backup time is left
-pub backup-left : (o : Orders) (t : Tables) (past : Past) (k n : ℕ) → OrdersStand o past → t ≡ past.tables → IsFresh past → (moment_seen past).command ≡ n
+pub backup-left : (o : UnitCommands) (t : Tables) (past : Past) (k n : ℕ) → UnitCommandsStand o past → t ≡ past.tables → IsFresh past → (moment_seen past).command ≡ n
     → is_defined t n ≡ true → IsEven o t k
     → (past.tables.unit.backup ≡ 0) ⊎ (in_a_row (λ m. not m.is_commanded) past.moments + 1 + k < 10 * past.tables.unit.backup)
 backup-left o t past k n stands same fresh command defined even =

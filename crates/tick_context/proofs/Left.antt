@@ -15,10 +15,10 @@ use Rattle.sig_tables.specs.Past.{Past, Moment}
 use Rattle.sig_tables.specs.Looking.{run, latched}
 use Rattle.sig_tables.specs.Calls.{is_green}
 use Rattle.sig_tables.specs.Seen.{frame_seen}
-use Rattle.ped_clock.specs.Passed.{SignalLasts}
-use Rattle.tick_context.specs.declared.binding.Binding.{Binding}
+use Rattle.call_store.specs.Signals.{SignalLasts}
+use Rattle.tick_context.specs.declared.active_pattern.ActivePattern.{ActivePattern}
 use Rattle.sig_tables.specs.declared.plan.Plan.{Plan}
-use Rattle.tick_context.specs.Binds.{BindingIs}
+use Rattle.tick_context.specs.Binds.{ActivePatternIs}
 use Rattle.tick_context.specs.Shows.{is_clearing, is_signalling}
 use Rattle.tick_context.specs.Lasting.{ColourLasts, PhaseLasts}
 use Rattle.tick_context.proofs.Filling.{made-at}
@@ -71,5 +71,5 @@ neither-of x false true e n = absurd (false≢true (sym n ∙ e))
 neither-of x false false e n = (refl, refl)
 
 -- the force point that is kept
-pub force-kept : (b : Binding) (t : Tables) (n p : ℕ) → BindingIs b t n → is_phase p ≡ true → get_or b.plan.force (p - 1) 0 ≡ force_point t n p
+pub force-kept : (b : ActivePattern) (t : Tables) (n p : ℕ) → ActivePatternIs b t n → is_phase p ≡ true → get_or b.plan.force (p - 1) 0 ≡ force_point t n p
 force-kept b t n p is h = ap (λ (x : Plan). get_or x.force (p - 1) 0) is.plan ∙ made-at 0 (force_point t n) p h

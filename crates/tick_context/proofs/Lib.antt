@@ -8,7 +8,7 @@ pub mod Again
 pub mod Rings
 pub mod Seen
 pub mod Signals
-pub mod Turns
+pub mod RingTurns
 pub mod Binds
 pub mod Wanting
 pub mod Sought
@@ -26,3 +26,5 @@ pub mod OneLess
 pub mod Left
 pub mod Passed
 pub mod Striding
+pub mod Running
+pub mod EvenRuns

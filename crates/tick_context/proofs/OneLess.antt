@@ -30,9 +30,9 @@ use Rattle.sig_tables.specs.Ticking.{on_of}
 use Rattle.sig_tables.specs.Decide.{with_moment, next_moment}
 use Rattle.sig_tables.specs.Seen.{frame_seen, moment_seen, vehicle_seen, pedestrian_seen, detectors_seen, demand_with, quiet_with}
 use Rattle.call_store.proofs.Again.{vehicle-again, pedestrian-again, detectors-again}
-use Rattle.ped_clock.specs.Passed.{SignalLasts}
-use Rattle.preempt_run.proofs.Called.{seen-is}
-use Rattle.tick_context.specs.declared.seeing.Sight.{Sight}
+use Rattle.call_store.specs.Signals.{SignalLasts}
+use Rattle.preempt_stages.proofs.Inputs.{seen-is}
+use Rattle.tick_context.specs.declared.seeing.TickInputs.{TickInputs}
 use Rattle.tick_context.specs.Shows.{is_signalling}
 use Rattle.tick_context.specs.Lasting.{IsFresh, Looks, ColourLasts, StaysUnserved, HasNoGap, HasNoMaximum, HasNoReason, StaysUnforced, PhaseLasts, StaysFree, StaysInStep, ModeLasts, Lasts, opposed_with}
 use Rattle.tick_context.proofs.Again.{no-counter, no-target}
@@ -157,7 +157,7 @@ seen-again o past fresh a =
       pedestrian = q;
     }
 
-pub looks-on : (o : Option ℕ) (s : Sight) (past : Past) → Alike (next_moment past).frame (frame_seen past) → SeenAgain o past → Looks o s past
+pub looks-on : (o : Option ℕ) (s : TickInputs) (past : Past) → Alike (next_moment past).frame (frame_seen past) → SeenAgain o past → Looks o s past
     → Looks o s (with_moment past (next_moment past))
 looks-on o s past a g l = record {
   demand = l.demand ∙ sym g.demand;

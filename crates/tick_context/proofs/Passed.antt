@@ -9,9 +9,9 @@ use Rattle.sig_tables.specs.Command.{is_backed_up, is_commanded, command_now}
 use Rattle.sig_tables.specs.Clock.{rise_at}
 use Rattle.sig_tables.specs.Decide.{with_moment, next_moment}
 use Rattle.sig_tables.specs.Seen.{moment_seen}
-use Rattle.tick_context.specs.declared.orders.Orders.{Orders}
-use Rattle.tick_context.specs.Orders.{OrdersStand, SawOrders, ticks_since, most}
-use Rattle.tick_context.specs.Even.{IsEven, OrdersPassed}
+use Rattle.tick_context.specs.declared.unit_commands.UnitCommands.{UnitCommands}
+use Rattle.tick_context.specs.UnitCommands.{UnitCommandsStand, SawUnitCommands, ticks_since, most}
+use Rattle.tick_context.specs.Even.{IsEven, UnitCommandsPassed}
 use Rattle.tick_context.specs.Lasting.{IsFresh, Lasts}
 use Rattle.tick_context.proofs.Backup.{backed-up}
 use Rattle.tick_context.proofs.Free.{told-none, never-backed}
@@ -31,7 +31,7 @@ unbacked past since few less is =
       | inr e ↦ e
     ]
 
-command-stays : (o : Orders) (past : Past) → OrdersStand o past → IsFresh past → IsEven o past.tables 1 → past.tables.unit.backup ≤ 65535
+command-stays : (o : UnitCommands) (past : Past) → UnitCommandsStand o past → IsFresh past → IsEven o past.tables 1 → past.tables.unit.backup ≤ 65535
     → command_now past ≡ o.command
 command-stays o past stands fresh even few =
     told-none past fresh.commanded ∙ elim even.command [
@@ -49,9 +49,9 @@ command-stays o past stands fresh even few =
     of-none true n command e f = sym e
     of-none false n command e f = f
 
-pub orders-on : (o new : Orders) (past : Past) (m : Moment) → OrdersPassed 1 o new → OrdersStand o past → SawOrders past m → IsFresh past
-    → IsEven o past.tables 1 → past.tables.unit.backup ≤ 65535 → OrdersStand new (with_moment past m)
-orders-on o new past m by stands saw fresh even few =
+pub unit_commands-on : (o new : UnitCommands) (past : Past) (m : Moment) → UnitCommandsPassed 1 o new → UnitCommandsStand o past → SawUnitCommands past m → IsFresh past
+    → IsEven o past.tables 1 → past.tables.unit.backup ≤ 65535 → UnitCommandsStand new (with_moment past m)
+unit_commands-on o new past m by stands saw fresh even few =
     let told : m.is_commanded ≡ false = saw.is_commanded ∙ ap is_commanded fresh.commanded in
     let since : o.since ≡ min (in_a_row (λ m. not m.is_commanded) past.moments + 1) most = stands.since ∙ rw fresh.commanded refl in
     record {

@@ -17,12 +17,12 @@ use Rattle.sig_tables.specs.Modes.{bound}
 use Rattle.sig_tables.specs.Past.{Past, Moment}
 use Rattle.sig_tables.specs.Looking.{in_a_row, run, latched, runs_on, signal_run, signal_latched, signal_runs_on}
 use Rattle.sig_tables.specs.Calls.{is_green}
-use Rattle.sig_tables.specs.Course.{course_of}
+use Rattle.sig_tables.specs.TickState.{tick_state_of}
 use Rattle.sig_tables.specs.View.{is_served, is_done, is_forced, has_reason, is_reasoned, has_gap, has_maximum, is_open}
 use Rattle.sig_tables.specs.Moves.{ring_moves}
 use Rattle.sig_tables.specs.Seen.{frame_seen, mode_seen, quiet_seen, quiet_with, demand_with, opposed_seen, view_seen}
 use Rattle.sig_tables.proofs.Lasting.{lasts_now-counted}
-use Rattle.ped_clock.specs.Passed.{SignalLasts}
+use Rattle.call_store.specs.Signals.{SignalLasts}
 use Rattle.ring_barrier.proofs.Entering.{idle-moves}
 use Rattle.tick_context.specs.Lasting.{ColourLasts, StaysUnserved, HasNoGap, HasNoMaximum, HasNoReason, StaysUnforced, PhaseLasts, opposed_with}
 use Rattle.tick_context.proofs.Causes.{held-reason, fill-reason}
@@ -94,8 +94,8 @@ maximum-stays j past p o e (some, inr h) =
     ∙ short-now (maximum_time past.tables p) (in_a_row (λ m. is_in m.opposed p) past.moments) j (is_in (opposed_seen past) p) h
 
 -- nor any reason to end it
-reason-stays : (j : ℕ) (past : Past) (p : ℕ) (o : Option ℕ) → bound (mode_seen past) ≡ o → (course_of past).active ≡ 0
-    → (course_of past).counter ≤ (frame_seen past).counter + 1 → HasNoReason o (suc j) past p
+reason-stays : (j : ℕ) (past : Past) (p : ℕ) (o : Option ℕ) → bound (mode_seen past) ≡ o → (tick_state_of past).active ≡ 0
+    → (tick_state_of past).counter ≤ (frame_seen past).counter + 1 → HasNoReason o (suc j) past p
     → is_reasoned (bound (mode_seen past)) (view_seen past) p ≡ false
 reason-stays j past p None e active counter (gap, most) =
     ap (λ (x : Option ℕ). is_reasoned x (view_seen past) p) e
@@ -107,7 +107,7 @@ reason-stays j past p (Some n) e active counter (inl (held, before)) =
     let k : (frame_seen past).counter + suc j < force_point past.tables n p = before in
     ap (λ (x : Option ℕ). is_reasoned x (view_seen past) p) e
     ∙ sym (held-reason past n p false held
-    (sym (lt-leb (force_point past.tables n p + extension_of past.tables (course_of past).active) (course_of past).counter (omega (arith, k, counter)))))
+    (sym (lt-leb (force_point past.tables n p + extension_of past.tables (tick_state_of past).active) (tick_state_of past).counter (omega (arith, k, counter)))))
 reason-stays j past p (Some n) e active counter (inr (free, (fixed, gap))) =
     ap (λ (x : Option ℕ). is_reasoned x (view_seen past) p) e
     ∙ sym (fill-reason past n p (run p Green past.moments) false free (ap (λ (k : ℕ). not (k == 0)) active) (gap-stays j past p (Some n) e gap) refl
@@ -117,8 +117,8 @@ undone : (a b c d : Bool) → d ≡ false → ((a && b && c) && d) ≡ false
 undone a b c d e = off (a && b && c) d e
 
 -- so a phase is not done, where something has demand
-pub done-stays : (j : ℕ) (past : Past) (p : ℕ) (o : Option ℕ) → bound (mode_seen past) ≡ o → (course_of past).active ≡ 0
-    → (course_of past).counter ≤ (frame_seen past).counter + 1 → PhaseLasts o (suc j) past p → demand_with o past ≢ []
+pub done-stays : (j : ℕ) (past : Past) (p : ℕ) (o : Option ℕ) → bound (mode_seen past) ≡ o → (tick_state_of past).active ≡ 0
+    → (tick_state_of past).counter ≤ (frame_seen past).counter + 1 → PhaseLasts o (suc j) past p → demand_with o past ≢ []
     → is_done (view_seen past) p ≡ false
 done-stays j past p o e active counter lasts some = elim (cases_Bool (is_enabled past.tables p && is_green (frame_seen past) p)) [
   | inr h ↦ sym (done-not past p h)
@@ -130,13 +130,13 @@ done-stays j past p o e active counter lasts some = elim (cases_Bool (is_enabled
 ]
 
 -- the pattern does not force it off
-unforced-stays : (j : ℕ) (past : Past) (p : ℕ) (o : Option ℕ) → (course_of past).counter ≤ (frame_seen past).counter + 1 → StaysUnforced o (suc j) past p
-    → is_forced_off o past.tables (course_of past).counter p ≡ false
+unforced-stays : (j : ℕ) (past : Past) (p : ℕ) (o : Option ℕ) → (tick_state_of past).counter ≤ (frame_seen past).counter + 1 → StaysUnforced o (suc j) past p
+    → is_forced_off o past.tables (tick_state_of past).counter p ≡ false
 unforced-stays j past p None counter h = refl
 unforced-stays j past p (Some n) counter (inl held) = rw held refl
 unforced-stays j past p (Some n) counter (inr before) =
     let k : (frame_seen past).counter + suc j < force_point past.tables n p = before in
-    off _ _ (lt-leb (force_point past.tables n p) (course_of past).counter (omega (arith, k, counter)))
+    off _ _ (lt-leb (force_point past.tables n p) (tick_state_of past).counter (omega (arith, k, counter)))
 
 third : (a b c : Bool) → c ≡ false → (a && b && c) ≡ false
 third true true c e = e
@@ -148,21 +148,21 @@ neither true true c e = absurd (false≢true (sym e))
 neither true false c e = refl
 neither false b c e = refl
 
-pub forced-stays : (j : ℕ) (past : Past) (o : Option ℕ) → bound (mode_seen past) ≡ o → (course_of past).counter ≤ (frame_seen past).counter + 1
+pub forced-stays : (j : ℕ) (past : Past) (o : Option ℕ) → bound (mode_seen past) ≡ o → (tick_state_of past).counter ≤ (frame_seen past).counter + 1
     → ((p : ℕ) → is_phase p ≡ true → PhaseLasts o (suc j) past p) → (p : ℕ) → is_forced (view_seen past) p ≡ false
 forced-stays j past o e counter lasts p = elim (cases_Bool (is_phase p)) [
   | inr i ↦ rw i refl
   | inl i ↦ elim (cases_Bool (is_enabled past.tables p && is_green (frame_seen past) p)) [
     | inr h ↦ neither (is_enabled past.tables p) (is_green (frame_seen past) p) _ h
     | inl h ↦ third (is_enabled past.tables p) (is_green (frame_seen past) p) _
-        (ap (λ (x : Option ℕ). is_forced_off x past.tables (course_of past).counter p) e
+        (ap (λ (x : Option ℕ). is_forced_off x past.tables (tick_state_of past).counter p) e
         ∙ unforced-stays j past p o counter ((lasts p i).unforced h))
   ]
 ]
 
 -- and the rings stay as they are, where neither is open
-pub rings-stay : (j : ℕ) (past : Past) (o : Option ℕ) → bound (mode_seen past) ≡ o → (course_of past).active ≡ 0
-    → (course_of past).counter ≤ (frame_seen past).counter + 1 → ((p : ℕ) → is_phase p ≡ true → PhaseLasts o (suc j) past p)
+pub rings-stay : (j : ℕ) (past : Past) (o : Option ℕ) → bound (mode_seen past) ≡ o → (tick_state_of past).active ≡ 0
+    → (tick_state_of past).counter ≤ (frame_seen past).counter + 1 → ((p : ℕ) → is_phase p ≡ true → PhaseLasts o (suc j) past p)
     → is_open (view_seen past) 1 ≡ false → is_open (view_seen past) 2 ≡ false → ring_moves (view_seen past) ≡ record { ends = []; begins = [] }
 rings-stay j past o e active counter lasts first second = by (demand_with o past) refl
   where

@@ -15,7 +15,7 @@ use Rattle.sig_tables.specs.Walking.{is_local_zero}
 use Rattle.sig_tables.specs.Past.{Past, History}
 use Rattle.sig_tables.specs.Decide.{past_at, ticked, decide, last_frame_of, with_moment, next_moment}
 use Rattle.sig_tables.specs.Seen.{frame_seen}
-use Rattle.preempt_run.proofs.Goes.{same_mode-itself}
+use Rattle.preempt_stages.proofs.Goes.{same_mode-itself}
 use Rattle.tick_context.specs.Strides.{has_line, ticks_more, is_told}
 use Rattle.tick_context.specs.Lasting.{Lasts}
 use Rattle.tick_context.proofs.GoesOn.{tick-goes, Alike, goes-alike}

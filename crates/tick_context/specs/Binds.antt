@@ -9,10 +9,10 @@ use Rattle.sig_tables.specs.Plan.{plan_of}
 use Rattle.sig_tables.specs.Layout.{LaidOut, Ordered}
 use Rattle.sig_tables.specs.Laying.{EachIs}
 use Rattle.pattern_plan.specs.Options.{SplitSays}
-use Rattle.tick_context.specs.declared.binding.Binding.{Binding}
+use Rattle.tick_context.specs.declared.active_pattern.ActivePattern.{ActivePattern}
 
 -- what is kept is that of pattern n
-pub record BindingIs (b : Binding) (t : Tables) (n : ℕ) : Type 0 where
+pub record ActivePatternIs (b : ActivePattern) (t : Tables) (n : ℕ) : Type 0 where
   pub plan : b.plan ≡ plan_of t n
   pub options : SplitSays b.options t n
   pub services : EachIs b.services (least_service t)
@@ -20,13 +20,13 @@ pub record BindingIs (b : Binding) (t : Tables) (n : ℕ) : Type 0 where
   pub ordered : Ordered b.layout t (pattern_of t n).sequence
 
 -- where a pattern is kept, 0 being none, it is what these tables say of it
-abbrev pub BindingStands : Binding → Tables → Type 0
-BindingStands b t = b.pattern ≢ 0 → BindingIs b t b.pattern
+abbrev pub ActivePatternStands : ActivePattern → Tables → Type 0
+ActivePatternStands b t = b.pattern ≢ 0 → ActivePatternIs b t b.pattern
 
 -- where a pattern is sought or in step, it is the one that is kept
-abbrev pub IsBound : Binding → Tables → Mode → Type 0
-IsBound b t (Seek n) = BindingIs b t n
-IsBound b t (Coord n) = BindingIs b t n
+abbrev pub IsBound : ActivePattern → Tables → Mode → Type 0
+IsBound b t (Seek n) = ActivePatternIs b t n
+IsBound b t (Coord n) = ActivePatternIs b t n
 IsBound b t mode = Unit {0}
 
 -- a pattern that is sought or in step is defined

@@ -1,11 +1,11 @@
 -- Ticks at which the command and the clock go on evenly.
 use Rattle.std.specs.Prelude.{ℕ, ◌≡◌, ◌<◌, ◌≤◌, ◌+◌, ◌*◌, ◌⊎◌, min}
 use Rattle.sig_tables.specs.declared.tables.Tables.{Tables}
-use Rattle.tick_context.specs.declared.orders.Orders.{Orders}
-use Rattle.tick_context.specs.Orders.{most}
+use Rattle.tick_context.specs.declared.unit_commands.UnitCommands.{UnitCommands}
+use Rattle.tick_context.specs.UnitCommands.{most}
 
 -- at each of so many ticks that come the same pattern is in command, by these tables, and the clock rises by one within the day
-pub record IsEven (o : Orders) (t : Tables) (k : ℕ) : Type 0 where
+pub record IsEven (o : UnitCommands) (t : Tables) (k : ℕ) : Type 0 where
   pub clock : o.clock + k < 864000
   pub gain : o.gain ≡ 0
   pub lose : o.lose ≡ 0
@@ -13,7 +13,7 @@ pub record IsEven (o : Orders) (t : Tables) (k : ℕ) : Type 0 where
   pub command : (o.command ≡ 0) ⊎ ((t.unit.backup ≡ 0) ⊎ (o.since + k < 10 * t.unit.backup))
 
 -- new is old after so many such ticks
-pub record OrdersPassed (k : ℕ) (old new : Orders) : Type 0 where
+pub record UnitCommandsPassed (k : ℕ) (old new : UnitCommands) : Type 0 where
   pub command : new.command ≡ old.command
   pub since : new.since ≡ min (old.since + k) most
   pub clock : new.clock ≡ old.clock + k

@@ -21,9 +21,9 @@ use Rattle.sig_tables.specs.Walking.{has_walk}
 use Rattle.sig_tables.specs.Ticking.{on_of}
 use Rattle.sig_tables.specs.Layout.{Has}
 use Rattle.sig_tables.specs.Seen.{frame_seen, moment_seen, pedestrian_seen, demand_with, quiet_with}
-use Rattle.ped_clock.specs.Passed.{SignalLasts}
-use Rattle.preempt_run.specs.Stands.{preempts_seen}
-use Rattle.tick_context.specs.declared.seeing.Sight.{Sight}
+use Rattle.call_store.specs.Signals.{SignalLasts}
+use Rattle.preempt_stages.specs.Inputs.{preempts_seen}
+use Rattle.tick_context.specs.declared.seeing.TickInputs.{TickInputs}
 use Rattle.tick_context.specs.Shows.{is_signalling}
 
 -- nothing has been told since the last frame
@@ -37,7 +37,7 @@ abbrev pub opposed_with : Option ℕ → Past → List ℕ
 opposed_with pattern past = opposed_of past.tables (frame_seen past) (demand_with pattern past)
 
 -- what is seen of the phases, where this pattern binds
-pub record Looks (pattern : Option ℕ) (s : Sight) (past : Past) : Type 0 where
+pub record Looks (pattern : Option ℕ) (s : TickInputs) (past : Past) : Type 0 where
   pub demand : phases_of s.demand ≡ demand_with pattern past
   pub quiet : (p : ℕ) → is_phase p ≡ true → is_in (quiet_with pattern past) p ≡ (is_green (frame_seen past) p && not (has s.active p))
   pub opposed : Has s.opposed (is_in (opposed_with pattern past))

@@ -1,9 +1,12 @@
 pub mod Told
+pub mod Context
+pub mod Runs
+pub mod Rings
 pub mod Shows
-pub mod Orders
+pub mod UnitCommands
 pub mod Modes
 pub mod Binds
-pub mod Course
+pub mod TickState
 pub mod Sees
 pub mod Moves
 pub mod Rests

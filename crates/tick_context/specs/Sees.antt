@@ -6,11 +6,11 @@ use Rattle.sig_tables.specs.Past.{Past}
 use Rattle.sig_tables.specs.Calls.{is_green}
 use Rattle.sig_tables.specs.Layout.{Has}
 use Rattle.sig_tables.specs.Seen.{frame_seen, demand_seen, quiet_seen, opposed_seen}
-use Rattle.tick_context.specs.declared.seeing.Sight.{Sight}
+use Rattle.tick_context.specs.declared.seeing.TickInputs.{TickInputs}
 
 -- the phases with demand, those that are active, of which the Green ones are not quiet, and the Green ones to which an
 -- incompatible phase has demand
-pub record Sees (s : Sight) (past : Past) : Type 0 where
+pub record Sees (s : TickInputs) (past : Past) : Type 0 where
   pub demand : phases_of s.demand ≡ demand_seen past
   pub quiet : (p : ℕ) → is_phase p ≡ true → is_in (quiet_seen past) p ≡ (is_green (frame_seen past) p && not (has s.active p))
   pub opposed : Has s.opposed (is_in (opposed_seen past))

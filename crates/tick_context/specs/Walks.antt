@@ -5,16 +5,16 @@ use Rattle.sig_types.specs.declared.frame.Ped.{Ped}
 use Rattle.sig_types.specs.declared.frame.Mode.{Mode}
 use Rattle.sig_types.specs.Colour.{colour_in, colour_of, signal_of}
 use Rattle.sig_tables.specs.Past.{Past}
-use Rattle.sig_tables.specs.Course.{course_of}
+use Rattle.sig_tables.specs.TickState.{tick_state_of}
 use Rattle.sig_tables.specs.Walking.{Crossing, walk_begins}
 use Rattle.sig_tables.specs.Ticking.{crossing_of}
 use Rattle.sig_tables.specs.Lesser.{signal_runs_within}
 use Rattle.sig_tables.specs.Goals.{lesser_in}
-use Rattle.sig_tables.specs.Seen.{frame_seen, mode_seen, sight_seen}
+use Rattle.sig_tables.specs.Seen.{frame_seen, mode_seen, tick_inputs_seen}
 
 -- what decides the walks of the tick that comes, whose frame is of this mode
 abbrev pub crossing_seen : Past → Mode → Crossing
-crossing_seen past mode = crossing_of (course_of past) past (sight_seen past) mode
+crossing_seen past mode = crossing_of (tick_state_of past) past (tick_inputs_seen past) mode
 
 -- Walk begins on p, with these colours, in a frame of this mode
 abbrev pub walk_after : Past → Mode → List Colour → ℕ → Bool

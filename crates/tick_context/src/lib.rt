@@ -1,21 +1,28 @@
-//! What a tick goes by beside what is kept of the frames: what was told, the pattern laid out, the course of the modes, and what
+//! What a tick goes by beside what is kept of the frames: what was told, the pattern laid out, the state of a tick, and what
 //! is seen of the last frame. A controller, which keeps registers, and an observer, who looks back, both stand on it.
 #![tactic(auto)]
 
+mod active_pattern;
 mod at_rest;
-mod binding;
-mod course;
+mod context;
+mod context_frame;
+mod context_moves;
+mod context_rings;
+mod context_state;
 mod modes;
 mod opening;
-mod orders;
 mod seeing;
 mod telling;
+mod tick_state;
+mod unit_commands;
 
+pub use active_pattern::{ActivePattern, is_defined, lone};
 pub use at_rest::{are_both_on, is_resting, no_changes, shows_sixteen};
-pub use binding::{Binding, is_defined, lone};
-pub use course::{Course, greens, is_asked};
+pub use context::TickContext;
+pub use context_rings::RingState;
 pub use modes::{has_pattern, is_coord, is_coord_of, is_flash, is_free};
 pub use opening::first_frame;
-pub use orders::Orders;
-pub use seeing::Sight;
+pub use seeing::TickInputs;
 pub use telling::has_line;
+pub use tick_state::{TickState, greens, is_asked};
+pub use unit_commands::UnitCommands;

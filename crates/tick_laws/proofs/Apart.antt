@@ -17,8 +17,8 @@ use Rattle.sig_tables.specs.Past.{Event, Moment, Past, first_frame, first_moment
 use Rattle.sig_tables.specs.Looking.{last_frame, run, latched, shows}
 use Rattle.sig_tables.specs.View.{View}
 use Rattle.sig_tables.specs.Moves.{Moves}
-use Rattle.sig_tables.specs.Course.{Turn, Rest, StartUp, Rings, Goal, startup_phases, course_of}
-use Rattle.sig_tables.specs.Seen.{view_seen, sight_seen, moves_seen}
+use Rattle.sig_tables.specs.TickState.{RingTurn, Rest, StartUp, Rings, Goal, startup_phases, tick_state_of}
+use Rattle.sig_tables.specs.Seen.{view_seen, tick_inputs_seen, moves_seen}
 use Rattle.sig_tables.specs.Decide.{moves_of, colour_after, next_moment, past_of}
 use Rattle.sig_tables.proofs.Histories.{over-events}
 use Rattle.plan_facts.specs.Goals.{GoTogether}
@@ -29,31 +29,31 @@ use Rattle.tick_laws.proofs.Each.{each-weaker}
 use Rattle.tick_laws.proofs.Intervals.{Counted, so-far, one-more, running}
 use Rattle.tick_laws.proofs.Choices.{neither, never-yellow, differs}
 use Rattle.tick_laws.proofs.Next.{first-red}
-use Rattle.tick_laws.proofs.Turns.{dark-rests, up-from-dark}
+use Rattle.tick_laws.proofs.RingTurns.{dark-rests, up-from-dark}
 use Rattle.tick_laws.proofs.Sought.{Numbered, reached-numbered, sought-known, sought-dark, goal-goes}
-use Rattle.tick_laws.proofs.Standing.{Standing, Fits, standing-next, enabled-phase}
+use Rattle.tick_laws.proofs.FrameStands.{FrameStands, Fits, standing-next, enabled-phase}
 use Rattle.tick_laws.proofs.Rings.{rings-fit}
 use Rattle.tick_laws.proofs.GoalFits.{goal-fits}
 use Rattle.tick_laws.proofs.Within.{other-fresh, shows-next, not-first}
 
 -- a turn and a mode that go together: where nothing is to be on nothing moves, phases start up only where nothing is on, and
 -- goals go together
-record Suits (t : Tables) (turn : Turn) (f : Frame) (mode : Mode) : Type 0 where
-  still : is_dark mode ≡ true → (turn ≡ Rest) × (is_dark f.mode ≡ true)
-  up : turn ≡ StartUp → is_dark f.mode ≡ true
-  goal : (goal : List ℕ) → turn ≡ Goal goal → GoTogether t goal
+record Suits (t : Tables) (ring_turn : RingTurn) (f : Frame) (mode : Mode) : Type 0 where
+  still : is_dark mode ≡ true → (ring_turn ≡ Rest) × (is_dark f.mode ≡ true)
+  up : ring_turn ≡ StartUp → is_dark f.mode ≡ true
+  goal : (goal : List ℕ) → ring_turn ≡ Goal goal → GoTogether t goal
 
 suits : (past : Past) → Sound past.tables → Numbered (last_frame past.moments).mode
-    → Suits past.tables (course_of past).turn (last_frame past.moments) (course_of past).mode
+    → Suits past.tables (tick_state_of past).ring_turn (last_frame past.moments) (tick_state_of past).mode
 suits past sound k = record {
-  still = λ h. (dark-rests (course_of past).mode past.tables past.moments h, sought-dark _ _ _ _ past.moments k h);
-  up = λ e. up-from-dark (course_of past).mode past.tables past.moments e;
-  goal = λ goal e. goal-goes (course_of past).mode past.tables past.moments sound (sought-known _ _ _ _ past.moments k) goal e;
+  still = λ h. (dark-rests (tick_state_of past).mode past.tables past.moments h, sought-dark _ _ _ _ past.moments k h);
+  up = λ e. up-from-dark (tick_state_of past).mode past.tables past.moments e;
+  goal = λ goal e. goal-goes (tick_state_of past).mode past.tables past.moments sound (sought-known _ _ _ _ past.moments k) goal e;
 }
 
 -- what any turn begins fits
-moves-fit : (turn : Turn) (mode : Mode) (v : View) → Sound v.tables → Standing v.tables v.frame → Suits v.tables turn v.frame mode
-    → Fits v.tables v.frame v.ended (moves_of turn v).begins
+moves-fit : (ring_turn : RingTurn) (mode : Mode) (v : View) → Sound v.tables → FrameStands v.tables v.frame → Suits v.tables ring_turn v.frame mode
+    → Fits v.tables v.frame v.ended (moves_of ring_turn v).begins
 moves-fit Rest mode v sound stands suit = record {
   enabled = λ q h. absurd (false≢true h);
   beside = λ p q ph on stays h. absurd (false≢true h);
@@ -70,21 +70,21 @@ moves-fit StartUp mode v sound stands suit = record {
 moves-fit Rings mode v sound stands suit = rings-fit v sound stands
 moves-fit (Goal goal) mode v sound stands suit = goal-fits v goal sound (suit.goal goal refl) stands
 
-still-begins : (turn : Turn) (v : View) → turn ≡ Rest → (q : ℕ) → is_in (moves_of turn v).begins q ≡ false
-still-begins turn v e q = subst (λ (u : Turn). is_in (moves_of u v).begins q ≡ false) (sym e) refl
+still-begins : (ring_turn : RingTurn) (v : View) → ring_turn ≡ Rest → (q : ℕ) → is_in (moves_of ring_turn v).begins q ≡ false
+still-begins ring_turn v e q = subst (λ (u : RingTurn). is_in (moves_of u v).begins q ≡ false) (sym e) refl
 
-next-stands : (past : Past) → Sound past.tables → Numbered (last_frame past.moments).mode → Standing past.tables (last_frame past.moments)
-    → Standing past.tables (next_moment past).frame
+next-stands : (past : Past) → Sound past.tables → Numbered (last_frame past.moments).mode → FrameStands past.tables (last_frame past.moments)
+    → FrameStands past.tables (next_moment past).frame
 next-stands past sound k stands =
-    let suit : Suits past.tables (course_of past).turn (last_frame past.moments) (course_of past).mode = suits past sound k in
-    standing-next (course_of past) past (sight_seen past) (moves_seen past) sound stands
-    (moves-fit (course_of past).turn (course_of past).mode (view_seen past) sound stands suit)
-    (λ h. ((suit.still h).1, still-begins (course_of past).turn (view_seen past) (suit.still h).0))
+    let suit : Suits past.tables (tick_state_of past).ring_turn (last_frame past.moments) (tick_state_of past).mode = suits past sound k in
+    standing-next (tick_state_of past) past (tick_inputs_seen past) (moves_seen past) sound stands
+    (moves-fit (tick_state_of past).ring_turn (tick_state_of past).mode (view_seen past) sound stands suit)
+    (λ h. ((suit.still h).1, still-begins (tick_state_of past).ring_turn (view_seen past) (suit.still h).0))
 
 none-on : (p : ℕ) → is_phase p ≡ true → is_on first_frame p ≡ false
 none-on p ph = ap (λ (c : Colour). not (same_colour c Red)) (first-red p ph)
 
-first-stands : (t : Tables) → Standing t first_frame
+first-stands : (t : Tables) → FrameStands t first_frame
 first-stands t = record {
   enabled = λ p ph on. absurd (both_ways _ (none-on p ph) on);
   together = λ p q hp hq on on'. absurd (both_ways _ (none-on p hp) on);
@@ -92,7 +92,7 @@ first-stands t = record {
   idle = λ e p ph. none-on p ph;
 }
 
-installed-stands : (old new : Tables) (f : Frame) → SameLayout old new → Standing old f → Standing new f
+installed-stands : (old new : Tables) (f : Frame) → SameLayout old new → FrameStands old f → FrameStands new f
 installed-stands old new f same s = record {
   enabled = λ p ph on. same.enabled p ∙ s.enabled p ph on;
   together = λ p q hp hq on on'. elim (s.together p q hp hq on on') [ inl e ↦ inl e | inr c ↦ inr (same.concurrent p q ∙ c) ];
@@ -101,7 +101,7 @@ installed-stands old new f same s = record {
 }
 
 -- where nothing is on, any tables may come
-dark-stands : (old new : Tables) (f : Frame) → is_dark f.mode ≡ true → Standing old f → Standing new f
+dark-stands : (old new : Tables) (f : Frame) → is_dark f.mode ≡ true → FrameStands old f → FrameStands new f
 dark-stands old new f d s = record {
   enabled = λ p ph on. absurd (both_ways _ (s.idle d p ph) on);
   together = λ p q hp hq on on'. absurd (both_ways _ (s.idle d p hp) on);
@@ -110,7 +110,7 @@ dark-stands old new f d s = record {
 }
 
 -- incompatible phases are enabled, differ and are not concurrent
-stands-apart : (t : Tables) (f : Frame) → Standing t f → Apart t f
+stands-apart : (t : Tables) (f : Frame) → FrameStands t f → Apart t f
 stands-apart t f s p q h on on' =
     let a : (((is_enabled t p && is_enabled t q) && not (p == q)) ≡ true) × (not (are_concurrent t p q) ≡ true) = and_parts _ _ h in
     let b : ((is_enabled t p && is_enabled t q) ≡ true) × (not (p == q) ≡ true) = and_parts _ _ a.0 in
@@ -120,7 +120,7 @@ stands-apart t f s p q h on on' =
       | inr k ↦ both_ways _ (not-true _ a.1) k
     ]
 
-stands-one : (t : Tables) (f : Frame) → Sound t → Standing t f → OneEach t f
+stands-one : (t : Tables) (f : Frame) → Sound t → FrameStands t f → OneEach t f
 stands-one t f sound s p q ep eq same on on' =
     elim (s.together p q (enabled-phase t p ep) (enabled-phase t q eq) on on') [ inl e ↦ e | inr c ↦ absurd (sound.across p q c same) ]
 
@@ -133,7 +133,7 @@ none-long p t some = absurd (omega (arith, some))
 
 -- one begins only on a phase that was on, which is enabled
 long-more : (moves : Moves) (p : ℕ) (t : Tables) (past : List Moment) (before : Colour) → is_phase p ≡ true → Sound t
-    → Standing t (last_frame past) → colour_of (last_frame past) p ≡ before → colour_after moves p t past before ≡ Yellow
+    → FrameStands t (last_frame past) → colour_of (last_frame past) p ≡ before → colour_after moves p t past before ≡ Yellow
     → Long p (latched p Yellow t past) (run p Yellow past) → 30 ≤ yellow_time (latched p Yellow t past) p
 long-more moves p t past Green ph sound s e a long =
     let on : is_on (last_frame past) p ≡ true = ap (λ (c : Colour). not (same_colour c Red)) e in
@@ -150,7 +150,7 @@ long-more moves p t past Red ph sound s e a long =
 abbrev LongEach : List Moment → Moment → Type 0
 LongEach past m = (p : ℕ) → is_phase p ≡ true → Counted (shows p Yellow) (Long p) past m
 
-next-long : (past : Past) → Sound past.tables → Standing past.tables (last_frame past.moments) → EachMoment LongEach past.moments
+next-long : (past : Past) → Sound past.tables → FrameStands past.tables (last_frame past.moments) → EachMoment LongEach past.moments
     → LongEach past.moments (next_moment past)
 next-long past sound s h p ph =
     one-more (shows p Yellow) (Long p) (none-long p) (next_moment past) past.moments
@@ -165,7 +165,7 @@ first-long t p ph =
 -- all of it, along a lawful history
 pub record Holds (t : Tables) (moments : List Moment) : Type 0 where
   pub sound : Sound t
-  pub stands : Standing t (last_frame moments)
+  pub stands : FrameStands t (last_frame moments)
   pub numbered : Numbered (last_frame moments).mode
   pub apart : EachApart moments
   pub one : EachOne moments
@@ -185,11 +185,11 @@ opened t sound = record {
 
 ticked : (past : Past) → Holds past.tables past.moments → Holds past.tables (next_moment past ∷ past.moments)
 ticked past h =
-    let s : Standing past.tables (next_moment past).frame = next-stands past h.sound h.numbered h.stands in
+    let s : FrameStands past.tables (next_moment past).frame = next-stands past h.sound h.numbered h.stands in
     record {
       sound = h.sound;
       stands = s;
-      numbered = reached-numbered (course_of past).mode past.tables _ (sought-known _ _ _ _ past.moments h.numbered);
+      numbered = reached-numbered (tick_state_of past).mode past.tables _ (sought-known _ _ _ _ past.moments h.numbered);
       apart = (stands-apart past.tables _ s, h.apart);
       one = (stands-one past.tables _ h.sound s, h.one);
       enabled = (s.enabled, h.enabled);

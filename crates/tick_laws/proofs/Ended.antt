@@ -17,12 +17,12 @@ use Rattle.sig_tables.specs.Looking.{last_frame, run, latched, signal_runs_on}
 use Rattle.sig_tables.specs.Calls.{is_green}
 use Rattle.sig_tables.specs.View.{View, on_phase, has_reason, is_served, is_forced}
 use Rattle.sig_tables.specs.Moves.{is_to_end, is_ended, ending_in, goal_ending_in}
-use Rattle.sig_tables.specs.Course.{Turn, Rest, StartUp, Rings, Goal, course_of}
-use Rattle.sig_tables.specs.Seen.{mode_seen, turn_seen, view_seen, moves_seen}
+use Rattle.sig_tables.specs.TickState.{RingTurn, Rest, StartUp, Rings, Goal, tick_state_of}
+use Rattle.sig_tables.specs.Seen.{mode_seen, ring_turn_seen, view_seen, moves_seen}
 use Rattle.sig_tables.specs.Decide.{moves_of}
-use Rattle.sig_tables.proofs.FreeCourse.{lesser-unstaged}
+use Rattle.sig_tables.proofs.FreeTickState.{lesser-unstaged}
 use Rattle.tick_laws.proofs.Choices.{same-is-signal, not-chosen}
-use Rattle.tick_laws.proofs.Turns.{Suited, turn-suited}
+use Rattle.tick_laws.proofs.RingTurns.{Suited, ring_turn-suited}
 
 -- how long the green of p lasts at least in this mode, of so much by its tables
 abbrev pub least_in : Tables → Mode → ℕ → ℕ → ℕ
@@ -97,7 +97,7 @@ in-goal-ending v goal r p h =
     (ap (is_in goal) k.0 ∙ not-true _ b.1, ap (is_cleared v.mode v.tables v.past) k.0 ∙ a.1)
 
 -- what ends in a turn has
-ends-ended : (turn : Turn) (v : View) (p : ℕ) → Suited v.tables v.mode turn → Forced v p → is_in (moves_of turn v).ends p ≡ true
+ends-ended : (ring_turn : RingTurn) (v : View) (p : ℕ) → Suited v.tables v.mode ring_turn → Forced v p → is_in (moves_of ring_turn v).ends p ≡ true
     → Ended v.tables v.mode v.past p
 ends-ended Rest v p suit forced h = absurd (false≢true h)
 ends-ended StartUp v p suit forced h = absurd (false≢true h)
@@ -113,4 +113,4 @@ ends-ended (Goal goal) v p suit forced h =
 pub tick-ended : (past : Past) (p : ℕ) → (is_forced (view_seen past) p ≡ true → is_served past.tables past.moments p ≡ true)
     → is_in (moves_seen past).ends p ≡ true → Ended past.tables (mode_seen past) past.moments p
 tick-ended past p forced h =
-    ends-ended (turn_seen past) (view_seen past) p (turn-suited (course_of past).mode past.tables past.moments) forced h
+    ends-ended (ring_turn_seen past) (view_seen past) p (ring_turn-suited (tick_state_of past).mode past.tables past.moments) forced h

@@ -14,13 +14,13 @@ use Rattle.sig_tables.specs.Looking.{last_frame, run, latched}
 use Rattle.sig_tables.specs.Choosing.{mode_reached}
 use Rattle.sig_tables.specs.Seen.{mode_seen, moves_seen}
 use Rattle.sig_tables.specs.Decide.{colour_after, colours_of, next_moment, past_of}
-use Rattle.sig_tables.proofs.FreeCourse.{lesser-unstaged}
+use Rattle.sig_tables.proofs.FreeTickState.{lesser-unstaged}
 use Rattle.tick_laws.specs.Safe.{ClearanceEnds, EachClearanceEnds, GreenEnds, EachGreenEnds}
 use Rattle.tick_laws.specs.Served.{ForcesServed, IsServedAfter, AllServed}
 use Rattle.tick_laws.proofs.Each.{each-moment, each-allowed}
 use Rattle.tick_laws.proofs.Choices.{leaves, differs}
 use Rattle.tick_laws.proofs.Next.{next-colour, first-red}
-use Rattle.tick_laws.proofs.Turns.{reached-as}
+use Rattle.tick_laws.proofs.RingTurns.{reached-as}
 use Rattle.tick_laws.proofs.Ended.{least_in, least-unstaged, tick-ended}
 
 -- a colour that p showed and does not show next does not stay by itself

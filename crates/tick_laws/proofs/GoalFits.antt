@@ -10,7 +10,7 @@ use Rattle.sig_tables.specs.Moves.{goal_beginning_in, goal_moves}
 use Rattle.plan_facts.specs.Goals.{GoTogether}
 use Rattle.tick_laws.specs.Lawful.{Sound}
 use Rattle.sig_types.proofs.Lists.{in-first, in-append, eq-true}
-use Rattle.tick_laws.proofs.Standing.{Standing, Fits}
+use Rattle.tick_laws.proofs.FrameStands.{FrameStands, Fits}
 use Rattle.tick_laws.proofs.Rings.{closed, beside-side}
 
 -- the phases that ring r may begin of a goal
@@ -52,7 +52,7 @@ same-ring : (v : View) (goal : List ℕ) (p q r : ℕ) → is_phase p ≡ true �
     → (are_concurrent v.tables p q ≡ true) × (are_concurrent v.tables q p ≡ true)
 same-ring v goal p q r ph at stays c = absurd (both_ways _ (closed v r p ph at stays) c.opened)
 
-pub goal-fits : (v : View) (goal : List ℕ) → Sound v.tables → GoTogether v.tables goal → Standing v.tables v.frame
+pub goal-fits : (v : View) (goal : List ℕ) → Sound v.tables → GoTogether v.tables goal → FrameStands v.tables v.frame
     → Fits v.tables v.frame v.ended (goal_moves v goal).begins
 goal-fits v goal sound good stands = record {
   enabled = λ q h. good.enabled q (listed q h);

@@ -25,12 +25,12 @@ use Rattle.sig_tables.specs.Counters.{correction_of, counters_since, counter_in}
 use Rattle.sig_tables.specs.Past.{Moment, Past}
 use Rattle.sig_tables.specs.Looking.{last_frame, signal_runs_on}
 use Rattle.sig_tables.specs.Choosing.{is_in_step, are_coordinated_green, mode_reached}
-use Rattle.sig_tables.specs.Course.{Turn, Rings, turn_in, turn_from_start, turn_of, course_of}
+use Rattle.sig_tables.specs.TickState.{RingTurn, Rings, ring_turn_in, ring_turn_from_start, ring_turn_of, tick_state_of}
 use Rattle.sig_tables.specs.Walking.{Crossing, has_walk, walk_begins}
 use Rattle.sig_tables.specs.Moves.{Moves, ring_moves}
-use Rattle.sig_tables.specs.Seen.{mode_seen, turn_seen, view_seen, moves_seen, sight_seen}
+use Rattle.sig_tables.specs.Seen.{mode_seen, ring_turn_seen, view_seen, moves_seen, tick_inputs_seen}
 use Rattle.sig_tables.specs.Decide.{moves_of, colour_after, colours_of, on_of, next_moment}
-use Rattle.sig_tables.proofs.FreeCourse.{lesser-unstaged}
+use Rattle.sig_tables.proofs.FreeTickState.{lesser-unstaged}
 use Rattle.plan_facts.specs.Plan.{PlanHolds}
 use Rattle.tick_laws.specs.Steps.{Steps, Stands, Plain, Skips, Zero}
 use Rattle.tick_laws.specs.Phases.{OtherStands, SignalMoves, SignalStands}
@@ -48,12 +48,12 @@ use Rattle.tick_laws.proofs.Choices.{same-is, differs, not-chosen, chosen}
 use Rattle.tick_laws.proofs.Next.{next-colour, next-signal, mode_given, crossing_seen, walk_seen, signal_left}
 use Rattle.tick_laws.proofs.Signals.{seen-dont}
 use Rattle.tick_laws.proofs.SignalWithin.{long-walk}
-use Rattle.tick_laws.proofs.Standing.{Standing, enabled-phase}
+use Rattle.tick_laws.proofs.FrameStands.{FrameStands, enabled-phase}
 use Rattle.tick_laws.proofs.OneSide.{own, beside}
 use Rattle.tick_laws.proofs.PatternFacts.{holds-pair, plan-serves, times-serve, window-within}
 use Rattle.tick_laws.proofs.Modes.{same-coord}
 
-on-not-red : (f : Frame) (p : ℕ) → colour_of f p ≢ Red → is_on f p ≡ true
+pub on-not-red : (f : Frame) (p : ℕ) → colour_of f p ≢ Red → is_on f p ≡ true
 on-not-red f p ne = by (colour_of f p) ne
   where
     by : (c : Colour) → c ≢ Red → not (same_colour c Red) ≡ true
@@ -101,7 +101,7 @@ next-named past r (inr two) =
     (sym two) (named-first past.tables (colours_of past (moves_seen past)) 2)
 
 -- what is on in both rings is of one side
-named-beside : (t : Tables) (f : Frame) → Standing t f → NamesOn t f → on_in f 1 ≢ 0 → on_in f 2 ≢ 0
+pub named-beside : (t : Tables) (f : Frame) → FrameStands t f → NamesOn t f → on_in f 1 ≢ 0 → on_in f 2 ≢ 0
     → are_of_one_side t (on_in f 1) (on_in f 2) ≡ true
 named-beside t f stands named a b = elim (named 1 (inl refl)) [
   | inl none ↦ absurd (a none)
@@ -119,7 +119,7 @@ named-beside t f stands named a b = elim (named 1 (inl refl)) [
 -- what is known of a tick that goes on in step
 pub record GoesInStep (past : Past) (n : ℕ) : Type 0 where
   pub sound : Sound past.tables
-  pub stands : Standing past.tables (last_frame past.moments)
+  pub stands : FrameStands past.tables (last_frame past.moments)
   pub mode : mode_seen past ≡ Coord n
   pub before : is_in_step (last_frame past.moments) past.version n ≡ true
   pub step : InStep past.tables n past.moments
@@ -129,7 +129,7 @@ pub record GoesInStep (past : Past) (n : ℕ) : Type 0 where
 
 pub sees : (past : Past) (n : ℕ) → GoesInStep past n → Sees (view_seen past) n
 sees past n g =
-    sees-made (view_seen past) n (sight_seen past).calls.vehicle (sight_seen past).calls.pedestrian (sight_seen past).calls.detectors
+    sees-made (view_seen past) n (tick_inputs_seen past).calls.vehicle (tick_inputs_seen past).calls.pedestrian (tick_inputs_seen past).calls.detectors
     (record {
       mode = g.mode;
       sequence = refl;
@@ -148,17 +148,17 @@ sees past n g =
     plan = g.sound.plans n g.step.defined
 
 -- the turn is that of the rings
-rings-turn : (past : Past) (n : ℕ) → mode_seen past ≡ Coord n → (last_frame past.moments).mode ≡ Coord n → turn_seen past ≡ Rings
-rings-turn past n mode last =
-    ap (λ (m : Mode). turn_of past.tables past.moments m) mode
-    ∙ ap (λ (m : Mode). if is_start m then turn_from_start past.tables (Coord n) else turn_in past.tables (Coord n)) last
+rings-ring_turn : (past : Past) (n : ℕ) → mode_seen past ≡ Coord n → (last_frame past.moments).mode ≡ Coord n → ring_turn_seen past ≡ Rings
+rings-ring_turn past n mode last =
+    ap (λ (m : Mode). ring_turn_of past.tables past.moments m) mode
+    ∙ ap (λ (m : Mode). if is_start m then ring_turn_from_start past.tables (Coord n) else ring_turn_in past.tables (Coord n)) last
 
 moves-are : (past : Past) (n : ℕ) → mode_seen past ≡ Coord n → (last_frame past.moments).mode ≡ Coord n → moves_seen past ≡ ring_moves (view_seen past)
-moves-are past n mode last = ap (λ (turn : Turn). moves_of turn (view_seen past)) (rings-turn past n mode last)
+moves-are past n mode last = ap (λ (ring_turn : RingTurn). moves_of ring_turn (view_seen past)) (rings-ring_turn past n mode last)
 
 -- the counter of the tick follows that of the last frame
 counter-is : (past : Past) (n : ℕ) → mode_seen past ≡ Coord n
-    → (course_of past).counter
+    → (tick_state_of past).counter
     ≡ next_counter (correction_of past.tables n) (counters_since n (last_frame past.moments).version past.moments)
     (target_in past.tables (Coord n) (clock_now past))
 counter-is past n mode = ap (λ (m : Mode). counter_in past.tables m (target_in past.tables m (clock_now past)) past.moments) mode
@@ -168,7 +168,7 @@ last-counted : (n : ℕ) (l : Moment) (earlier : List Moment) → same_mode l.fr
 last-counted n l earlier h = rw ((Decides-eqb l.frame.version l.frame.version).1 refl, h) refl
 
 pub step-of : (past : Past) (n : ℕ) → GoesInStep past n
-    → Steps (cycle_time past.tables n) (window past.tables n) (last_frame past.moments).counter (course_of past).counter
+    → Steps (cycle_time past.tables n) (window past.tables n) (last_frame past.moments).counter (tick_state_of past).counter
 step-of past n g =
     subst (λ (d : ℕ). Steps (cycle_time past.tables n) (window past.tables n) (last_frame past.moments).counter d) (sym (counter-is past n g.mode))
     (subst
@@ -284,7 +284,7 @@ goes-on past n g last next = record {
 -- ---- the pickup
 
 -- beside both coordinated phases nothing else is on
-pub other-red : (t : Tables) (n : ℕ) (f : Frame) → Sound t → is_defined t n ≡ true → Standing t f
+pub other-red : (t : Tables) (n : ℕ) (f : Frame) → Sound t → is_defined t n ≡ true → FrameStands t f
     → ((r : ℕ) → (r ≡ 1) ⊎ (r ≡ 2) → colour_of f (coordinated_phase t n r) ≡ Green)
     → (p : ℕ) → is_enabled t p ≡ true → is_coordinated t n p ≡ false → colour_of f p ≡ Red
 other-red t n f sound defined stands green p e other = elim (cases_Bool (same_colour (colour_of f p) Red)) [
@@ -317,7 +317,7 @@ pair-green t n veh h r which =
 
 -- a pattern that is picked up: its coordinated phases are Green, and nothing else is on
 pub picks-up : (past : Past) (n : ℕ) → Sound past.tables → is_defined past.tables n ≡ true → mode_seen past ≡ Seek n
-    → are_coordinated_green past.tables n (colours_of past (moves_seen past)) ≡ true → Standing past.tables (next_moment past).frame
+    → are_coordinated_green past.tables n (colours_of past (moves_seen past)) ≡ true → FrameStands past.tables (next_moment past).frame
     → OnGreen (next_moment past).frame → InStep past.tables n (next_moment past ∷ past.moments)
 picks-up past n sound defined mode green stands walks = record {
   defined = defined;
@@ -329,7 +329,7 @@ picks-up past n sound defined mode green stands walks = record {
       subst (λ (s : Ped). SignalStands past.tables p (next_moment past ∷ past.moments) s) (sym (dont p e (others p e other))) tt;
 }
   where
-    zero-counter : (course_of past).counter ≡ 0
+    zero-counter : (tick_state_of past).counter ≡ 0
     zero-counter = ap (λ (m : Mode). counter_in past.tables m (target_in past.tables m (clock_now past)) past.moments) mode
 
     some : (w c : ℕ) → w < c → 0 < c

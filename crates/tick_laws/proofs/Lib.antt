@@ -13,9 +13,9 @@ pub mod Seeing
 pub mod Each
 pub mod Choices
 pub mod Intervals
-pub mod Turns
+pub mod RingTurns
 pub mod Sought
-pub mod Standing
+pub mod FrameStands
 pub mod OneSide
 pub mod PatternFacts
 pub mod Modes
@@ -36,3 +36,5 @@ pub mod Quiet
 pub mod Search
 pub mod Clocks
 pub mod ClockRuns
+pub mod Waiting
+pub mod Barrier

@@ -15,51 +15,51 @@ use Rattle.sig_tables.specs.Choosing.{are_all_red, are_coordinated_green, mode_r
 use Rattle.tick_laws.proofs.Sought.{Numbered, IsStage, EachStage, now-stage}
 
 -- a mode of a pattern: it was in step before, and is defined
-abbrev pub GoesOn : Tables → ℕ → Frame → Mode → Type 0
-GoesOn t v f (Coord n) = (is_in_step f v n ≡ true) × (is_defined t n ≡ true)
-GoesOn t v f mode = Unit {0}
+abbrev pub ModeGoesOn : Tables → ℕ → Frame → Mode → Type 0
+ModeGoesOn t v f (Coord n) = (is_in_step f v n ≡ true) × (is_defined t n ≡ true)
+ModeGoesOn t v f mode = Unit {0}
 
-commanded : (t : Tables) (v n : ℕ) (f : Frame) → GoesOn t v f (mode_commanded t v n f)
+commanded : (t : Tables) (v n : ℕ) (f : Frame) → ModeGoesOn t v f (mode_commanded t v n f)
 commanded t v n f = split (is_defined t n) (is_in_step f v n) refl refl
   where
-    split : (a b : Bool) → is_defined t n ≡ a → is_in_step f v n ≡ b → GoesOn t v f (if a then (if b then Coord n else Seek n) else Free)
+    split : (a b : Bool) → is_defined t n ≡ a → is_in_step f v n ≡ b → ModeGoesOn t v f (if a then (if b then Coord n else Seek n) else Free)
     split true true e k = (k, e)
     split true false e k = tt
     split false b e k = tt
 
-running : (t : Tables) (v n : ℕ) (f : Frame) → GoesOn t v f (mode_running t v n f)
+running : (t : Tables) (v n : ℕ) (f : Frame) → ModeGoesOn t v f (mode_running t v n f)
 running t v n f = split (n == 255)
   where
-    split : (b : Bool) → GoesOn t v f (if b then Ending else mode_commanded t v n f)
+    split : (b : Bool) → ModeGoesOn t v f (if b then Ending else mode_commanded t v n f)
     split true = tt
     split false = commanded t v n f
 
-stage-goes : (mode : Mode) (t : Tables) (v : ℕ) (f : Frame) → IsStage mode → GoesOn t v f mode
+stage-goes : (mode : Mode) (t : Tables) (v : ℕ) (f : Frame) → IsStage mode → ModeGoesOn t v f mode
 stage-goes (Coord n) t v f h = absurd h
 stage-goes _ t v f h = tt
 
-staged : (stage : Option Mode) (t : Tables) (v n : ℕ) (f : Frame) → EachStage stage → GoesOn t v f (mode_staged stage t v n f)
+staged : (stage : Option Mode) (t : Tables) (v n : ℕ) (f : Frame) → EachStage stage → ModeGoesOn t v f (mode_staged stage t v n f)
 staged None t v n f h = running t v n f
 staged (Some mode) t v n f h = stage-goes mode t v f h
 
 after : (mode : Mode) (t : Tables) (v n : ℕ) (on : List ℕ) (past : List Moment) → Numbered (last_frame past).mode
-    → GoesOn t v (last_frame past) (mode_after mode t v n on past)
+    → ModeGoesOn t v (last_frame past) (mode_after mode t v n on past)
 after Start t v n on past k = split (leaves_start past) (n == 255)
   where
-    split : (a b : Bool) → GoesOn t v (last_frame past) (if a then (if b then Flash else mode_commanded t v n (last_frame past)) else Start)
+    split : (a b : Bool) → ModeGoesOn t v (last_frame past) (if a then (if b then Flash else mode_commanded t v n (last_frame past)) else Start)
     split true true = tt
     split true false = commanded t v n (last_frame past)
     split false b = tt
 after Flash t v n on past k = split (n == 255)
   where
-    split : (b : Bool) → GoesOn t v (last_frame past) (if b then Flash else Start)
+    split : (b : Bool) → ModeGoesOn t v (last_frame past) (if b then Flash else Start)
     split true = tt
     split false = tt
 after _ t v n on past k = staged _ t v n (last_frame past) (now-stage t on past k)
 
 -- a tick seeks a pattern's mode only after a frame that was in step with it
 pub sought-goes : (t : Tables) (v n : ℕ) (on : List ℕ) (past : List Moment) → Numbered (last_frame past).mode
-    → GoesOn t v (last_frame past) (mode_sought t v n on past)
+    → ModeGoesOn t v (last_frame past) (mode_sought t v n on past)
 sought-goes t v n on past k = after (last_frame past).mode t v n on past k
 
 -- modes that a test tells apart, by the pattern that they name

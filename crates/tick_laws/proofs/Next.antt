@@ -13,9 +13,9 @@ use Rattle.sig_tables.specs.Looking.{last_frame}
 use Rattle.sig_tables.specs.Lesser.{signal_runs_within}
 use Rattle.sig_tables.specs.Goals.{lesser_in}
 use Rattle.sig_tables.specs.Choosing.{mode_reached}
-use Rattle.sig_tables.specs.Course.{course_of}
+use Rattle.sig_tables.specs.TickState.{tick_state_of}
 use Rattle.sig_tables.specs.Walking.{Crossing, walk_begins}
-use Rattle.sig_tables.specs.Seen.{mode_seen, moves_seen, sight_seen}
+use Rattle.sig_tables.specs.Seen.{mode_seen, moves_seen, tick_inputs_seen}
 use Rattle.sig_tables.specs.Ticking.{crossing_of, colour_after, colours_of, signal_after}
 use Rattle.sig_tables.specs.Decide.{next_moment}
 
@@ -31,7 +31,7 @@ mode_given past = mode_reached (mode_seen past) past.tables (colours_of past (mo
 
 -- what decides its walks
 abbrev pub crossing_seen : Past → Crossing
-crossing_seen past = crossing_of (course_of past) past (sight_seen past) (mode_given past)
+crossing_seen past = crossing_of (tick_state_of past) past (tick_inputs_seen past) (mode_given past)
 
 -- whether Walk begins on p at the tick
 abbrev pub walk_seen : Past → ℕ → Bool
@@ -54,7 +54,7 @@ signal-at f p h =
 pub next-signal : (past : Past) (p : ℕ) → is_phase p ≡ true
     → signal_of (next_moment past).frame p ≡ (if walk_seen past p then Walk else signal_left past p)
 next-signal past p ph =
-    signal-at (signal_after (course_of past) past (crossing_seen past) (colours_of past (moves_seen past)) (mode_given past)) p ph
+    signal-at (signal_after (tick_state_of past) past (crossing_seen past) (colours_of past (moves_seen past)) (mode_given past)) p ph
 
 -- before any tick all is Red and Dont
 pub first-red : (p : ℕ) → is_phase p ≡ true → colour_of first_frame p ≡ Red

@@ -12,7 +12,7 @@ use Rattle.sig_tables.specs.View.{View, on_phase, is_open, present_side, present
 use Rattle.sig_tables.specs.Moves.{beginning_in, from_side, can_enter, can_join, entering_in, entering, stays_in_side, beginning_both, beginning_of}
 use Rattle.tick_laws.specs.Lawful.{Sound}
 use Rattle.sig_types.proofs.Lists.{in-those, in-first, in-append, in-or_else, in-after, in-up_to, Single, single-first, single-or_else, eq-true, phase-in}
-use Rattle.tick_laws.proofs.Standing.{Standing, Fits}
+use Rattle.tick_laws.proofs.FrameStands.{FrameStands, Fits}
 
 -- q is of ring r and of the side of s
 abbrev pub Lies : Tables → ℕ → ℕ → ℕ → Type 0
@@ -193,7 +193,7 @@ beside-side t p q r s sound e rp l ne =
     (sound.side p p q (own t p e) l.1 apart, sound.side p q p l.1 (own t p e) (λ same. apart (sym same)))
 
 -- what the rings begin fits
-pub rings-fit : (v : View) → Sound v.tables → Standing v.tables v.frame
+pub rings-fit : (v : View) → Sound v.tables → FrameStands v.tables v.frame
     → Fits v.tables v.frame v.ended (beginning_of v 1 ++ beginning_of v 2)
 rings-fit v sound stands = record {
   enabled = λ q h. (group-begun v sound).enabled q h;

@@ -23,18 +23,18 @@ nothing true = refl
 nothing false = refl
 
 -- the calls that a moment keeps, where none stands at first and each tick keeps those that it sees
-record Keeps (serves : Frame → ℕ → Bool) (locks : Tables → Field → ℕ → Bool) (stood : Moment → List ℕ) : Type 0 where
+record SearchKeeps (serves : Frame → ℕ → Bool) (locks : Tables → Field → ℕ → Bool) (stood : Moment → List ℕ) : Type 0 where
   first : (t : Tables) → stood (first_moment t) ≡ []
   next : (past : Past) → stood (next_moment past) ≡ calls_seen serves locks stood past
 
-aside : (serves : Frame → ℕ → Bool) (locks : Tables → Field → ℕ → Bool) (stood : Moment → List ℕ) → Keeps serves locks stood
+aside : (serves : Frame → ℕ → Bool) (locks : Tables → Field → ℕ → Bool) (stood : Moment → List ℕ) → SearchKeeps serves locks stood
     → (a b : Tables) (heard : List Heard) (moments : List Moment)
     → called (serves (last_moment a moments).frame) locks heard (stood (last_moment a moments))
     ≡ called (serves (last_moment b moments).frame) locks heard (stood (last_moment b moments))
 aside serves locks stood k a b heard [] = ap (λ (x : List ℕ). called (serves first_frame) locks heard x) (k.first a ∙ sym (k.first b))
 aside serves locks stood k a b heard (m ∷ past) = refl
 
-found : (serves : Frame → ℕ → Bool) (locks : Tables → Field → ℕ → Bool) (stood : Moment → List ℕ) → Keeps serves locks stood
+found : (serves : Frame → ℕ → Bool) (locks : Tables → Field → ℕ → Bool) (stood : Moment → List ℕ) → SearchKeeps serves locks stood
     → (opening : Tables) (events : List Event) (p : ℕ) → is_phase p ≡ true
     → is_in (calls_seen serves locks stood (past_of opening events)) p ≡ stands serves locks opening events p
 found serves locks stood k opening [] p ph =

@@ -7,8 +7,8 @@ use Rattle.sig_tables.specs.Events.{EachEvent}
 use Rattle.sig_tables.specs.Plain.{RunsPlain, IsStreetEvent, OnlyStreet, IsPlainAfter, Plain}
 use Rattle.sig_tables.specs.View.{is_forced}
 use Rattle.sig_tables.specs.Seen.{view_seen}
-use Rattle.sig_tables.specs.Decide.{past_of, opening_orders}
-use Rattle.sig_tables.proofs.FreeCourse.{unbound-plain, forced-unbound}
+use Rattle.sig_tables.specs.Decide.{past_of, opening_commands}
+use Rattle.sig_tables.proofs.FreeTickState.{unbound-plain, forced-unbound}
 use Rattle.sig_tables.proofs.Histories.{each-event}
 use Rattle.tick_laws.specs.Lawful.{Sound, IsLawfulAfter, Lawful}
 use Rattle.tick_laws.specs.Served.{ForcesServed, IsServedAfter, AllServed}
@@ -28,13 +28,13 @@ plain-served opening events plain = each-event (IsPlainAfter opening) (IsServedA
 
 -- where nothing is downloaded, sound tables are enough
 pub street-lawful : (t : Tables) (command clock : ℕ) (events : List Event) → Sound t → OnlyStreet events
-    → Lawful t (events ++ opening_orders command clock)
+    → Lawful t (events ++ opening_commands command clock)
 street-lawful t command clock events sound street = (sound, each events street)
   where
     one : (before : List Event) (e : Event) → IsStreetEvent e → IsLawfulAfter t before e
     one before (Install u) h = absurd h
     one before _ h = tt
 
-    each : (es : List Event) → OnlyStreet es → EachEvent (IsLawfulAfter t) (es ++ opening_orders command clock)
+    each : (es : List Event) → OnlyStreet es → EachEvent (IsLawfulAfter t) (es ++ opening_commands command clock)
     each [] h = (tt, (tt, tt))
-    each (e ∷ es) h = (one (es ++ opening_orders command clock) e h.0, each es h.1)
+    each (e ∷ es) h = (one (es ++ opening_commands command clock) e h.0, each es h.1)

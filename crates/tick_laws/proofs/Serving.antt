@@ -20,9 +20,9 @@ use Rattle.sig_tables.specs.Preempts.{preempts_on}
 use Rattle.sig_tables.specs.Choosing.{is_in_step}
 use Rattle.sig_tables.specs.View.{is_served, is_forced}
 use Rattle.sig_tables.specs.Seen.{mode_seen, view_seen, moves_seen}
-use Rattle.sig_tables.specs.Course.{course_of}
+use Rattle.sig_tables.specs.TickState.{tick_state_of}
 use Rattle.sig_tables.specs.Decide.{colours_of, last_moment, next_moment, past_of}
-use Rattle.sig_tables.proofs.FreeCourse.{forced-unbound}
+use Rattle.sig_tables.proofs.FreeTickState.{forced-unbound}
 use Rattle.tick_laws.specs.Phases.{OtherGreen, OtherStands, SignalStands}
 use Rattle.tick_laws.proofs.ForcedSignals.{served-at_force_off}
 use Rattle.tick_laws.specs.Lawful.{Lawful}
@@ -31,9 +31,9 @@ use Rattle.tick_laws.specs.Walking.{OnGreen}
 use Rattle.tick_laws.specs.InStep.{EachCoordinated, InStep}
 use Rattle.tick_laws.proofs.Choices.{same-is, differs}
 use Rattle.tick_laws.proofs.Sought.{Numbered, Known, sought-known}
-use Rattle.tick_laws.proofs.Standing.{Standing}
+use Rattle.tick_laws.proofs.FrameStands.{FrameStands}
 use Rattle.tick_laws.proofs.PatternFacts.{plan-serves}
-use Rattle.tick_laws.proofs.Modes.{GoesOn, sought-goes, reached-coord, same-coord}
+use Rattle.tick_laws.proofs.Modes.{ModeGoesOn, sought-goes, reached-coord, same-coord}
 use Rattle.tick_laws.proofs.InStep.{GoesInStep, step-of, goes-on, picks-up, shows-coordinated}
 use Rattle.tick_laws.proofs.Apart.{Holds, holds}
 use Rattle.tick_laws.proofs.Signals.{last-green}
@@ -50,7 +50,7 @@ record Carried (t : Tables) (version : ℕ) (moments : List Moment) : Type 0 whe
 goes : (past : Past) (n : ℕ) → Numbered (last_frame past.moments).mode → mode_seen past ≡ Coord n
     → (is_in_step (last_frame past.moments) past.version n ≡ true) × (is_defined past.tables n ≡ true)
 goes past n numbered mode =
-    subst (GoesOn past.tables past.version (last_frame past.moments)) mode
+    subst (ModeGoesOn past.tables past.version (last_frame past.moments)) mode
     (sought-goes past.tables past.version (command_now past) (preempts_on past.heard (last_moment past.tables past.moments)) past.moments numbered)
 
 -- before any tick nothing is in step
@@ -82,15 +82,15 @@ record ForcedOff (past : Past) (n p : ℕ) : Type 0 where
   enabled : is_enabled past.tables p ≡ true
   green : colour_of (last_frame past.moments) p ≡ Green
   other : is_coordinated past.tables n p ≡ false
-  late : force_point past.tables n p ≤ (course_of past).counter
+  late : force_point past.tables n p ≤ (tick_state_of past).counter
 
 forced-off : (past : Past) (n p : ℕ) → mode_seen past ≡ Coord n → is_forced (view_seen past) p ≡ true → ForcedOff past n p
 forced-off past n p mode h =
     let a = and_parts (is_enabled past.tables p && same_colour (colour_of (last_frame past.moments) p) Green)
-    (is_forced_off (bound (mode_seen past)) past.tables (course_of past).counter p) h in
+    (is_forced_off (bound (mode_seen past)) past.tables (tick_state_of past).counter p) h in
     let b = and_parts (is_enabled past.tables p) (same_colour (colour_of (last_frame past.moments) p) Green) a.0 in
-    let off : is_forced_off (Some n) past.tables (course_of past).counter p ≡ true
-    = subst (λ (x : Option ℕ). is_forced_off x past.tables (course_of past).counter p ≡ true) (ap bound mode) a.1 in
+    let off : is_forced_off (Some n) past.tables (tick_state_of past).counter p ≡ true
+    = subst (λ (x : Option ℕ). is_forced_off x past.tables (tick_state_of past).counter p ≡ true) (ap bound mode) a.1 in
     let c = and_parts (not (is_coordinated past.tables n p)) _ off in
     record { enabled = b.0; green = same-is _ Green b.1; other = not-true _ c.0; late = leb-true _ _ c.1 }
 
@@ -108,7 +108,7 @@ off-served past n p g f = elim (cases_Bool (is_omitted past.tables n p)) [
         → SignalStands past.tables p ms (signal_of (last_frame ms) p) → is_omitted past.tables n p ≡ false → is_served past.tables ms p ≡ true
     by ms is green walks s =
         subst (λ (ys : List Moment). is_served past.tables ys p ≡ true) is
-        (served-at_force_off past.tables n p (last_frame past.moments).counter (course_of past).counter g.last g.earlier
+        (served-at_force_off past.tables n p (last_frame past.moments).counter (tick_state_of past).counter g.last g.earlier
         ((plan-serves past.tables n g.sound g.step.defined).other p f.enabled f.other s) (step-of past n g) (g.sound.times.phases.walk p f.enabled)
         (subst (λ (ys : List Moment). OtherGreen past.tables n p (last_frame past.moments).counter ys) (sym is) green)
         (subst (λ (ys : List Moment). SignalStands past.tables p ys (signal_of (last_frame ys) p)) (sym is) walks) f.late)
@@ -124,7 +124,7 @@ forces-served past h c p = by (mode_seen past) refl
     by _ e forced = unbound (ap bound e) forced
 
 -- the frame is in step where its tick went on in step, or picked the pattern up
-next-in-step : (past : Past) (n : ℕ) → Holds past.tables past.moments → Standing past.tables (next_moment past).frame
+next-in-step : (past : Past) (n : ℕ) → Holds past.tables past.moments → FrameStands past.tables (next_moment past).frame
     → Carried past.tables past.version past.moments → OnGreen (last_frame past.moments) → OnGreen (next_moment past).frame
     → (next_moment past).frame.mode ≡ Coord n → InStep past.tables n (next_moment past ∷ past.moments)
 next-in-step past n h stands c last next mode =
@@ -147,7 +147,7 @@ first-carried t = record {
   each = ((λ n e. absurd (false≢true (sym (ap is_start e)))), tt);
 }
 
-ticked : (past : Past) → Holds past.tables past.moments → Standing past.tables (next_moment past).frame
+ticked : (past : Past) → Holds past.tables past.moments → FrameStands past.tables (next_moment past).frame
     → Carried past.tables past.version past.moments → OnGreen (last_frame past.moments) → OnGreen (next_moment past).frame
     → Carried past.tables past.version (next_moment past ∷ past.moments)
 ticked past h stands c last next = record {

@@ -15,10 +15,10 @@ use Rattle.sig_tables.specs.Looking.{last_frame}
 use Rattle.sig_tables.specs.Preempts.{all_preempts, is_preempt_called, track_set, exit_set, entry_set, has_reached, is_track_over, is_dwell_over, exit_from, stage_after, breaks_in, preempt_called, stage_now}
 use Rattle.sig_tables.specs.Choosing.{are_all_red, are_coordinated_green, mode_reached, leaves_start, is_in_step, mode_commanded, mode_running, mode_staged, mode_after, mode_sought}
 use Rattle.sig_tables.specs.Goals.{listed_goal, goal_in}
-use Rattle.sig_tables.specs.Course.{Goal, turn_of}
+use Rattle.sig_tables.specs.TickState.{Goal, ring_turn_of}
 use Rattle.plan_facts.specs.Goals.{GoTogether, PreemptFits}
 use Rattle.tick_laws.specs.Lawful.{Sound, is_dark}
-use Rattle.tick_laws.proofs.Turns.{Suited, turn-suited}
+use Rattle.tick_laws.proofs.RingTurns.{Suited, ring_turn-suited}
 
 -- i is the number of a preempt
 abbrev pub is_preempt : ℕ → Bool
@@ -196,9 +196,9 @@ listed-fits (Exit i) t s k = (sets-fit t i s k).exit
 listed-fits _ t s k = none-fit t
 
 -- the goal of a turn goes together
-pub goal-goes : (mode : Mode) (t : Tables) (past : List Moment) → Sound t → Known t mode → (goal : List ℕ) → turn_of t past mode ≡ Goal goal
+pub goal-goes : (mode : Mode) (t : Tables) (past : List Moment) → Sound t → Known t mode → (goal : List ℕ) → ring_turn_of t past mode ≡ Goal goal
     → GoTogether t goal
 goal-goes mode t past s k goal e =
-    let same : goal ≡ goal_in t mode = subst (Suited t mode) e (turn-suited mode t past) in
+    let same : goal ≡ goal_in t mode = subst (Suited t mode) e (ring_turn-suited mode t past) in
     subst (GoTogether t) (sym same)
     (narrowed t (listed_goal t mode) (goal_in t mode) (λ q h. (in-those (is_in (listed_goal t mode)) all_phases q h).0) (listed-fits mode t s k))

@@ -10,3 +10,5 @@ pub mod Walking
 pub mod InStep
 pub mod Search
 pub mod Clocks
+pub mod Waiting
+pub mod Barrier

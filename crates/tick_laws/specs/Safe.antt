@@ -70,17 +70,17 @@ EachGreenEnds moments = EachMoment (λ past m. (p : ℕ) → is_phase p ≡ true
 
 -- the next colour of p is the same, or the one that comes after it: Yellow after Green, Clear after Yellow, Red after Clear,
 -- Green after Red; and Red after Yellow, in place of Clear, exactly where the tables in force have no red clearance
-abbrev pub Follows : Tables → ℕ → Colour → Colour → Type 0
-Follows now p Green next = (next ≡ Green) ⊎ (next ≡ Yellow)
-Follows now p Yellow next = (next ≡ Yellow) ⊎ (next ≡ (if red_clear_time now p == 0 then Red else Clear))
-Follows now p Clear next = (next ≡ Clear) ⊎ (next ≡ Red)
-Follows now p Red next = (next ≡ Red) ⊎ (next ≡ Green)
+abbrev pub ColourFollows : Tables → ℕ → Colour → Colour → Type 0
+ColourFollows now p Green next = (next ≡ Green) ⊎ (next ≡ Yellow)
+ColourFollows now p Yellow next = (next ≡ Yellow) ⊎ (next ≡ (if red_clear_time now p == 0 then Red else Clear))
+ColourFollows now p Clear next = (next ≡ Clear) ⊎ (next ≡ Red)
+ColourFollows now p Red next = (next ≡ Red) ⊎ (next ≡ Green)
 
 -- from each tick to the next the colours of each phase follow in order
 abbrev pub EachFollows : List Moment → Type 0
 EachFollows moments =
     EachMoment
-    (λ past m. (p : ℕ) → is_phase p ≡ true → Follows m.tables p (colour_of (last_frame past) p) (colour_of m.frame p))
+    (λ past m. (p : ℕ) → is_phase p ≡ true → ColourFollows m.tables p (colour_of (last_frame past) p) (colour_of m.frame p))
     moments
 
 -- a yellow that runs at m has not outlasted the time in force at its first tick, where that is at least one tick;

@@ -1,8 +1,9 @@
-//! What the definitions of a tick give: laws of safety, of calls and of the clock that hold for every history. The functions have
-//! no bodies: each stands for the law of its contract.
+//! What the definition of a tick gives: laws of safety, of calls, of the clock, of force-offs and of ticks in step with a pattern,
+//! for every history. The functions have no bodies: each stands for the law of its contract.
 //! What is shown, by whom and how long, follows NEMA TS 2 and the FHWA Signal Timing Manual.
 #![tactic(auto)]
 
+mod called;
 mod coordinated_ticks;
 mod force_offs;
 
@@ -31,6 +32,7 @@ ghost use Rattle.tick_laws.specs.Walking.{EachOnGreen, EachWalkEnds, EachSignalE
 ghost use Rattle.tick_laws.specs.Search.{stands_locked, stands_pressed, last_turned_on, turned_on_since};
 ghost use Rattle.tick_laws.specs.Clocks.{IsSteady, clock_found, clock_after, run_on};
 
+pub use called::{calls_stay, greens_end_in_turn, walks_come};
 pub use coordinated_ticks::{coordinated_green_at_zero, held_begin_at_zero, moves_as_planned};
 pub use force_offs::{counter_steps, forced_off_served, held_return, others_in_time};
 

@@ -1,6 +1,6 @@
 //! Modes and turns case by case, from the rules of start-up, flash and command.
 
-use flash_mode::{Turn, commanded, mode, reached, running, turn_of};
+use flash_mode::{RingTurn, commanded, mode, reached, ring_turn_of, running};
 use sig_tables::Tables;
 use sig_types::{Colour, Frame, Mode, Ped, PhaseSet};
 
@@ -66,10 +66,12 @@ fn start_up_comes_before_a_goal_and_not_before_flash(rt: HostRuntime) {
     let goal = PhaseSet::empty().with(4);
     let start = shown(Mode::Start, 0);
     let none = PhaseSet::empty();
-    assert!(rt; turn_of(&start, Mode::Start, up, none) == Turn::Rest);
-    assert!(rt; turn_of(&start, Mode::Flash, up, none) == Turn::Rest);
-    assert!(rt; turn_of(&start, Mode::Seek(1), up, goal) == Turn::StartUp);
-    assert!(rt; turn_of(&start, Mode::Seek(1), none, goal) == Turn::Goal(goal));
-    assert!(rt; turn_of(&shown(Mode::Free, 0), Mode::Ending, up, none) == Turn::Goal(none));
-    assert!(rt; turn_of(&shown(Mode::Free, 0), Mode::Coord(1), up, none) == Turn::Rings);
+    assert!(rt; ring_turn_of(&start, Mode::Start, up, none) == RingTurn::Rest);
+    assert!(rt; ring_turn_of(&start, Mode::Flash, up, none) == RingTurn::Rest);
+    assert!(rt; ring_turn_of(&start, Mode::Seek(1), up, goal) == RingTurn::StartUp);
+    assert!(rt; ring_turn_of(&start, Mode::Seek(1), none, goal) == RingTurn::Goal(goal));
+    assert!(rt;
+        ring_turn_of(&shown(Mode::Free, 0), Mode::Ending, up, none) == RingTurn::Goal(none)
+    );
+    assert!(rt; ring_turn_of(&shown(Mode::Free, 0), Mode::Coord(1), up, none) == RingTurn::Rings);
 }

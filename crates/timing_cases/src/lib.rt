@@ -13,9 +13,9 @@ mod coord_gate_cases;
 #[cfg(test)]
 mod flash_mode_cases;
 #[cfg(test)]
-mod look_back_cases;
+mod frame_history_cases;
 #[cfg(test)]
-mod lookout_cases;
+mod look_back_cases;
 #[cfg(test)]
 mod pattern_plan_cases;
 #[cfg(test)]

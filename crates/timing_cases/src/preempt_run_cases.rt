@@ -4,7 +4,8 @@ ghost use Rattle.std.specs.Prelude.{◌≡◌, ◌<◌, ◌≤◌, ◌-◌};
 ghost use Rattle.preempt_run.specs.Stands.{step_count};
 
 use arrayvec::ArrayVec;
-use preempt_run::{Preempts, goal, lesser, lesser_green};
+use preempt_run::Preempts;
+use preempt_stages::{goal, lesser, lesser_green};
 use sig_tables::{Cell, CellValue, Tables};
 use sig_types::{Colour, Frame, Mode, Ped, PhaseSet};
 

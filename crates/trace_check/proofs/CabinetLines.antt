@@ -10,7 +10,7 @@ use Rattle.trace_text.specs.Line.{line_text}
 use Rattle.scenario_data.specs.Content.{ScenarioContent}
 use Rattle.sig_types.specs.Items.{Item}
 use Rattle.cabinet_history.specs.declared.Reply.{Reply}
-use Rattle.cabinet_history.specs.Story.{Story}
+use Rattle.cabinet_history.specs.CabinetHistory.{CabinetHistory}
 use Rattle.cabinet_history.specs.Journals.{times, passes_of, runs_of, IsMerge}
 use Rattle.cab_book.specs.declared.book.Book.{Book}
 use Rattle.cab_book.specs.declared.happened.Answered.{Answered}
@@ -18,10 +18,10 @@ use Rattle.cab_book.specs.Books.{BookStands, IsOnePart, streams_in, journal_of, 
 use Rattle.cab_book.specs.Happenings.{AreInOrder}
 use Rattle.cab_book.proofs.OnePart.{one-tally}
 use Rattle.cab_book.proofs.Bringing.{pass-within}
-use Rattle.run_definition.specs.Standing.{Standing, coming_streams, round_acts}
+use Rattle.run_definition.specs.CabinetState.{CabinetState, coming_streams, round_acts}
 use Rattle.run_definition.specs.Lines.{shown_line, frame_lines, load_lines, acts_lines, cabinet_lines}
 use Rattle.round_run.specs.Lines.{frames_between, answer_lines, told_lines, book_lines}
-use Rattle.round_run.specs.Standings.{HasRun}
+use Rattle.round_run.specs.CabinetStates.{HasRun}
 use Rattle.trace_laws.specs.Runs.{events_in}
 use Rattle.safety_laws.specs.TraceText.{lines_text}
 use Rattle.trace_laws.specs.Script.{Script, Ends, Says, Hears, say, cabinet_script}
@@ -74,7 +74,7 @@ order-next first most replies i a below is order =
     rw next at order
 
 -- all items of a round that has just begun are left
-pub all-left : (s : ScenarioContent) (cab : ℕ) (t : Standing) (b : Book) → HasRun s cab t [] b → AreLeft b (coming_streams s cab t)
+pub all-left : (s : ScenarioContent) (cab : ℕ) (t : CabinetState) (b : Book) → HasRun s cab t [] b → AreLeft b (coming_streams s cab t)
 all-left s cab t b run = λ p.
     let none : times p (journal_of b) ≡ 0 = ap (times p) run.journal_is in
     let same : length (get_or (streams_in b) p []) ≡ length (get_or (coming_streams s cab t) p []) =
@@ -82,7 +82,7 @@ all-left s cab t b run = λ p.
     omega (arith, one-tally b run.one p, none, same)
 
 -- a journal that names each pass as often as it had items brings all, and no pass above the fifth
-brought-one : (s : ScenarioContent) (cab : ℕ) (t : Standing) (runs : List (ℕ × ℕ)) (old new : Book) → HasRun s cab t [] old
+brought-one : (s : ScenarioContent) (cab : ℕ) (t : CabinetState) (runs : List (ℕ × ℕ)) (old new : Book) → HasRun s cab t [] old
     → ((p : ℕ) → events_in p runs ≡ left_of old p) → streams_in new ≡ streams_in old → journal_of new ≡ passes_of runs → IsOnePart new
 brought-one s cab t runs old new run all streams journal p high =
     let none : (q : ℕ) → times q (journal_of old) ≡ 0 = λ q. ap (times q) run.journal_is in
@@ -97,20 +97,20 @@ brought-one s cab t runs old new run all streams journal p high =
     ]
 
 -- the book has run the journal of some runs
-pub has-brought : (s : ScenarioContent) (cab : ℕ) (t : Standing) (runs : List (ℕ × ℕ)) (old new : Book) → HasRun s cab t [] old
-    → ((p : ℕ) → events_in p runs ≡ left_of old p) → ((story : Story) → BookStands old story → BookStands new story) → streams_in new ≡ streams_in old
+pub has-brought : (s : ScenarioContent) (cab : ℕ) (t : CabinetState) (runs : List (ℕ × ℕ)) (old new : Book) → HasRun s cab t [] old
+    → ((p : ℕ) → events_in p runs ≡ left_of old p) → ((cabinet_history : CabinetHistory) → BookStands old cabinet_history → BookStands new cabinet_history) → streams_in new ≡ streams_in old
     → journal_of new ≡ journal_of old ++ passes_of runs → HasRun s cab t (passes_of runs) new
 has-brought s cab t runs old new run all stands streams journal =
     let only : journal_of new ≡ passes_of runs = journal ∙ ap (λ (x : List ℕ). x ++ passes_of runs) run.journal_is in
     record {
-      stands = stands t.story run.stands;
+      stands = stands t.cabinet_history run.stands;
       streams = streams ∙ run.streams;
       journal_is = only;
       one = brought-one s cab t runs old new run all streams only;
     }
 
 -- the passes of its runs are a merge of the streams
-pub is-merge : (s : ScenarioContent) (cab : ℕ) (t : Standing) (runs : List (ℕ × ℕ)) (b : Book) → HasRun s cab t [] b → ((p : ℕ) → events_in p runs ≡ left_of b p)
+pub is-merge : (s : ScenarioContent) (cab : ℕ) (t : CabinetState) (runs : List (ℕ × ℕ)) (b : Book) → HasRun s cab t [] b → ((p : ℕ) → events_in p runs ≡ left_of b p)
     → IsMerge (coming_streams s cab t) (passes_of runs)
 is-merge s cab t runs b run all = λ p. added p runs ∙ all p ∙ all-left s cab t b run p
 
@@ -126,28 +126,28 @@ journal-leads cab streams next runs at then longest all is number = record {
 }
 
 -- the lines of its acts are those that the book has written
-book-acts : (s : ScenarioContent) (cab : ℕ) (t : Standing) (runs : List (ℕ × ℕ)) (b : Book) → HasRun s cab t (passes_of runs) b
+book-acts : (s : ScenarioContent) (cab : ℕ) (t : CabinetState) (runs : List (ℕ × ℕ)) (b : Book) → HasRun s cab t (passes_of runs) b
     → ((journal : List ℕ) (x : Book) → HasRun s cab t journal x → cabinet_lines s cab t journal ≡ book_lines cab x)
-    → acts_lines cab t.story (round_acts s cab t (passes_of runs)) ≡ told_lines cab 0 (written_in b) (answered_in b)
+    → acts_lines cab t.cabinet_history (round_acts s cab t (passes_of runs)) ≡ told_lines cab 0 (written_in b) (answered_in b)
 book-acts s cab t runs b run lines =
     let same : cabinet_lines s cab t (passes_of runs) ≡ book_lines cab b = lines (passes_of runs) b run in
     cc same
 
 -- what the book has written is due behind it
-pub book-said : (s : ScenarioContent) (cab : ℕ) (t : Standing) (runs : List (ℕ × ℕ)) (b : Book) (rest : Script) → HasRun s cab t (passes_of runs) b
+pub book-said : (s : ScenarioContent) (cab : ℕ) (t : CabinetState) (runs : List (ℕ × ℕ)) (b : Book) (rest : Script) → HasRun s cab t (passes_of runs) b
     → ((journal : List ℕ) (x : Book) → HasRun s cab t journal x → cabinet_lines s cab t journal ≡ book_lines cab x)
-    → say (acts_lines cab t.story (round_acts s cab t (passes_of runs))) rest ≡ say (told_lines cab 0 (written_in b) (answered_in b)) rest
+    → say (acts_lines cab t.cabinet_history (round_acts s cab t (passes_of runs))) rest ≡ say (told_lines cab 0 (written_in b) (answered_in b)) rest
 book-said s cab t runs b rest run lines = ap (λ (xs : List Line). say xs rest) (book-acts s cab t runs b run lines)
 
 -- the cabinet's round is read
-module _ (s : ScenarioContent) (cab : ℕ) (t : Standing) (runs : List (ℕ × ℕ)) (old new : Book) (at then : Place) (begun : HasRun s cab t [] old) (longest : AreLongest runs)
+module _ (s : ScenarioContent) (cab : ℕ) (t : CabinetState) (runs : List (ℕ × ℕ)) (old new : Book) (at then : Place) (begun : HasRun s cab t [] old) (longest : AreLongest runs)
     (all : (p : ℕ) → events_in p runs ≡ left_of old p) (is : at.left.now ≡ line_text (J cab runs) ++ then.left.now) (number : then.line ≡ at.line + 1)
     (run : HasRun s cab t (passes_of runs) new)
     (lines : (journal : List ℕ) (x : Book) → HasRun s cab t journal x → cabinet_lines s cab t journal ≡ book_lines cab x) where
   first-leads : (rest : List ℕ → Script) → Leads (cabinet_script s cab t rest) at (say (told_lines cab 0 (written_in new) (answered_in new)) (rest (passes_of runs))) then
   first-leads rest =
       subst (λ (due : Script). Leads (cabinet_script s cab t rest) at due then) (book-said s cab t runs new (rest (passes_of runs)) run lines)
-      (journal-leads cab (coming_streams s cab t) (λ journal. say (acts_lines cab t.story (round_acts s cab t journal)) (rest journal)) runs at then longest
+      (journal-leads cab (coming_streams s cab t) (λ journal. say (acts_lines cab t.cabinet_history (round_acts s cab t journal)) (rest journal)) runs at then longest
       (λ p. all p ∙ all-left s cab t old begun p) is number)
 
   -- by just these lines

@@ -21,7 +21,7 @@ use Rattle.agent.specs.declared.ask.Wish.TheVariants.{Get, Next, Direct, Begin, 
 use Rattle.agent.specs.declared.ask.Ask.{Ask}
 use Rattle.sig_types.specs.Items.{Item, Told, Came, Ticked}
 use Rattle.cabinet_history.specs.declared.Reply.{Reply}
-use Rattle.cabinet_history.specs.Story.{Story, with_item, after}
+use Rattle.cabinet_history.specs.CabinetHistory.{CabinetHistory, with_item, after}
 use Rattle.cabinet_history.specs.Journals.{Act, items_in}
 use Rattle.cabinet_history.specs.Coming.{Coming, past_of, in_force, is_flashing, answer_in, coming, history_of, ask_after, order_event, installs, with_events, carried_out, heeded, outcome}
 use Rattle.cabinet_history.specs.Frames.{has_line}
@@ -36,9 +36,9 @@ puts_first [] = false
 puts_first (r ∷ replies) = is_put r.load
 
 -- what was kept is right again: with the tables in force behind it where there is one more version, and else as it is
-abbrev pub Keeps : Bool → List Tables → History → History → Type 0
-Keeps true kept h now = AreTablesOf kept h → AreTablesOf (kept ++ (past_at now).tables ∷ []) now
-Keeps false kept h now = AreTablesOf kept h → AreTablesOf kept now
+abbrev pub KeepsTables : Bool → List Tables → History → History → Type 0
+KeepsTables true kept h now = AreTablesOf kept h → AreTablesOf (kept ++ (past_at now).tables ∷ []) now
+KeepsTables false kept h now = AreTablesOf kept h → AreTablesOf kept now
 
 -- one version more
 install-keeps : (kept : List Tables) (h : History) (t : Tables) → AreTablesOf kept h → AreTablesOf (kept ++ t ∷ []) (with_one h (Install t))
@@ -71,7 +71,7 @@ orders-keep kept h (order ∷ orders) are = orders-keep kept (with_one h (order_
 
 -- a finish puts the staged tables in force where it is accepted, and tells of that
 finish-keeps : (kept : List Tables) (h : History) (t : Tables) (version id : ℕ) (a : StageAnswer)
-    → Keeps (is_put (finish_end version id (Some a))) kept h (with_events h (installs t a))
+    → KeepsTables (is_put (finish_end version id (Some a))) kept h (with_events h (installs t a))
 finish-keeps kept h t version id Staged = λ are. are
 finish-keeps kept h t version id Repeated = λ are. are
 finish-keeps kept h t version id Verified = λ are. are
@@ -82,7 +82,7 @@ finish-keeps kept h t version id NotVerified = λ are. are
 finish-keeps kept h t version id (Refused b) = λ are. are
 
 -- a verify puts none in force
-verify-keeps : (kept : List Tables) (h : History) (id : ℕ) (a : Option StageAnswer) → Keeps (is_put (verify_end id a)) kept h h
+verify-keeps : (kept : List Tables) (h : History) (id : ℕ) (a : Option StageAnswer) → KeepsTables (is_put (verify_end id a)) kept h h
 verify-keeps kept h id None = λ are. are
 verify-keeps kept h id (Some Staged) = λ are. are
 verify-keeps kept h id (Some Repeated) = λ are. are
@@ -93,11 +93,11 @@ verify-keeps kept h id (Some (WrongPart n)) = λ are. are
 verify-keeps kept h id (Some NotVerified) = λ are. are
 verify-keeps kept h id (Some (Refused b)) = λ are. are
 
-ask-keeps : (kept : List Tables) (c : Coming) (ask : Option Ask) → Keeps (is_put (ask_end c ask)) kept c.history (heeded c ask).history
+ask-keeps : (kept : List Tables) (c : Coming) (ask : Option Ask) → KeepsTables (is_put (ask_end c ask)) kept c.history (heeded c ask).history
 ask-keeps kept c None = λ are. are
 ask-keeps kept c (Some ask) = from ask.wish
   where
-    from : (wish : Wish) → Keeps (is_put (wish_end (past_of c).version wish (outcome c wish))) kept c.history (carried_out c wish).history
+    from : (wish : Wish) → KeepsTables (is_put (wish_end (past_of c).version wish (outcome c wish))) kept c.history (carried_out c wish).history
     from Get = λ are. are
     from Next = λ are. are
     from (Direct orders) = orders-keep kept c.history orders.items
@@ -109,10 +109,10 @@ ask-keeps kept c (Some ask) = from ask.wish
     from (Bad status index) = λ are. are
 
 -- an item keeps them so, by its reply
-pub item-keeps : (kept : List Tables) (story : Story) (pass : ℕ) (item : Item) → Keeps (puts_first (item_replies story pass item)) kept (history_of story) (history_of (with_item story item))
-item-keeps kept story pass (Told field) = λ are. record { many = are.many; each = are.each }
-item-keeps kept story pass (Came octets) = ask-keeps kept (coming story) (ask_after story octets)
-item-keeps kept story pass Ticked = λ are. record { many = are.many; each = are.each }
+pub item-keeps : (kept : List Tables) (cabinet_history : CabinetHistory) (pass : ℕ) (item : Item) → KeepsTables (puts_first (item_replies cabinet_history pass item)) kept (history_of cabinet_history) (history_of (with_item cabinet_history item))
+item-keeps kept cabinet_history pass (Told field) = λ are. record { many = are.many; each = are.each }
+item-keeps kept cabinet_history pass (Came octets) = ask-keeps kept (coming cabinet_history) (ask_after cabinet_history octets)
+item-keeps kept cabinet_history pass Ticked = λ are. record { many = are.many; each = are.each }
 
 -- ---- frames
 
@@ -156,21 +156,21 @@ ask-frames c (Some ask) = from ask.wish
     from (Finish id) = finish-frames c.history (staged (answered c.calls)) (answer_in c (FinishCall id (in_force c) (is_flashing (past_of c))))
     from (Bad status index) = refl
 
-item-frames : (story : Story) (item : Item)
-    → frames_written has_line (frames (history_of (with_item story item))) ≡ frames_written has_line (frames (history_of story)) ++ item_written story item
-item-frames story (Told field) = sym (append-nil (frames_written has_line (frames (history_of story))))
-item-frames story (Came octets) =
-    ap (frames_written has_line) (ask-frames (coming story) (ask_after story octets)) ∙ sym (append-nil (frames_written has_line (frames (history_of story))))
-item-frames story Ticked =
-    let h : History = history_of story in
+item-frames : (cabinet_history : CabinetHistory) (item : Item)
+    → frames_written has_line (frames (history_of (with_item cabinet_history item))) ≡ frames_written has_line (frames (history_of cabinet_history)) ++ item_written cabinet_history item
+item-frames cabinet_history (Told field) = sym (append-nil (frames_written has_line (frames (history_of cabinet_history))))
+item-frames cabinet_history (Came octets) =
+    ap (frames_written has_line) (ask-frames (coming cabinet_history) (ask_after cabinet_history octets)) ∙ sym (append-nil (frames_written has_line (frames (history_of cabinet_history))))
+item-frames cabinet_history Ticked =
+    let h : History = history_of cabinet_history in
     let some : 0 < length (past_at h).moments = over-moments h.tables (λ moments. 0 < length moments) (omega arith) (λ past is. omega arith) (since_opening h) in
     moments-more (past_at h).moments (decide h) some
 
 -- the frames of acts that have a line are those that the acts write
-pub acts-frames : (story : Story) (acts : List Act)
-    → frames_written has_line (frames (history_of (after story (items_in acts)))) ≡ frames_written has_line (frames (history_of story)) ++ acts_written story acts
-acts-frames story [] = sym (append-nil (frames_written has_line (frames (history_of story))))
-acts-frames story (act ∷ acts) =
-    acts-frames (with_item story act.item) acts
-    ∙ ap (λ (x : List (ℕ × Frame)). x ++ acts_written (with_item story act.item) acts) (item-frames story act.item)
-    ∙ append_assoc (frames_written has_line (frames (history_of story))) (item_written story act.item) (acts_written (with_item story act.item) acts)
+pub acts-frames : (cabinet_history : CabinetHistory) (acts : List Act)
+    → frames_written has_line (frames (history_of (after cabinet_history (items_in acts)))) ≡ frames_written has_line (frames (history_of cabinet_history)) ++ acts_written cabinet_history acts
+acts-frames cabinet_history [] = sym (append-nil (frames_written has_line (frames (history_of cabinet_history))))
+acts-frames cabinet_history (act ∷ acts) =
+    acts-frames (with_item cabinet_history act.item) acts
+    ∙ ap (λ (x : List (ℕ × Frame)). x ++ acts_written (with_item cabinet_history act.item) acts) (item-frames cabinet_history act.item)
+    ∙ append_assoc (frames_written has_line (frames (history_of cabinet_history))) (item_written cabinet_history act.item) (acts_written (with_item cabinet_history act.item) acts)

@@ -9,11 +9,11 @@ use Rattle.scenario_data.specs.Content.{ScenarioContent}
 use Rattle.cabinet_history.specs.Journals.{IsMerge}
 use Rattle.cab_book.specs.declared.book.Book.{Book}
 use Rattle.cab_book.specs.Books.{ticks_by_end}
-use Rattle.run_definition.specs.Standing.{Standing, coming_streams, next_standing, each_standing}
+use Rattle.run_definition.specs.CabinetState.{CabinetState, coming_streams, next_cabinet_state, each_cabinet_state}
 use Rattle.run_definition.specs.Lines.{notes_lines, cabinet_lines, each_lines, round_lines}
 use Rattle.safety_laws.specs.TraceText.{lines_text}
 use Rattle.run_definition.specs.Orders.{EachMerges}
-use Rattle.round_run.specs.Standings.{HasRun, HaveRun, no_journals, TicksWithin}
+use Rattle.round_run.specs.CabinetStates.{HasRun, HaveRun, no_journals, TicksWithin}
 use Rattle.trace_laws.specs.Script.{Script, Ends, Says, say, cabinet_script, cabinets_script, round_script}
 use Rattle.trace_check.specs.declared.faults.CheckFail.{CheckFail}
 use Rattle.trace_check.specs.declared.places.Place.{Place}
@@ -23,25 +23,25 @@ use Rattle.trace_check.specs.Rounds.{CabinetsRead}
 use Rattle.trace_check.proofs.Walking.{leads-here, leads-on, fails-on}
 use Rattle.trace_check.proofs.Taking.{said-text, texts-on, each-lines-append}
 
--- a standing of a list that has one at this place
-pub standing-at : (ts : List Standing) (k : ℕ) → k < length ts → Standing
-standing-at [] k below = absurd (omega (arith, below))
-standing-at (t ∷ ts) k below = t
+-- a state in a list that has one at this place
+pub cabinet_state-at : (ts : List CabinetState) (k : ℕ) → k < length ts → CabinetState
+cabinet_state-at [] k below = absurd (omega (arith, below))
+cabinet_state-at (t ∷ ts) k below = t
 
 -- one cabinet more has run its round
-pub each-append : (s : ScenarioContent) (first : ℕ) (ts us : List Standing) (js ks : List (List ℕ)) → length js ≡ length ts
-    → each_standing s first (ts ++ us) (js ++ ks) ≡ each_standing s first ts js ++ each_standing s (first + length ts) us ks
+pub each-append : (s : ScenarioContent) (first : ℕ) (ts us : List CabinetState) (js ks : List (List ℕ)) → length js ≡ length ts
+    → each_cabinet_state s first (ts ++ us) (js ++ ks) ≡ each_cabinet_state s first ts js ++ each_cabinet_state s (first + length ts) us ks
 each-append s first [] us [] ks many =
     let here : first ≡ first + 0 = omega arith in
-    ap (λ (n : ℕ). each_standing s n us ks) here
+    ap (λ (n : ℕ). each_cabinet_state s n us ks) here
 each-append s first [] us (j ∷ js) ks many = absurd (omega (arith, many))
 each-append s first (t ∷ ts) us [] ks many = absurd (omega (arith, many))
 each-append s first (t ∷ ts) us (j ∷ js) ks many =
     let there : first + 1 + length ts ≡ first + suc (length ts) = omega arith in
-    ap (λ (more : List Standing). next_standing s first t j ∷ more)
-    (each-append s (first + 1) ts us js ks (omega (arith, many)) ∙ ap (λ (n : ℕ). each_standing s (first + 1) ts js ++ each_standing s n us ks) there)
+    ap (λ (more : List CabinetState). next_cabinet_state s first t j ∷ more)
+    (each-append s (first + 1) ts us js ks (omega (arith, many)) ∙ ap (λ (n : ℕ). each_cabinet_state s (first + 1) ts js ++ each_cabinet_state s n us ks) there)
 
-pub merges-append : (s : ScenarioContent) (first : ℕ) (ts us : List Standing) (js ks : List (List ℕ)) → EachMerges s first ts js
+pub merges-append : (s : ScenarioContent) (first : ℕ) (ts us : List CabinetState) (js ks : List (List ℕ)) → EachMerges s first ts js
     → EachMerges s (first + length ts) us ks → EachMerges s first (ts ++ us) (js ++ ks)
 merges-append s first [] us [] ks so more =
     let here : first + 0 ≡ first = omega arith in
@@ -53,17 +53,17 @@ merges-append s first (t ∷ ts) us (j ∷ js) ks so more =
     (so.0, merges-append s (first + 1) ts us js ks so.1 (subst (λ (n : ℕ). EachMerges s n us ks) there more))
 
 -- the rounds of the cabinets before a place were read
-pub record CabinetsSoFar (s : ScenarioContent) (ts : List Standing) (old now : List Book) (start at : Place) (k : ℕ) : Type 0 where
+pub record CabinetsSoFar (s : ScenarioContent) (ts : List CabinetState) (old now : List Book) (start at : Place) (k : ℕ) : Type 0 where
   pub journals : List (List ℕ)
   pub as_many : length journals ≡ k
   pub merges : EachMerges s 1 (take k ts) journals
-  pub run : (j : ℕ) (b : Book) (t : Standing) (journal : List ℕ) → j < k → HasRun s (j + 1) (get_or ts j t) (get_or journals j journal) (get_or now j b)
+  pub run : (j : ℕ) (b : Book) (t : CabinetState) (journal : List ℕ) → j < k → HasRun s (j + 1) (get_or ts j t) (get_or journals j journal) (get_or now j b)
   pub same : (j : ℕ) (b : Book) → k ≤ j → get_or now j b ≡ get_or old j b
   pub text_is : start.left.now ≡ lines_text (each_lines s 1 (take k ts) journals) ++ at.left.now
-  pub leads : (rest : List Standing → Script)
-      → Leads (cabinets_script s 1 [] ts rest) start (cabinets_script s (k + 1) (each_standing s 1 (take k ts) journals) (drop k ts) rest) at
+  pub leads : (rest : List CabinetState → Script)
+      → Leads (cabinets_script s 1 [] ts rest) start (cabinets_script s (k + 1) (each_cabinet_state s 1 (take k ts) journals) (drop k ts) rest) at
 
-pub cabinets-none : (s : ScenarioContent) (ts : List Standing) (old : List Book) (start : Place) → CabinetsSoFar s ts old old start start 0
+pub cabinets-none : (s : ScenarioContent) (ts : List CabinetState) (old : List Book) (start : Place) → CabinetsSoFar s ts old old start start 0
 cabinets-none s ts old start = record {
   journals = [];
   as_many = refl;
@@ -75,44 +75,44 @@ cabinets-none s ts old start = record {
 }
 
 -- the book that is next has begun its round
-pub next-begun : (s : ScenarioContent) (ts : List Standing) (old now : List Book) (start at : Place) (k : ℕ) (was : Book) (t : Standing) → k < length ts → k < length now
+pub next-begun : (s : ScenarioContent) (ts : List CabinetState) (old now : List Book) (start at : Place) (k : ℕ) (was : Book) (t : CabinetState) → k < length ts → k < length now
     → was ≡ get_or now k was → HaveRun s ts (no_journals ts) old → CabinetsSoFar s ts old now start at k → HasRun s (k + 1) (get_or ts k t) [] was
 next-begun s ts old now start at k was t below within is have so =
     subst (λ (b : Book). HasRun s (k + 1) (get_or ts k t) [] b) (sym (is ∙ so.same k was (omega arith)))
-    (subst (λ (passes : List ℕ). HasRun s (k + 1) (get_or ts k t) passes (get_or old k was)) (get_or-map (λ (u : Standing). []) ts k t [] below)
+    (subst (λ (passes : List ℕ). HasRun s (k + 1) (get_or ts k t) passes (get_or old k was)) (get_or-map (λ (u : CabinetState). []) ts k t [] below)
     (have.each k was t [] below))
 
-module _ (s : ScenarioContent) (ts : List Standing) (old now : List Book) (start at : Place) (k : ℕ) (t : Standing) (below : k < length ts)
+module _ (s : ScenarioContent) (ts : List CabinetState) (old now : List Book) (start at : Place) (k : ℕ) (t : CabinetState) (below : k < length ts)
     (so : CabinetsSoFar s ts old now start at k) where
-  before : List Standing
-  before = each_standing s 1 (take k ts) so.journals
+  before : List CabinetState
+  before = each_cabinet_state s 1 (take k ts) so.journals
 
   -- the way to the next cabinet
-  due-next : (rest : List Standing → Script) → Leads (cabinets_script s 1 [] ts rest) start
-      (cabinet_script s (k + 1) (get_or ts k t) (λ journal. cabinets_script s (k + 1 + 1) (before ++ next_standing s (k + 1) (get_or ts k t) journal ∷ []) (drop (k + 1) ts) rest)) at
+  due-next : (rest : List CabinetState → Script) → Leads (cabinets_script s 1 [] ts rest) start
+      (cabinet_script s (k + 1) (get_or ts k t) (λ journal. cabinets_script s (k + 1 + 1) (before ++ next_cabinet_state s (k + 1) (get_or ts k t) journal ∷ []) (drop (k + 1) ts) rest)) at
   unfolding before
   due-next rest =
       subst (λ (due : Script). Leads (cabinets_script s 1 [] ts rest) start due at)
-      (at_drop_more (λ (us : List Standing). cabinets_script s (k + 1) (each_standing s 1 (take k ts) so.journals) us rest) ts k t below)
+      (at_drop_more (λ (us : List CabinetState). cabinets_script s (k + 1) (each_cabinet_state s 1 (take k ts) so.journals) us rest) ts k t below)
       (so.leads rest)
 
-  gone-more : (journal : List ℕ) → before ++ next_standing s (k + 1) (get_or ts k t) journal ∷ [] ≡ each_standing s 1 (take (k + 1) ts) (so.journals ++ journal ∷ [])
+  gone-more : (journal : List ℕ) → before ++ next_cabinet_state s (k + 1) (get_or ts k t) journal ∷ [] ≡ each_cabinet_state s 1 (take (k + 1) ts) (so.journals ++ journal ∷ [])
   unfolding before
   gone-more journal =
       let within : k ≤ length ts = omega (arith, below) in
       let many : length (take k ts) ≡ k = length-take-le k ts within in
       let as_many : length so.journals ≡ length (take k ts) = so.as_many ∙ sym many in
       let number : 1 + length (take k ts) ≡ k + 1 = omega (arith, many) in
-      sym (ap (λ (us : List Standing). each_standing s 1 us (so.journals ++ journal ∷ [])) (take_more ts k t below)
+      sym (ap (λ (us : List CabinetState). each_cabinet_state s 1 us (so.journals ++ journal ∷ [])) (take_more ts k t below)
       ∙ each-append s 1 (take k ts) (get_or ts k t ∷ []) so.journals (journal ∷ []) as_many
-      ∙ ap (λ (n : ℕ). each_standing s 1 (take k ts) so.journals ++ next_standing s n (get_or ts k t) journal ∷ []) number)
+      ∙ ap (λ (n : ℕ). each_cabinet_state s 1 (take k ts) so.journals ++ next_cabinet_state s n (get_or ts k t) journal ∷ []) number)
 
   merges-more : (journal : List ℕ) → IsMerge (coming_streams s (k + 1) (get_or ts k t)) journal → EachMerges s 1 (take (k + 1) ts) (so.journals ++ journal ∷ [])
   merges-more journal merge =
       let within : k ≤ length ts = omega (arith, below) in
       let many : length (take k ts) ≡ k = length-take-le k ts within in
       let number : k + 1 ≡ 1 + length (take k ts) = omega (arith, many) in
-      subst (λ (us : List Standing). EachMerges s 1 us (so.journals ++ journal ∷ [])) (sym (take_more ts k t below))
+      subst (λ (us : List CabinetState). EachMerges s 1 us (so.journals ++ journal ∷ [])) (sym (take_more ts k t below))
       (merges-append s 1 (take k ts) (get_or ts k t ∷ []) so.journals (journal ∷ []) so.merges
       (subst (λ (n : ℕ). EachMerges s n (get_or ts k t ∷ []) (journal ∷ [])) number (merge, tt)))
 
@@ -123,20 +123,20 @@ module _ (s : ScenarioContent) (ts : List Standing) (old now : List Book) (start
       let many : length (take k ts) ≡ k = length-take-le k ts within in
       let as_many : length so.journals ≡ length (take k ts) = so.as_many ∙ sym many in
       let number : 1 + length (take k ts) ≡ k + 1 = omega (arith, many) in
-      sym (ap (λ (us : List Standing). each_lines s 1 us (so.journals ++ journal ∷ [])) (take_more ts k t below)
+      sym (ap (λ (us : List CabinetState). each_lines s 1 us (so.journals ++ journal ∷ [])) (take_more ts k t below)
       ∙ each-lines-append s 1 (take k ts) (get_or ts k t ∷ []) so.journals (journal ∷ []) as_many
       ∙ ap (λ (n : ℕ). each_lines s 1 (take k ts) so.journals ++ (cabinet_lines s n (get_or ts k t) journal ++ [])) number
       ∙ ap (λ (x : List Line). each_lines s 1 (take k ts) so.journals ++ x) (append-nil (cabinet_lines s (k + 1) (get_or ts k t) journal)))
 
-  run-here : (new : Book) (j : ℕ) (journal : List ℕ) (other : List ℕ) (b : Book) (u : Standing) → j ≡ k → k < length now → HasRun s (k + 1) (get_or ts k t) journal new
+  run-here : (new : Book) (j : ℕ) (journal : List ℕ) (other : List ℕ) (b : Book) (u : CabinetState) → j ≡ k → k < length now → HasRun s (k + 1) (get_or ts k t) journal new
       → HasRun s (j + 1) (get_or ts j u) (get_or (so.journals ++ journal ∷ []) j other) (get_or (slice_set now k new) j b)
   run-here new j journal other b u same within run =
       subst (λ (n : ℕ). HasRun s (n + 1) (get_or ts n u) (get_or (so.journals ++ journal ∷ []) n other) (get_or (slice_set now k new) n b)) (sym same)
       (subst (λ (x : Book). HasRun s (k + 1) (get_or ts k u) (get_or (so.journals ++ journal ∷ []) k other) x) (sym (get_or-set_same now k new b within))
       (subst (λ (x : List ℕ). HasRun s (k + 1) (get_or ts k u) x new) (sym (get_or_push so.journals journal other k so.as_many))
-      (subst (λ (x : Standing). HasRun s (k + 1) x journal new) (get_or_default ts k t u below) run)))
+      (subst (λ (x : CabinetState). HasRun s (k + 1) x journal new) (get_or_default ts k t u below) run)))
 
-  run-before : (new : Book) (j : ℕ) (journal other : List ℕ) (b : Book) (u : Standing) → j < k
+  run-before : (new : Book) (j : ℕ) (journal other : List ℕ) (b : Book) (u : CabinetState) → j < k
       → HasRun s (j + 1) (get_or ts j u) (get_or (so.journals ++ journal ∷ []) j other) (get_or (slice_set now k new) j b)
   run-before new j journal other b u less =
       let apart : j ≢ k = omega (arith, less) in
@@ -144,7 +144,7 @@ module _ (s : ScenarioContent) (ts : List Standing) (old now : List Book) (start
       (subst (λ (x : List ℕ). HasRun s (j + 1) (get_or ts j u) x (get_or now j b)) (sym (get_or_append_left so.journals (journal ∷ []) other j (omega (arith, less, so.as_many))))
       (so.run j b u other less))
 
-  run-more : (new : Book) (j : ℕ) (journal other : List ℕ) (b : Book) (u : Standing) → j < k + 1 → k < length now → HasRun s (k + 1) (get_or ts k t) journal new
+  run-more : (new : Book) (j : ℕ) (journal other : List ℕ) (b : Book) (u : CabinetState) → j < k + 1 → k < length now → HasRun s (k + 1) (get_or ts k t) journal new
       → HasRun s (j + 1) (get_or ts j u) (get_or (so.journals ++ journal ∷ []) j other) (get_or (slice_set now k new) j b)
   run-more new j journal other b u less within run = from (cases_lt j k)
     where
@@ -165,34 +165,34 @@ module _ (s : ScenarioContent) (ts : List Standing) (old now : List Book) (start
     text_is = texts-on (each_lines s 1 (take k ts) so.journals) (cabinet_lines s (k + 1) (get_or ts k t) read.journal) start.left.now at.left.now next.left.now so.text_is read.text_is
         ∙ ap (λ (x : List Line). lines_text x ++ next.left.now) (lines-more read.journal);
     leads = λ rest.
-        subst (λ (gone : List Standing). Leads (cabinets_script s 1 [] ts rest) start (cabinets_script s (k + 1 + 1) gone (drop (k + 1) ts) rest) next) (gone-more read.journal)
+        subst (λ (gone : List CabinetState). Leads (cabinets_script s 1 [] ts rest) start (cabinets_script s (k + 1 + 1) gone (drop (k + 1) ts) rest) next) (gone-more read.journal)
         (leads-on _ _ _ start at next (due-next rest)
-        (read.leads (λ journal. cabinets_script s (k + 1 + 1) (before ++ next_standing s (k + 1) (get_or ts k t) journal ∷ []) (drop (k + 1) ts) rest)));
+        (read.leads (λ journal. cabinets_script s (k + 1 + 1) (before ++ next_cabinet_state s (k + 1) (get_or ts k t) journal ∷ []) (drop (k + 1) ts) rest)));
   }
 
   pub cabinets-fail : (fail : CheckFail) → ((rest : List ℕ → Script) → Fails (cabinet_script s (k + 1) (get_or ts k t) rest) at fail)
-      → (rest : List Standing → Script) → Fails (cabinets_script s 1 [] ts rest) start fail
+      → (rest : List CabinetState → Script) → Fails (cabinets_script s 1 [] ts rest) start fail
   cabinets-fail fail fails rest =
       fails-on _ _ start at fail (due-next rest)
-      (fails (λ journal. cabinets_script s (k + 1 + 1) (before ++ next_standing s (k + 1) (get_or ts k t) journal ∷ []) (drop (k + 1) ts) rest))
+      (fails (λ journal. cabinets_script s (k + 1 + 1) (before ++ next_cabinet_state s (k + 1) (get_or ts k t) journal ∷ []) (drop (k + 1) ts) rest))
 
 -- all of them were read
-pub cabinets-all : (s : ScenarioContent) (ts : List Standing) (old now : List Book) (start at : Place) (k : ℕ) → length now ≡ length ts → k ≡ length ts
+pub cabinets-all : (s : ScenarioContent) (ts : List CabinetState) (old now : List Book) (start at : Place) (k : ℕ) → length now ≡ length ts → k ≡ length ts
     → CabinetsSoFar s ts old now start at k → CabinetsRead s ts start now at
 cabinets-all s ts old now start at k many all so =
     let taken : take k ts ≡ ts = take_all k ts (omega (arith, all)) in
     record {
       journals = so.journals;
-      merges = subst (λ (us : List Standing). EachMerges s 1 us so.journals) taken so.merges;
+      merges = subst (λ (us : List CabinetState). EachMerges s 1 us so.journals) taken so.merges;
       run = record {
         many = many;
         as_many = so.as_many ∙ all;
         each = λ j b t journal below. so.run j b t journal (omega (arith, below, all));
       };
-      text_is = subst (λ (us : List Standing). start.left.now ≡ lines_text (each_lines s 1 us so.journals) ++ at.left.now) taken so.text_is;
+      text_is = subst (λ (us : List CabinetState). start.left.now ≡ lines_text (each_lines s 1 us so.journals) ++ at.left.now) taken so.text_is;
       leads = λ rest.
-          subst (λ (us : List Standing). Leads (cabinets_script s 1 [] ts rest) start (rest (each_standing s 1 us so.journals)) at) taken
-          (subst (λ (us : List Standing). Leads (cabinets_script s 1 [] ts rest) start (cabinets_script s (k + 1) (each_standing s 1 (take k ts) so.journals) us rest) at)
+          subst (λ (us : List CabinetState). Leads (cabinets_script s 1 [] ts rest) start (rest (each_cabinet_state s 1 us so.journals)) at) taken
+          (subst (λ (us : List CabinetState). Leads (cabinets_script s 1 [] ts rest) start (cabinets_script s (k + 1) (each_cabinet_state s 1 (take k ts) so.journals) us rest) at)
           (drop_all k ts (omega (arith, all))) (so.leads rest));
     }
 
@@ -210,7 +210,7 @@ ticks-more most now k was new within is same few = λ j b below. from j b below 
         subst (λ (x : Book). ticks_by_end x ≤ most) (sym (get_or-set_other now k j new b apart)) (few j b (omega (arith, below, length-set now k new)))
 
 -- the notes of a round are those that are due at its head
-pub head-due : (s : ScenarioContent) (round : ℕ) (ts : List Standing) (notes : List MasterNote) (rest : List Standing → Script) → map M notes ≡ notes_lines s 1 ts
+pub head-due : (s : ScenarioContent) (round : ℕ) (ts : List CabinetState) (notes : List MasterNote) (rest : List CabinetState → Script) → map M notes ≡ notes_lines s 1 ts
     → round_script s round ts rest ≡ Says (R round) (say (map M notes) (cabinets_script s 1 [] ts rest))
 head-due s round ts notes rest same = ap (λ (lines : List Line). Says (R round) (say lines (cabinets_script s 1 [] ts rest))) (sym same)
 
@@ -220,7 +220,7 @@ pub next-note : (notes : List MasterNote) (i : ℕ) (d : MasterNote) (rest : Scr
 next-note notes i d rest below = at_drop_more (λ (xs : List MasterNote). say (map M xs) rest) notes i d below
 
 -- the text of a round: its head, and then its cabinets
-pub round-text : (s : ScenarioContent) (round : ℕ) (ts : List Standing) (journals : List (List ℕ)) (notes : List MasterNote) (at first next : Place) → map M notes ≡ notes_lines s 1 ts
+pub round-text : (s : ScenarioContent) (round : ℕ) (ts : List CabinetState) (journals : List (List ℕ)) (notes : List MasterNote) (at first next : Place) → map M notes ≡ notes_lines s 1 ts
     → ((rest : Script) → Leads (Says (R round) (say (map M notes) rest)) at rest first) → first.left.now ≡ lines_text (each_lines s 1 ts journals) ++ next.left.now
     → at.left.now ≡ lines_text (round_lines s round ts journals) ++ next.left.now
 round-text s round ts journals notes at first next same leads behind =

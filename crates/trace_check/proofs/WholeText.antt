@@ -11,19 +11,19 @@ use Rattle.safety_laws.specs.TraceText.{lines_text}
 use Rattle.scenario_data.specs.Content.{ScenarioContent}
 use Rattle.scenario_read.specs.Answers.{IsScenario}
 use Rattle.scenario_read.proofs.OneAnswer.{one-scenario}
-use Rattle.cabinet_history.specs.Story.{Story}
+use Rattle.cabinet_history.specs.CabinetHistory.{CabinetHistory}
 use Rattle.cabinet_history.specs.Coming.{history_of}
 use Rattle.cab_book.specs.declared.book.Book.{Book}
-use Rattle.cab_book.specs.Books.{BookStands, story_now}
-use Rattle.run_definition.specs.Standing.{Standing, opened_standings, each_standing, standings_after}
+use Rattle.cab_book.specs.Books.{BookStands, cabinet_history_now}
+use Rattle.run_definition.specs.CabinetState.{CabinetState, opened_cabinet_states, each_cabinet_state, cabinet_states_after}
 use Rattle.run_definition.specs.Lines.{shown_line, opening_lines, round_lines, rounds_lines, rest_lines, run_text}
 use Rattle.run_definition.specs.Orders.{AreMerges, AreJournals}
 use Rattle.runnable.specs.Cabinets.{IsCabinet}
 use Rattle.runnable.specs.Runnable.{Runnable}
 use Rattle.trace_laws.specs.Text.{TellsAllKept}
-use Rattle.round_run.specs.Standings.{IsAt, AreAt}
-use Rattle.round_run.specs.declared.rounds.Corridor.{Corridor}
-use Rattle.round_run.specs.Corridor.{Between}
+use Rattle.round_run.specs.CabinetStates.{IsAt, AreAt}
+use Rattle.round_run.specs.declared.rounds.ClosedLoop.{ClosedLoop}
+use Rattle.round_run.specs.ClosedLoop.{Between}
 use Rattle.trace_laws.specs.Traces.{Opens, IsTrace, IsCheckable}
 use Rattle.trace_laws.specs.Faults.{first_piece, FirstFault, NoFirst, NoScenario}
 use Rattle.trace_laws.specs.Script.{Script, Ends, Says, say, rounds_script, round_script, script_of, FaultsAt, Walks, Beyond}
@@ -44,37 +44,37 @@ use Rattle.trace_check.proofs.Taking.{said-text, texts-on, nothing-behind, after
 use Rattle.trace_check.proofs.Watched.{come-at, numbered-at, opened-many}
 
 -- what the next cabinet shows before any tick
-pub next-opening : (books : List Book) (k : ℕ) (b : Book) (frame : Frame) (ts : List Standing) (rest : Script) → k < length books → b ≡ get_or books k b
-    → ((story : Story) → BookStands b story → frame ≡ last_frame_of (history_of (story_now b story))) → AreAt books ts
+pub next-opening : (books : List Book) (k : ℕ) (b : Book) (frame : Frame) (ts : List CabinetState) (rest : Script) → k < length books → b ≡ get_or books k b
+    → ((cabinet_history : CabinetHistory) → BookStands b cabinet_history → frame ≡ last_frame_of (history_of (cabinet_history_now b cabinet_history))) → AreAt books ts
     → say (opening_lines (k + 1) (drop k ts)) rest ≡ Says (shown_line (k + 1) 0 frame) (say (opening_lines (k + 1 + 1) (drop (k + 1) ts)) rest)
 next-opening books k b frame ts rest below is shows at = from ts at
   where
-    some : (us : List Standing) → k < length us → Standing
+    some : (us : List CabinetState) → k < length us → CabinetState
     some [] less = absurd (omega (arith, less))
     some (u ∷ us) less = u
 
-    from : (us : List Standing) → AreAt books us
+    from : (us : List CabinetState) → AreAt books us
         → say (opening_lines (k + 1) (drop k us)) rest ≡ Says (shown_line (k + 1) 0 frame) (say (opening_lines (k + 1 + 1) (drop (k + 1) us)) rest)
     from us so =
         let place : k < length us = omega (arith, below, so.many) in
-        let t : Standing = some us place in
+        let t : CabinetState = some us place in
         let here : IsAt b (get_or us k t) = subst (λ (x : Book). IsAt x (get_or us k t)) (sym is) (so.each k b t place) in
-        let same : last_frame_of (history_of (get_or us k t).story) ≡ frame =
-        ap (λ (story : Story). last_frame_of (history_of story)) (sym here.now) ∙ sym (shows here.began here.stands) in
-        at_drop_more (λ (xs : List Standing). say (opening_lines (k + 1) xs) rest) us k t place
+        let same : last_frame_of (history_of (get_or us k t).cabinet_history) ≡ frame =
+        ap (λ (cabinet_history : CabinetHistory). last_frame_of (history_of cabinet_history)) (sym here.now) ∙ sym (shows here.began here.stands) in
+        at_drop_more (λ (xs : List CabinetState). say (opening_lines (k + 1) xs) rest) us k t place
         ∙ ap (λ (f : Frame). Says (shown_line (k + 1) 0 f) (say (opening_lines (k + 1 + 1) (drop (k + 1) us)) rest)) same
 
 -- so many rounds were read, by journals that the text tells; what was seen is what the cabinets have come to by these
-pub record RoundsSoFar (s : ScenarioContent) (first : List Standing) (start at : Place) (done : ℕ) (c : Corridor) (watched : ℕ) (old now : Seen) : Type 0 where
+pub record RoundsSoFar (s : ScenarioContent) (first : List CabinetState) (start at : Place) (done : ℕ) (c : ClosedLoop) (watched : ℕ) (old now : Seen) : Type 0 where
   pub journals : List (List (List ℕ))
   pub many : length journals ≡ done
   pub merges : AreMerges s first journals
   pub text_is : start.left.now ≡ lines_text (rounds_lines s 1 first journals) ++ at.left.now
-  pub between : Between s done (standings_after s first journals) c
-  pub seen : IsWatched watched old first → IsWatched watched now (standings_after s first journals)
-  pub leads : (n : ℕ) → done + n ≡ s.rounds → Leads (rounds_script s 1 s.rounds first) start (rounds_script s (done + 1) n (standings_after s first journals)) at
+  pub between : Between s done (cabinet_states_after s first journals) c
+  pub seen : IsWatched watched old first → IsWatched watched now (cabinet_states_after s first journals)
+  pub leads : (n : ℕ) → done + n ≡ s.rounds → Leads (rounds_script s 1 s.rounds first) start (rounds_script s (done + 1) n (cabinet_states_after s first journals)) at
 
-pub rounds-none : (s : ScenarioContent) (first : List Standing) (start : Place) (c : Corridor) (watched : ℕ) (seen : Seen) → Between s 0 first c
+pub rounds-none : (s : ScenarioContent) (first : List CabinetState) (start : Place) (c : ClosedLoop) (watched : ℕ) (seen : Seen) → Between s 0 first c
     → RoundsSoFar s first start start 0 c watched seen seen
 rounds-none s first start c watched seen between = record {
   journals = [];
@@ -88,16 +88,16 @@ rounds-none s first start c watched seen between = record {
       subst (λ (m : ℕ). Leads (rounds_script s 1 s.rounds first) start (rounds_script s 1 m first) start) all (leads-here (rounds_script s 1 s.rounds first) start);
 }
 
-module _ (s : ScenarioContent) (first : List Standing) (start at next : Place) (done : ℕ) (was new : Corridor) (watched : ℕ) (old mid now : Seen)
-    (so : RoundsSoFar s first start at done was watched old mid) (read : RoundRead s done (standings_after s first so.journals) at new watched mid now next) where
-  come : each_standing s 1 (standings_after s first so.journals) read.journals ≡ standings_after s first (so.journals ++ read.journals ∷ [])
+module _ (s : ScenarioContent) (first : List CabinetState) (start at next : Place) (done : ℕ) (was new : ClosedLoop) (watched : ℕ) (old mid now : Seen)
+    (so : RoundsSoFar s first start at done was watched old mid) (read : RoundRead s done (cabinet_states_after s first so.journals) at new watched mid now next) where
+  come : each_cabinet_state s 1 (cabinet_states_after s first so.journals) read.journals ≡ cabinet_states_after s first (so.journals ++ read.journals ∷ [])
   come = sym (after-round s first so.journals read.journals)
 
   text-more : start.left.now ≡ lines_text (rounds_lines s 1 first (so.journals ++ read.journals ∷ [])) ++ next.left.now
   text-more =
       let number : done + 1 ≡ 1 + length so.journals = omega (arith, so.many) in
-      texts-on (rounds_lines s 1 first so.journals) (round_lines s (done + 1) (standings_after s first so.journals) read.journals) start.left.now at.left.now next.left.now so.text_is read.text_is
-      ∙ ap (λ (n : ℕ). lines_text (rounds_lines s 1 first so.journals ++ round_lines s n (standings_after s first so.journals) read.journals) ++ next.left.now) number
+      texts-on (rounds_lines s 1 first so.journals) (round_lines s (done + 1) (cabinet_states_after s first so.journals) read.journals) start.left.now at.left.now next.left.now so.text_is read.text_is
+      ∙ ap (λ (n : ℕ). lines_text (rounds_lines s 1 first so.journals ++ round_lines s n (cabinet_states_after s first so.journals) read.journals) ++ next.left.now) number
       ∙ ap (λ (x : List Line). lines_text x ++ next.left.now) (sym (lines-round s 1 first so.journals read.journals))
 
   pub rounds-more : RoundsSoFar s first start next (done + 1) new watched old now
@@ -106,35 +106,35 @@ module _ (s : ScenarioContent) (first : List Standing) (start at next : Place) (
     many = length-append so.journals (read.journals ∷ []) ∙ ap (λ (n : ℕ). n + 1) so.many;
     merges = merges-round s first so.journals read.journals so.merges read.merges;
     text_is = text-more;
-    between = subst (λ (x : List Standing). Between s (done + 1) x new) come read.between;
-    seen = λ is. subst (λ (x : List Standing). IsWatched watched now x) come (read.seen (so.seen is));
+    between = subst (λ (x : List CabinetState). Between s (done + 1) x new) come read.between;
+    seen = λ is. subst (λ (x : List CabinetState). IsWatched watched now x) come (read.seen (so.seen is));
     leads = λ n e.
-        subst (λ (x : List Standing). Leads (rounds_script s 1 s.rounds first) start (rounds_script s (done + 1 + 1) n x) next) come
+        subst (λ (x : List CabinetState). Leads (rounds_script s 1 s.rounds first) start (rounds_script s (done + 1 + 1) n x) next) come
         (leads-on _ _ _ start at next (so.leads (suc n) (omega (arith, e))) (read.leads (rounds_script s (done + 1 + 1) n)));
   }
 
-pub rounds-fail : (s : ScenarioContent) (first : List Standing) (start at : Place) (done : ℕ) (old : Corridor) (watched : ℕ) (was now : Seen) (fail : CheckFail) → done < s.rounds
+pub rounds-fail : (s : ScenarioContent) (first : List CabinetState) (start at : Place) (done : ℕ) (old : ClosedLoop) (watched : ℕ) (was now : Seen) (fail : CheckFail) → done < s.rounds
     → (so : RoundsSoFar s first start at done old watched was now)
-    → ((rest : List Standing → Script) → Fails (round_script s (done + 1) (standings_after s first so.journals) rest) at fail)
+    → ((rest : List CabinetState → Script) → Fails (round_script s (done + 1) (cabinet_states_after s first so.journals) rest) at fail)
     → Fails (rounds_script s 1 s.rounds first) start fail
 rounds-fail s first start at done old watched was now fail few so fails =
     let n : ℕ = s.rounds - done - 1 in
     fails-on _ _ start at fail (so.leads (suc n) (omega (arith, few))) (fails (rounds_script s (done + 1 + 1) n))
 
-pub rounds-all : (s : ScenarioContent) (first : List Standing) (start at : Place) (done : ℕ) (c : Corridor) (watched : ℕ) (was now : Seen) → done ≡ s.rounds
+pub rounds-all : (s : ScenarioContent) (first : List CabinetState) (start at : Place) (done : ℕ) (c : ClosedLoop) (watched : ℕ) (was now : Seen) → done ≡ s.rounds
     → RoundsSoFar s first start at done c watched was now → Leads (rounds_script s 1 s.rounds first) start (Says (Z s.rounds) Ends) at
 rounds-all s first start at done c watched was now all so = so.leads zero (omega (arith, all))
 
-pub rounds-seen : (s : ScenarioContent) (first : List Standing) (start at : Place) (done : ℕ) (c : Corridor) (watched : ℕ) (was now : Seen) → done ≡ s.rounds
+pub rounds-seen : (s : ScenarioContent) (first : List CabinetState) (start at : Place) (done : ℕ) (c : ClosedLoop) (watched : ℕ) (was now : Seen) → done ≡ s.rounds
     → RoundsSoFar s first start at done c watched was now → RoundsSeen s first start at watched was now
 rounds-seen s first start at done c watched was now all so =
     record { journals = so.journals; all = so.many ∙ all; merges = so.merges; text_is = so.text_is; seen = so.seen }
 
 -- all that is left of the text, with nothing behind it
 pub rest-seen : (s : ScenarioContent) (start rounds end behind : Place) (watched : ℕ) (first seen : Seen) (result : Result (Unit {0}) CheckFail)
-    → ((rest : Script) → Leads (say (opening_lines 1 (opened_standings s s.cabinets)) rest) start rest rounds)
-    → RoundsSeen s (opened_standings s s.cabinets) rounds end watched first seen → ((rest : Script) → Leads (Says (Z s.rounds) rest) end rest behind)
-    → ReadsWhole Ends behind result → IsWatched watched first (opened_standings s s.cabinets) → OnOk result (RestSeen s start.left.now watched seen)
+    → ((rest : Script) → Leads (say (opening_lines 1 (opened_cabinet_states s s.cabinets)) rest) start rest rounds)
+    → RoundsSeen s (opened_cabinet_states s s.cabinets) rounds end watched first seen → ((rest : Script) → Leads (Says (Z s.rounds) rest) end rest behind)
+    → ReadsWhole Ends behind result → IsWatched watched first (opened_cabinet_states s s.cabinets) → OnOk result (RestSeen s start.left.now watched seen)
 rest-seen s start rounds end behind watched first seen (Ok done) opens so last whole is = record {
   journals = so.journals;
   are = record { all = so.all; merges = so.merges };
@@ -144,7 +144,7 @@ rest-seen s start rounds end behind watched first seen (Ok done) opens so last w
   where
     text : start.left.now ≡ lines_text (rest_lines s so.journals)
     text =
-        let ts : List Standing = opened_standings s s.cabinets in
+        let ts : List CabinetState = opened_cabinet_states s s.cabinets in
         texts-on (opening_lines 1 ts ++ rounds_lines s 1 ts so.journals) (Z s.rounds ∷ []) start.left.now end.left.now behind.left.now
         (texts-on (opening_lines 1 ts) (rounds_lines s 1 ts so.journals) start.left.now rounds.left.now end.left.now (said-text (opening_lines 1 ts) start rounds (opens Ends)) so.text_is)
         (said-text (Z s.rounds ∷ []) end behind (last Ends))
@@ -178,12 +178,12 @@ has-seen law text cab seen is = record {
   text_is = is.text_is;
   kept = subst (λ (x : List ℕ). TellsAllKept is.scenario is.journals x) (sym is.text_is) (law is.scenario is.runs is.journals is.are);
   own = λ c end numbered come.
-      let (k, below, number, here) = come-at cab 1 end (standings_after is.scenario (opened_standings is.scenario is.scenario.cabinets) is.journals) come in
-      subst (λ (t : Standing). IsSeenOf seen (history_of t.story)) (here end) (is.watched_so.own k end below (omega (arith, number)));
+      let (k, below, number, here) = come-at cab 1 end (cabinet_states_after is.scenario (opened_cabinet_states is.scenario is.scenario.cabinets) is.journals) come in
+      subst (λ (t : CabinetState). IsSeenOf seen (history_of t.cabinet_history)) (here end) (is.watched_so.own k end below (omega (arith, number)));
   none = λ never. is.watched_so.none (λ k below same.
       let s : ScenarioContent = is.scenario in
       let within : k < length s.cabinets =
-      omega (arith, below, after-many s (opened_standings s s.cabinets) is.journals is.are.merges, opened-many s s.cabinets) in
+      omega (arith, below, after-many s (opened_cabinet_states s s.cabinets) is.journals is.are.merges, opened-many s s.cabinets) in
       let (c, numbered) = numbered-at s.cabinets 1 k within in
       let number : 1 + k ≡ cab = omega (arith, same) in
       never c (subst (λ (n : ℕ). IsCabinet s n c) number numbered));

@@ -7,12 +7,12 @@ use Rattle.sig_tables.specs.Decide.{past_at}
 use Rattle.safety_laws.specs.Written.{tables_of}
 use Rattle.overlap_run.specs.Trace.{AreByVersion}
 use Rattle.cabinet_history.specs.declared.Load.{Load}
-use Rattle.cabinet_history.specs.Story.{Story}
+use Rattle.cabinet_history.specs.CabinetHistory.{CabinetHistory}
 use Rattle.cabinet_history.specs.Coming.{history_of}
 use Rattle.cab_book.specs.declared.book.Book.{Book}
 use Rattle.cab_book.specs.declared.happened.Answered.{Answered}
-use Rattle.cab_book.specs.Books.{story_now}
-use Rattle.run_definition.specs.Standing.{Standing}
+use Rattle.cab_book.specs.Books.{cabinet_history_now}
+use Rattle.run_definition.specs.CabinetState.{CabinetState}
 use Rattle.trace_laws.specs.declared.seen.Seen.{Seen}
 use Rattle.trace_laws.specs.Seen.{IsSeenOf}
 
@@ -34,19 +34,19 @@ tells_put (a ∷ answered) = is_put a.reply.load
 abbrev pub AreTablesOf : List Tables → History → Type 0
 AreTablesOf tables h = AreByVersion tables (tables_of h) (past_at h).version
 
--- of one cabinet's round: where it is the watched one, what was seen is that of the story by now if it was that of the story before; else
+-- of one cabinet's round: where it is the watched one, what was seen is that of the cabinet history by now if it was that of the cabinet history before; else
 -- nothing changes
-pub record SeesOn (watched cab : ℕ) (old new : Seen) (before now : Story) : Type 0 where
+pub record SeesOn (watched cab : ℕ) (old new : Seen) (before now : CabinetHistory) : Type 0 where
   pub own : watched ≡ cab → IsSeenOf old (history_of before) → IsSeenOf new (history_of now)
   pub other : watched ≢ cab → new ≡ old
 
 -- so it is of the first cabinets' rounds, which these books have run after the cabinets had come to this
-pub record SeenSoFar (watched : ℕ) (old new : Seen) (ts : List Standing) (books : List Book) (k : ℕ) : Type 0 where
-  pub own : (j : ℕ) (b : Book) (t : Standing) → j < k → watched ≡ j + 1 → IsSeenOf old (history_of (get_or ts j t).story)
-      → IsSeenOf new (history_of (story_now (get_or books j b) (get_or ts j t).story))
+pub record SeenSoFar (watched : ℕ) (old new : Seen) (ts : List CabinetState) (books : List Book) (k : ℕ) : Type 0 where
+  pub own : (j : ℕ) (b : Book) (t : CabinetState) → j < k → watched ≡ j + 1 → IsSeenOf old (history_of (get_or ts j t).cabinet_history)
+      → IsSeenOf new (history_of (cabinet_history_now (get_or books j b) (get_or ts j t).cabinet_history))
   pub other : ((j : ℕ) → j < k → watched ≢ j + 1) → new ≡ old
 
 -- this was seen of the cabinet with this number, where one of these has it; and else no tables were seen
-pub record IsWatched (watched : ℕ) (seen : Seen) (ts : List Standing) : Type 0 where
-  pub own : (k : ℕ) (t : Standing) → k < length ts → watched ≡ k + 1 → IsSeenOf seen (history_of (get_or ts k t).story)
+pub record IsWatched (watched : ℕ) (seen : Seen) (ts : List CabinetState) : Type 0 where
+  pub own : (k : ℕ) (t : CabinetState) → k < length ts → watched ≡ k + 1 → IsSeenOf seen (history_of (get_or ts k t).cabinet_history)
   pub none : ((k : ℕ) → k < length ts → watched ≢ k + 1) → seen.tables.items ≡ []

@@ -4,12 +4,12 @@
 ghost use Rattle.std.specs.Prelude.{◌≡◌, ◌≤◌, ℕ, List, [], drop, length, map, IfOk, IfErr, OnOk};
 ghost use Rattle.trace_text.specs.declared.lines.Line.{Line as LineRow};
 ghost use Rattle.scenario_data.specs.Content.{ScenarioContent};
-ghost use Rattle.cab_book.specs.Books.{written_in, answered_in, story_now, ticks_by_end};
+ghost use Rattle.cab_book.specs.Books.{written_in, answered_in, cabinet_history_now, ticks_by_end};
 ghost use Rattle.cab_book.specs.Happenings.{AreInOrder};
-ghost use Rattle.run_definition.specs.Standing.{Standing};
+ghost use Rattle.run_definition.specs.CabinetState.{CabinetState};
 ghost use Rattle.run_definition.specs.Lines.{shown_line, frame_lines, load_lines};
 ghost use Rattle.round_run.specs.Lines.{frames_between, answer_lines, told_lines};
-ghost use Rattle.round_run.specs.Standings.{HasRun};
+ghost use Rattle.round_run.specs.CabinetStates.{HasRun};
 ghost use Rattle.trace_laws.specs.Script.{Script, say};
 ghost use Rattle.trace_laws.specs.Script.Script.{Says};
 ghost use Rattle.trace_check.specs.Reading.{ReadsOn};
@@ -24,10 +24,10 @@ use crate::watching::bring_round;
 use cab_book::{Answered, Book};
 use cabinet_history::{Load, Reply};
 use round_run::books_follow_runs;
-use sig_types::{Frame, Octets};
+use sig_types::Frame;
 use std::alloc::Global;
 use trace_laws::Seen;
-use trace_text::Line;
+use trace_text::{Line, same_octets};
 
 /// The line of what a cabinet shows after so many ticks.
 pub fn expect_frame<'a>(
@@ -89,21 +89,6 @@ fn expect_load<'a>(
                 result: load.result,
             };
             expect(alloc, at, &end)
-        }
-    }
-}
-
-/// The same octets.
-fn same_octets(octets: &Option<Octets>) -> Option<Octets>
-    ensures { result ≡ octets.now }
-{
-    match octets {
-        None => None,
-        Some(octets) => {
-            let mut same = Octets::new();
-            // There is room for them, as there was for those.
-            let _ = same.try_extend_from_slice(octets.as_slice());
-            Some(same)
         }
     }
 }
@@ -195,11 +180,11 @@ pub fn check_cabinet<'a>(
     watched: u32,
     seen: &mut Seen,
 ) -> Result<Place<'a>, CheckFail>
-    requires begun { (s : ScenarioContent) × (t : Standing) × HasRun s cab t [] book.old }
-    ensures reads { (s : ScenarioContent) (t : Standing) → HasRun s cab t [] book.old → ReadsCabinet s cab t at.entry book.new result }
+    requires begun { (s : ScenarioContent) × (t : CabinetState) × HasRun s cab t [] book.old }
+    ensures reads { (s : ScenarioContent) (t : CabinetState) → HasRun s cab t [] book.old → ReadsCabinet s cab t at.entry book.new result }
     ensures ticks { ticks_by_end book.new ≡ ticks_by_end book.old }
-    ensures seen { OnOk result ((s : ScenarioContent) (t : Standing) → HasRun s cab t [] book.old
-        → SeesOn watched cab seen.old seen.new t.story (story_now book.new t.story)) }
+    ensures seen { OnOk result ((s : ScenarioContent) (t : CabinetState) → HasRun s cab t [] book.old
+        → SeesOn watched cab seen.old seen.new t.cabinet_history (cabinet_history_now book.new t.cabinet_history)) }
 {
     books_follow_runs();
     let (runs, next) = match journal_at(alloc, at, cab, book) {

@@ -7,7 +7,7 @@ ghost use Rattle.trace_text.specs.declared.lines.Line.{Line as LineRow};
 ghost use Rattle.trace_text.specs.IsLine.{AreLongest};
 ghost use Rattle.trace_text.specs.Line.{line_text};
 ghost use Rattle.sig_types.specs.Items.{Item};
-ghost use Rattle.cabinet_history.specs.Story.{Story};
+ghost use Rattle.cabinet_history.specs.CabinetHistory.{CabinetHistory};
 ghost use Rattle.cabinet_history.specs.Journals.{IsMerge, passes_of};
 ghost use Rattle.cab_book.specs.Books.{BookStands, streams_in, journal_of, left_of, ticks_by_end};
 ghost use Rattle.trace_laws.specs.Runs.{events_in};
@@ -73,7 +73,7 @@ fn all_left(book: &Book) -> [u32; 8]
 /// A pass brings so many items of its stream, one after another.
 fn bring_items(book: &mut Book, pass: u32, count: u32)
     requires { count ≤ left_of book.old pass }
-    ensures stands { (story : Story) → BookStands book.old story → BookStands book.new story }
+    ensures stands { (cabinet_history : CabinetHistory) → BookStands book.old cabinet_history → BookStands book.new cabinet_history }
     ensures streams { streams_in book.new ≡ streams_in book.old }
     ensures journal { journal_of book.new ≡ journal_of book.old ++ replicate count pass }
     ensures own { left_of book.new pass + count ≡ left_of book.old pass }
@@ -90,7 +90,7 @@ fn bring_ticks(book: &mut Book, pass: u32, count: u32)
     requires above { 4 ≤ pass }
     requires below { pass ≤ 7 }
     requires within { count ≤ left_of book.old pass }
-    ensures stands { (story : Story) → BookStands book.old story → BookStands book.new story }
+    ensures stands { (cabinet_history : CabinetHistory) → BookStands book.old cabinet_history → BookStands book.new cabinet_history }
     ensures streams { streams_in book.new ≡ streams_in book.old }
     ensures journal { journal_of book.new ≡ journal_of book.old ++ replicate count pass }
     ensures own { left_of book.new pass + count ≡ left_of book.old pass }
@@ -107,7 +107,7 @@ fn bring_ticks(book: &mut Book, pass: u32, count: u32)
 /// A pass brings so many items of its stream.
 fn bring(book: &mut Book, pass: u32, count: u32)
     requires { count ≤ left_of book.old pass }
-    ensures stands { (story : Story) → BookStands book.old story → BookStands book.new story }
+    ensures stands { (cabinet_history : CabinetHistory) → BookStands book.old cabinet_history → BookStands book.new cabinet_history }
     ensures streams { streams_in book.new ≡ streams_in book.old }
     ensures journal { journal_of book.new ≡ journal_of book.old ++ replicate count pass }
     ensures own { left_of book.new pass + count ≡ left_of book.old pass }
@@ -124,7 +124,7 @@ fn bring(book: &mut Book, pass: u32, count: u32)
 /// The passes of a journal bring all items of a book's round, in its order.
 pub fn bring_all(book: &mut Book, runs: &[(u32, u32)])
     requires { (p : ℕ) → events_in p runs.now ≡ left_of book.old p }
-    ensures stands { (story : Story) → BookStands book.old story → BookStands book.new story }
+    ensures stands { (cabinet_history : CabinetHistory) → BookStands book.old cabinet_history → BookStands book.new cabinet_history }
     ensures streams { streams_in book.new ≡ streams_in book.old }
     ensures journal { journal_of book.new ≡ journal_of book.old ++ passes_of runs.now }
     ensures ticks { ticks_by_end book.new ≡ ticks_by_end book.old }

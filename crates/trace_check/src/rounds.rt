@@ -4,9 +4,9 @@ ghost use Rattle.std.specs.Prelude.{◌≡◌, ◌≤◌, ◌<◌, ◌+◌, ◌*
 ghost use Rattle.trace_text.specs.declared.lines.Line.{Line as LineRow};
 ghost use Rattle.scenario_data.specs.Content.{ScenarioContent, scenario_content};
 ghost use Rattle.runnable.specs.Runnable.{Runnable};
-ghost use Rattle.run_definition.specs.Standing.{Standing};
-ghost use Rattle.round_run.specs.Standings.{HaveRun, no_journals, TicksWithin};
-ghost use Rattle.round_run.specs.Corridor.{Between};
+ghost use Rattle.run_definition.specs.CabinetState.{CabinetState};
+ghost use Rattle.round_run.specs.CabinetStates.{HaveRun, no_journals, TicksWithin};
+ghost use Rattle.round_run.specs.ClosedLoop.{Between};
 ghost use Rattle.trace_laws.specs.Script.{Script, say};
 ghost use Rattle.trace_laws.specs.Script.Script.{Says};
 ghost use Rattle.trace_check.specs.Reading.{ReadsOn};
@@ -18,7 +18,7 @@ use crate::expect::expect;
 use crate::faults::CheckFail;
 use crate::places::Place;
 use cab_book::Book;
-use round_run::Corridor;
+use round_run::ClosedLoop;
 use scenario_data::Scenario;
 use sig_types::{MasterNote, NoMemory};
 use std::alloc::Global;
@@ -74,12 +74,12 @@ fn check_cabinets<'a>(
     seen: &mut Seen,
 ) -> Result<Place<'a>, CheckFail>
     requires few { length books.old.items ≤ 64 }
-    requires begun { (s : ScenarioContent) × (ts : List Standing) × HaveRun s ts (no_journals ts) books.old.items }
+    requires begun { (s : ScenarioContent) × (ts : List CabinetState) × HaveRun s ts (no_journals ts) books.old.items }
     ensures many { length books.new.items ≡ length books.old.items }
-    ensures reads { (s : ScenarioContent) (ts : List Standing) → HaveRun s ts (no_journals ts) books.old.items
+    ensures reads { (s : ScenarioContent) (ts : List CabinetState) → HaveRun s ts (no_journals ts) books.old.items
         → ReadsCabinets s ts start.entry books.new.items result }
     ensures ticks { (most : ℕ) → TicksWithin most books.old.items → TicksWithin most books.new.items }
-    ensures seen { OnOk result ((s : ScenarioContent) (ts : List Standing) → HaveRun s ts (no_journals ts) books.old.items
+    ensures seen { OnOk result ((s : ScenarioContent) (ts : List CabinetState) → HaveRun s ts (no_journals ts) books.old.items
         → SeenSoFar watched seen.old seen.new ts books.new.items (length ts)) }
 {
     let mut at = start;
@@ -98,17 +98,17 @@ pub fn check_round<'a>(
     at: Place<'a>,
     done: u32,
     s: &Scenario,
-    corridor: &mut Corridor,
+    closed_loop: &mut ClosedLoop,
     watched: u32,
     seen: &mut Seen,
 ) -> Result<Place<'a>, CheckFail>
     requires runnable { Runnable (scenario_content s.now) }
     requires few { done < s.now.rounds }
-    requires between { (ts : List Standing) × Between (scenario_content s.now) done ts corridor.old }
-    ensures { (ts : List Standing) → Between (scenario_content s.now) done ts corridor.old
-        → ReadsRound (scenario_content s.now) done ts at.entry corridor.new watched seen.old seen.new result }
+    requires between { (ts : List CabinetState) × Between (scenario_content s.now) done ts closed_loop.old }
+    ensures { (ts : List CabinetState) → Between (scenario_content s.now) done ts closed_loop.old
+        → ReadsRound (scenario_content s.now) done ts at.entry closed_loop.new watched seen.old seen.new result }
 {
-    let notes = match corridor.begin_round(alloc, done, s) {
+    let notes = match closed_loop.begin_round(alloc, done, s) {
         Ok(notes) => notes,
         Err(NoMemory) => return Err(CheckFail::NoMemory),
     };
@@ -116,11 +116,11 @@ pub fn check_round<'a>(
         Ok(first) => first,
         Err(fail) => return Err(fail),
     };
-    let next = match check_cabinets(alloc, first, &mut corridor.books, watched, seen) {
+    let next = match check_cabinets(alloc, first, &mut closed_loop.books, watched, seen) {
         Ok(next) => next,
         Err(fail) => return Err(fail),
     };
-    match corridor.end_round(alloc, done, s) {
+    match closed_loop.end_round(alloc, done, s) {
         Ok(()) => Ok(next),
         Err(NoMemory) => Err(CheckFail::NoMemory),
     }

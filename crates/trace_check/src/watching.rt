@@ -2,14 +2,14 @@
 
 ghost use Rattle.std.specs.Prelude.{◌≡◌, ◌≢◌, ◌≤◌, ◌++◌, ◌+◌, ◌⊎◌, ◌↔◌, IsTrue, ℕ, List, [], ◌∷◌, Bool, drop, length, replicate, get_or, IfErr, IfOk, OnOk};
 ghost use Rattle.sig_tables.specs.Decide.{last_frame_of, past_at};
-ghost use Rattle.cabinet_history.specs.Story.{Story};
+ghost use Rattle.cabinet_history.specs.CabinetHistory.{CabinetHistory};
 ghost use Rattle.cabinet_history.specs.Journals.{passes_of};
 ghost use Rattle.cabinet_history.specs.Coming.{history_of};
-ghost use Rattle.cab_book.specs.Books.{BookStands, IsOnePart, streams_in, journal_of, left_of, story_now, ticks_by_end};
+ghost use Rattle.cab_book.specs.Books.{BookStands, IsOnePart, streams_in, journal_of, left_of, cabinet_history_now, ticks_by_end};
 ghost use Rattle.trace_laws.specs.Runs.{events_in};
 ghost use Rattle.scenario_data.specs.Content.{ScenarioContent};
-ghost use Rattle.run_definition.specs.Standing.{opened_standings};
-ghost use Rattle.round_run.specs.Standings.{AreAt};
+ghost use Rattle.run_definition.specs.CabinetState.{opened_cabinet_states};
+ghost use Rattle.round_run.specs.CabinetStates.{AreAt};
 ghost use Rattle.trace_laws.specs.Seen.{IsSeenOf};
 ghost use Rattle.trace_check.specs.Watching.{tells_put, AreTablesOf, IsWatched};
 
@@ -84,14 +84,14 @@ fn tells_put(replies: &[Answered], before: usize) -> bool
 /// A pass brings the next item of its stream; where that puts tables in force, they are kept.
 fn bring_one(book: &mut Book, pass: u32, tables: &mut Vec<Tables>) -> Result<(), CheckFail>
     requires { 1 ≤ left_of book.old pass }
-    ensures stands { (story : Story) → BookStands book.old story → BookStands book.new story }
+    ensures stands { (cabinet_history : CabinetHistory) → BookStands book.old cabinet_history → BookStands book.new cabinet_history }
     ensures streams { streams_in book.new ≡ streams_in book.old }
     ensures journal { journal_of book.new ≡ journal_of book.old ++ pass ∷ [] }
     ensures own { left_of book.new pass + 1 ≡ left_of book.old pass }
     ensures others { (p : ℕ) → p ≢ pass → left_of book.new p ≡ left_of book.old p }
     ensures ticks { ticks_by_end book.new ≡ ticks_by_end book.old }
-    ensures tables { OnOk result ((story : Story) → BookStands book.old story → AreTablesOf tables.old.items (history_of (story_now book.old story))
-        → AreTablesOf tables.new.items (history_of (story_now book.new story))) }
+    ensures tables { OnOk result ((cabinet_history : CabinetHistory) → BookStands book.old cabinet_history → AreTablesOf tables.old.items (history_of (cabinet_history_now book.old cabinet_history))
+        → AreTablesOf tables.new.items (history_of (cabinet_history_now book.new cabinet_history))) }
     ensures fails { IfErr result (λ fail. fail ≡ CheckFail.NoMemory) }
 {
     let before = book.replies().len();
@@ -111,14 +111,14 @@ fn bring_run(
     tables: &mut Vec<Tables>,
 ) -> Result<(), CheckFail>
     requires { count ≤ left_of book.old pass }
-    ensures stands { (story : Story) → BookStands book.old story → BookStands book.new story }
+    ensures stands { (cabinet_history : CabinetHistory) → BookStands book.old cabinet_history → BookStands book.new cabinet_history }
     ensures streams { streams_in book.new ≡ streams_in book.old }
     ensures journal { OnOk result (journal_of book.new ≡ journal_of book.old ++ replicate count pass) }
     ensures own { OnOk result (left_of book.new pass + count ≡ left_of book.old pass) }
     ensures others { (p : ℕ) → p ≢ pass → left_of book.new p ≡ left_of book.old p }
     ensures ticks { ticks_by_end book.new ≡ ticks_by_end book.old }
-    ensures tables { OnOk result ((story : Story) → BookStands book.old story → AreTablesOf tables.old.items (history_of (story_now book.old story))
-        → AreTablesOf tables.new.items (history_of (story_now book.new story))) }
+    ensures tables { OnOk result ((cabinet_history : CabinetHistory) → BookStands book.old cabinet_history → AreTablesOf tables.old.items (history_of (cabinet_history_now book.old cabinet_history))
+        → AreTablesOf tables.new.items (history_of (cabinet_history_now book.new cabinet_history))) }
     ensures fails { IfErr result (λ fail. fail ≡ CheckFail.NoMemory) }
 {
     for _brought in 0..count {
@@ -137,13 +137,13 @@ fn bring_runs(
     tables: &mut Vec<Tables>,
 ) -> Result<(), CheckFail>
     requires { (p : ℕ) → events_in p runs.now ≡ left_of book.old p }
-    ensures stands { (story : Story) → BookStands book.old story → BookStands book.new story }
+    ensures stands { (cabinet_history : CabinetHistory) → BookStands book.old cabinet_history → BookStands book.new cabinet_history }
     ensures streams { streams_in book.new ≡ streams_in book.old }
     ensures journal { OnOk result (journal_of book.new ≡ journal_of book.old ++ passes_of runs.now) }
     ensures all { OnOk result ((p : ℕ) → left_of book.new p ≡ 0) }
     ensures ticks { ticks_by_end book.new ≡ ticks_by_end book.old }
-    ensures tables { OnOk result ((story : Story) → BookStands book.old story → AreTablesOf tables.old.items (history_of (story_now book.old story))
-        → AreTablesOf tables.new.items (history_of (story_now book.new story))) }
+    ensures tables { OnOk result ((cabinet_history : CabinetHistory) → BookStands book.old cabinet_history → AreTablesOf tables.old.items (history_of (cabinet_history_now book.old cabinet_history))
+        → AreTablesOf tables.new.items (history_of (cabinet_history_now book.new cabinet_history))) }
     ensures fails { IfErr result (λ fail. fail ≡ CheckFail.NoMemory) }
 {
     for run in runs {
@@ -165,12 +165,12 @@ fn ticks_more(ticks: u32, more: u32) -> u32
 /// The round of the watched cabinet: its items are brought, and what is to be seen of them is kept.
 fn see_round(book: &mut Book, runs: &[(u32, u32)], seen: &mut Seen) -> Result<(), CheckFail>
     requires { (p : ℕ) → events_in p runs.now ≡ left_of book.old p }
-    ensures stands { (story : Story) → BookStands book.old story → BookStands book.new story }
+    ensures stands { (cabinet_history : CabinetHistory) → BookStands book.old cabinet_history → BookStands book.new cabinet_history }
     ensures streams { streams_in book.new ≡ streams_in book.old }
     ensures journal { OnOk result (journal_of book.new ≡ journal_of book.old ++ passes_of runs.now) }
     ensures ticks { ticks_by_end book.new ≡ ticks_by_end book.old }
-    ensures seen { OnOk result ((story : Story) → BookStands book.old story → journal_of book.old ≡ [] → IsOnePart book.old → IsSeenOf seen.old (history_of story)
-        → IsSeenOf seen.new (history_of (story_now book.new story))) }
+    ensures seen { OnOk result ((cabinet_history : CabinetHistory) → BookStands book.old cabinet_history → journal_of book.old ≡ [] → IsOnePart book.old → IsSeenOf seen.old (history_of cabinet_history)
+        → IsSeenOf seen.new (history_of (cabinet_history_now book.new cabinet_history))) }
     ensures fails { IfErr result (λ fail. fail ≡ CheckFail.NoMemory) }
 {
     let ticks = book.left(4);
@@ -190,12 +190,12 @@ pub fn bring_round(
     seen: &mut Seen,
 ) -> Result<(), CheckFail>
     requires { (p : ℕ) → events_in p runs.now ≡ left_of book.old p }
-    ensures stands { (story : Story) → BookStands book.old story → BookStands book.new story }
+    ensures stands { (cabinet_history : CabinetHistory) → BookStands book.old cabinet_history → BookStands book.new cabinet_history }
     ensures streams { streams_in book.new ≡ streams_in book.old }
     ensures journal { OnOk result (journal_of book.new ≡ journal_of book.old ++ passes_of runs.now) }
     ensures ticks { ticks_by_end book.new ≡ ticks_by_end book.old }
-    ensures seen { OnOk result (IsTrue is_watched → (story : Story) → BookStands book.old story → journal_of book.old ≡ [] → IsOnePart book.old → IsSeenOf seen.old (history_of story)
-        → IsSeenOf seen.new (history_of (story_now book.new story))) }
+    ensures seen { OnOk result (IsTrue is_watched → (cabinet_history : CabinetHistory) → BookStands book.old cabinet_history → journal_of book.old ≡ [] → IsOnePart book.old → IsSeenOf seen.old (history_of cabinet_history)
+        → IsSeenOf seen.new (history_of (cabinet_history_now book.new cabinet_history))) }
     ensures other { OnOk result ((IsTrue is_watched) ⊎ (seen.new ≡ seen.old)) }
     ensures fails { IfErr result (λ fail. fail ≡ CheckFail.NoMemory) }
 {
@@ -212,8 +212,8 @@ fn see_book(book: &Book, seen: &mut Seen) -> Result<(), CheckFail>
     requires frames { seen.old.frames.items ≡ [] }
     requires tables { seen.old.tables.items ≡ [] }
     requires ticks { seen.old.ticks ≡ 0 }
-    ensures frames { OnOk result ((story : Story) → BookStands book.now story → seen.new.frames.items ≡ (0, last_frame_of (history_of (story_now book.now story))) ∷ []) }
-    ensures tables { OnOk result ((story : Story) → BookStands book.now story → seen.new.tables.items ≡ (past_at (history_of (story_now book.now story))).tables ∷ []) }
+    ensures frames { OnOk result ((cabinet_history : CabinetHistory) → BookStands book.now cabinet_history → seen.new.frames.items ≡ (0, last_frame_of (history_of (cabinet_history_now book.now cabinet_history))) ∷ []) }
+    ensures tables { OnOk result ((cabinet_history : CabinetHistory) → BookStands book.now cabinet_history → seen.new.tables.items ≡ (past_at (history_of (cabinet_history_now book.now cabinet_history))).tables ∷ []) }
     ensures ticks { seen.new.ticks ≡ 0 }
     ensures fails { IfErr result (λ fail. fail ≡ CheckFail.NoMemory) }
 {
@@ -225,8 +225,8 @@ fn see_book(book: &Book, seen: &mut Seen) -> Result<(), CheckFail>
 
 /// What is seen before any tick of the cabinet with this number, where there is one.
 pub fn first_seen(alloc: Global, books: &Vec<Book>, watched: u32) -> Result<Seen, CheckFail>
-    ensures seen { IfOk result (λ seen. (s : ScenarioContent) → AreAt books.now.items (opened_standings s s.cabinets)
-        → IsWatched watched seen (opened_standings s s.cabinets)) }
+    ensures seen { IfOk result (λ seen. (s : ScenarioContent) → AreAt books.now.items (opened_cabinet_states s s.cabinets)
+        → IsWatched watched seen (opened_cabinet_states s s.cabinets)) }
     ensures fails { IfErr result (λ fail. fail ≡ CheckFail.NoMemory) }
 {
     let mut seen = nothing_seen(alloc);

@@ -4,10 +4,10 @@ ghost use Rattle.std.specs.Prelude.{◌≡◌, ◌≢◌, ◌≤◌, ◌⊎◌, 
 ghost use Rattle.trace_text.specs.declared.lines.Line.{Line as LineRow};
 ghost use Rattle.scenario_data.specs.Content.{scenario_content};
 ghost use Rattle.runnable.specs.Runnable.{Runnable};
-ghost use Rattle.run_definition.specs.Standing.{Standing, opened_standings};
+ghost use Rattle.run_definition.specs.CabinetState.{CabinetState, opened_cabinet_states};
 ghost use Rattle.run_definition.specs.Lines.{opening_lines};
-ghost use Rattle.round_run.specs.Standings.{AreAt};
-ghost use Rattle.round_run.specs.Corridor.{Between};
+ghost use Rattle.round_run.specs.CabinetStates.{AreAt};
+ghost use Rattle.round_run.specs.ClosedLoop.{Between};
 ghost use Rattle.trace_laws.specs.Traces.{Opens, IsTrace, IsCheckable};
 ghost use Rattle.trace_laws.specs.Faults.{FirstFault};
 ghost use Rattle.trace_laws.specs.Laws.{TellsOfRun};
@@ -26,7 +26,7 @@ use crate::places::Place;
 use crate::rounds::check_round;
 use crate::watching::{first_seen, nothing_seen};
 use cab_book::{Book, Way};
-use round_run::Corridor;
+use round_run::ClosedLoop;
 use scenario_checked::scenarios_run;
 use scenario_data::{ReadFail, Scenario};
 use scenario_file::read;
@@ -44,7 +44,7 @@ fn expect_openings<'a>(
     books: &Vec<Book>,
 ) -> Result<Place<'a>, CheckFail>
     requires few { length books.now.items ≤ 64 }
-    ensures { (ts : List Standing) → AreAt books.now.items ts → (rest : Script) → ReadsOn (say (opening_lines 1 ts) rest) start.entry rest result }
+    ensures { (ts : List CabinetState) → AreAt books.now.items ts → (rest : Script) → ReadsOn (say (opening_lines 1 ts) rest) start.entry rest result }
 {
     let mut at = start;
     for k in 0..books.len() {
@@ -62,20 +62,20 @@ fn check_rounds<'a>(
     alloc: Global,
     start: Place<'a>,
     s: &Scenario,
-    corridor: &mut Corridor,
+    closed_loop: &mut ClosedLoop,
     watched: u32,
     seen: &mut Seen,
 ) -> Result<Place<'a>, CheckFail>
     requires runnable { Runnable (scenario_content s.now) }
-    requires between { Between (scenario_content s.now) 0 (opened_standings (scenario_content s.now) (scenario_content s.now).cabinets) corridor.old }
-    ensures reads { ReadsOn (rounds_script (scenario_content s.now) 1 s.now.rounds (opened_standings (scenario_content s.now) (scenario_content s.now).cabinets))
+    requires between { Between (scenario_content s.now) 0 (opened_cabinet_states (scenario_content s.now) (scenario_content s.now).cabinets) closed_loop.old }
+    ensures reads { ReadsOn (rounds_script (scenario_content s.now) 1 s.now.rounds (opened_cabinet_states (scenario_content s.now) (scenario_content s.now).cabinets))
         start.entry (Script.Says (LineRow.Z s.now.rounds) Ends) result }
-    ensures seen { IfOk result (λ next. RoundsSeen (scenario_content s.now) (opened_standings (scenario_content s.now) (scenario_content s.now).cabinets)
+    ensures seen { IfOk result (λ next. RoundsSeen (scenario_content s.now) (opened_cabinet_states (scenario_content s.now) (scenario_content s.now).cabinets)
         start.entry next watched seen.old seen.new) }
 {
     let mut at = start;
     for done in 0..s.rounds {
-        match check_round(alloc, at, done, s, corridor, watched, seen) {
+        match check_round(alloc, at, done, s, closed_loop, watched, seen) {
             Ok(next) => at = next,
             Err(fail) => return Err(fail),
         }
@@ -106,19 +106,19 @@ fn check_rest(
     ensures reads { ReadsWhole (script_of (scenario_content s.now)) start.entry result }
     ensures seen { OnOk result (RestSeen (scenario_content s.now) start.entry.left.now watched seen.new) }
 {
-    let mut corridor = match Corridor::open(alloc, Way::LookingBack, s) {
-        Ok(corridor) => corridor,
+    let mut closed_loop = match ClosedLoop::open(alloc, Way::LookingBack, s) {
+        Ok(closed_loop) => closed_loop,
         Err(NoMemory) => return Err(CheckFail::NoMemory),
     };
-    match first_seen(alloc, &corridor.books, watched) {
+    match first_seen(alloc, &closed_loop.books, watched) {
         Ok(first) => *seen = first,
         Err(fail) => return Err(fail),
     }
-    let rounds = match expect_openings(alloc, start, &corridor.books) {
+    let rounds = match expect_openings(alloc, start, &closed_loop.books) {
         Ok(rounds) => rounds,
         Err(fail) => return Err(fail),
     };
-    let end = match check_rounds(alloc, rounds, s, &mut corridor, watched, seen) {
+    let end = match check_rounds(alloc, rounds, s, &mut closed_loop, watched, seen) {
         Ok(end) => end,
         Err(fail) => return Err(fail),
     };

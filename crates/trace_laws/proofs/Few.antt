@@ -1,6 +1,6 @@
 -- Versions are few: each download that is put in force has a greater id than the one before it, and ids are numbers that an INTEGER
 -- holds. The end of a load has such numbers.
-use Rattle.std.proofs.Common.{◌≡◌, ◌≤◌, ◌<◌, ◌^◌, ◌==◌, ◌||◌, ◌&&◌, nat_le, ◌++◌, ◌∷◌, [], ℕ, Bool, true, false, if◌then◌else◌, List, Option, Some, None, Result, Ok, Err, refl, sym, subst, arith}
+use Rattle.std.proofs.Common.{◌≡◌, ◌≤◌, ◌<◌, ◌^◌, ◌==◌, ◌||◌, ◌&&◌, nat_le, ◌++◌, ◌∷◌, [], map, ℕ, Bool, true, false, if◌then◌else◌, List, Option, Some, None, Result, Ok, Err, refl, sym, subst, arith}
 use Rattle.std.specs.Prelude.{IfSome}
 use Rattle.std.specs.List.{AllByRecursion}
 use Rattle.std.proofs.lemmas.Bool.{and_parts, leb-true}
@@ -14,9 +14,12 @@ use Rattle.sig_tables.specs.Cells.{Content}
 use Rattle.sig_tables.specs.Past.{Event, Tick, Input, Install, SetPattern, SetClock, SetDrift, Ask as GivePriority, Cancel, History}
 use Rattle.sig_tables.specs.Decide.{past_at, with_one}
 use Rattle.trace_text.specs.IsLine.{FitsLoad}
-use Rattle.rule_book.specs.Rules.{all_rules, all_patterns, all_preempts, rows_of, breaks, at_rows, broken_of, broken, first_of}
+use Rattle.rule_book.specs.declared.rules.Rule.{Rule}
+use Rattle.rule_book.specs.declared.rules.Rule.TheVariants.{OnPhase, OnSequence, OnPattern, TwoSides, Correction, PreemptPhases, LayoutInForce}
+use Rattle.rule_book.specs.Named.{number_of, all_rules}
+use Rattle.rule_book.specs.Rules.{all_patterns, all_preempts, rows_of, breaks, at_rows, broken_of, broken, first_of}
 use Rattle.stage_txn.specs.Calls.{Call, Begin as BeginCall, Part as PartCall, Verify as VerifyCall, Finish as FinishCall, Deed, begin_deed, part_deed, verify_deed, finish_deed, deeds, kept_by}
-use Rattle.stage_txn.specs.Answers.{answer_to, answered, kept, staged, standing, first_broken}
+use Rattle.stage_txn.specs.Answers.{answer_to, answered, kept, staged, stage_state, first_broken}
 use Rattle.agent.specs.declared.ask.Wish.{Wish}
 use Rattle.agent.specs.declared.ask.Wish.TheVariants.{Get, Next, Direct, Begin, Part, Verify, Finish, Bad}
 use Rattle.agent.specs.declared.ask.Ask.{Ask}
@@ -24,12 +27,12 @@ use Rattle.agent.specs.Asks.{ask_of}
 use Rattle.agent.specs.Downloads.{IsId}
 use Rattle.sig_types.specs.Items.{Came}
 use Rattle.cabinet_history.specs.declared.Load.{Load}
-use Rattle.cabinet_history.specs.Story.{Story, with_item}
+use Rattle.cabinet_history.specs.CabinetHistory.{CabinetHistory, with_item}
 use Rattle.cabinet_history.specs.Coming.{Coming, past_of, in_force, is_flashing, with_events, installs, coming, coming_from, outcome}
 use Rattle.cabinet_history.specs.Told.{verify_end, finish_end, wish_end, ask_end, load_end}
 use Rattle.cabinet_laws.specs.Judging.{verdict, IsVerdict}
 use Rattle.cabinet_laws.proofs.Ids.{HasId, ask-id}
-use Rattle.cabinet_laws.proofs.Steps.{IsPlain, IsMadeAt, called, happened, Any, any, story-keeps}
+use Rattle.cabinet_laws.proofs.Steps.{IsPlain, IsMadeAt, called, happened, Any, any, cabinet_history-keeps}
 use Rattle.cabinet_history.proofs.Installing.{Few, few-within, few-begin, few-part, few-verify, few-finish, version_after}
 
 -- ---- versions
@@ -130,15 +133,15 @@ event-few c e is f = record {
   ids = f.ids;
 }
 
--- the version after any story of a cabinet that opens with version 0
-pub version-few : (story : Story) → (past_at story.opening).version ≡ 0 → (past_of (coming story)).version ≤ 2147483647
-version-few story none =
-    let f = story-keeps Any IsFew
+-- the version after any history of a cabinet that opens with version 0
+pub version-few : (cabinet_history : CabinetHistory) → (past_at cabinet_history.opening).version ≡ 0 → (past_of (coming cabinet_history)).version ≤ 2147483647
+version-few cabinet_history none =
+    let f = cabinet_history-keeps Any IsFew
     (record { event = event-few; call = λ c call is before after f. call-few c call is f })
-    story.community story.opening (λ items. any (coming_from story.community story.opening items))
-    (record { few = (none, refl); ids = omega arith }) story.items in
-    let less : (past_of (coming story)).version ≤ kept (answered (coming story).calls) =
-    few-within (past_of (coming story)).version (kept (answered (coming story).calls)) (standing (answered (coming story).calls)) f.few in
+    cabinet_history.community cabinet_history.opening (λ items. any (coming_from cabinet_history.community cabinet_history.opening items))
+    (record { few = (none, refl); ids = omega arith }) cabinet_history.items in
+    let less : (past_of (coming cabinet_history)).version ≤ kept (answered (coming cabinet_history).calls) =
+    few-within (past_of (coming cabinet_history)).version (kept (answered (coming cabinet_history).calls)) (stage_state (answered (coming cabinet_history).calls)) f.few in
     omega (arith, less, f.ids)
 
 -- ---- what a rule that is broken says
@@ -169,18 +172,17 @@ within-to most (n ∷ ns) e =
     let parts = and_parts (nat_le n most) (within most ns) e in
     (leb-true n most parts.0, within-to most ns parts.1)
 
-either-to : (b : Bool) (most : ℕ) (xs ys : List ℕ) → AllTo most xs → AllTo most ys → AllTo most (if b then xs else ys)
-either-to true most xs ys p q = p
-either-to false most xs ys p q = q
-
-rows-to : (rule : ℕ) → AllTo 48 (rows_of rule)
+rows-to : (rule : Rule) → AllTo 48 (rows_of rule)
 unfolding within
-rows-to rule =
-    either-to (rule == 7 || rule == 13) 48 (0 ∷ []) _ (omega arith, tt)
-    (either-to (rule == 14 || rule == 15 || rule == 16 || rule == 17 || rule == 18 || rule == 19) 48 all_patterns _ (within-to 48 all_patterns refl)
-    (either-to (rule == 20) 48 all_preempts all_phases (within-to 48 all_preempts refl) (within-to 48 all_phases refl)))
+rows-to (OnPhase rule) = within-to 48 all_phases refl
+rows-to (OnSequence rule) = within-to 48 all_phases refl
+rows-to (OnPattern rule) = within-to 48 all_patterns refl
+rows-to TwoSides = (omega arith, tt)
+rows-to Correction = (omega arith, tt)
+rows-to PreemptPhases = within-to 48 all_preempts refl
+rows-to LayoutInForce = within-to 48 all_phases refl
 
-at-small : (rule : ℕ) (rows : List ℕ) → rule ≤ 22 → AllTo 48 rows → AllByRecursion IsSmall (at_rows rule rows)
+at-small : (rule : Rule) (rows : List ℕ) → number_of rule ≤ 22 → AllTo 48 rows → AllByRecursion IsSmall (at_rows rule rows)
 at-small rule [] low all = tt
 at-small rule (row ∷ rows) low all = (record { rule = low; row = all.0 }, at-small rule rows low all.1)
 
@@ -188,7 +190,7 @@ both-small : (xs ys : List Broken) → AllByRecursion IsSmall xs → AllByRecurs
 both-small [] ys a b = b
 both-small (x ∷ xs) ys a b = (a.0, both-small xs ys a.1 b)
 
-broken-small : (t now : Tables) (flashing : Bool) (rules : List ℕ) → AllTo 22 rules → AllByRecursion IsSmall (broken_of t now flashing rules)
+broken-small : (t now : Tables) (flashing : Bool) (rules : List Rule) → AllTo 22 (map number_of rules) → AllByRecursion IsSmall (broken_of t now flashing rules)
 broken-small t now flashing [] all = tt
 broken-small t now flashing (rule ∷ rules) all =
     let rows : List ℕ = those (breaks t now flashing rule) (rows_of rule) in
@@ -204,7 +206,7 @@ verdict-small : (c : Coming) (b : Broken) → verdict c ≡ Err b → IsSmall b
 unfolding first_broken within
 verdict-small c b e =
     first-small (broken (staged (answered c.calls)) (in_force c) (is_flashing (past_of c))) b
-    (broken-small (staged (answered c.calls)) (in_force c) (is_flashing (past_of c)) all_rules (within-to 22 all_rules refl)) e
+    (broken-small (staged (answered c.calls)) (in_force c) (is_flashing (past_of c)) all_rules (within-to 22 (map number_of all_rules) refl)) e
 
 -- ---- the end of a load
 
@@ -240,13 +242,13 @@ wish-id v (Begin id) o is = tt
 wish-id v (Part id number puts) o is = tt
 wish-id v (Bad status index) o is = tt
 
-load-id : (story : Story) (octets : List ℕ) → IfSome (load_end story octets) (λ load. IsId load.id)
-load-id story octets =
-    among (ask_of octets story.community (in_force (coming story))) (ask-id octets story.community (in_force (coming story)))
+load-id : (cabinet_history : CabinetHistory) (octets : List ℕ) → IfSome (load_end cabinet_history octets) (λ load. IsId load.id)
+load-id cabinet_history octets =
+    among (ask_of octets cabinet_history.community (in_force (coming cabinet_history))) (ask-id octets cabinet_history.community (in_force (coming cabinet_history)))
   where
-    among : (o : Option Ask) → IfSome o (λ ask. HasId ask.wish) → IfSome (ask_end (coming story) o) (λ load. IsId load.id)
+    among : (o : Option Ask) → IfSome o (λ ask. HasId ask.wish) → IfSome (ask_end (coming cabinet_history) o) (λ load. IsId load.id)
     among None is = tt
-    among (Some ask) is = wish-id (past_of (coming story)).version ask.wish (outcome (coming story) ask.wish) is
+    among (Some ask) is = wish-id (past_of (coming cabinet_history)).version ask.wish (outcome (coming cabinet_history) ask.wish) is
 
 result-fits : (before after : Coming) (r : Result ℕ Broken) → IsVerdict before after r → (past_of after).version ≤ 2147483647 → FitsLoad r
 result-fits before after (Ok version) is few = omega (arith, is.1, few)
@@ -259,15 +261,15 @@ pub record LoadFits (load : Load) : Type 0 where
   pub id : load.id < 2 ^ 32
   pub result : FitsLoad load.result
 
-pub load-fits : (story : Story) (octets : List ℕ) → (past_at story.opening).version ≡ 0
-    → IfSome (load_end story octets) (λ load. IsVerdict (coming story) (coming (with_item story (Came octets))) load.result)
-    → IfSome (load_end story octets) LoadFits
-load-fits story octets none says = joined (load_end story octets) (load-id story octets) says
+pub load-fits : (cabinet_history : CabinetHistory) (octets : List ℕ) → (past_at cabinet_history.opening).version ≡ 0
+    → IfSome (load_end cabinet_history octets) (λ load. IsVerdict (coming cabinet_history) (coming (with_item cabinet_history (Came octets))) load.result)
+    → IfSome (load_end cabinet_history octets) LoadFits
+load-fits cabinet_history octets none says = joined (load_end cabinet_history octets) (load-id cabinet_history octets) says
   where
     joined : (o : Option Load) → IfSome o (λ load. IsId load.id)
-        → IfSome o (λ load. IsVerdict (coming story) (coming (with_item story (Came octets))) load.result) → IfSome o LoadFits
+        → IfSome o (λ load. IsVerdict (coming cabinet_history) (coming (with_item cabinet_history (Came octets))) load.result) → IfSome o LoadFits
     joined None own says = tt
     joined (Some load) own says = record {
       id = omega (arith, own.1);
-      result = result-fits (coming story) (coming (with_item story (Came octets))) load.result says (version-few (with_item story (Came octets)) none);
+      result = result-fits (coming cabinet_history) (coming (with_item cabinet_history (Came octets))) load.result says (version-few (with_item cabinet_history (Came octets)) none);
     }

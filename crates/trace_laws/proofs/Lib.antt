@@ -3,7 +3,7 @@ pub mod Read
 pub mod Tables
 pub mod Carried
 pub mod Named
-pub mod OctetStories
+pub mod OctetCabinetHistories
 pub mod Replies
 pub mod Sent
 pub mod OctetRounds
@@ -12,7 +12,7 @@ pub mod Few
 pub mod Notes
 pub mod LineJournals
 pub mod Ticks
-pub mod LineStories
+pub mod LineCabinetHistories
 pub mod LineRounds
 pub mod SameWords
 pub mod SameModes

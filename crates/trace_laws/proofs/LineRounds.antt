@@ -11,7 +11,7 @@ use Rattle.scenario_data.specs.Inputs.{inputs_of}
 use Rattle.scenario_data.specs.Opening.{opening_tables}
 use Rattle.sig_types.specs.Items.{Item, Ticked}
 use Rattle.sig_types.specs.Replies.{Reply}
-use Rattle.cabinet_history.specs.Story.{Story, with_item, after}
+use Rattle.cabinet_history.specs.CabinetHistory.{CabinetHistory, with_item, after}
 use Rattle.cabinet_history.specs.Journals.{Act, times, IsMerge, acts_from, items_in}
 use Rattle.master_rounds.specs.Rounds.{arrivals, delivered, noted}
 use Rattle.master_rounds.specs.Served.{CanBeServed}
@@ -21,7 +21,7 @@ use Rattle.std.proofs.lemmas.List.{length-replicate}
 use Rattle.sig_tables.specs.Past.{first_frame}
 use Rattle.runnable.specs.Octets.{PutOctets}
 use Rattle.runnable.specs.Runnable.{CanOpen, AllOpen, Runnable}
-use Rattle.run_definition.specs.Standing.{Standing, opened_standing, opened_standings, coming_streams, round_acts, next_standing, each_standing}
+use Rattle.run_definition.specs.CabinetState.{CabinetState, opened_cabinet_state, opened_cabinet_states, coming_streams, round_acts, next_cabinet_state, each_cabinet_state}
 use Rattle.run_definition.specs.Lines.{cabinet_lines, each_lines, notes_lines, head_lines, round_lines, rounds_lines, opening_lines, front_lines, run_lines}
 use Rattle.run_definition.specs.Orders.{EachMerges, AreMerges, AreJournals}
 use Rattle.run_definition.proofs.Streets.{after-opening, drift_in, opening-fits}
@@ -32,23 +32,23 @@ use Rattle.trace_laws.proofs.OctetRounds.{streams-octets, arrivals-octets}
 use Rattle.trace_laws.proofs.Notes.{notes-fit}
 use Rattle.trace_laws.proofs.LineJournals.{CanBeTold, AllEarly, all-early, journal-line}
 use Rattle.trace_laws.proofs.Ticks.{ticks_in, ticks-after, only-last, journal-ticks}
-use Rattle.trace_laws.proofs.LineStories.{StoryLaws, IsTold, ActFits, all-lines, frame-line, acts-are-lines, acts-answers}
+use Rattle.trace_laws.proofs.LineCabinetHistories.{CabinetHistoryLaws, IsTold, ActFits, all-lines, frame-line, acts-are-lines, acts-answers}
 
 -- the laws on which the lines rest
 pub record LineLaws : Type 0 where
-  pub stories : StoryLaws
+  pub cabinet_histories : CabinetHistoryLaws
   pub short : (s : ScenarioContent) (cab : ℕ) (c : CabinetContent) (answered : List (List Reply)) → RoundIsShort s cab c answered
 
 -- what a cabinet with this number has come to after so many rounds
-record IsStanding (s : ScenarioContent) (cab done : ℕ) (t : Standing) : Type 0 where
-  told : IsTold (opening_tables t.cabinet) (drift_in t.cabinet) t.story
+record IsCabinetState (s : ScenarioContent) (cab done : ℕ) (t : CabinetState) : Type 0 where
+  told : IsTold (opening_tables t.cabinet) (drift_in t.cabinet) t.cabinet_history
   answered : RepliesAre t.answered
-  ticks : ticks_in t.story.items ≤ done * s.ticks
+  ticks : ticks_in t.cabinet_history.items ≤ done * s.ticks
 
 -- all cabinets, counted from a first number
-abbrev AllStand : ScenarioContent → ℕ → ℕ → List Standing → Type 0
+abbrev AllStand : ScenarioContent → ℕ → ℕ → List CabinetState → Type 0
 AllStand s first done [] = Unit {0}
-AllStand s first done (t ∷ ts) = IsStanding s first done t × AllStand s (first + 1) done ts
+AllStand s first done (t ∷ ts) = IsCabinetState s first done t × AllStand s (first + 1) done ts
 
 served : (s : ScenarioContent) → Runnable s → CanBeServed s
 served s run = record {
@@ -85,13 +85,13 @@ acts-items : (acts : List Act) → AllByRecursion ActFits acts → AreOctetItems
 acts-items [] all = tt
 acts-items (act ∷ acts) all = (all.0.item, acts-items acts all.1)
 
-after-items : (story : Story) (items : List Item) → AreOctetItems story.items → AreOctetItems items → AreOctetItems (after story items).items
-after-items story [] own more = own
-after-items story (item ∷ items) own more = after-items (with_item story item) items (more.0, own) more.1
+after-items : (cabinet_history : CabinetHistory) (items : List Item) → AreOctetItems cabinet_history.items → AreOctetItems items → AreOctetItems (after cabinet_history items).items
+after-items cabinet_history [] own more = own
+after-items cabinet_history (item ∷ items) own more = after-items (with_item cabinet_history item) items (more.0, own) more.1
 
 -- ---- a cabinet's round
 
-can-tell : (laws : LineLaws) (s : ScenarioContent) (cab : ℕ) (t : Standing) → Runnable s → CanBeTold (coming_streams s cab t)
+can-tell : (laws : LineLaws) (s : ScenarioContent) (cab : ℕ) (t : CabinetState) → Runnable s → CanBeTold (coming_streams s cab t)
 can-tell laws s cab t run =
     let short = laws.short s cab t.cabinet t.answered (served s run) in
     record {
@@ -101,13 +101,13 @@ can-tell laws s cab t run =
       few_ticks = short.few_ticks;
     }
 
-round-acts-fit : (s : ScenarioContent) (cab : ℕ) (t : Standing) (journal : List ℕ) → Runnable s → IsMerge (coming_streams s cab t) journal
+round-acts-fit : (s : ScenarioContent) (cab : ℕ) (t : CabinetState) (journal : List ℕ) → Runnable s → IsMerge (coming_streams s cab t) journal
     → AllByRecursion ActFits (round_acts s cab t journal)
 round-acts-fit s cab t journal run is =
     acts-fit (coming_streams s cab t) [] journal (streams-octets s cab t.cabinet t.answered run.octets run.loads)
     (all-early (coming_streams s cab t) journal refl (λ p. let e = is p in omega (arith, e)))
 
-round-ticks : (s : ScenarioContent) (cab : ℕ) (t : Standing) (journal : List ℕ) → IsMerge (coming_streams s cab t) journal
+round-ticks : (s : ScenarioContent) (cab : ℕ) (t : CabinetState) (journal : List ℕ) → IsMerge (coming_streams s cab t) journal
     → ticks_in (items_in (round_acts s cab t journal)) ≤ s.ticks
 round-ticks s cab t journal is =
     let only = only-last (inputs_of (length t.answered + 1) cab s.inputs) (delivered s cab t.cabinet t.answered 1)
@@ -116,54 +116,54 @@ round-ticks s cab t journal is =
     let e = length-replicate s.ticks Ticked in
     omega (arith, few, e)
 
-next-is : (s : ScenarioContent) (cab done : ℕ) (t : Standing) (journal : List ℕ) → Runnable s → IsMerge (coming_streams s cab t) journal
-    → IsStanding s cab done t → IsStanding s cab (done + 1) (next_standing s cab t journal)
+next-is : (s : ScenarioContent) (cab done : ℕ) (t : CabinetState) (journal : List ℕ) → Runnable s → IsMerge (coming_streams s cab t) journal
+    → IsCabinetState s cab done t → IsCabinetState s cab (done + 1) (next_cabinet_state s cab t journal)
 next-is s cab done t journal run is own =
     let acts : List Act = round_acts s cab t journal in
     let fit = round-acts-fit s cab t journal run is in
-    let e = ticks-after t.story (items_in acts) in
+    let e = ticks-after t.cabinet_history (items_in acts) in
     let few = round-ticks s cab t journal is in
     let product : (done + 1) * s.ticks ≡ done * s.ticks + s.ticks = grind arith in
     record {
       told = record {
-        opens = rw (after-opening t.story (items_in acts)) own.told.opens;
+        opens = rw (after-opening t.cabinet_history (items_in acts)) own.told.opens;
         consistent = own.told.consistent;
         fits = own.told.fits;
         holds = own.told.holds;
-        items = after-items t.story (items_in acts) own.told.items (acts-items acts fit);
+        items = after-items t.cabinet_history (items_in acts) own.told.items (acts-items acts fit);
       };
-      answered = (acts-answers (opening_tables t.cabinet) (drift_in t.cabinet) t.story acts own.told fit, own.answered);
+      answered = (acts-answers (opening_tables t.cabinet) (drift_in t.cabinet) t.cabinet_history acts own.told fit, own.answered);
       ticks = omega (arith, e, few, product, own.ticks);
     }
 
-cabinet-are : (laws : LineLaws) (s : ScenarioContent) (cab done : ℕ) (t : Standing) (journal : List ℕ) → Runnable s → cab < 2 ^ 32
-    → (done + 1) * s.ticks ≤ 55296000 → IsMerge (coming_streams s cab t) journal → IsStanding s cab done t → AreLines (cabinet_lines s cab t journal)
+cabinet-are : (laws : LineLaws) (s : ScenarioContent) (cab done : ℕ) (t : CabinetState) (journal : List ℕ) → Runnable s → cab < 2 ^ 32
+    → (done + 1) * s.ticks ≤ 55296000 → IsMerge (coming_streams s cab t) journal → IsCabinetState s cab done t → AreLines (cabinet_lines s cab t journal)
 cabinet-are laws s cab done t journal run small few is own =
     let acts : List Act = round_acts s cab t journal in
     let ticks = round-ticks s cab t journal is in
     let product : (done + 1) * s.ticks ≡ done * s.ticks + s.ticks = grind arith in (
       journal-line cab (coming_streams s cab t) journal small (can-tell laws s cab t run) is,
-      acts-are-lines laws.stories cab (opening_tables t.cabinet) (drift_in t.cabinet) t.story acts small own.told
+      acts-are-lines laws.cabinet_histories cab (opening_tables t.cabinet) (drift_in t.cabinet) t.cabinet_history acts small own.told
           (round-acts-fit s cab t journal run is) (omega (arith, ticks, product, few, own.ticks)),
     )
 
 -- ---- the cabinets of a round
 
-each-next : (s : ScenarioContent) (first done : ℕ) (ts : List Standing) (js : List (List ℕ)) → Runnable s → EachMerges s first ts js → AllStand s first done ts
-    → AllStand s first (done + 1) (each_standing s first ts js)
+each-next : (s : ScenarioContent) (first done : ℕ) (ts : List CabinetState) (js : List (List ℕ)) → Runnable s → EachMerges s first ts js → AllStand s first done ts
+    → AllStand s first (done + 1) (each_cabinet_state s first ts js)
 each-next s first done [] js run are all = tt
 each-next s first done (t ∷ ts) [] run are all = absurd are
 each-next s first done (t ∷ ts) (j ∷ js) run are all =
     (next-is s first done t j run are.0 all.0, each-next s (first + 1) done ts js run are.1 all.1)
 
-each-length : (s : ScenarioContent) (first : ℕ) (ts : List Standing) (js : List (List ℕ)) → EachMerges s first ts js
-    → length (each_standing s first ts js) ≡ length ts
+each-length : (s : ScenarioContent) (first : ℕ) (ts : List CabinetState) (js : List (List ℕ)) → EachMerges s first ts js
+    → length (each_cabinet_state s first ts js) ≡ length ts
 each-length s first [] [] are = refl
 each-length s first [] (j ∷ js) are = absurd are
 each-length s first (t ∷ ts) [] are = absurd are
 each-length s first (t ∷ ts) (j ∷ js) are = ap suc (each-length s (first + 1) ts js are.1)
 
-each-are : (laws : LineLaws) (s : ScenarioContent) (first done : ℕ) (ts : List Standing) (js : List (List ℕ)) → Runnable s → first + length ts ≤ 65
+each-are : (laws : LineLaws) (s : ScenarioContent) (first done : ℕ) (ts : List CabinetState) (js : List (List ℕ)) → Runnable s → first + length ts ≤ 65
     → (done + 1) * s.ticks ≤ 55296000 → EachMerges s first ts js → AllStand s first done ts → AreLines (each_lines s first ts js)
 each-are laws s first done [] js run few low are all = tt
 each-are laws s first done (t ∷ ts) [] run few low are all = absurd are
@@ -178,7 +178,7 @@ note-lines : (notes : List MasterNote) → AllByRecursion FitsNote notes → Are
 note-lines [] all = tt
 note-lines (note ∷ notes) all = ((tt, all.0), note-lines notes all.1)
 
-notes-are : (s : ScenarioContent) (first done : ℕ) (ts : List Standing) → Runnable s → first + length ts ≤ 65 → AllStand s first done ts
+notes-are : (s : ScenarioContent) (first done : ℕ) (ts : List CabinetState) → Runnable s → first + length ts ≤ 65 → AllStand s first done ts
     → AreLines (notes_lines s first ts)
 notes-are s first done [] run few all = tt
 notes-are s first done (t ∷ ts) run few all =
@@ -190,7 +190,7 @@ notes-are s first done (t ∷ ts) run few all =
 
 -- ---- rounds
 
-rounds-are : (laws : LineLaws) (s : ScenarioContent) (done : ℕ) (ts : List Standing) (journals : List (List (List ℕ))) → Runnable s → 1 + length ts ≤ 65
+rounds-are : (laws : LineLaws) (s : ScenarioContent) (done : ℕ) (ts : List CabinetState) (journals : List (List (List ℕ))) → Runnable s → 1 + length ts ≤ 65
     → done + length journals ≡ s.rounds → s.rounds * s.ticks ≤ 55296000 → AreMerges s ts journals → AllStand s 1 done ts
     → AreLines (rounds_lines s (done + 1) ts journals)
 rounds-are laws s done ts [] run few many low are all = tt
@@ -198,7 +198,7 @@ rounds-are laws s done ts (js ∷ later) run few many low are all =
     let within : done + 1 ≤ s.rounds = omega (arith, many) in
     let rounds : s.rounds ≤ 86400 = run.few_rounds in
     let product : (done + 1) * s.ticks ≤ s.rounds * s.ticks = mul-le-mul within (le_refl s.ticks) in
-    let next : List Standing = each_standing s 1 ts js in
+    let next : List CabinetState = each_cabinet_state s 1 ts js in
     let same : length next ≡ length ts = each-length s 1 ts js are.0 in
     all-lines (round_lines s (done + 1) ts js) (rounds_lines s (done + 1 + 1) next later)
     (all-lines (head_lines s (done + 1) ts) (each_lines s 1 ts js)
@@ -208,7 +208,7 @@ rounds-are laws s done ts (js ∷ later) run few many low are all =
 
 -- ---- the opening
 
-opened-is : (s : ScenarioContent) (cab : ℕ) (c : CabinetContent) → CanOpen c → PutOctets c.cells → IsStanding s cab 0 (opened_standing s c)
+opened-is : (s : ScenarioContent) (cab : ℕ) (c : CabinetContent) → CanOpen c → PutOctets c.cells → IsCabinetState s cab 0 (opened_cabinet_state s c)
 opened-is s cab c can puts = record {
   told = record {
     opens = (c.pattern, c.clock, inr refl);
@@ -222,12 +222,12 @@ opened-is s cab c can puts = record {
 }
 
 all-opened : (s : ScenarioContent) (first : ℕ) (cabinets : List CabinetContent) → AllOpen cabinets → AllByRecursion (λ c. PutOctets c.cells) cabinets
-    → AllStand s first 0 (opened_standings s cabinets)
+    → AllStand s first 0 (opened_cabinet_states s cabinets)
 all-opened s first [] all puts = tt
 all-opened s first (c ∷ cabinets) all puts = (opened-is s first c all.0 puts.0, all-opened s (first + 1) cabinets all.1 puts.1)
 
 opening-are : (s : ScenarioContent) (first : ℕ) (cabinets : List CabinetContent) → first + length cabinets ≤ 65
-    → AreLines (opening_lines first (opened_standings s cabinets))
+    → AreLines (opening_lines first (opened_cabinet_states s cabinets))
 opening-are s first [] few = tt
 opening-are s first (c ∷ cabinets) few = (
   frame-line first 0 first_frame (omega (arith, few)) (omega arith)
@@ -235,13 +235,13 @@ opening-are s first (c ∷ cabinets) few = (
   opening-are s (first + 1) cabinets (omega (arith, few)),
 )
 
-opened-length : (s : ScenarioContent) (cabinets : List CabinetContent) → length (opened_standings s cabinets) ≡ length cabinets
+opened-length : (s : ScenarioContent) (cabinets : List CabinetContent) → length (opened_cabinet_states s cabinets) ≡ length cabinets
 opened-length s [] = refl
 opened-length s (c ∷ cabinets) = ap suc (opened-length s cabinets)
 
 pub run-are : (laws : LineLaws) (s : ScenarioContent) (journals : List (List (List ℕ))) → Runnable s → AreJournals s journals → AreLines (run_lines s journals)
 run-are laws s journals run are =
-    let ts : List Standing = opened_standings s s.cabinets in
+    let ts : List CabinetState = opened_cabinet_states s s.cabinets in
     let start : List Line = opening_lines 1 ts in
     let rounds : List Line = rounds_lines s 1 ts journals in
     let few : length s.cabinets ≤ 64 = run.few_cabinets in

@@ -53,17 +53,17 @@ pub goes-say : (lines : List Line) (rest : Script) → Goes (say lines rest) lin
 goes-say [] rest = refl
 goes-say (x ∷ lines) rest = (refl, goes-say lines rest)
 
-GoesOn : Script → Type 0
-GoesOn Ends = ⊥
-GoesOn _ = Unit {0}
+ScriptGoesOn : Script → Type 0
+ScriptGoesOn Ends = ⊥
+ScriptGoesOn _ = Unit {0}
 
 pub says-goes-on : (due : Line) (rest : Script) → Says due rest ≡ Ends → ⊥
-unfolding GoesOn
-says-goes-on due rest e = subst GoesOn e tt
+unfolding ScriptGoesOn
+says-goes-on due rest e = subst ScriptGoesOn e tt
 
 pub hears-goes-on : (cab : ℕ) (streams : List (List Item)) (next : List ℕ → Script) → Hears cab streams next ≡ Ends → ⊥
-unfolding GoesOn
-hears-goes-on cab streams next e = subst GoesOn e tt
+unfolding ScriptGoesOn
+hears-goes-on cab streams next e = subst ScriptGoesOn e tt
 
 -- what is said is said first
 pub unsay : (lines all : List Line) (rest : Script) → Goes (say lines rest) all Ends → (more : List Line) × (all ≡ lines ++ more) × Goes rest more Ends

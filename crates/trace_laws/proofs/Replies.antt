@@ -35,7 +35,7 @@ use Rattle.agent.proofs.Asked.{asked_fits, bad_small}
 use Rattle.agent.proofs.Gathered.{fault_is_small}
 use Rattle.agent.proofs.Readings.{read_asked}
 use Rattle.agent.proofs.Rooms.{repeated_fits}
-use Rattle.cabinet_history.specs.Story.{Story}
+use Rattle.cabinet_history.specs.CabinetHistory.{CabinetHistory}
 use Rattle.cabinet_history.specs.Coming.{Coming, in_force, coming, outcome}
 use Rattle.cabinet_history.specs.Told.{seen_in, replied, reply_to}
 use Rattle.runnable.specs.Octets.{HoldsOctets}
@@ -43,7 +43,7 @@ use Rattle.trace_laws.specs.Messages.{IsFrame, IsShortName, IsOctetValue, IsOcte
 use Rattle.trace_laws.specs.Tables.{EachHolds}
 use Rattle.trace_laws.proofs.OctetTexts.{shortest-frame}
 use Rattle.trace_laws.proofs.Read.{message-read}
-use Rattle.trace_laws.proofs.OctetStories.{each-given}
+use Rattle.trace_laws.proofs.OctetCabinetHistories.{each-given}
 use Rattle.trace_laws.proofs.Named.{name-short}
 
 -- ---- values
@@ -171,15 +171,15 @@ wish-frame s m (Verify id total) o own is few fits bad = told-frame m o is fits
 wish-frame s m (Finish id) o own is few fits bad = told-frame m o is fits
 
 -- the reply to a frame
-pub reply-frame : (story : Story) (octets : List ℕ) → EachHolds (in_force (coming story)) → AreOctets octets → IfSome (reply_to story octets) IsFrame
-reply-frame story octets own all = among (ask_of octets story.community (in_force c)) (read_asked octets story.community (in_force c))
+pub reply-frame : (cabinet_history : CabinetHistory) (octets : List ℕ) → EachHolds (in_force (coming cabinet_history)) → AreOctets octets → IfSome (reply_to cabinet_history octets) IsFrame
+reply-frame cabinet_history octets own all = among (ask_of octets cabinet_history.community (in_force c)) (read_asked octets cabinet_history.community (in_force c))
   where
     c : Coming
-    c = coming story
+    c = coming cabinet_history
 
-    among : (o : Option Ask) → IfSome o (Asks octets story.community (in_force c)) → IfSome (replied c o) IsFrame
+    among : (o : Option Ask) → IfSome o (Asks octets cabinet_history.community (in_force c)) → IfSome (replied c o) IsFrame
     among (Some ask) is =
-        let asked : IsAsked ask = (octets, story.community, in_force c, all, is) in
+        let asked : IsAsked ask = (octets, cabinet_history.community, in_force c, all, is) in
         wish-frame (seen_in c) ask.message ask.wish (outcome c ask.wish) own (message-read octets ask.message all is.message).0
         is.message.framed.pdus.few (asked_fits ask asked) (λ status index e. bad_small ask status index asked e)
     among None is = tt

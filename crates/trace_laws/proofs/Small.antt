@@ -17,7 +17,7 @@ use Rattle.scenario_data.specs.declared.scenario.Base.TheVariants.{Std8}
 use Rattle.scenario_data.specs.Content.{CabinetContent}
 use Rattle.cabinet_history.specs.Journals.{IsMerge, runs_of}
 use Rattle.run_definition.specs.Smallest.{smallest}
-use Rattle.run_definition.specs.Standing.{Standing, opened_standing, opened_standings, coming_streams}
+use Rattle.run_definition.specs.CabinetState.{CabinetState, opened_cabinet_state, opened_cabinet_states, coming_streams}
 use Rattle.run_definition.specs.Lines.{head_lines}
 use Rattle.run_definition.proofs.Merges.{serial-merge}
 use Rattle.trace_laws.proofs.SameLines.{front, front_ended}
@@ -91,8 +91,8 @@ one-end : line_text (Z 1) ≡ codes "Z 1\n"
 one-end = end-text 1 (lit< tt)
 
 -- what the cabinet has come to at first
-abbrev came : List Standing
-came = opened_standings smallest smallest.cabinets
+abbrev came : List CabinetState
+came = opened_cabinet_states smallest smallest.cabinets
 
 -- the places of the script behind the first line, behind the second, and behind the journal
 abbrev at_round : Script
@@ -116,9 +116,9 @@ begun = (refl, (refl, refl))
 abbrev cabinet : CabinetContent
 cabinet = record { base = Std8; cells = []; pattern = 0; clock = 0; section = 0; gain = 0; lose = 0 }
 
-merged : IsMerge (coming_streams smallest 1 (opened_standing smallest cabinet)) (4 ∷ [])
+merged : IsMerge (coming_streams smallest 1 (opened_cabinet_state smallest cabinet)) (4 ∷ [])
 unfolding smallest
-merged = serial-merge (coming_streams smallest 1 (opened_standing smallest cabinet))
+merged = serial-merge (coming_streams smallest 1 (opened_cabinet_state smallest cabinet))
 
 ran : Goes (script_of smallest) (first_line ∷ R 1 ∷ journal_line 1 4 1 ∷ []) at_end
 unfolding smallest
@@ -180,13 +180,13 @@ pub too-many : FaultOf smallest (ended (dark ∷ codes "R 1" ∷ codes "J 1 4*2"
 unfolding smallest
 too-many = leaves _ (first_line ∷ R 1 ∷ []) (line_text (journal_line 1 4 2) ++ []) at_journal 5
     (rw (first-text, one-round, journal-text 1 4 2 (lit< tt) (lit< tt) (lit< tt)) refl) begun
-    (Other (journal_line 1 4 2) [] 5 (one-run 1 4 2 (omega arith) (omega arith) (omega arith) (omega arith)) (journal-refused 1 (coming_streams smallest 1 (opened_standing smallest cabinet)) (λ (j : List ℕ). Ends) ((4, 2) ∷ []) (λ all. omega (arith, all 4))))
+    (Other (journal_line 1 4 2) [] 5 (one-run 1 4 2 (omega arith) (omega arith) (omega arith) (omega arith)) (journal-refused 1 (coming_streams smallest 1 (opened_cabinet_state smallest cabinet)) (λ (j : List ℕ). Ends) ((4, 2) ∷ []) (λ all. omega (arith, all 4))))
 
 pub no-such-pass : FaultOf smallest (ended (dark ∷ codes "R 1" ∷ codes "J 1 5*1" ∷ [])) 2 5
 unfolding smallest
 no-such-pass = leaves _ (first_line ∷ R 1 ∷ []) (line_text (journal_line 1 5 1) ++ []) at_journal 5
     (rw (first-text, one-round, journal-text 1 5 1 (lit< tt) (lit< tt) (lit< tt)) refl) begun
-    (Other (journal_line 1 5 1) [] 5 (one-run 1 5 1 (omega arith) (omega arith) (omega arith) (omega arith)) (journal-refused 1 (coming_streams smallest 1 (opened_standing smallest cabinet)) (λ (j : List ℕ). Ends) ((5, 1) ∷ []) (λ all. omega (arith, all 5))))
+    (Other (journal_line 1 5 1) [] 5 (one-run 1 5 1 (omega arith) (omega arith) (omega arith) (omega arith)) (journal-refused 1 (coming_streams smallest 1 (opened_cabinet_state smallest cabinet)) (λ (j : List ℕ). Ends) ((5, 1) ∷ []) (λ all. omega (arith, all 5))))
 
 pub other-cabinet : FaultOf smallest (ended (dark ∷ codes "R 1" ∷ codes "J 2 4*1" ∷ [])) 2 4
 unfolding smallest

@@ -1,4 +1,4 @@
--- A story has as many frames as ticks, and one before any; and a round brings as many ticks as the scenario's rounds have.
+-- A cabinet history has as many frames as ticks, and one before any; and a round brings as many ticks as the scenario's rounds have.
 use Rattle.std.proofs.Common.{◌≡◌, ◌<◌, ◌≤◌, ◌+◌, ◌∙◌, ◌==◌, ◌∷◌, [], inl, inr, ℕ, zero, suc, Bool, true, false, if◌then◌else◌, List, length, map, replicate, get_or, Option, Some, None, refl, ap, arith}
 use Rattle.std.proofs.lemmas.Bool.{cases_lt, eqb-false, eq-eqb}
 use Rattle.sig_types.specs.declared.frame.Field.{Field}
@@ -16,7 +16,7 @@ use Rattle.agent.specs.Asks.{ask_of}
 use Rattle.sig_types.specs.Items.{Item, Told, Came, Ticked}
 use Rattle.stage_txn.specs.Calls.{Finish as FinishCall}
 use Rattle.stage_txn.specs.Answers.{answered, staged}
-use Rattle.cabinet_history.specs.Story.{Story, with_item, after}
+use Rattle.cabinet_history.specs.CabinetHistory.{CabinetHistory, with_item, after}
 use Rattle.cabinet_history.specs.Journals.{times, IsMerge, act_of, acts_from, acts_of, items_in}
 use Rattle.cabinet_history.specs.Coming.{Coming, in_force, past_of, is_flashing, answer_in, order_event, installs, with_events, carried_out, heeded, coming_from, history_of}
 
@@ -74,13 +74,13 @@ items-frames community opening (Came octets ∷ items) =
     heeded-frames c (ask_of octets community (in_force c)) ∙ items-frames community opening items ∙ omega arith
 items-frames community opening (Ticked ∷ items) = ap suc (items-frames community opening items) ∙ omega arith
 
-pub frames-counted : (story : Story) → length (frames story.opening) ≡ 1 → length (frames (history_of story)) ≡ ticks_in story.items + 1
-frames-counted story one = let e = items-frames story.community story.opening story.items in omega (arith, e, one)
+pub frames-counted : (cabinet_history : CabinetHistory) → length (frames cabinet_history.opening) ≡ 1 → length (frames (history_of cabinet_history)) ≡ ticks_in cabinet_history.items + 1
+frames-counted cabinet_history one = let e = items-frames cabinet_history.community cabinet_history.opening cabinet_history.items in omega (arith, e, one)
 
-pub ticks-after : (story : Story) (items : List Item) → ticks_in (after story items).items ≡ ticks_in story.items + ticks_in items
-ticks-after story [] = omega arith
-ticks-after story (item ∷ items) =
-    let e : ticks_in (after (with_item story item) items).items ≡ tick_of item + ticks_in story.items + ticks_in items = ticks-after (with_item story item) items in
+pub ticks-after : (cabinet_history : CabinetHistory) (items : List Item) → ticks_in (after cabinet_history items).items ≡ ticks_in cabinet_history.items + ticks_in items
+ticks-after cabinet_history [] = omega arith
+ticks-after cabinet_history (item ∷ items) =
+    let e : ticks_in (after (with_item cabinet_history item) items).items ≡ tick_of item + ticks_in cabinet_history.items + ticks_in items = ticks-after (with_item cabinet_history item) items in
     omega (arith, e)
 
 -- ---- the ticks of a round

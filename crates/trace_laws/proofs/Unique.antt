@@ -4,7 +4,7 @@ use Rattle.std.proofs.Common.{◌+◌}
 use Rattle.trace_text.specs.declared.lines.Line.{Line}
 use Rattle.trace_text.specs.declared.lines.Line.TheVariants.{Z}
 use Rattle.cabinet_history.specs.Journals.{runs_of}
-use Rattle.run_definition.specs.Standing.{opened_standings, standings_after}
+use Rattle.run_definition.specs.CabinetState.{opened_cabinet_states, cabinet_states_after}
 use Rattle.run_definition.specs.Lines.{front_lines, rounds_lines}
 use Rattle.run_definition.proofs.More.{fronts-more, continued}
 use Rattle.trace_laws.specs.Traces.{IsTraceOf}
@@ -32,7 +32,7 @@ nothing-follows s lines next trace may = let (after, step) = step-of s lines End
 pub rounds-are-fronts : RoundsAreFronts
 rounds-are-fronts s journals begin =
     let (later, are) = continued s journals begin in
-    let more : List Line = rounds_lines s (length journals + 1) (standings_after s (opened_standings s s.cabinets) journals) later in
+    let more : List Line = rounds_lines s (length journals + 1) (cabinet_states_after s (opened_cabinet_states s s.cabinets) journals) later in
     let end : List Line = Z s.rounds ∷ [] in (
       more ++ end,
       (

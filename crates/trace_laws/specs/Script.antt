@@ -9,7 +9,7 @@ use Rattle.safety_laws.specs.TraceText.{lines_text}
 use Rattle.scenario_data.specs.Content.{ScenarioContent}
 use Rattle.sig_types.specs.Items.{Item}
 use Rattle.cabinet_history.specs.Journals.{IsMerge, runs_of}
-use Rattle.run_definition.specs.Standing.{Standing, opened_standings, coming_streams, round_acts, next_standing}
+use Rattle.run_definition.specs.CabinetState.{CabinetState, opened_cabinet_states, coming_streams, round_acts, next_cabinet_state}
 use Rattle.run_definition.specs.Lines.{acts_lines, head_lines, opening_lines}
 use Rattle.trace_laws.specs.Faults.{same_head, rule_of, first_piece, IsNoLine}
 
@@ -33,29 +33,29 @@ Goes (Hears cab streams next) (line ∷ lines) end =
     (journal : List ℕ) × (line ≡ J cab (runs_of journal)) × IsMerge streams journal × Goes (next journal) lines end
 
 -- a cabinet's round: its journal, the lines of what that brings, and then what follows
-abbrev pub cabinet_script : ScenarioContent → ℕ → Standing → (List ℕ → Script) → Script
+abbrev pub cabinet_script : ScenarioContent → ℕ → CabinetState → (List ℕ → Script) → Script
 cabinet_script s cab t next =
-    Hears cab (coming_streams s cab t) (λ journal. say (acts_lines cab t.story (round_acts s cab t journal)) (next journal))
+    Hears cab (coming_streams s cab t) (λ journal. say (acts_lines cab t.cabinet_history (round_acts s cab t journal)) (next journal))
 
 -- the rounds of the cabinets from this number on; those before it have come to what is gone, in order
-abbrev pub cabinets_script : ScenarioContent → ℕ → List Standing → List Standing → (List Standing → Script) → Script
+abbrev pub cabinets_script : ScenarioContent → ℕ → List CabinetState → List CabinetState → (List CabinetState → Script) → Script
 cabinets_script s first gone [] rest = rest gone
 cabinets_script s first gone (t ∷ ts) rest =
-    cabinet_script s first t (λ journal. cabinets_script s (first + 1) (gone ++ next_standing s first t journal ∷ []) ts rest)
+    cabinet_script s first t (λ journal. cabinets_script s (first + 1) (gone ++ next_cabinet_state s first t journal ∷ []) ts rest)
 
 -- a round: its number, the master's notes, and each cabinet's
-abbrev pub round_script : ScenarioContent → ℕ → List Standing → (List Standing → Script) → Script
+abbrev pub round_script : ScenarioContent → ℕ → List CabinetState → (List CabinetState → Script) → Script
 round_script s round ts rest = say (head_lines s round ts) (cabinets_script s 1 [] ts rest)
 
 -- n rounds, from this number on, and the end
-abbrev pub rounds_script : ScenarioContent → ℕ → ℕ → List Standing → Script
+abbrev pub rounds_script : ScenarioContent → ℕ → ℕ → List CabinetState → Script
 rounds_script s round zero ts = Says (Z s.rounds) Ends
 rounds_script s round (suc n) ts = round_script s round ts (rounds_script s (round + 1) n)
 
 -- the lines behind the first: what each cabinet shows before any tick, the rounds, and the end
 abbrev pub script_of : ScenarioContent → Script
 script_of s =
-    say (opening_lines 1 (opened_standings s s.cabinets)) (rounds_script s 1 s.rounds (opened_standings s s.cabinets))
+    say (opening_lines 1 (opened_cabinet_states s s.cabinets)) (rounds_script s 1 s.rounds (opened_cabinet_states s s.cabinets))
 
 -- the rule of a line where another is due
 abbrev pub rule_for : Line → Line → ℕ

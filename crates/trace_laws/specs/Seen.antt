@@ -13,7 +13,7 @@ use Rattle.cabinet_history.specs.Frames.{has_line}
 use Rattle.cabinet_history.specs.Coming.{history_of}
 use Rattle.run_definition.specs.Lines.{run_text}
 use Rattle.run_definition.specs.Orders.{AreJournals}
-use Rattle.run_definition.specs.Standing.{Standing, HasComeTo, opened_standings, standings_after}
+use Rattle.run_definition.specs.CabinetState.{CabinetState, HasComeTo, opened_cabinet_states, cabinet_states_after}
 use Rattle.trace_laws.specs.Text.{TellsAllKept}
 use Rattle.trace_laws.specs.declared.seen.Seen.{Seen}
 
@@ -33,6 +33,6 @@ pub record HasSeen (text : List ℕ) (cab : ℕ) (seen : Seen) : Type 0 where
   pub are : AreJournals scenario journals
   pub text_is : text ≡ run_text scenario journals
   pub kept : TellsAllKept scenario journals text
-  pub own : (c : CabinetContent) (end : Standing) → IsCabinet scenario cab c
-      → HasComeTo cab end 1 (standings_after scenario (opened_standings scenario scenario.cabinets) journals) → IsSeenOf seen (history_of end.story)
+  pub own : (c : CabinetContent) (end : CabinetState) → IsCabinet scenario cab c
+      → HasComeTo cab end 1 (cabinet_states_after scenario (opened_cabinet_states scenario scenario.cabinets) journals) → IsSeenOf seen (history_of end.cabinet_history)
   pub none : ((c : CabinetContent) → IsCabinet scenario cab c → ⊥) → seen.tables.items ≡ []

@@ -10,7 +10,7 @@ ghost use Rattle.snmp_msg.specs.Messages.{IsMessage};
 ghost use Rattle.scenario_data.specs.Content.{CabinetContent, ScenarioContent};
 ghost use Rattle.scenario_data.specs.Opening.{opening_tables};
 ghost use Rattle.sig_types.specs.Replies.{Reply};
-ghost use Rattle.cabinet_history.specs.Story.{Story};
+ghost use Rattle.cabinet_history.specs.CabinetHistory.{CabinetHistory};
 ghost use Rattle.cabinet_history.specs.Told.{reply_to};
 ghost use Rattle.cabinet_laws.specs.Openings.{IsOpening};
 ghost use Rattle.master_load.specs.Downloads.{AreLoads};
@@ -31,8 +31,8 @@ pub fn messages_are_of_octets()
 /// Whatever octets have come to a cabinet, and whatever come next: the reply, where there is one, is 1 to 1,472 octets. The tables that
 /// a cabinet opens with may be any whose lists are of octets, as those of a scenario are.
 pub fn replies_are_frames()
-    ensures replies { (story : Story) (t : Tables) (d : Drift) (octets : List ℕ) → IsOpening t d story.opening → EachHolds t
-        → AreOctetItems story.items → AreOctets octets → IfSome (reply_to story octets) IsFrame }
+    ensures replies { (cabinet_history : CabinetHistory) (t : Tables) (d : Drift) (octets : List ℕ) → IsOpening t d cabinet_history.opening → EachHolds t
+        → AreOctetItems cabinet_history.items → AreOctets octets → IfSome (reply_to cabinet_history octets) IsFrame }
     ensures opened { (c : CabinetContent) → PutOctets c.cells → EachHolds (opening_tables c) }
 {}
 

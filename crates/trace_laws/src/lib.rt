@@ -1,9 +1,8 @@
-//! Which texts are traces, and which line of another text is the first at fault; the laws of both.
-//! A trace is the text of a run, for whatever journals; all runs of a scenario are one tree
-//! (`Script`), on which the laws stand. There is no code here.
+//! Which texts are traces, and which line of another text is the first at fault; the laws of both. A trace is the text of a run,
+//! for whatever journals; all runs of a scenario are one tree (`Script`), on which the laws stand.
 //!
-//! What may be seen of a cabinet in a trace: its frames, its tables by version and its ticks, and what it is for these to be all of them.
-//! It stands apart from whoever looks at a trace, and from whoever makes something of what was seen. There is no code here.
+//! What may be seen of a cabinet in a trace: its frames, its tables by version and its ticks; that only octets go over the line,
+//! that each line of a run is one that a trace may have, and that a text has one list of lines. There is no code here.
 #![tactic(auto)]
 
 mod frame_octets;

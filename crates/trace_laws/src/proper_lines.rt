@@ -7,7 +7,7 @@ ghost use Rattle.runnable.specs.Runnable.{Runnable};
 ghost use Rattle.run_definition.specs.Lines.{run_lines};
 ghost use Rattle.run_definition.specs.Orders.{AreJournals};
 
-use cabinet_laws::{downloads_end_as_judged, stories_are_admitted, tables_stay_in_range};
+use cabinet_laws::{cabinet_histories_are_admitted, downloads_end_as_judged, tables_stay_in_range};
 use master_rounds::rounds_are_short;
 
 /// In whatever order the items of a run come to its cabinets, each of its lines is one that a trace may have: journals are in longest
@@ -16,7 +16,7 @@ pub fn lines_are_proper()
     ensures { (s : ScenarioContent) → Runnable s → (journals : List (List (List ℕ))) → AreJournals s journals
         → AreLines (run_lines s journals) }
 {
-    stories_are_admitted();
+    cabinet_histories_are_admitted();
     tables_stay_in_range();
     downloads_end_as_judged();
     rounds_are_short();

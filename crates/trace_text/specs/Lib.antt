@@ -3,3 +3,4 @@ pub mod Texts
 pub mod Line
 pub mod IsLine
 pub mod Reads
+pub mod FrameLines

@@ -1,6 +1,7 @@
 //! Reading the lines of each kind from the words behind the kind's letter.
 
 ghost use Rattle.std.specs.Prelude.{◌≡◌, ◌∷◌, ◌<◌, ◌^◌, ℕ, [], map, codes, decimal, IfOk, length, IsTrue, ◌↔◌};
+ghost use Rattle.trace_text.specs.FrameLines.{words_read};
 ghost use Rattle.trace_text.specs.IsLine.{IsWorded, FitsMode, FitsNote, FitsLoad};
 ghost use Rattle.trace_text.specs.Line.{line_words, note_words, load_words};
 ghost use Rattle.trace_text.specs.Reads.{Reads};
@@ -13,37 +14,49 @@ use crate::signs::{colours_of, mode_of, signals_of};
 use sig_types::{Broken, Colour, MasterNote, Mode, Ped};
 use std::alloc::{AllocError, Global};
 
+/// The words of a frame's line behind its letter.
+#[derive(Clone, Copy)]
+struct FrameWords<'a> {
+    cab: &'a [u8],
+    tick: &'a [u8],
+    veh: &'a [u8],
+    ped: &'a [u8],
+    mode: &'a [u8],
+    counter: &'a [u8],
+    target: &'a [u8],
+    version: &'a [u8],
+}
+
 /// A frame of a cabinet.
 pub fn frame(words: &[&[u8]]) -> Option<Line>
     ensures { Reads IsWorded line_words (codes "F" ∷ map (λ word. word.now) words.now) result }
 {
     match words {
-        [cab, tick, veh, ped, mode, counter, target, version] => {
-            frame_of(cab, tick, veh, ped, mode, counter, target, version)
-        }
+        [cab, tick, veh, ped, mode, counter, target, version] => frame_of(&FrameWords {
+            cab,
+            tick,
+            veh,
+            ped,
+            mode,
+            counter,
+            target,
+            version,
+        }),
         _ => None,
     }
 }
 
-fn frame_of(
-    cab: &[u8],
-    tick: &[u8],
-    veh: &[u8],
-    ped: &[u8],
-    mode: &[u8],
-    counter: &[u8],
-    target: &[u8],
-    version: &[u8],
-) -> Option<Line>
-    ensures { Reads IsWorded line_words (codes "F" ∷ cab.now ∷ tick.now ∷ veh.now ∷ ped.now ∷ mode.now ∷ counter.now ∷ target.now ∷ version.now ∷ []) result }
+/// The frame that these words tell.
+fn frame_of(words: &FrameWords) -> Option<Line>
+    ensures { Reads IsWorded line_words (words_read words.now) result }
 {
-    let cab = word32(cab)?;
-    let tick = word32(tick)?;
-    let (veh, ped, mode) = match shown(veh, ped, mode) {
+    let cab = word32(words.cab)?;
+    let tick = word32(words.tick)?;
+    let (veh, ped, mode) = match shown(words.veh, words.ped, words.mode) {
         Some(shown) => shown,
         None => return None,
     };
-    let (counter, target, version) = match three(counter, target, version) {
+    let (counter, target, version) = match three(words.counter, words.target, words.version) {
         Some(three) => three,
         None => return None,
     };

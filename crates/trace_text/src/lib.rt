@@ -12,7 +12,7 @@ mod spaced;
 mod words;
 mod write;
 
-pub use lines::{Line, Runs, Text};
+pub use lines::{Line, Runs, Text, same_octets};
 pub use read::read_line;
 pub use spaced::{digits, hexadecimal, number, word};
 pub use write::write_line;

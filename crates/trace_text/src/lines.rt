@@ -123,3 +123,18 @@ pub enum Line {
         rounds: u32,
     },
 }
+
+/// A copy of the octets of a reply; none where the cabinet was silent.
+pub fn same_octets(octets: &Option<Octets>) -> Option<Octets>
+    ensures { result ≡ octets.now }
+{
+    match octets {
+        None => None,
+        Some(octets) => {
+            let mut same = Octets::new();
+            // There is room for them, as there was for those.
+            let _ = same.try_extend_from_slice(octets.as_slice());
+            Some(same)
+        }
+    }
+}

@@ -4,6 +4,7 @@ ghost use Rattle.std.specs.Prelude.{◌≡◌, ◌++◌, ◌∷◌, [], OnOk, If
 ghost use Rattle.trace_text.specs.Line.{line_text, line_words, note_words, load_words};
 ghost use Rattle.trace_text.specs.Texts.{colours_text, signals_text, mode_text};
 ghost use Rattle.trace_text.specs.Words.{spaced, unended};
+ghost use Rattle.trace_text.specs.FrameLines.{frame_line_words};
 
 use crate::lines::Line;
 use crate::words::{colours, hexadecimal, mode, runs, signals};
@@ -33,6 +34,19 @@ fn text_of(alloc: Global, line: &Line) -> Result<Vec<u8>, AllocError>
     Ok(out)
 }
 
+/// What a frame's line tells of a cabinet: the signals, the mode, the counter and its target, the version of the tables.
+#[derive(Clone, Copy)]
+struct FrameLine<'a> {
+    cab: u32,
+    tick: u32,
+    veh: &'a [Colour; 16],
+    ped: &'a [Ped; 16],
+    mode: Mode,
+    counter: u32,
+    target: u32,
+    version: u32,
+}
+
 /// The words of a line.
 fn words(alloc: Global, out: &mut Vec<u8>, line: &Line) -> Result<(), AllocError>
     ensures { OnOk result (out.new.items ≡ out.old.items ++ unended (line_words line.now)) }
@@ -48,9 +62,19 @@ fn words(alloc: Global, out: &mut Vec<u8>, line: &Line) -> Result<(), AllocError
             counter,
             target,
             version,
-        } => frame(
-            out, *cab, *tick, veh, ped, *mode, *counter, *target, *version,
-        ),
+        } => {
+            let shown = FrameLine {
+                cab: *cab,
+                tick: *tick,
+                veh,
+                ped,
+                mode: *mode,
+                counter: *counter,
+                target: *target,
+                version: *version,
+            };
+            frame(out, &shown)
+        }
         Line::R { round } => numbered(out, b'R', *round),
         Line::M { note } => master_note(out, *note),
         Line::J { cab, runs } => journal(out, *cab, runs.as_slice()),
@@ -68,46 +92,31 @@ fn scenario(out: &mut Vec<u8>, json: &[u8]) -> Result<(), AllocError>
 }
 
 /// The words of a frame.
-fn frame(
-    out: &mut Vec<u8>,
-    cab: u32,
-    tick: u32,
-    veh: &[Colour; 16],
-    ped: &[Ped; 16],
-    shown: Mode,
-    counter: u32,
-    target: u32,
-    version: u32,
-) -> Result<(), AllocError>
-    ensures { OnOk result (out.new.items ≡ out.old.items ++ unended (line_words (Line.F cab tick veh.now ped.now shown counter target version))) }
+fn frame(out: &mut Vec<u8>, shown: &FrameLine) -> Result<(), AllocError>
+    ensures { OnOk result (out.new.items ≡ out.old.items ++ unended (frame_line_words shown.now)) }
 {
-    numbered(out, b'F', cab)?;
-    number(out, tick)?;
-    signs(out, veh, ped, shown)?;
-    counts(out, counter, target, version)
+    numbered(out, b'F', shown.cab)?;
+    number(out, shown.tick)?;
+    signs(out, shown)?;
+    counts(out, shown)
 }
 
 /// What a frame shows, and its mode.
-fn signs(
-    out: &mut Vec<u8>,
-    veh: &[Colour; 16],
-    ped: &[Ped; 16],
-    shown: Mode,
-) -> Result<(), AllocError>
-    ensures { OnOk result (out.new.items ≡ out.old.items ++ spaced (colours_text veh.now ∷ signals_text ped.now ∷ mode_text shown ∷ [])) }
+fn signs(out: &mut Vec<u8>, shown: &FrameLine) -> Result<(), AllocError>
+    ensures { OnOk result (out.new.items ≡ out.old.items ++ spaced (colours_text shown.now.veh.now ∷ signals_text shown.now.ped.now ∷ mode_text shown.now.mode ∷ [])) }
 {
-    colours(out, veh)?;
-    signals(out, ped)?;
-    mode(out, shown)
+    colours(out, shown.veh)?;
+    signals(out, shown.ped)?;
+    mode(out, shown.mode)
 }
 
 /// A frame's counter, its target, and the version.
-fn counts(out: &mut Vec<u8>, counter: u32, target: u32, version: u32) -> Result<(), AllocError>
-    ensures { OnOk result (out.new.items ≡ out.old.items ++ spaced (decimal counter ∷ decimal target ∷ decimal version ∷ [])) }
+fn counts(out: &mut Vec<u8>, shown: &FrameLine) -> Result<(), AllocError>
+    ensures { OnOk result (out.new.items ≡ out.old.items ++ spaced (decimal shown.now.counter ∷ decimal shown.now.target ∷ decimal shown.now.version ∷ [])) }
 {
-    number(out, counter)?;
-    number(out, target)?;
-    number(out, version)
+    number(out, shown.counter)?;
+    number(out, shown.target)?;
+    number(out, shown.version)
 }
 
 /// A kind's letter, and its first number.

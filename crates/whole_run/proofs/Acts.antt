@@ -11,7 +11,7 @@ use Rattle.trace_text.specs.declared.lines.Line.TheVariants.{L, A}
 use Rattle.sig_types.specs.Items.{Item, Told, Came, Ticked}
 use Rattle.cabinet_history.specs.declared.Load.{Load}
 use Rattle.cabinet_history.specs.declared.Reply.{Reply}
-use Rattle.cabinet_history.specs.Story.{Story, with_item}
+use Rattle.cabinet_history.specs.CabinetHistory.{CabinetHistory, with_item}
 use Rattle.cabinet_history.specs.Coming.{history_of}
 use Rattle.cabinet_history.specs.Frames.{has_line}
 use Rattle.cabinet_history.specs.Journals.{Act}
@@ -51,62 +51,62 @@ module _ (f : Line → ℕ) (on_load : (cab id : ℕ) (result : Result ℕ Broke
 
 -- what counts no frame of a tick counts the replies alone
 module _ (f : Line → ℕ) (on_frame : (cab tick : ℕ) (frame : Frame) → 0 < tick → f (shown_line cab tick frame) ≡ 0) where
-  written-none : (cab : ℕ) (story : Story) (item : Item) → total f (frame_lines cab (item_written story item)) ≡ 0
-  written-none cab story (Told field) = refl
-  written-none cab story (Came octets) = refl
-  written-none cab story Ticked = split (has_line (last_frame_of (history_of story)) (decide (history_of story)))
+  written-none : (cab : ℕ) (cabinet_history : CabinetHistory) (item : Item) → total f (frame_lines cab (item_written cabinet_history item)) ≡ 0
+  written-none cab cabinet_history (Told field) = refl
+  written-none cab cabinet_history (Came octets) = refl
+  written-none cab cabinet_history Ticked = split (has_line (last_frame_of (history_of cabinet_history)) (decide (history_of cabinet_history)))
     where
-      split : (b : Bool) → total f (frame_lines cab (if b then (length (frames (history_of story)), decide (history_of story)) ∷ [] else [])) ≡ 0
+      split : (b : Bool) → total f (frame_lines cab (if b then (length (frames (history_of cabinet_history)), decide (history_of cabinet_history)) ∷ [] else [])) ≡ 0
       split true =
-          let none : f (shown_line cab (length (frames (history_of story))) (decide (history_of story))) ≡ 0 =
-          on_frame cab (length (frames (history_of story))) (decide (history_of story)) (some-frames (history_of story)) in
+          let none : f (shown_line cab (length (frames (history_of cabinet_history))) (decide (history_of cabinet_history))) ≡ 0 =
+          on_frame cab (length (frames (history_of cabinet_history))) (decide (history_of cabinet_history)) (some-frames (history_of cabinet_history)) in
           omega (arith, none)
       split false = refl
 
-  pub acts-replied : (cab : ℕ) (story : Story) (acts : List Act) → total f (acts_lines cab story acts) ≡ total f (reply_lines cab (acts_replies story acts))
-  acts-replied cab story [] = refl
-  acts-replied cab story (act ∷ acts) =
-      let written : List Line = frame_lines cab (item_written story act.item) in
-      let replies : List Line = reply_lines cab (item_replies story act.pass act.item) in
-      let later : List Line = acts_lines cab (with_item story act.item) acts in
-      let rest : List Line = reply_lines cab (acts_replies (with_item story act.item) acts) in
-      let more : total f later ≡ total f rest = acts-replied cab (with_item story act.item) acts in
+  pub acts-replied : (cab : ℕ) (cabinet_history : CabinetHistory) (acts : List Act) → total f (acts_lines cab cabinet_history acts) ≡ total f (reply_lines cab (acts_replies cabinet_history acts))
+  acts-replied cab cabinet_history [] = refl
+  acts-replied cab cabinet_history (act ∷ acts) =
+      let written : List Line = frame_lines cab (item_written cabinet_history act.item) in
+      let replies : List Line = reply_lines cab (item_replies cabinet_history act.pass act.item) in
+      let later : List Line = acts_lines cab (with_item cabinet_history act.item) acts in
+      let rest : List Line = reply_lines cab (acts_replies (with_item cabinet_history act.item) acts) in
+      let more : total f later ≡ total f rest = acts-replied cab (with_item cabinet_history act.item) acts in
       let whole : total f ((written ++ replies) ++ later) ≡ total f written + total f replies + total f later =
       total-append f (written ++ replies) later ∙ ap (λ (n : ℕ). n + total f later) (total-append f written replies) in
-      let due : total f (reply_lines cab (item_replies story act.pass act.item ++ acts_replies (with_item story act.item) acts)) ≡ total f replies + total f rest =
-      ap (total f) (replies-append cab (item_replies story act.pass act.item) (acts_replies (with_item story act.item) acts)) ∙ total-append f replies rest in
-      omega (arith, whole, due, more, written-none cab story act.item)
+      let due : total f (reply_lines cab (item_replies cabinet_history act.pass act.item ++ acts_replies (with_item cabinet_history act.item) acts)) ≡ total f replies + total f rest =
+      ap (total f) (replies-append cab (item_replies cabinet_history act.pass act.item) (acts_replies (with_item cabinet_history act.item) acts)) ∙ total-append f replies rest in
+      omega (arith, whole, due, more, written-none cab cabinet_history act.item)
 
 -- the frames of acts
 written-all : (cab : ℕ) (written : List (ℕ × Frame)) → total is_frame (frame_lines cab written) ≡ length written
 written-all cab [] = refl
 written-all cab (f ∷ written) = let more : total is_frame (frame_lines cab written) ≡ length written = written-all cab written in omega (arith, more)
 
-pub acts-shown : (cab : ℕ) (story : Story) (acts : List Act) → total is_frame (acts_lines cab story acts) ≡ length (acts_written story acts)
-acts-shown cab story [] = refl
-acts-shown cab story (act ∷ acts) =
-    let written : List Line = frame_lines cab (item_written story act.item) in
-    let replies : List Line = reply_lines cab (item_replies story act.pass act.item) in
-    let later : List Line = acts_lines cab (with_item story act.item) acts in
+pub acts-shown : (cab : ℕ) (cabinet_history : CabinetHistory) (acts : List Act) → total is_frame (acts_lines cab cabinet_history acts) ≡ length (acts_written cabinet_history acts)
+acts-shown cab cabinet_history [] = refl
+acts-shown cab cabinet_history (act ∷ acts) =
+    let written : List Line = frame_lines cab (item_written cabinet_history act.item) in
+    let replies : List Line = reply_lines cab (item_replies cabinet_history act.pass act.item) in
+    let later : List Line = acts_lines cab (with_item cabinet_history act.item) acts in
     let whole : total is_frame ((written ++ replies) ++ later) ≡ total is_frame written + total is_frame replies + total is_frame later =
     total-append is_frame (written ++ replies) later ∙ ap (λ (n : ℕ). n + total is_frame later) (total-append is_frame written replies) in
-    let none : total is_frame replies ≡ 0 = replies-none is_frame (λ c id result. refl) (λ c pass text. refl) cab (item_replies story act.pass act.item) in
-    let more : total is_frame later ≡ length (acts_written (with_item story act.item) acts) = acts-shown cab (with_item story act.item) acts in
-    let own : total is_frame written ≡ length (item_written story act.item) = written-all cab (item_written story act.item) in
-    let due : length (item_written story act.item ++ acts_written (with_item story act.item) acts)
-    ≡ length (item_written story act.item) + length (acts_written (with_item story act.item) acts) =
-    length-append (item_written story act.item) (acts_written (with_item story act.item) acts) in
+    let none : total is_frame replies ≡ 0 = replies-none is_frame (λ c id result. refl) (λ c pass text. refl) cab (item_replies cabinet_history act.pass act.item) in
+    let more : total is_frame later ≡ length (acts_written (with_item cabinet_history act.item) acts) = acts-shown cab (with_item cabinet_history act.item) acts in
+    let own : total is_frame written ≡ length (item_written cabinet_history act.item) = written-all cab (item_written cabinet_history act.item) in
+    let due : length (item_written cabinet_history act.item ++ acts_written (with_item cabinet_history act.item) acts)
+    ≡ length (item_written cabinet_history act.item) + length (acts_written (with_item cabinet_history act.item) acts) =
+    length-append (item_written cabinet_history act.item) (acts_written (with_item cabinet_history act.item) acts) in
     omega (arith, whole, none, more, own, due)
 
 -- acts give at most a reply each
-pub few-replies : (story : Story) (acts : List Act) → length (acts_replies story acts) ≤ length acts
-few-replies story [] = omega arith
-few-replies story (act ∷ acts) =
-    let more : length (acts_replies (with_item story act.item) acts) ≤ length acts = few-replies (with_item story act.item) acts in
-    let own : length (item_replies story act.pass act.item) ≤ 1 = one story act.pass act.item in
-    omega (arith, more, own, length-append (item_replies story act.pass act.item) (acts_replies (with_item story act.item) acts))
+pub few-replies : (cabinet_history : CabinetHistory) (acts : List Act) → length (acts_replies cabinet_history acts) ≤ length acts
+few-replies cabinet_history [] = omega arith
+few-replies cabinet_history (act ∷ acts) =
+    let more : length (acts_replies (with_item cabinet_history act.item) acts) ≤ length acts = few-replies (with_item cabinet_history act.item) acts in
+    let own : length (item_replies cabinet_history act.pass act.item) ≤ 1 = one cabinet_history act.pass act.item in
+    omega (arith, more, own, length-append (item_replies cabinet_history act.pass act.item) (acts_replies (with_item cabinet_history act.item) acts))
   where
-    one : (now : Story) (pass : ℕ) (item : Item) → length (item_replies now pass item) ≤ 1
+    one : (now : CabinetHistory) (pass : ℕ) (item : Item) → length (item_replies now pass item) ≤ 1
     one now pass (Told field) = omega arith
     one now pass (Came octets) = omega arith
     one now pass Ticked = omega arith

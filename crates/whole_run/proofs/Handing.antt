@@ -8,12 +8,12 @@ use Rattle.whole_run.specs.declared.writer.Writer.{Writer}
 use Rattle.whole_run.specs.Handing.{HandsOver}
 use Rattle.whole_run.proofs.Handed.{hands-first, hands-then, hands-none}
 use Rattle.scenario_data.specs.Content.{ScenarioContent}
-use Rattle.run_definition.specs.Standing.{Standing}
+use Rattle.run_definition.specs.CabinetState.{CabinetState}
 use Rattle.run_definition.specs.Orders.{serial_rounds}
 use Rattle.run_definition.specs.Lines.{opening_lines, round_lines, rounds_lines, front_lines}
 use Rattle.round_run.specs.Joined.{journals_in}
-use Rattle.round_run.specs.declared.rounds.Corridor.{Corridor}
-use Rattle.round_run.specs.Corridor.{Between}
+use Rattle.round_run.specs.declared.rounds.ClosedLoop.{ClosedLoop}
+use Rattle.round_run.specs.ClosedLoop.{Between}
 use Rattle.whole_run.specs.Orders.{come_to, InSomeOrder}
 use Rattle.whole_run.specs.Rounds.{HasRunOn}
 use Rattle.whole_run.proofs.Orders.{AreSoFar, so-none, so-more, come-more, finished, finished-brought, all-brought}
@@ -21,7 +21,7 @@ use Rattle.whole_run.proofs.WholeText.{front_opened, front_later, front_next, ro
 
 module _ {K : Type 0} (written : K → Option (List ℕ)) (faults : K → ℕ) (workers : ℕ) (s : ScenarioContent) where
   -- so many rounds were run, and their lines were handed over, behind those of what the cabinets show at first
-  pub record Goes (done : ℕ) (c : Corridor) (old new : Writer) (from to : K) : Type 0 where
+  pub record Goes (done : ℕ) (c : ClosedLoop) (old new : Writer) (from to : K) : Type 0 where
     pub journals : List (List (List ℕ))
     pub so : AreSoFar workers s done journals
     pub between : Between s done (come_to s journals) c
@@ -32,7 +32,7 @@ module _ {K : Type 0} (written : K → Option (List ℕ)) (faults : K → ℕ) (
   HandsFront result old new from to = InSomeOrder workers s (λ journals. HandsOver written faults result old new from to (lines_text (front_lines s journals)))
 
   -- before any round
-  pub goes-first : {u : Unit {0}} (c : Corridor) (old new : Writer) (from to : K) → Between s 0 (come_to s []) c
+  pub goes-first : {u : Unit {0}} (c : ClosedLoop) (old new : Writer) (from to : K) → Between s 0 (come_to s []) c
       → HandsOver written faults (Ok u) old new from to (lines_text (opening_lines 1 (come_to s []))) → Goes 0 c old new from to
   goes-first {u = u} c old new from to between handed = record {
     journals = [];
@@ -42,7 +42,7 @@ module _ {K : Type 0} (written : K → Option (List ℕ)) (faults : K → ℕ) (
   }
 
   -- the journals so far, and the lines of the next round handed over behind theirs
-  next-handed : (result : Result (Unit {0}) Stop) (done : ℕ) (c : Corridor) (old mid new : Writer) (from at to : K) (j : List (List ℕ)) (so : Goes done c old mid from at)
+  next-handed : (result : Result (Unit {0}) Stop) (done : ℕ) (c : ClosedLoop) (old mid new : Writer) (from at to : K) (j : List (List ℕ)) (so : Goes done c old mid from at)
       → HandsOver written faults result mid new at to (lines_text (round_lines s (done + 1) (come_to s so.journals) j))
       → HandsOver written faults result old new from to (lines_text (front_lines s (so.journals ++ j ∷ [])))
   next-handed result done c old mid new from at to j so more =
@@ -52,25 +52,25 @@ module _ {K : Type 0} (written : K → Option (List ℕ)) (faults : K → ℕ) (
       (sym (front_next s so.journals j ∙ ap (λ (x : List ℕ). lines_text (front_lines s so.journals) ++ x) number))
       (hands-then written faults result old mid new from at to _ _ so.handed more)
 
-  next-so : (done : ℕ) (notes : List MasterNote) (c ran : Corridor) (old new : Writer) (from to : K) (so : Goes done c old new from to)
+  next-so : (done : ℕ) (notes : List MasterNote) (c ran : ClosedLoop) (old new : Writer) (from to : K) (so : Goes done c old new from to)
       → HasRunOn workers s done (come_to s so.journals) notes ran → AreSoFar workers s (done + 1) (so.journals ++ journals_in ran.books.items ∷ [])
   next-so done notes c ran old new from to so run =
       so-more workers s done so.journals (journals_in ran.books.items) so.so run.merged.merges run.serial
 
   -- one round more
-  pub goes-on : {u : Unit {0}} (done : ℕ) (notes : List MasterNote) (c ran : Corridor) (old mid new : Writer) (from at to : K) (so : Goes done c old mid from at)
+  pub goes-on : {u : Unit {0}} (done : ℕ) (notes : List MasterNote) (c ran : ClosedLoop) (old mid new : Writer) (from at to : K) (so : Goes done c old mid from at)
       → HasRunOn workers s done (come_to s so.journals) notes ran
       → HandsOver written faults (Ok u) mid new at to (lines_text (round_lines s (done + 1) (come_to s so.journals) (journals_in ran.books.items)))
       → Goes (done + 1) ran old new from to
   goes-on {u = u} done notes c ran old mid new from at to so run more = record {
     journals = so.journals ++ journals_in ran.books.items ∷ [];
     so = next-so done notes c ran old mid from at so run;
-    between = subst (λ (ts : List Standing). Between s (done + 1) ts ran) (sym (come-more s so.journals (journals_in ran.books.items))) run.between;
+    between = subst (λ (ts : List CabinetState). Between s (done + 1) ts ran) (sym (come-more s so.journals (journals_in ran.books.items))) run.between;
     handed = next-handed (Ok tt) done c old mid new from at to (journals_in ran.books.items) so more;
   }
 
   -- all rounds
-  pub goes-whole : (done : ℕ) (c : Corridor) (old new : Writer) (from to : K) → Goes done c old new from to → done ≡ s.rounds → HandsFront (Ok tt) old new from to
+  pub goes-whole : (done : ℕ) (c : ClosedLoop) (old new : Writer) (from to : K) → Goes done c old new from to → done ≡ s.rounds → HandsFront (Ok tt) old new from to
   goes-whole done c old new from to so whole = record {
     journals = so.journals;
     brought = all-brought workers s done so.journals so.so whole;
@@ -95,7 +95,7 @@ module _ {K : Type 0} (written : K → Option (List ℕ)) (faults : K → ℕ) (
       (subst (λ (x : List ℕ). HandsOver written faults (Err e) old new from to x) (sym (front_opened s)) stops)
 
   -- in the lines of a round
-  pub stops-later : {e : Stop} (done n : ℕ) (notes : List MasterNote) (c ran : Corridor) (old mid new : Writer) (from at to : K) (so : Goes done c old mid from at)
+  pub stops-later : {e : Stop} (done n : ℕ) (notes : List MasterNote) (c ran : ClosedLoop) (old mid new : Writer) (from at to : K) (so : Goes done c old mid from at)
       → HasRunOn workers s done (come_to s so.journals) notes ran → done + 1 + n ≡ s.rounds
       → HandsOver written faults (Err e) mid new at to (lines_text (round_lines s (done + 1) (come_to s so.journals) (journals_in ran.books.items)))
       → HandsFront (Err e) old new from to
@@ -104,7 +104,7 @@ module _ {K : Type 0} (written : K → Option (List ℕ)) (faults : K → ℕ) (
       (next-handed (Err e) done c old mid new from at to (journals_in ran.books.items) so stops)
 
   -- memory was refused between rounds
-  pub stops-between : (done n : ℕ) (c : Corridor) (old new : Writer) (from to : K) → Goes done c old new from to → done + suc n ≡ s.rounds
+  pub stops-between : (done n : ℕ) (c : ClosedLoop) (old new : Writer) (from to : K) → Goes done c old new from to → done + suc n ≡ s.rounds
       → HandsFront (Err NoMemory) old new from to
   stops-between done n c old new from to so whole = record {
     journals = finished s so.journals (suc n);

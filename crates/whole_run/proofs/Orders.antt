@@ -2,45 +2,45 @@
 use Rattle.std.proofs.Common.{◌≡◌, ◌+◌, ◌∙◌, ℕ, zero, suc, List, [], ◌∷◌, ◌++◌, length, add-one, add-zero, append-nil, refl, sym, ap, subst, arith}
 use Rattle.std.proofs.lemmas.List.{length-append, length_push}
 use Rattle.scenario_data.specs.Content.{ScenarioContent}
-use Rattle.run_definition.specs.Standing.{Standing, opened_standings, each_standing, standings_after}
+use Rattle.run_definition.specs.CabinetState.{CabinetState, opened_cabinet_states, each_cabinet_state, cabinet_states_after}
 use Rattle.run_definition.specs.Orders.{EachMerges, AreMerges, AreJournals, serial_round, serial_rounds, serial_journals}
 use Rattle.run_definition.proofs.Orders.{serial-merges, serial-all}
 use Rattle.whole_run.specs.Orders.{come_to, AreBroughtBy}
 
-after-more : (s : ScenarioContent) (ts : List Standing) (js : List (List (List ℕ))) (j : List (List ℕ))
-    → standings_after s ts (js ++ j ∷ []) ≡ each_standing s 1 (standings_after s ts js) j
+after-more : (s : ScenarioContent) (ts : List CabinetState) (js : List (List (List ℕ))) (j : List (List ℕ))
+    → cabinet_states_after s ts (js ++ j ∷ []) ≡ each_cabinet_state s 1 (cabinet_states_after s ts js) j
 after-more s ts [] j = refl
-after-more s ts (i ∷ js) j = after-more s (each_standing s 1 ts i) js j
+after-more s ts (i ∷ js) j = after-more s (each_cabinet_state s 1 ts i) js j
 
 -- what the cabinets come to by one round more
-pub come-more : (s : ScenarioContent) (js : List (List (List ℕ))) (j : List (List ℕ)) → come_to s (js ++ j ∷ []) ≡ each_standing s 1 (come_to s js) j
-come-more s js j = after-more s (opened_standings s s.cabinets) js j
+pub come-more : (s : ScenarioContent) (js : List (List (List ℕ))) (j : List (List ℕ)) → come_to s (js ++ j ∷ []) ≡ each_cabinet_state s 1 (come_to s js) j
+come-more s js j = after-more s (opened_cabinet_states s s.cabinets) js j
 
-merges-more : (s : ScenarioContent) (ts : List Standing) (js : List (List (List ℕ))) (j : List (List ℕ)) → AreMerges s ts js
-    → EachMerges s 1 (standings_after s ts js) j → AreMerges s ts (js ++ j ∷ [])
+merges-more : (s : ScenarioContent) (ts : List CabinetState) (js : List (List (List ℕ))) (j : List (List ℕ)) → AreMerges s ts js
+    → EachMerges s 1 (cabinet_states_after s ts js) j → AreMerges s ts (js ++ j ∷ [])
 merges-more s ts [] j are own = (own, tt)
-merges-more s ts (i ∷ js) j are own = (are.0, merges-more s (each_standing s 1 ts i) js j are.1 own)
+merges-more s ts (i ∷ js) j are own = (are.0, merges-more s (each_cabinet_state s 1 ts i) js j are.1 own)
 
 -- some rounds, and then serial ones
-merges-on : (s : ScenarioContent) (ts : List Standing) (js : List (List (List ℕ))) (n : ℕ) → AreMerges s ts js
-    → AreMerges s ts (js ++ serial_rounds s (standings_after s ts js) n)
+merges-on : (s : ScenarioContent) (ts : List CabinetState) (js : List (List (List ℕ))) (n : ℕ) → AreMerges s ts js
+    → AreMerges s ts (js ++ serial_rounds s (cabinet_states_after s ts js) n)
 merges-on s ts [] n are = serial-merges s ts n
-merges-on s ts (j ∷ js) n are = (are.0, merges-on s (each_standing s 1 ts j) js n are.1)
+merges-on s ts (j ∷ js) n are = (are.0, merges-on s (each_cabinet_state s 1 ts j) js n are.1)
 
 -- serial rounds go on as serial ones
-serial-on : (s : ScenarioContent) (ts : List Standing) (m n : ℕ)
-    → serial_rounds s ts (m + n) ≡ serial_rounds s ts m ++ serial_rounds s (standings_after s ts (serial_rounds s ts m)) n
+serial-on : (s : ScenarioContent) (ts : List CabinetState) (m n : ℕ)
+    → serial_rounds s ts (m + n) ≡ serial_rounds s ts m ++ serial_rounds s (cabinet_states_after s ts (serial_rounds s ts m)) n
 serial-on s ts zero n = let none : zero + n ≡ n = omega arith in ap (λ (k : ℕ). serial_rounds s ts k) none
 serial-on s ts (suc m) n =
-    let next : List Standing = each_standing s 1 ts (serial_round s 1 ts) in
+    let next : List CabinetState = each_cabinet_state s 1 ts (serial_round s 1 ts) in
     let more : suc m + n ≡ suc (m + n) = omega arith in
     ap (λ (k : ℕ). serial_rounds s ts k) more ∙ ap (λ (js : List (List (List ℕ))). serial_round s 1 ts ∷ js) (serial-on s next m n)
 
 -- journals of so many rounds, which so many workers have brought about
 pub record AreSoFar (workers : ℕ) (s : ScenarioContent) (done : ℕ) (js : List (List (List ℕ))) : Type 0 where
   pub all : length js ≡ done
-  pub merges : AreMerges s (opened_standings s s.cabinets) js
-  pub serial : workers ≡ 0 → js ≡ serial_rounds s (opened_standings s s.cabinets) done
+  pub merges : AreMerges s (opened_cabinet_states s s.cabinets) js
+  pub serial : workers ≡ 0 → js ≡ serial_rounds s (opened_cabinet_states s s.cabinets) done
 
 pub so-none : (workers : ℕ) (s : ScenarioContent) → AreSoFar workers s 0 []
 so-none workers s = record { all = refl; merges = tt; serial = λ none. refl }
@@ -49,12 +49,12 @@ pub so-more : (workers : ℕ) (s : ScenarioContent) (done : ℕ) (js : List (Lis
     → EachMerges s 1 (come_to s js) j → (workers ≡ 0 → j ≡ serial_round s 1 (come_to s js)) → AreSoFar workers s (done + 1) (js ++ j ∷ [])
 so-more workers s done js j so own serial = record {
   all = length_push js j ∙ ap (λ (n : ℕ). n + 1) so.all;
-  merges = merges-more s (opened_standings s s.cabinets) js j so.merges own;
+  merges = merges-more s (opened_cabinet_states s s.cabinets) js j so.merges own;
   serial = λ none.
-      let ts : List Standing = opened_standings s s.cabinets in
+      let ts : List CabinetState = opened_cabinet_states s s.cabinets in
       let before : List (List (List ℕ)) = serial_rounds s ts done in
       ap (λ (i : List (List ℕ)). js ++ i ∷ []) (serial none)
-      ∙ ap (λ (is : List (List (List ℕ))). is ++ serial_round s 1 (standings_after s ts is) ∷ []) (so.serial none)
+      ∙ ap (λ (is : List (List (List ℕ))). is ++ serial_round s 1 (cabinet_states_after s ts is) ∷ []) (so.serial none)
       ∙ sym (serial-on s ts done 1);
 }
 
@@ -67,11 +67,11 @@ pub finished-brought : (workers : ℕ) (s : ScenarioContent) (done n : ℕ) (js 
 finished-brought workers s done n js so whole = record {
   any = record {
     all = omega (arith, length-append js (serial_rounds s (come_to s js) n), serial-all s (come_to s js) n, so.all, whole);
-    merges = merges-on s (opened_standings s s.cabinets) js n so.merges;
+    merges = merges-on s (opened_cabinet_states s s.cabinets) js n so.merges;
   };
   serial = λ none.
-      let ts : List Standing = opened_standings s s.cabinets in
-      ap (λ (is : List (List (List ℕ))). is ++ serial_rounds s (standings_after s ts is) n) (so.serial none)
+      let ts : List CabinetState = opened_cabinet_states s s.cabinets in
+      ap (λ (is : List (List (List ℕ))). is ++ serial_rounds s (cabinet_states_after s ts is) n) (so.serial none)
       ∙ sym (serial-on s ts done n)
       ∙ ap (λ (k : ℕ). serial_rounds s ts k) whole;
 }
@@ -80,7 +80,7 @@ pub all-brought : (workers : ℕ) (s : ScenarioContent) (done : ℕ) (js : List 
     → AreBroughtBy workers s js
 all-brought workers s done js so whole = record {
   any = record { all = so.all ∙ whole; merges = so.merges };
-  serial = λ none. so.serial none ∙ ap (λ (k : ℕ). serial_rounds s (opened_standings s s.cabinets) k) whole;
+  serial = λ none. so.serial none ∙ ap (λ (k : ℕ). serial_rounds s (opened_cabinet_states s s.cabinets) k) whole;
 }
 
 -- the serial journals are some that any workers may bring about

@@ -13,9 +13,9 @@ use Rattle.cab_book.specs.declared.happened.Answered.{Answered}
 use Rattle.cab_book.specs.Books.{streams_in, journal_of, written_in, answered_in}
 use Rattle.cab_book.specs.Happenings.{replies_in}
 use Rattle.round_run.proofs.Places.{next_item}
-use Rattle.run_definition.specs.Standing.{Standing, coming_streams, round_acts}
+use Rattle.run_definition.specs.CabinetState.{CabinetState, coming_streams, round_acts}
 use Rattle.run_definition.specs.Lines.{load_lines, reply_lines, acts_lines, cabinet_lines}
-use Rattle.round_run.specs.Standings.{HasRun}
+use Rattle.round_run.specs.CabinetStates.{HasRun}
 use Rattle.round_run.specs.Lines.{answer_lines}
 use Rattle.whole_run.specs.declared.tally.Tally.{Tally}
 use Rattle.whole_run.specs.Counting.{total, is_frame, is_reply, is_accepted, is_refused}
@@ -33,31 +33,31 @@ next-answered cab answered i a below is =
     ap (λ (xs : List Answered). reply_lines cab (replies_in xs)) (next_item answered i a below is) ∙ next-reply cab a.reply (replies_in (drop (i + 1) answered))
 
 -- a book has run the acts of its journal
-own-acts : (s : ScenarioContent) (cab : ℕ) (t : Standing) (journal : List ℕ) (b : Book) → HasRun s cab t journal b
+own-acts : (s : ScenarioContent) (cab : ℕ) (t : CabinetState) (journal : List ℕ) (b : Book) → HasRun s cab t journal b
     → acts_of (streams_in b) (journal_of b) ≡ round_acts s cab t journal
 own-acts s cab t journal b run =
     ap (λ (streams : List (List Item)). acts_of streams (journal_of b)) run.streams ∙ ap (acts_of (coming_streams s cab t)) run.journal_is
 
 -- the frames of a book, and then its replies, are the lines of its cabinet's round
-pub book-adds : (s : ScenarioContent) (cab : ℕ) (t : Standing) (journal : List ℕ) (b : Book) (old mid new : Tally) → HasRun s cab t journal b
+pub book-adds : (s : ScenarioContent) (cab : ℕ) (t : CabinetState) (journal : List ℕ) (b : Book) (old mid new : Tally) → HasRun s cab t journal b
     → mid.frames ≡ old.frames + length (written_in b) → mid.replies ≡ old.replies → mid.accepted ≡ old.accepted → mid.refused ≡ old.refused
     → Adds mid new (reply_lines cab (replies_in (answered_in b))) → Adds old new (cabinet_lines s cab t journal)
 book-adds s cab t journal b old mid new run frames replies accepted refused adds =
     let acts : List Act = round_acts s cab t journal in
     let same : acts_of (streams_in b) (journal_of b) ≡ acts = own-acts s cab t journal b run in
-    let shown : written_in b ≡ acts_written t.story acts = run.stands.written.frames ∙ ap (acts_written t.story) same in
-    let told : replies_in (answered_in b) ≡ acts_replies t.story acts = run.stands.written.replies ∙ ap (acts_replies t.story) same in
-    let all : total is_frame (acts_lines cab t.story acts) ≡ length (written_in b) = acts-shown cab t.story acts ∙ ap length (sym shown) in
+    let shown : written_in b ≡ acts_written t.cabinet_history acts = run.stands.written.frames ∙ ap (acts_written t.cabinet_history) same in
+    let told : replies_in (answered_in b) ≡ acts_replies t.cabinet_history acts = run.stands.written.replies ∙ ap (acts_replies t.cabinet_history) same in
+    let all : total is_frame (acts_lines cab t.cabinet_history acts) ≡ length (written_in b) = acts-shown cab t.cabinet_history acts ∙ ap length (sym shown) in
     let quiet : total is_frame (reply_lines cab (replies_in (answered_in b))) ≡ 0 =
     replies-none is_frame (λ c id result. refl) (λ c pass text. refl) cab (replies_in (answered_in b)) in
-    let due : (f : Line → ℕ) → total f (acts_lines cab t.story acts) ≡ total f (reply_lines cab (acts_replies t.story acts))
-    → total f (acts_lines cab t.story acts) ≡ total f (reply_lines cab (replies_in (answered_in b))) =
+    let due : (f : Line → ℕ) → total f (acts_lines cab t.cabinet_history acts) ≡ total f (reply_lines cab (acts_replies t.cabinet_history acts))
+    → total f (acts_lines cab t.cabinet_history acts) ≡ total f (reply_lines cab (replies_in (answered_in b))) =
     λ f e. e ∙ ap (λ (rs : List Reply). total f (reply_lines cab rs)) (sym told) in
     record {
       frames = omega (arith, adds.frames, frames, all, quiet);
-      replies = omega (arith, adds.replies, replies, due is_reply (acts-replied is_reply (λ c tick frame below. refl) cab t.story acts));
-      accepted = omega (arith, adds.accepted, accepted, due is_accepted (acts-replied is_accepted (λ c tick frame below. refl) cab t.story acts));
-      refused = omega (arith, adds.refused, refused, due is_refused (acts-replied is_refused (λ c tick frame below. refl) cab t.story acts));
+      replies = omega (arith, adds.replies, replies, due is_reply (acts-replied is_reply (λ c tick frame below. refl) cab t.cabinet_history acts));
+      accepted = omega (arith, adds.accepted, accepted, due is_accepted (acts-replied is_accepted (λ c tick frame below. refl) cab t.cabinet_history acts));
+      refused = omega (arith, adds.refused, refused, due is_refused (acts-replied is_refused (λ c tick frame below. refl) cab t.cabinet_history acts));
     }
 
 -- as many acts as the journal has passes
@@ -78,12 +78,12 @@ serial-five a b c d e =
     ∙ ap (λ (n : ℕ). length c + n) (serial-many 3 d (e ∷ []) ∙ ap (λ (n : ℕ). length d + n) (serial-many 4 e []))))
 
 -- so a round of the serial order has few replies
-pub few-answered : (s : ScenarioContent) (cab : ℕ) (t : Standing) (b : Book) → HasRun s cab t (serial (coming_streams s cab t)) b → length (answered_in b) ≤ 34359738368
+pub few-answered : (s : ScenarioContent) (cab : ℕ) (t : CabinetState) (b : Book) → HasRun s cab t (serial (coming_streams s cab t)) b → length (answered_in b) ≤ 34359738368
 few-answered s cab t b run =
     let replies : length (replies_in (answered_in b)) ≡ length (answered_in b) = length-map (answered_in b) _ in
-    let told : length (replies_in (answered_in b)) ≡ length (acts_replies t.story (acts_of (streams_in b) (journal_of b))) = ap length run.stands.written.replies in
-    let few : length (acts_replies t.story (acts_of (streams_in b) (journal_of b))) ≤ length (acts_of (streams_in b) (journal_of b)) =
-    few-replies t.story (acts_of (streams_in b) (journal_of b)) in
+    let told : length (replies_in (answered_in b)) ≡ length (acts_replies t.cabinet_history (acts_of (streams_in b) (journal_of b))) = ap length run.stands.written.replies in
+    let few : length (acts_replies t.cabinet_history (acts_of (streams_in b) (journal_of b))) ≤ length (acts_of (streams_in b) (journal_of b)) =
+    few-replies t.cabinet_history (acts_of (streams_in b) (journal_of b)) in
     let acts : length (acts_of (streams_in b) (journal_of b)) ≡ length (journal_of b) = acts-many (streams_in b) [] (journal_of b) in
     let serial_is : journal_of b ≡ serial (streams_in b) = run.journal_is ∙ ap serial (sym run.streams) in
     let many : length (journal_of b) ≡ length (serial (streams_in b)) = ap length serial_is in

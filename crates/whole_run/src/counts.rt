@@ -10,7 +10,7 @@ ghost use Rattle.whole_run.specs.Counting.{counts_of};
 use crate::survey_rounds::run_rounds;
 use crate::tally::Tally;
 use cab_book::Way;
-use round_run::Corridor;
+use round_run::ClosedLoop;
 use scenario_data::Scenario;
 use sig_types::NoMemory;
 use std::alloc::Global;
@@ -18,7 +18,7 @@ use std::alloc::Global;
 /// What a run comes to. Each number is one of lines, but for the ticks, of which a cabinet has as many in each round as the scenario says. A
 /// run has at most 64 cabinets, 86,400 rounds and 600 ticks in a round, so 3,317,760,000 ticks; a cabinet shows at most a frame for each tick
 /// and gives at most a reply for each frame that comes to it, of which a round has fewer than 2^34: so 64 bits are enough.
-#[derive(Clone, Copy, Debug, PartialEq, Eq)]
+#[derive(Clone, Copy, PartialEq, Eq)]
 pub struct Counts {
     /// The cabinets.
     pub cabinets: u32,
@@ -64,13 +64,13 @@ pub fn survey(alloc: Global, s: &Scenario) -> Result<Counts, NoMemory>
     requires { Runnable (scenario_content s.now) }
     ensures { IfOk result (λ counts. counts ≡ counts_of (run_lines (scenario_content s.now) (serial_journals (scenario_content s.now)))) }
 {
-    let mut corridor = match Corridor::open(alloc, Way::Registers, s) {
-        Ok(corridor) => corridor,
+    let mut closed_loop = match ClosedLoop::open(alloc, Way::Registers, s) {
+        Ok(closed_loop) => closed_loop,
         Err(NoMemory) => return Err(NoMemory),
     };
     let cabinets = s.cabinets.len() as u32;
     let first = opening_tally(cabinets);
-    let tally = match run_rounds(alloc, &mut corridor, s, first) {
+    let tally = match run_rounds(alloc, &mut closed_loop, s, first) {
         Ok(tally) => tally,
         Err(NoMemory) => return Err(NoMemory),
     };

@@ -1,11 +1,8 @@
-//! A whole run of a scenario: its rounds, which workers in threads may bring to the cabinets, and
-//! its trace, written as it runs.
+//! A whole run of a scenario: its rounds, which workers in threads may bring to the cabinets, and its trace, written as it runs:
+//! bytes go out in pieces, and at most 32 KiB of them wait to be written.
 //!
-//! The trace on its way to a sink, line by line: bytes go out in pieces, and at most 32 KiB of them wait to be written. It stands
-//! below the run, which knows nothing of pieces.
-//!
-//! What a run comes to in numbers: the run goes through in the serial order, and is counted as it goes. No
-//! line is made and none is kept, so that it takes no memory beside the run's own.
+//! What a run comes to in numbers: the run goes through in the serial order and is counted as it goes. No line is made or kept,
+//! so it takes no memory beside the run's own.
 #![tactic(auto)]
 
 mod counts;

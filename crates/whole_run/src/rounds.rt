@@ -4,17 +4,17 @@
 ghost use Rattle.std.specs.Prelude.{◌≡◌, ◌≤◌, ◌<◌, ℕ, List, length, vec_len, IfOk};
 ghost use Rattle.scenario_data.specs.Content.{ScenarioContent, scenario_content};
 ghost use Rattle.runnable.specs.Runnable.{Runnable};
-ghost use Rattle.run_definition.specs.Standing.{Standing};
+ghost use Rattle.run_definition.specs.CabinetState.{CabinetState};
 ghost use Rattle.run_definition.specs.Orders.{serial_round as serial_journals};
-ghost use Rattle.round_run.specs.Standings.{HaveRun, no_journals, TicksWithin};
+ghost use Rattle.round_run.specs.CabinetStates.{HaveRun, no_journals, TicksWithin};
 ghost use Rattle.round_run.specs.Joined.{AreFresh, HaveFewLeft, HaveMerged, journals_in};
-ghost use Rattle.round_run.specs.Corridor.{Between};
+ghost use Rattle.round_run.specs.ClosedLoop.{Between};
 ghost use Rattle.whole_run.specs.Rounds.{HasRunOn};
 
 use crate::crew::Crew;
 use cab_book::Book;
 use io_edge::Gate;
-use round_run::{Corridor, joined_round, serial_round};
+use round_run::{ClosedLoop, joined_round, serial_round};
 use scenario_data::Scenario;
 use sig_types::{MasterNote, NoMemory};
 use std::alloc::Global;
@@ -32,9 +32,9 @@ fn bring_round<R: Threads + Sync, G: Gate + Sync>(
     requires fresh { AreFresh books.items }
     requires small { HaveFewLeft books.items }
     ensures many { IfOk result (λ v. length v.items ≡ length books.items) }
-    ensures run { IfOk result (λ v. (s : ScenarioContent) (ts : List Standing) → HaveRun s ts (no_journals ts) books.items
+    ensures run { IfOk result (λ v. (s : ScenarioContent) (ts : List CabinetState) → HaveRun s ts (no_journals ts) books.items
         → HaveMerged s ts v.items) }
-    ensures serial { IfOk result (λ v. crew.now.workers ≡ 0 → (s : ScenarioContent) (ts : List Standing)
+    ensures serial { IfOk result (λ v. crew.now.workers ≡ 0 → (s : ScenarioContent) (ts : List CabinetState)
         → HaveRun s ts (no_journals ts) books.items → journals_in v.items ≡ serial_journals s 1 ts) }
     ensures ticks { IfOk result (λ v. (most : ℕ) → TicksWithin most books.items → TicksWithin most v.items) }
 {
@@ -49,30 +49,30 @@ fn bring_round<R: Threads + Sync, G: Gate + Sync>(
 }
 
 /// Runs the round after so many, and gives what the master notes at its start. Where memory is wanting the round is not run to its end,
-/// and the corridor is of no more use.
+/// and the closed loop is of no more use.
 pub fn run_round<R: Threads + Sync, G: Gate + Sync>(
     crew: &Crew<R, G>,
     alloc: Global,
-    corridor: &mut Corridor,
+    closed_loop: &mut ClosedLoop,
     done: u32,
     s: &Scenario,
 ) -> Result<Vec<MasterNote>, NoMemory>
     requires runnable { Runnable (scenario_content s.now) }
     requires few { done < s.now.rounds }
-    requires between { (ts : List Standing) × Between (scenario_content s.now) done ts corridor.old }
-    ensures { IfOk result (λ notes. (ts : List Standing) → Between (scenario_content s.now) done ts corridor.old
-        → HasRunOn crew.now.workers (scenario_content s.now) done ts notes.items corridor.new) }
+    requires between { (ts : List CabinetState) × Between (scenario_content s.now) done ts closed_loop.old }
+    ensures { IfOk result (λ notes. (ts : List CabinetState) → Between (scenario_content s.now) done ts closed_loop.old
+        → HasRunOn crew.now.workers (scenario_content s.now) done ts notes.items closed_loop.new) }
 {
-    let notes = match corridor.begin_round(alloc, done, s) {
+    let notes = match closed_loop.begin_round(alloc, done, s) {
         Ok(notes) => notes,
         Err(NoMemory) => return Err(NoMemory),
     };
-    let books = replace(&mut corridor.books, Vec::new(alloc));
+    let books = replace(&mut closed_loop.books, Vec::new(alloc));
     match bring_round(crew, alloc, books) {
-        Ok(books) => corridor.books = books,
+        Ok(books) => closed_loop.books = books,
         Err(NoMemory) => return Err(NoMemory),
     }
-    match corridor.end_round(alloc, done, s) {
+    match closed_loop.end_round(alloc, done, s) {
         Ok(()) => Ok(notes),
         Err(NoMemory) => Err(NoMemory),
     }

@@ -3,10 +3,10 @@
 ghost use Rattle.std.specs.Prelude.{◌≡◌, ◌≤◌, ◌+◌, ◌*◌, ◌∷◌, ℕ, List, [], length};
 ghost use Rattle.trace_text.specs.declared.lines.Line.{Line as LineRow};
 ghost use Rattle.scenario_data.specs.Content.{ScenarioContent};
-ghost use Rattle.run_definition.specs.Standing.{Standing};
+ghost use Rattle.run_definition.specs.CabinetState.{CabinetState};
 ghost use Rattle.run_definition.specs.Orders.{serial_round};
 ghost use Rattle.run_definition.specs.Lines.{load_lines, cabinet_lines, each_lines};
-ghost use Rattle.round_run.specs.Standings.{HasRun, HaveRun};
+ghost use Rattle.round_run.specs.CabinetStates.{HasRun, HaveRun};
 ghost use Rattle.round_run.specs.Lines.{answer_lines};
 ghost use Rattle.cab_book.specs.Books.{answered_in};
 ghost use Rattle.whole_run.specs.Tallies.{Adds, AtMost};
@@ -79,7 +79,7 @@ fn with_reply(tally: Tally, reply: &Reply) -> Tally
 pub fn with_book(tally: Tally, book: &Book) -> Tally
     requires room { AtMost 4611686018427387904 tally }
     requires few { length (answered_in book.now) ≤ 34359738368 }
-    ensures adds { (s : ScenarioContent) (cab : ℕ) (t : Standing) (journal : List ℕ) → HasRun s cab t journal book.now
+    ensures adds { (s : ScenarioContent) (cab : ℕ) (t : CabinetState) (journal : List ℕ) → HasRun s cab t journal book.now
         → Adds tally result (cabinet_lines s cab t journal) }
     ensures most { (most : ℕ) → AtMost most tally → AtMost (most + 137438953472) result }
 {
@@ -99,8 +99,8 @@ pub fn with_book(tally: Tally, book: &Book) -> Tally
 pub fn with_books(tally: Tally, books: &Vec<Book>) -> Tally
     requires few { length books.now.items ≤ 64 }
     requires room { AtMost 2305843009213693952 tally }
-    requires run { (s : ScenarioContent) × (ts : List Standing) × HaveRun s ts (serial_round s 1 ts) books.now.items }
-    ensures adds { (s : ScenarioContent) (ts : List Standing) (journals : List (List ℕ)) → HaveRun s ts journals books.now.items
+    requires run { (s : ScenarioContent) × (ts : List CabinetState) × HaveRun s ts (serial_round s 1 ts) books.now.items }
+    ensures adds { (s : ScenarioContent) (ts : List CabinetState) (journals : List (List ℕ)) → HaveRun s ts journals books.now.items
         → Adds tally result (each_lines s 1 ts journals) }
     ensures most { (most : ℕ) → AtMost most tally → AtMost (most + 64 * 137438953472) result }
 {

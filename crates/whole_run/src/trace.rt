@@ -6,10 +6,10 @@ ghost use Rattle.safety_laws.specs.TraceText.{lines_text};
 ghost use Rattle.whole_run.specs.Handing.{HandsOver, Writes, held_by};
 ghost use Rattle.scenario_data.specs.Content.{ScenarioContent, scenario_content};
 ghost use Rattle.runnable.specs.Runnable.{Runnable};
-ghost use Rattle.run_definition.specs.Standing.{Standing};
+ghost use Rattle.run_definition.specs.CabinetState.{CabinetState};
 ghost use Rattle.run_definition.specs.Lines.{opening_lines, notes_lines, each_lines, round_lines, front_lines, rest_lines, run_text};
-ghost use Rattle.round_run.specs.Standings.{AreAt, HaveRun};
-ghost use Rattle.round_run.specs.Corridor.{Between};
+ghost use Rattle.round_run.specs.CabinetStates.{AreAt, HaveRun};
+ghost use Rattle.round_run.specs.ClosedLoop.{Between};
 ghost use Rattle.whole_run.specs.Orders.{come_to, InSomeOrder};
 
 use crate::crew::Crew;
@@ -18,7 +18,7 @@ use crate::rounds::run_round;
 use crate::{Stop, Writer};
 use cab_book::{Book, Way};
 use io_edge::{Gate, Sink};
-use round_run::{Corridor, books_follow_runs};
+use round_run::{ClosedLoop, books_follow_runs};
 use scenario_data::Scenario;
 use sig_types::{MasterNote, NoMemory};
 use std::alloc::Global;
@@ -28,7 +28,7 @@ use trace_text::Line;
 /// Hands over what each cabinet shows before any tick.
 fn put_openings<K: Sink>(writer: &mut Writer, sink: &mut K, books: &Vec<Book>) -> Result<(), Stop>
     requires few { length books.now.items ≤ 64 }
-    ensures { (ts : List Standing) → AreAt books.now.items ts
+    ensures { (ts : List CabinetState) → AreAt books.now.items ts
         → HandsOver K.written K.faults result writer.old writer.new sink.old sink.new (lines_text (opening_lines 1 ts)) }
 {
     for i in 0..books.len() {
@@ -44,8 +44,8 @@ fn put_openings<K: Sink>(writer: &mut Writer, sink: &mut K, books: &Vec<Book>) -
 /// Hands over the lines of the round that the books have run, cabinet after cabinet.
 fn put_books<K: Sink>(writer: &mut Writer, sink: &mut K, books: &Vec<Book>) -> Result<(), Stop>
     requires few { length books.now.items ≤ 64 }
-    requires run { (s : ScenarioContent) × (ts : List Standing) × (journals : List (List ℕ)) × HaveRun s ts journals books.now.items }
-    ensures { (s : ScenarioContent) (ts : List Standing) (journals : List (List ℕ)) → HaveRun s ts journals books.now.items
+    requires run { (s : ScenarioContent) × (ts : List CabinetState) × (journals : List (List ℕ)) × HaveRun s ts journals books.now.items }
+    ensures { (s : ScenarioContent) (ts : List CabinetState) (journals : List (List ℕ)) → HaveRun s ts journals books.now.items
         → HandsOver K.written K.faults result writer.old writer.new sink.old sink.new (lines_text (each_lines s 1 ts journals)) }
 {
     books_follow_runs();
@@ -67,8 +67,8 @@ fn put_round<K: Sink>(
     books: &Vec<Book>,
 ) -> Result<(), Stop>
     requires few { length books.now.items ≤ 64 }
-    requires run { (s : ScenarioContent) × (ts : List Standing) × (journals : List (List ℕ)) × HaveRun s ts journals books.now.items }
-    ensures { (s : ScenarioContent) (ts : List Standing) (journals : List (List ℕ)) → map LineRow.M notes.now ≡ notes_lines s 1 ts
+    requires run { (s : ScenarioContent) × (ts : List CabinetState) × (journals : List (List ℕ)) × HaveRun s ts journals books.now.items }
+    ensures { (s : ScenarioContent) (ts : List CabinetState) (journals : List (List ℕ)) → map LineRow.M notes.now ≡ notes_lines s 1 ts
         → HaveRun s ts journals books.now.items
         → HandsOver K.written K.faults result writer.old writer.new sink.old sink.new (lines_text (round_lines s round ts journals)) }
 {
@@ -89,24 +89,24 @@ fn put_front<R: Threads + Sync, K: Sink, G: Gate + Sync>(
     alloc: Global,
     writer: &mut Writer,
     sink: &mut K,
-    corridor: &mut Corridor,
+    closed_loop: &mut ClosedLoop,
     s: &Scenario,
 ) -> Result<(), Stop>
     requires runnable { Runnable (scenario_content s.now) }
-    requires ready { Between (scenario_content s.now) 0 (come_to (scenario_content s.now) []) corridor.old }
+    requires ready { Between (scenario_content s.now) 0 (come_to (scenario_content s.now) []) closed_loop.old }
     ensures { InSomeOrder crew.now.workers (scenario_content s.now) (λ journals.
         HandsOver K.written K.faults result writer.old writer.new sink.old sink.new (lines_text (front_lines (scenario_content s.now) journals))) }
 {
-    match put_openings(writer, sink, &corridor.books) {
+    match put_openings(writer, sink, &closed_loop.books) {
         Ok(()) => {}
         Err(stop) => return Err(stop),
     }
     for done in 0..s.rounds {
-        let notes = match run_round(crew, alloc, corridor, done, s) {
+        let notes = match run_round(crew, alloc, closed_loop, done, s) {
             Ok(notes) => notes,
             Err(NoMemory) => return Err(Stop::NoMemory),
         };
-        match put_round(writer, sink, done + 1, notes.as_slice(), &corridor.books) {
+        match put_round(writer, sink, done + 1, notes.as_slice(), &closed_loop.books) {
             Ok(()) => {}
             Err(stop) => return Err(stop),
         }
@@ -126,11 +126,11 @@ fn put_rest<R: Threads + Sync, K: Sink, G: Gate + Sync>(
     ensures { InSomeOrder crew.now.workers (scenario_content s.now) (λ journals.
         HandsOver K.written K.faults result writer.old writer.new sink.old sink.new (lines_text (rest_lines (scenario_content s.now) journals))) }
 {
-    let mut corridor = match Corridor::open(alloc, Way::Registers, s) {
-        Ok(corridor) => corridor,
+    let mut closed_loop = match ClosedLoop::open(alloc, Way::Registers, s) {
+        Ok(closed_loop) => closed_loop,
         Err(NoMemory) => return Err(Stop::NoMemory),
     };
-    match put_front(crew, alloc, writer, sink, &mut corridor, s) {
+    match put_front(crew, alloc, writer, sink, &mut closed_loop, s) {
         Ok(()) => {}
         Err(stop) => return Err(stop),
     }

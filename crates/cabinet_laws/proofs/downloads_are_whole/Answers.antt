@@ -17,4 +17,4 @@ pub returns-clause-staged : goal.returns-clause-staged
 returns-clause-staged c = staged-over
 
 pub returns-clause-parts : goal.returns-clause-parts
-returns-clause-parts c = λ story. parts-numbered c.parts_come_in_order.ensures (coming story).calls
+returns-clause-parts c = λ cabinet_history. parts-numbered c.parts_come_in_order.ensures (coming cabinet_history).calls

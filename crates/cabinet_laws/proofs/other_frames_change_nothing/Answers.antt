@@ -5,16 +5,16 @@ use Rattle.cabinet_history.specs.Told.{replied, ask_end}
 use Rattle.cabinet_laws.proofs.other_frames_change_nothing.Goals as goal
 
 pub returns-clause-nothing : goal.returns-clause-nothing
-returns-clause-nothing c = λ story octets none.
-    ap (λ (a : Option Ask). heeded (coming story) a)
-    (c.other_frames_ask_nothing.ensures.nothing octets story.community (in_force (coming story)) none)
+returns-clause-nothing c = λ cabinet_history octets none.
+    ap (λ (a : Option Ask). heeded (coming cabinet_history) a)
+    (c.other_frames_ask_nothing.ensures.nothing octets cabinet_history.community (in_force (coming cabinet_history)) none)
 
 pub returns-clause-silence : goal.returns-clause-silence
-returns-clause-silence c = λ story octets none.
-    ap (λ (a : Option Ask). replied (coming story) a)
-    (c.other_frames_ask_nothing.ensures.nothing octets story.community (in_force (coming story)) none)
+returns-clause-silence c = λ cabinet_history octets none.
+    ap (λ (a : Option Ask). replied (coming cabinet_history) a)
+    (c.other_frames_ask_nothing.ensures.nothing octets cabinet_history.community (in_force (coming cabinet_history)) none)
 
 pub returns-clause-no_end : goal.returns-clause-no_end
-returns-clause-no_end c = λ story octets none.
-    ap (λ (a : Option Ask). ask_end (coming story) a)
-    (c.other_frames_ask_nothing.ensures.nothing octets story.community (in_force (coming story)) none)
+returns-clause-no_end c = λ cabinet_history octets none.
+    ap (λ (a : Option Ask). ask_end (coming cabinet_history) a)
+    (c.other_frames_ask_nothing.ensures.nothing octets cabinet_history.community (in_force (coming cabinet_history)) none)

@@ -14,10 +14,10 @@ returns c = λ s open_all journals are cab d is.
       end = e.end;
       own = e.own;
       come = e.come;
-      safe = c.stories_are_safe.ensures.safe e.end.story (opening_tables d) (drift_in d) cab (run_lines s journals) e.opens can.consistent e.told;
-      whole = c.stories_are_safe.ensures.whole e.end.story (opening_tables d) (drift_in d) cab (run_lines s journals) e.opens e.told;
-      tables = λ version later counted. c.downloads_are_whole.ensures.versions e.end.story (opening_tables d) (drift_in d) version later e.opens counted;
-      judged = λ later earlier octets came. c.downloads_end_as_judged.ensures (as_far_as e.end.story earlier) octets;
-      meets = c.stories_meet_coordination.ensures.drifting e.end.story (opening_tables d) (drift_in d) e.opens can.consistent (opening-fits d) can.slow;
-      greens = c.stories_keep_to_plan.ensures e.end.story (opening_tables d) (drift_in d) e.opens can.consistent;
+      safe = c.cabinet_histories_are_safe.ensures.safe e.end.cabinet_history (opening_tables d) (drift_in d) cab (run_lines s journals) e.opens can.consistent e.told;
+      whole = c.cabinet_histories_are_safe.ensures.whole e.end.cabinet_history (opening_tables d) (drift_in d) cab (run_lines s journals) e.opens e.told;
+      tables = λ version later counted. c.downloads_are_whole.ensures.versions e.end.cabinet_history (opening_tables d) (drift_in d) version later e.opens counted;
+      judged = λ later earlier octets came. c.downloads_end_as_judged.ensures (as_far_as e.end.cabinet_history earlier) octets;
+      meets = c.cabinet_histories_meet_coordination.ensures.drifting e.end.cabinet_history (opening_tables d) (drift_in d) e.opens can.consistent (opening-fits d) can.slow;
+      greens = c.cabinet_histories_keep_to_plan.ensures e.end.cabinet_history (opening_tables d) (drift_in d) e.opens can.consistent;
     }

@@ -3,9 +3,9 @@ use Rattle.std.specs.Coded.{le_prop}
 use Rattle.std.proofs.Math.Logic.{∥∥₁_elim}
 use Rattle.sig_tables.specs.Past.{Event, Install}
 use Rattle.sig_tables.specs.declared.tables.Tables.{Tables}
-use Rattle.stage_txn.specs.Answers.{answered, kept, standing}
+use Rattle.stage_txn.specs.Answers.{answered, kept, stage_state}
 use Rattle.tick_context.specs.Told.{CanRun}
-use Rattle.cab_book.specs.Controls.{StandsFor}
+use Rattle.cab_book.specs.Controls.{ControlStands}
 use Rattle.cab_book.proofs.Facts.{installs-are}
 use Rattle.agent.specs.declared.ask.Order.{Order}
 use Rattle.agent.specs.Orders.{IsFit}
@@ -39,8 +39,8 @@ install-requires-clause-few c = ∥∥₁_elim c.requires.answered le_prop (λ s
     let yes : is_accepted c.args.wish.now (outcome has c.args.wish.now) ≡ true =
     ap (is_accepted c.args.wish.now) (sym is.answer_is) ∙ sym c.is_accepted.ensures ∙ c.if-is_accepted.true in
     let none : map order_event c.orders_of.result.now ≡ [] = ap (map order_event) c.orders_of.ensures ∙ (puts-staged has c.args.wish.now yes).orders in
-    let before = subst (λ (es : List Event). StandsFor c.give.new.control (with_events has.history es)) none (c.give.ensures.stands has.history is.controller_stands) in
-    omega (arith, installs-are c.give.new.control has.history before, few-within (past_of has).version (kept (answered has.calls)) (standing (answered has.calls)) is.few, is.ids))
+    let before = subst (λ (es : List Event). ControlStands c.give.new.control (with_events has.history es)) none (c.give.ensures.stands has.history is.controller_stands) in
+    omega (arith, installs-are c.give.new.control has.history before, few-within (past_of has).version (kept (answered has.calls)) (stage_state (answered has.calls)) is.few, is.ids))
 
 pub returns-then-is_accepted-clause-stands : goal.returns-then-is_accepted-clause-stands
 returns-then-is_accepted-clause-stands c = λ has is.
@@ -48,14 +48,14 @@ returns-then-is_accepted-clause-stands c = λ has is.
     ap (is_accepted c.args.wish.now) (sym is.answer_is) ∙ sym c.is_accepted.ensures ∙ c.if-is_accepted.true in
     let puts = puts-staged has c.args.wish.now yes in
     let none : map order_event c.orders_of.result.now ≡ [] = ap (map order_event) c.orders_of.ensures ∙ puts.orders in
-    let before = subst (λ (es : List Event). StandsFor c.give.new.control (with_events has.history es)) none (c.give.ensures.stands has.history is.controller_stands) in
+    let before = subst (λ (es : List Event). ControlStands c.give.new.control (with_events has.history es)) none (c.give.ensures.stands has.history is.controller_stands) in
     let same = c.staged.ensures (with_call has.calls (call_of has c.args.wish.now)) is.stage_stands in
     let installed = c.install.ensures.stands has.history before in
-    subst (λ (es : List Event). StandsFor c.install.new.self (with_events has.history es)) (ap (λ (t : Tables). Install t ∷ []) same ∙ sym puts.events) installed
+    subst (λ (es : List Event). ControlStands c.install.new.self (with_events has.history es)) (ap (λ (t : Tables). Install t ∷ []) same ∙ sym puts.events) installed
 
 pub returns-else-is_accepted-clause-stands : goal.returns-else-is_accepted-clause-stands
 returns-else-is_accepted-clause-stands c = λ has is.
     let no : is_accepted c.args.wish.now (outcome has c.args.wish.now) ≡ false =
     ap (is_accepted c.args.wish.now) (sym is.answer_is) ∙ sym c.is_accepted.ensures ∙ c.if-is_accepted.false in
     let all : map order_event c.orders_of.result.now ≡ events_of has c.args.wish.now = ap (map order_event) c.orders_of.ensures ∙ orders-alone has c.args.wish.now no in
-    subst (λ (es : List Event). StandsFor c.give.new.control (with_events has.history es)) all (c.give.ensures.stands has.history is.controller_stands)
+    subst (λ (es : List Event). ControlStands c.give.new.control (with_events has.history es)) all (c.give.ensures.stands has.history is.controller_stands)

@@ -3,7 +3,7 @@ use Rattle.cabinet_history.proofs.laws.whole_downloads.Goals as goal
 
 pub returns : goal.returns
 returns c = record {
-  version = λ story. (whole story.community story.opening story.items).version;
-  nothing_else = λ story. (whole story.community story.opening story.items).base;
-  tables = λ story. (whole story.community story.opening story.items).tables;
+  version = λ cabinet_history. (whole cabinet_history.community cabinet_history.opening cabinet_history.items).version;
+  nothing_else = λ cabinet_history. (whole cabinet_history.community cabinet_history.opening cabinet_history.items).base;
+  tables = λ cabinet_history. (whole cabinet_history.community cabinet_history.opening cabinet_history.items).tables;
 }

@@ -7,19 +7,19 @@ use Rattle.controller.proofs.Controller.all_left.Goals as goal
 pub returns-else-not-is_beside-clause-lasts : goal.returns-else-not-is_beside-clause-lasts
 returns-else-not-is_beside-clause-lasts c = λ past k keeps b fresh even looks some within.
     let on : on_in (frame_seen past) 1 ≢ 0 =
-    λ x. c.are_both_on.ensures.first c.if-not-are_both_on.false (ap (λ (f : Frame). on_in f 1) keeps.frame ∙ x) in
+    λ x. c.are_both_on.ensures.first c.if-not-are_both_on.false (ap (λ (f : Frame). on_in f 1) keeps.context.frame ∙ x) in
     let too : on_in (frame_seen past) 2 ≢ 0 =
-    λ x. c.are_both_on.ensures.second c.if-not-are_both_on.false (ap (λ (f : Frame). on_in f 2) keeps.frame ∙ x) in
+    λ x. c.are_both_on.ensures.second c.if-not-are_both_on.false (ap (λ (f : Frame). on_in f 2) keeps.context.frame ∙ x) in
     record {
       fresh = fresh;
-      was = ap (λ (f : Frame). f.mode) (sym keeps.frame);
+      was = ap (λ (f : Frame). f.mode) (sym keeps.context.frame);
       beside = c.is_beside.ensures past keeps c.if-not-is_beside.false;
       version = c.is_laid_out.ensures.version past keeps c.if-not-is_laid_out.false;
       on = c.is_laid_out.ensures.on past keeps c.if-not-is_laid_out.false;
       first = on;
       second = too;
-      wide = ap (λ (f : Frame). length f.veh) (sym keeps.frame) ∙ c.shows_sixteen.ensures.veh;
-      long = ap (λ (f : Frame). length f.ped) (sym keeps.frame) ∙ c.shows_sixteen.ensures.ped;
+      wide = ap (λ (f : Frame). length f.veh) (sym keeps.context.frame) ∙ c.shows_sixteen.ensures.veh;
+      long = ap (λ (f : Frame). length f.ped) (sym keeps.context.frame) ∙ c.shows_sixteen.ensures.ped;
       goes = c.mode_left-mode.ensures.left past k keeps b fresh even looks.opposed some (omega (arith, within));
       phases = λ p h. c.phases_left.ensures.left past k p keeps b looks some (omega (arith, within)) h;
     }

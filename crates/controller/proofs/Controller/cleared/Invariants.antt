@@ -8,4 +8,4 @@ use Rattle.controller.proofs.Controller.cleared.Given as goal
 
 abbrev pub invariant-loop : goal.invariant-loop
 invariant-loop l =
-    (past : Past) → Runs l.self l.course past → Visited l.cleared l.rest l.counter (is_green (frame_seen past)) (is_leaving (view_seen past))
+    (past : Past) → Runs l.self l.tick_state past → Visited l.cleared l.rest l.counter (is_green (frame_seen past)) (is_leaving (view_seen past))

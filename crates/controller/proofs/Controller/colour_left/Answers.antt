@@ -12,7 +12,7 @@ returns-in-Green c = record {
   left = λ past k keeps some within.
       steady-lasts k c.args.phase past.tables past.moments (colour_of (frame_seen past) c.args.phase)
       (ap (λ (x : Colour). same_colour x Yellow || same_colour x Clear)
-      (ap (λ (f : Frame). colour_of f c.args.phase) (sym keeps.frame) ∙ c.in-Green.is));
+      (ap (λ (f : Frame). colour_of f c.args.phase) (sym keeps.context.frame) ∙ c.in-Green.is));
 }
 
 pub returns-in-Red : goal.returns-in-Red
@@ -20,13 +20,13 @@ returns-in-Red c = record {
   left = λ past k keeps some within.
       steady-lasts k c.args.phase past.tables past.moments (colour_of (frame_seen past) c.args.phase)
       (ap (λ (x : Colour). same_colour x Yellow || same_colour x Clear)
-      (ap (λ (f : Frame). colour_of f c.args.phase) (sym keeps.frame) ∙ c.in-Red.is));
+      (ap (λ (f : Frame). colour_of f c.args.phase) (sym keeps.context.frame) ∙ c.in-Red.is));
 }
 
 pub returns-in-Yellow : goal.returns-in-Yellow
 returns-in-Yellow c = record {
   left = λ past k keeps some within.
-      let shown : colour_of (frame_seen past) c.args.phase ≡ Yellow = ap (λ (f : Frame). colour_of f c.args.phase) (sym keeps.frame) ∙ c.in-Yellow.is in
+      let shown : colour_of (frame_seen past) c.args.phase ≡ Yellow = ap (λ (f : Frame). colour_of f c.args.phase) (sym keeps.context.frame) ∙ c.in-Yellow.is in
       let sum : c.run.result + k ≤ c.latched_yellow-time.result = omega arith in
       yellow-lasts k c.args.phase past.tables past.moments _ c.run.result c.latched_yellow-time.result shown
       (c.run.ensures.run past.moments keeps.clocks)
@@ -36,7 +36,7 @@ returns-in-Yellow c = record {
 pub returns-in-Clear : goal.returns-in-Clear
 returns-in-Clear c = record {
   left = λ past k keeps some within.
-      let shown : colour_of (frame_seen past) c.args.phase ≡ Clear = ap (λ (f : Frame). colour_of f c.args.phase) (sym keeps.frame) ∙ c.in-Clear.is in
+      let shown : colour_of (frame_seen past) c.args.phase ≡ Clear = ap (λ (f : Frame). colour_of f c.args.phase) (sym keeps.context.frame) ∙ c.in-Clear.is in
       let sum : c.run-in-Clear.result + k ≤ c.latched_clear-time.result = omega arith in
       clear-lasts k c.args.phase past.tables past.moments _ c.run-in-Clear.result c.latched_clear-time.result shown
       (c.run-in-Clear.ensures.run past.moments keeps.clocks)

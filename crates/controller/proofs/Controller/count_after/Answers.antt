@@ -8,12 +8,13 @@ use Rattle.sig_tables.specs.Slots.{cycle_time}
 use Rattle.sig_tables.specs.Choosing.{is_in_step}
 use Rattle.sig_tables.specs.Clock.{clock_now, target_in}
 use Rattle.sig_tables.specs.Counters.{counter_in}
-use Rattle.sig_tables.specs.Course.{course_of}
+use Rattle.sig_tables.specs.TickState.{tick_state_of}
 use Rattle.sig_tables.specs.Decide.{next_moment, colours_of}
 use Rattle.sig_tables.specs.Seen.{mode_seen, moves_seen}
 use Rattle.coord_count.specs.Stands.{CountStands}
 use Rattle.tick_context.specs.Modes.{is_coord}
-use Rattle.controller.proofs.Running.{coord-of}
+use Rattle.tick_context.proofs.Running.{coord-of}
+use Rattle.controller.proofs.Running.{runs-context}
 use Rattle.tick_context.proofs.Sought.{reached-from}
 use Rattle.tick_context.proofs.Counted.{counters-head, counters-none, some-cycle}
 use Rattle.tick_context.proofs.Steps.{coord-step, seek-step, seek-defined}
@@ -23,7 +24,7 @@ use Rattle.controller.proofs.Controller.count_after.Goals as goal
 pub returns-then-is_coord : goal.returns-then-is_coord
 returns-then-is_coord c = record {
   counts = λ past r f n st.
-      let coord : is_coord (mode_seen past) ≡ true = coord-of c.args.self.now c.args.course.now past _ _ r c.is_coord.ensures c.if-is_coord.true in
+      let coord : is_coord (mode_seen past) ≡ true = coord-of c.args.self.now.context c.args.tick_state.now past _ _ (runs-context _ _ past r) c.is_coord.ensures c.if-is_coord.true in
       let reached : same_mode (next_moment past).frame.mode (Coord n) ≡ true =
       ap (λ (x : Frame). same_mode x.mode (Coord n)) (sym f) ∙ (and_parts (same_mode c.args.frame.now.mode (Coord n))
       (c.args.frame.now.version == past.version) st).0 in
@@ -33,10 +34,10 @@ returns-then-is_coord c = record {
             let step = coord-step past n e in
             let (before, head) = counters-head n past.version past.moments step in
             let kept = c.counted.ensures.kept _ before (subst (λ (xs : List ℕ). CountStands c.args.self.now.count xs) head (r.keeps.counts n step).stands) in
-            let at : c.args.frame.now.counter ≡ (course_of past).counter = ap (λ (x : Frame). x.counter) f in
+            let at : c.args.frame.now.counter ≡ (tick_state_of past).counter = ap (λ (x : Frame). x.counter) f in
             record {
               stands = kept-on c.counted.result past (next_moment past) n _ c.args.frame.now.counter before st2 at head kept;
-              within = subst (λ (x : ℕ). x < cycle_time past.tables n) (sym (kept.counter ∙ at ∙ sym r.course.counter)) (r.course.within n e);
+              within = subst (λ (x : ℕ). x < cycle_time past.tables n) (sym (kept.counter ∙ at ∙ sym r.tick_state.counter)) (r.tick_state.within n e);
             }
         | inr e ↦ absurd (false≢true (sym (ap is_coord e) ∙ coord))
       ];
@@ -45,7 +46,7 @@ returns-then-is_coord c = record {
 pub returns-else-is_coord : goal.returns-else-is_coord
 returns-else-is_coord c = record {
   counts = λ past r f n st.
-      let coord : is_coord (mode_seen past) ≡ false = coord-of c.args.self.now c.args.course.now past _ _ r c.is_coord.ensures c.if-is_coord.false in
+      let coord : is_coord (mode_seen past) ≡ false = coord-of c.args.self.now.context c.args.tick_state.now past _ _ (runs-context _ _ past r) c.is_coord.ensures c.if-is_coord.false in
       let reached : same_mode (next_moment past).frame.mode (Coord n) ≡ true =
       ap (λ (x : Frame). same_mode x.mode (Coord n)) (sym f) ∙ (and_parts (same_mode c.args.frame.now.mode (Coord n))
       (c.args.frame.now.version == past.version) st).0 in
@@ -53,7 +54,7 @@ returns-else-is_coord c = record {
       elim (reached-from (mode_seen past) past.tables (colours_of past (moves_seen past)) n reached) [
         | inl e ↦ absurd (false≢true (sym (sym (ap is_coord e) ∙ coord)))
         | inr e ↦
-            let zero : (course_of past).counter ≡ 0 =
+            let zero : (tick_state_of past).counter ≡ 0 =
             ap (λ (m : Mode). counter_in past.tables m (target_in past.tables m (clock_now past)) past.moments) e in
             record {
               stands = picked-up c.new.result past (next_moment past) n st2 (sym zero) (counters-none n past.version past.moments

@@ -12,7 +12,7 @@ use Rattle.controller.proofs.Controller.done.Goals as goal
 pub loop-init : goal.loop-init
 loop-init c = λ past r s.
     visited-start c.empty-done.result c.meet-rest.result _ (is_done (view_seen past))
-    (λ p h. c.meet-rest.ensures.has p ∙ rw (r.keeps.layout.enabled p h, r.keeps.shown.green p h) refl) c.empty-done.ensures.has
+    (λ p h. c.meet-rest.ensures.has p ∙ rw (r.keeps.context.layout.enabled p h, r.keeps.shown.green p h) refl) c.empty-done.ensures.has
     (λ p h out. done-not past p out)
 
 pub loop-preserved : goal.loop-preserved

@@ -4,4 +4,4 @@ use Rattle.tick_context.specs.Modes.{is_flash}
 use Rattle.controller.proofs.Controller.flashing.Goals as goal
 
 pub returns : goal.returns
-returns c = record { flashing = λ h k. c.is_flash.ensures ∙ ap (λ (f : Frame). is_flash f.mode) k.frame }
+returns c = record { flashing = λ h k. c.is_flash.ensures ∙ ap (λ (f : Frame). is_flash f.mode) k.context.frame }

@@ -1,41 +1,19 @@
-use Rattle.std.proofs.Common.{sym, subst}
-use Rattle.sig_types.specs.declared.frame.Mode.{Mode}
-use Rattle.sig_tables.specs.declared.tables.Tables.{Tables}
-use Rattle.tick_context.specs.Binds.{BindingStands, IsBound, Names}
-use Rattle.tick_context.proofs.Steps.{mode-named}
 use Rattle.controller.proofs.Controller.follow.Goals as goal
 
 pub returns-clause-keeps : goal.returns-clause-keeps
-returns-clause-keeps c = λ past k.
-    record {
-      tables = k.tables;
-      layout = k.layout;
-      ordered = k.ordered;
-      version = k.version;
-      frame = k.frame;
-      calls = k.calls;
-      clocks = k.clocks;
-      signals = k.signals;
-      preempts = k.preempts;
-      requests = k.requests;
-      shown = k.shown;
-      walking = k.walking;
-      signalling = k.signalling;
-      names = k.names;
-      last = k.last;
-      latest = k.latest;
-      start = k.start;
-      few_start = k.few_start;
-      orders = k.orders;
-      binding = subst (λ (t : Tables). BindingStands c.follow.new.self t) k.tables
-          (c.follow.ensures.stands (subst (λ (t : Tables). BindingStands c.args.self.now.binding t) (sym k.tables) k.binding));
-      counts = k.counts;
-      old_frame = k.old_frame;
-    }
+returns-clause-keeps c = λ past k. record {
+  context = c.follow.ensures.stands past k.context;
+  clocks = k.clocks;
+  signals = k.signals;
+  preempts = k.preempts;
+  shown = k.shown;
+  walking = k.walking;
+  signalling = k.signalling;
+  last = k.last;
+  latest = k.latest;
+  start = k.start;
+  counts = k.counts;
+}
 
 pub returns-clause-bound : goal.returns-clause-bound
-returns-clause-bound c = λ past k e.
-    subst (λ (t : Tables). IsBound c.follow.new.self t c.args.mode) k.tables
-    (c.follow.ensures.bound
-    (subst (λ (t : Tables). BindingStands c.args.self.now.binding t) (sym k.tables) k.binding)
-    (subst (λ (t : Tables). Names t c.args.mode) (sym k.tables) (subst (λ (m : Mode). Names past.tables m) (sym e) (mode-named past))))
+returns-clause-bound c = λ past k e. c.follow.ensures.bound past k.context e

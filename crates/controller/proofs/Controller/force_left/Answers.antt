@@ -10,8 +10,8 @@ pub returns : goal.returns
 returns c = record {
   left = λ past n k keeps b some within.
       let h = phase-is c.args.phase c.requires.above c.requires.within in
-      let at : get_or c.args.self.now.binding.plan.force (c.args.phase - 1) 0 ≡ force_point past.tables n c.args.phase =
-      force-kept c.args.self.now.binding past.tables n c.args.phase b h in
-      let counter : c.args.self.now.frame.counter ≡ (frame_seen past).counter = ap (λ (f : Frame). f.counter) keeps.frame in
+      let at : get_or c.args.self.now.context.active_pattern.plan.force (c.args.phase - 1) 0 ≡ force_point past.tables n c.args.phase =
+      force-kept c.args.self.now.context.active_pattern past.tables n c.args.phase b h in
+      let counter : c.args.self.now.context.frame.counter ≡ (frame_seen past).counter = ap (λ (f : Frame). f.counter) keeps.context.frame in
       omega (arith, at, counter, some, within);
 }

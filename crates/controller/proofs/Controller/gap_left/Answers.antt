@@ -15,7 +15,7 @@ returns-then-active c = record {
 pub returns-else-active : goal.returns-else-active
 returns-else-active c = record {
   left = λ past o k keeps a some within.
-      let mine : c.phase.result.now ≡ row past.tables c.args.phase = c.phase.ensures.row ∙ ap (λ (t : Tables). row t c.args.phase) keeps.tables in
+      let mine : c.phase.result.now ≡ row past.tables c.args.phase = c.phase.ensures.row ∙ ap (λ (t : Tables). row t c.args.phase) keeps.context.tables in
       let swap : max (row past.tables c.args.phase).passage 1 ≡ gap_time past.tables c.args.phase = omega arith in
       let time : c.from-gap.result ≡ gap_time past.tables c.args.phase =
       c.from-gap.ensures ∙ c.max.ensures ∙ ap (λ (r : PhaseTimes). max r.passage 1) mine ∙ swap in

@@ -10,16 +10,16 @@ returns c = record {
       record {
         ends = c.changes_toward.ensures.ends (view_seen past)
             (record {
-              laid = r.keeps.layout;
-              on = λ q least most. ap (λ (f : Frame). on_in f q) r.keeps.frame;
+              laid = r.keeps.context.layout;
+              on = λ q least most. ap (λ (f : Frame). on_in f q) r.keeps.context.frame;
               opening = c.opening-opening.ensures.opening past r.keeps;
               startable = c.startable.ensures.startable past r.keeps;
             })
             (c.cleared.ensures.cleared past r);
         begins = c.changes_toward.ensures.begins (view_seen past)
             (record {
-              laid = r.keeps.layout;
-              on = λ q least most. ap (λ (f : Frame). on_in f q) r.keeps.frame;
+              laid = r.keeps.context.layout;
+              on = λ q least most. ap (λ (f : Frame). on_in f q) r.keeps.context.frame;
               opening = c.opening-opening.ensures.opening past r.keeps;
               startable = c.startable.ensures.startable past r.keeps;
             });

@@ -11,106 +11,52 @@ pub returns-in-Veh-clause-stands : goal.returns-in-Veh-clause-stands
 returns-in-Veh-clause-stands c = λ h k.
     let past : Past = past_at h in
     record {
-      tables = k.tables;
-      layout = k.layout;
-      ordered = k.ordered;
-      version = k.version;
-      frame = k.frame;
-      calls = c.input.ensures.stands past k.calls k.layout k.frame;
+      context = c.input.ensures.stands past k.context;
       clocks = k.clocks;
       signals = k.signals;
       preempts = subst (λ (f : Field). PreemptsStand c.args.self.now.preempts (with_event (Input f) past)) (sym c.in-Veh.is) (stands-other _ (Input
           (Veh c.in-Veh.phase c.in-Veh.on)) past tt k.preempts);
-      requests = λ i a b. let q = k.requests i a b in record { place = q.place; cancelled = q.cancelled; given = q.given; stays = q.stays; active = q.active };
       shown = k.shown;
       walking = k.walking;
       signalling = k.signalling;
-      names = k.names;
       last = k.last;
       latest = k.latest;
       start = k.start;
-      few_start = k.few_start;
-      orders = record {
-        command = k.orders.command;
-        since = k.orders.since;
-        clock = k.orders.clock;
-        ticks = k.orders.ticks;
-        gain = k.orders.gain;
-        lose = k.orders.lose;
-      };
-      binding = k.binding;
       counts = λ n s. let q = k.counts n s in record { stands = q.stands; within = q.within };
-      old_frame = k.old_frame;
     }
 
 pub returns-in-Ped-clause-stands : goal.returns-in-Ped-clause-stands
 returns-in-Ped-clause-stands c = λ h k.
     let past : Past = past_at h in
     record {
-      tables = k.tables;
-      layout = k.layout;
-      ordered = k.ordered;
-      version = k.version;
-      frame = k.frame;
-      calls = c.input.ensures.stands past k.calls k.layout k.frame;
+      context = c.input.ensures.stands past k.context;
       clocks = k.clocks;
       signals = k.signals;
       preempts = subst (λ (f : Field). PreemptsStand c.args.self.now.preempts (with_event (Input f) past)) (sym c.in-Ped.is) (stands-other _ (Input
           (Button c.in-Ped.phase)) past tt k.preempts);
-      requests = λ i a b. let q = k.requests i a b in record { place = q.place; cancelled = q.cancelled; given = q.given; stays = q.stays; active = q.active };
       shown = k.shown;
       walking = k.walking;
       signalling = k.signalling;
-      names = k.names;
       last = k.last;
       latest = k.latest;
       start = k.start;
-      few_start = k.few_start;
-      orders = record {
-        command = k.orders.command;
-        since = k.orders.since;
-        clock = k.orders.clock;
-        ticks = k.orders.ticks;
-        gain = k.orders.gain;
-        lose = k.orders.lose;
-      };
-      binding = k.binding;
       counts = λ n s. let q = k.counts n s in record { stands = q.stands; within = q.within };
-      old_frame = k.old_frame;
     }
 
 pub returns-in-Preempt-clause-stands : goal.returns-in-Preempt-clause-stands
 returns-in-Preempt-clause-stands c = λ h k.
     let past : Past = past_at h in
     record {
-      tables = k.tables;
-      layout = k.layout;
-      ordered = k.ordered;
-      version = k.version;
-      frame = k.frame;
-      calls = c.input.ensures.stands past k.calls k.layout k.frame;
+      context = c.input.ensures.stands past k.context;
       clocks = k.clocks;
       signals = k.signals;
       preempts = subst (λ (f : Field). PreemptsStand c.input-in-Preempt.new.self (with_event (Input f) past)) (sym c.in-Preempt.is)
           (c.input-in-Preempt.ensures.stands past k.preempts);
-      requests = λ i a b. let q = k.requests i a b in record { place = q.place; cancelled = q.cancelled; given = q.given; stays = q.stays; active = q.active };
       shown = k.shown;
       walking = k.walking;
       signalling = k.signalling;
-      names = k.names;
       last = k.last;
       latest = k.latest;
       start = k.start;
-      few_start = k.few_start;
-      orders = record {
-        command = k.orders.command;
-        since = k.orders.since;
-        clock = k.orders.clock;
-        ticks = k.orders.ticks;
-        gain = k.orders.gain;
-        lose = k.orders.lose;
-      };
-      binding = k.binding;
       counts = λ n s. let q = k.counts n s in record { stands = q.stands; within = q.within };
-      old_frame = k.old_frame;
     }

@@ -17,8 +17,8 @@ returns-else-not-is_current c = record {
       let clear : (p : ℕ) → is_phase p ≡ true → is_clearing (frame_seen past).veh p ≡ true
       → runs_on p past.tables past.moments (colour_of (frame_seen past) p) ≡ colour_of (frame_seen past) p =
       λ p h e. absurd (false≢true (sym (c.is_settled.ensures.colours past p k c.if-not-is_settled.false h) ∙ e)) in
-      let on : on_in (frame_seen past) 1 ≢ 0 = λ x. c.are_both_on.ensures.first t (ap (λ (f : Frame). on_in f 1) k.frame ∙ x) in
-      let too : on_in (frame_seen past) 2 ≢ 0 = λ x. c.are_both_on.ensures.second t (ap (λ (f : Frame). on_in f 2) k.frame ∙ x) in
+      let on : on_in (frame_seen past) 1 ≢ 0 = λ x. c.are_both_on.ensures.first t (ap (λ (f : Frame). on_in f 1) k.context.frame ∙ x) in
+      let too : on_in (frame_seen past) 2 ≢ 0 = λ x. c.are_both_on.ensures.second t (ap (λ (f : Frame). on_in f 2) k.context.frame ∙ x) in
       let none : demand_with None past ≡ [] = sym d ∙ c.is_empty.ensures.empty.0 c.if-not-is_empty.false in
       let free : demand_with (bound (mode_seen past)) past ≡ [] = ap (λ (m : Mode). demand_with (bound m) past) mode ∙ none in
       record {
@@ -28,8 +28,8 @@ returns-else-not-is_current c = record {
         second = too;
         again = frame-again past (c.is_current.ensures past k c.if-not-is_current.false) was mode
             (rings-rest past mode none (shut past (on_in (frame_seen past) 1) on clear) (shut past (on_in (frame_seen past) 2) too clear))
-            (ap (λ (f : Frame). length f.veh) (sym k.frame) ∙ c.shows_sixteen.ensures.veh)
-            (ap (λ (f : Frame). length f.ped) (sym k.frame) ∙ c.shows_sixteen.ensures.ped)
+            (ap (λ (f : Frame). length f.veh) (sym k.context.frame) ∙ c.shows_sixteen.ensures.veh)
+            (ap (λ (f : Frame). length f.ped) (sym k.context.frame) ∙ c.shows_sixteen.ensures.ped)
             clear
             (λ p h e. absurd (false≢true (sym (c.is_settled.ensures.signals past p k c.if-not-is_settled.false h) ∙ e)))
             (λ p h. c.is_uncalled.ensures.walks past (is_in (opposed_seen past)) p k (λ q g. c.empty.ensures.has q ∙ sym (unopposed past.tables (frame_seen past) _ q g free))

@@ -20,8 +20,8 @@ returns-then-run-least c = record {
       cleared-early past c.args.phase c.run.result c.lesser_green-least.result
       (c.run.ensures.run past.moments r.keeps.clocks ∙ ap (λ (x : Colour). run c.args.phase x past.moments) shown)
       (c.lesser_green-least.ensures
-      ∙ ap (λ (t : Tables). lesser_green t (stage_of c.args.course.now.mode) c.latched_least.result) r.keeps.tables
-      ∙ ap (λ (m : Mode). lesser_green past.tables (stage_of m) c.latched_least.result) r.course.mode
+      ∙ ap (λ (t : Tables). lesser_green t (stage_of c.args.tick_state.now.mode) c.latched_least.result) r.keeps.context.tables
+      ∙ ap (λ (m : Mode). lesser_green past.tables (stage_of m) c.latched_least.result) r.tick_state.mode
       ∙ ap (lesser_green past.tables (stage_of (mode_seen past))) (c.latched_least.ensures.latched past.moments past.tables r.keeps.clocks shown))
       c.if-run-least.true;
 }
@@ -34,10 +34,10 @@ returns-else-run-least c = record {
       ∙ cleared-signal past c.args.phase c.run.result c.lesser_green-least.result c.signal_within.result
       (c.run.ensures.run past.moments r.keeps.clocks ∙ ap (λ (x : Colour). run c.args.phase x past.moments) shown)
       (c.lesser_green-least.ensures
-      ∙ ap (λ (t : Tables). lesser_green t (stage_of c.args.course.now.mode) c.latched_least.result) r.keeps.tables
-      ∙ ap (λ (m : Mode). lesser_green past.tables (stage_of m) c.latched_least.result) r.course.mode
+      ∙ ap (λ (t : Tables). lesser_green t (stage_of c.args.tick_state.now.mode) c.latched_least.result) r.keeps.context.tables
+      ∙ ap (λ (m : Mode). lesser_green past.tables (stage_of m) c.latched_least.result) r.tick_state.mode
       ∙ ap (lesser_green past.tables (stage_of (mode_seen past))) (c.latched_least.ensures.latched past.moments past.tables r.keeps.clocks shown))
       c.if-run-least.false
       (c.signal_within.ensures.follows past r.keeps
-      ∙ ap (λ (l : Lesser). signal_runs_within l c.args.phase past.tables past.moments (signal_of (frame_seen past) c.args.phase)) r.course.lesser);
+      ∙ ap (λ (l : Lesser). signal_runs_within l c.args.phase past.tables past.moments (signal_of (frame_seen past) c.args.phase)) r.tick_state.lesser);
 }

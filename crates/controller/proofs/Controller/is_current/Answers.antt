@@ -4,11 +4,11 @@ use Rattle.controller.proofs.Controller.is_current.Goals as goal
 
 pub returns-else-self-ne0-2 : goal.returns-else-self-ne0-2
 returns-else-self-ne0-2 c = λ past k t.
-    let counter : c.args.self.now.frame.counter ≡ 0 = omega arith in
-    let target : c.args.self.now.frame.target ≡ 0 = omega arith in
+    let counter : c.args.self.now.context.frame.counter ≡ 0 = omega arith in
+    let target : c.args.self.now.context.frame.target ≡ 0 = omega arith in
     record {
       version = c.is_laid_out.ensures.version past k t;
-      counter = ap (λ (f : Frame). f.counter) (sym k.frame) ∙ counter;
-      target = ap (λ (f : Frame). f.target) (sym k.frame) ∙ target;
+      counter = ap (λ (f : Frame). f.counter) (sym k.context.frame) ∙ counter;
+      target = ap (λ (f : Frame). f.target) (sym k.context.frame) ∙ target;
       on = c.is_laid_out.ensures.on past k t;
     }

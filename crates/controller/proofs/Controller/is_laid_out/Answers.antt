@@ -8,6 +8,6 @@ two a b c d e f = rw (e, f) refl
 
 pub returns-else-self-clause-on : goal.returns-else-self-clause-on
 returns-else-self-clause-on c = λ past k t.
-    ap (λ (f : Frame). f.on) (sym k.frame) ∙ c.are_on.ensures t
-    ∙ two _ _ _ _ (c.on_in_ring.ensures.on past (frame_seen past).veh k k.shown.red)
-    (c.on_in_ring-else-self.ensures.on past (frame_seen past).veh k k.shown.red)
+    ap (λ (f : Frame). f.on) (sym k.context.frame) ∙ c.are_on.ensures t
+    ∙ two _ _ _ _ (c.on_in_ring.ensures.on past (frame_seen past).veh k.context k.shown.red)
+    (c.on_in_ring-else-self.ensures.on past (frame_seen past).veh k.context k.shown.red)

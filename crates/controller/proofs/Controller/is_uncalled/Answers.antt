@@ -14,5 +14,5 @@ returns c = record {
       apart _ _ _ _ _ _ _ _ _ _ _ _ _ _
       (none-has c.meet.result p h (c.is_empty.ensures.empty.0 t))
       (c.meet.ensures.has p) (c.meet-called.ensures.has p) (c.minus.ensures.has p (is-within p h)) (c.minus-steady.ensures.has p (is-within p h))
-      (k.layout.walks p h) (c.pedestrian.ensures.has past k.calls p h) (k.shown.green p h) (k.signalling p h) (o p h);
+      (k.context.layout.walks p h) (c.pedestrian.ensures.has past k.context.calls p h) (k.shown.green p h) (k.signalling p h) (o p h);
 }

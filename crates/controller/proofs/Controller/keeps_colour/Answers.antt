@@ -8,5 +8,5 @@ pub returns-else-phase-gt16 : goal.returns-else-phase-gt16
 returns-else-phase-gt16 c = record {
   stays = λ past k t h.
       sym (c.by_itself.ensures.follows past k)
-      ∙ (one_colour _ _ (sym c.eq.ensures ∙ t) ∙ ap (λ (f : Frame). colour_of f c.args.phase) k.frame);
+      ∙ (one_colour _ _ (sym c.eq.ensures ∙ t) ∙ ap (λ (f : Frame). colour_of f c.args.phase) k.context.frame);
 }

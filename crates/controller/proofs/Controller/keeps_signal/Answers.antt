@@ -12,5 +12,5 @@ returns-else-phase-gt16 c = record {
       sym (c.signal_within.ensures.follows past r.keeps
       ∙ ap (λ (l : Lesser). signal_runs_within l c.args.phase past.tables past.moments (signal_of (frame_seen past) c.args.phase))
       (c.lesser_for-lesser.ensures.lesser past r))
-      ∙ (one_signal _ _ (sym c.eq.ensures ∙ t) ∙ ap (λ (f : Frame). signal_of f c.args.phase) r.keeps.frame);
+      ∙ (one_signal _ _ (sym c.eq.ensures ∙ t) ∙ ap (λ (f : Frame). signal_of f c.args.phase) r.keeps.context.frame);
 }

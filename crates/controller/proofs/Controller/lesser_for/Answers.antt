@@ -17,12 +17,12 @@ pub returns-then-has : goal.returns-then-has
 returns-then-has c = record {
   lesser = λ past r.
       chosen (is_in (goal_in past.tables (mode_seen past)) c.args.phase) _
-      (sym (r.course.goal c.args.phase (phase-is c.args.phase c.requires.above c.requires.within)) ∙ sym c.has.ensures.has ∙ c.if-has.true);
+      (sym (r.tick_state.goal c.args.phase (phase-is c.args.phase c.requires.above c.requires.within)) ∙ sym c.has.ensures.has ∙ c.if-has.true);
 }
 
 pub returns-else-has : goal.returns-else-has
 returns-else-has c = record {
   lesser = λ past r.
       other (is_in (goal_in past.tables (mode_seen past)) c.args.phase) _ (lesser_times past.tables (stage_of (mode_seen past)))
-      (sym (r.course.goal c.args.phase (phase-is c.args.phase c.requires.above c.requires.within)) ∙ sym c.has.ensures.has ∙ c.if-has.false) r.course.lesser;
+      (sym (r.tick_state.goal c.args.phase (phase-is c.args.phase c.requires.above c.requires.within)) ∙ sym c.has.ensures.has ∙ c.if-has.false) r.tick_state.lesser;
 }

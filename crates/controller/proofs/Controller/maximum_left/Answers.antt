@@ -14,7 +14,7 @@ returns-then-maximum-eq0 c = record {
 pub returns-then-opposed : goal.returns-then-opposed
 returns-then-opposed c = record {
   left = λ past o k keeps e some within.
-      let mine : c.phase.result.now ≡ row past.tables c.args.phase = c.phase.ensures.row ∙ ap (λ (t : Tables). row t c.args.phase) keeps.tables in
+      let mine : c.phase.result.now ≡ row past.tables c.args.phase = c.phase.ensures.row ∙ ap (λ (t : Tables). row t c.args.phase) keeps.context.tables in
       let time : 10 * c.from-maximum.result ≡ maximum_time past.tables c.args.phase =
       ap (λ (n : ℕ). 10 * n) (c.from-maximum.ensures ∙ ap (λ (r : PhaseTimes). r.maximum) mine) in
       let count : c.pressed.result ≡ in_a_row (λ m. is_in m.opposed c.args.phase) past.moments = c.pressed.ensures.pressed past.moments keeps.clocks in
@@ -25,7 +25,7 @@ returns-then-opposed c = record {
 pub returns-else-opposed : goal.returns-else-opposed
 returns-else-opposed c = record {
   left = λ past o k keeps e some within.
-      let mine : c.phase.result.now ≡ row past.tables c.args.phase = c.phase.ensures.row ∙ ap (λ (t : Tables). row t c.args.phase) keeps.tables in
+      let mine : c.phase.result.now ≡ row past.tables c.args.phase = c.phase.ensures.row ∙ ap (λ (t : Tables). row t c.args.phase) keeps.context.tables in
       let time : 10 * c.from-maximum.result ≡ maximum_time past.tables c.args.phase =
       ap (λ (n : ℕ). 10 * n) (c.from-maximum.ensures ∙ ap (λ (r : PhaseTimes). r.maximum) mine) in
       (λ z. c.if-maximum-eq0.false (time ∙ z), inl (sym e ∙ c.if-opposed.false));

@@ -1,15 +1,15 @@
 use Rattle.std.proofs.Common.{ℕ, sym, ◌∙◌, ap}
 use Rattle.sig_tables.specs.declared.tables.Tables.{Tables}
 use Rattle.sig_tables.specs.Choosing.{mode_sought}
-use Rattle.preempt_run.specs.Stands.{preempts_seen}
+use Rattle.preempt_stages.specs.Inputs.{preempts_seen}
 use Rattle.controller.proofs.Controller.mode.Goals as goal
 
 pub returns : goal.returns
 unfolding preempts_seen
 returns c = record {
   mode = λ past k e.
-      c.sought.ensures (preempts_seen past) past.moments (sym k.frame) (λ s. k.start) (c.stage.ensures.stage past k.preempts k.frame)
-      ∙ ap (λ (t : Tables). mode_sought t c.args.self.now.version c.args.command (preempts_seen past) past.moments) k.tables
-      ∙ ap (λ (v : ℕ). mode_sought past.tables v c.args.command (preempts_seen past) past.moments) k.version
+      c.sought.ensures (preempts_seen past) past.moments (sym k.context.frame) (λ s. k.start) (c.stage.ensures.stage past k.preempts k.context.frame)
+      ∙ ap (λ (t : Tables). mode_sought t c.args.self.now.context.version c.args.command (preempts_seen past) past.moments) k.context.tables
+      ∙ ap (λ (v : ℕ). mode_sought past.tables v c.args.command (preempts_seen past) past.moments) k.context.version
       ∙ ap (λ (n : ℕ). mode_sought past.tables past.version n (preempts_seen past) past.moments) e;
 }

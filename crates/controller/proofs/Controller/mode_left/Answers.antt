@@ -16,4 +16,4 @@ returns-then-stays_at_free-clause-left c = λ past k keeps b fresh even o some w
 pub returns-in-Coord-clause-left : goal.returns-in-Coord-clause-left
 returns-in-Coord-clause-left c = λ past k keeps b fresh even o some within.
     subst (λ (m : Mode). ModeLasts m k past) (sym c.in-Coord.is)
-    (c.step_left.ensures.left past k keeps (subst (λ (m : Mode). IsBound c.args.self.now.binding past.tables m) c.in-Coord.is b) fresh even some within)
+    (c.step_left.ensures.left past k keeps (subst (λ (m : Mode). IsBound c.args.self.now.context.active_pattern past.tables m) c.in-Coord.is b) fresh even some within)

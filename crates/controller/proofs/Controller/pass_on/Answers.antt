@@ -8,7 +8,7 @@ pub returns-clause-stands : goal.returns-clause-stands
 returns-clause-stands c = λ h k.
     let n : ℕ = c.lasting-ticks.result in
     let some : 0 < n = omega arith in
-    keeps-by n c.args.self.now.frame.mode c.args.self.now c.pass.new.self (ticked h) some c.pass.ensures.passed c.pass.ensures.orders k
+    keeps-by n c.args.self.now.context.frame.mode c.args.self.now c.pass.new.self (ticked h) some c.pass.ensures.passed c.pass.ensures.unit_commands k
     (c.lasting-ticks.ensures.lasts (past_at (ticked h)) k (record { heard = refl; commanded = refl; clock_set = refl }) some)
     (c.lasting-ticks.ensures.ready (past_at (ticked h)) k some)
     (c.lasting-ticks.ensures.even some)
@@ -16,5 +16,5 @@ returns-clause-stands c = λ h k.
 pub returns-clause-plain : goal.returns-clause-plain
 returns-clause-plain c = λ h j k less.
     let some : 0 < c.lasting-ticks.result = omega (arith, less) in
-    lasts-plain j c.lasting-ticks.result c.args.self.now.frame.mode (ticked h) less
+    lasts-plain j c.lasting-ticks.result c.args.self.now.context.frame.mode (ticked h) less
     (c.lasting-ticks.ensures.lasts (past_at (ticked h)) k (record { heard = refl; commanded = refl; clock_set = refl }) some)

@@ -12,7 +12,7 @@ use Rattle.controller.proofs.Controller.phases_left.Goals as goal
 pub returns-then-is_empty : goal.returns-then-is_empty
 returns-then-is_empty c = record {
   left = λ past k p keeps b looks some within h. elim (cases_Bool (has c.union-busy.result p)) [
-    | inl i ↦ of-two (λ (q : ℕ). is_phase q ≡ true → PhaseLasts (bound c.args.self.now.frame.mode) k past q)
+    | inl i ↦ of-two (λ (q : ℕ). is_phase q ≡ true → PhaseLasts (bound c.args.self.now.context.frame.mode) k past q)
         c.union-busy.result c.lone.result c.lone-2.result c.minus.result c.minus-2.result _ _ p h
         c.lone.ensures c.lone-2.ensures c.minus.ensures.has c.minus-2.ensures.has
         (none-has c.minus-2.result p h (c.is_empty.ensures.empty.0 c.if-is_empty.true))
@@ -22,7 +22,7 @@ returns-then-is_empty c = record {
     | inr o ↦
         let apart = neither-of _ _ _ (c.union-busy.ensures.has p) o in
         let dark = neither-of _ _ _ (c.union-lit.ensures.has p) apart.0 in
-        dark-lasts (bound c.args.self.now.frame.mode) k past p (sym (keeps.shown.green p h) ∙ dark.0) (sym (keeps.shown.clearing p h) ∙ dark.1)
+        dark-lasts (bound c.args.self.now.context.frame.mode) k past p (sym (keeps.shown.green p h) ∙ dark.0) (sym (keeps.shown.clearing p h) ∙ dark.1)
         (sym (keeps.signalling p h) ∙ apart.1)
   ];
 }

@@ -11,16 +11,16 @@ use Rattle.controller.proofs.Controller.reason_left.Goals as goal
 pub returns-then-is_coord : goal.returns-then-is_coord
 returns-then-is_coord c = record {
   left = λ past k keeps b a o some within.
-      let (n, e) = in-coord c.args.self.now.frame.mode (sym c.is_coord.ensures ∙ c.if-is_coord.true) in
+      let (n, e) = in-coord c.args.self.now.context.frame.mode (sym c.is_coord.ensures ∙ c.if-is_coord.true) in
       subst (λ (x : Option ℕ). HasNoReason x k past c.args.phase) (sym (ap bound e))
-      (c.bound_left.ensures.left past n k keeps (subst (λ (m : Mode). IsBound c.args.self.now.binding past.tables m) e b)
+      (c.bound_left.ensures.left past n k keeps (subst (λ (m : Mode). IsBound c.args.self.now.context.active_pattern past.tables m) e b)
       (a ∙ ap (λ (x : Option ℕ). not (is_in (quiet_with x past) c.args.phase)) (ap bound e)) some within);
 }
 
 pub returns-else-is_coord : goal.returns-else-is_coord
 returns-else-is_coord c = record {
   left = λ past k keeps b a o some within.
-      let e : bound c.args.self.now.frame.mode ≡ None = unbound c.args.self.now.frame.mode (sym c.is_coord.ensures ∙ c.if-is_coord.false) in
+      let e : bound c.args.self.now.context.frame.mode ≡ None = unbound c.args.self.now.context.frame.mode (sym c.is_coord.ensures ∙ c.if-is_coord.false) in
       subst (λ (x : Option ℕ). HasNoReason x k past c.args.phase) (sym e)
       (c.unbound_left.ensures.left past k keeps (a ∙ ap (λ (x : Option ℕ). not (is_in (quiet_with x past) c.args.phase)) e)
       (o ∙ ap (λ (x : Option ℕ). is_in (opposed_with x past) c.args.phase) e) some within);

@@ -15,9 +15,9 @@ use Rattle.sig_tables.specs.Decide.{next_moment, colours_of}
 use Rattle.sig_tables.specs.Priority.{active_in}
 use Rattle.sig_tables.specs.Seen.{frame_seen, moment_seen, moves_seen}
 use Rattle.call_store.specs.Stands.{is_walking}
-use Rattle.preempt_run.specs.Dwelling.{NamesPhases, is_dwell}
-use Rattle.preempt_run.proofs.Called.{seen-is}
-use Rattle.preempt_run.proofs.OnPhases.{last-wide}
+use Rattle.preempt_stages.specs.Dwelling.{NamesPhases, is_dwell}
+use Rattle.preempt_stages.proofs.Inputs.{seen-is}
+use Rattle.preempt_stages.proofs.OnPhases.{last-wide}
 use Rattle.prio_queue.specs.Places.{some_number}
 use Rattle.controller.specs.Shows.{ShowsColours}
 use Rattle.tick_context.specs.Shows.{is_signalling}
@@ -31,28 +31,41 @@ use Rattle.controller.proofs.Controller.repeat.Goals as goal
 pub returns-clause-keeps : goal.returns-clause-keeps
 returns-clause-keeps c = λ past k beside e at quiet opposed r.
     let m : Moment = next_moment past in
-    let old : Frame = c.args.self.now.frame in
+    let old : Frame = c.args.self.now.context.frame in
     let a : m.frame ≡ frame_seen past = r.again in
     let f : frame_seen past ≡ m.frame = sym a in
-    let g : m.frame ≡ old = a ∙ sym k.frame in
+    let g : m.frame ≡ old = a ∙ sym k.context.frame in
     let free : m.frame.mode ≡ Free = ap (λ (x : Frame). x.mode) a ∙ r.was in
     let shown : ShowsColours c.args.self.now.shown m.frame.veh = subst (λ (x : Frame). ShowsColours c.args.self.now.shown x.veh) f k.shown in
     let walking : Has c.args.self.now.walking (is_walking m.frame) = subst (λ (x : Frame). Has c.args.self.now.walking (is_walking x)) f k.walking in
     let signalling : Has c.args.self.now.signalling (is_signalling m.frame) =
     subst (λ (x : Frame). Has c.args.self.now.signalling (is_signalling x)) f k.signalling in
-    let names : NamesPhases m.frame = subst (λ (x : Frame). NamesPhases x) f k.names in
+    let names : NamesPhases m.frame = subst (λ (x : Frame). NamesPhases x) f k.context.names in
     let going : is_start (frame_seen past).mode ≡ false = sym (free-started (frame_seen past).mode r.was) in
     record {
-      tables = k.tables;
-      layout = k.layout;
-      ordered = k.ordered;
-      version = k.version;
-      frame = sym g;
-      calls = c.step.ensures.stands past m k.calls shown.green walking refl refl refl;
-      clocks = c.step-2.ensures.stands past.moments m k.clocks g (sym k.tables) (λ t. ap (λ (x : Frame). x.veh) a)
+      context = record {
+        tables = k.context.tables;
+        layout = k.context.layout;
+        ordered = k.context.ordered;
+        version = k.context.version;
+        frame = sym g;
+        calls = c.step.ensures.stands past m k.context.calls shown.green walking refl refl refl;
+        requests = c.step-4.ensures.stands past m k.context.requests (one-more (moment_seen past).number)
+            (sym (ap (λ (x : Mode). some_number (active_in past.tables x ((moment_seen past).number + 1) past.asked)) r.mode));
+        unit_commands = c.step-5.ensures.stands past m k.context.unit_commands (record { number = refl; command = refl; is_commanded = refl; clock = refl })
+            e at;
+        active_pattern = k.context.active_pattern;
+        some = omega arith;
+        names = names;
+        few_start = few-next m past.moments
+            (λ now last. start-again past.tables past.version (command_now past) (preempts_on past.heard (moment_seen past)) past.moments
+            (colours_of past (moves_seen past)) last now);
+        old_frame = same-most past.version;
+      };
+      clocks = c.step-2.ensures.stands past.moments m k.clocks g (sym k.context.tables) (λ t. ap (λ (x : Frame). x.veh) a)
           quiet
           (λ p h. opposed-green past p h ∙ ap (λ (b : Bool). is_green (frame_seen past) p && b) (sym (opposed p h)));
-      signals = c.step-3.ensures.stands past.moments m k.signals g (sym k.tables) (λ t. ap (λ (x : Frame). x.ped) a);
+      signals = c.step-3.ensures.stands past.moments m k.signals g (sym k.context.tables) (λ t. ap (λ (x : Frame). x.ped) a);
       preempts = c.stay.ensures.stands past m k.preempts (record {
         saw = sym (seen-is past);
         none = λ i above within. ap (λ (xs : List ℕ). is_in xs i) beside;
@@ -61,24 +74,14 @@ returns-clause-keeps c = λ past k beside e at quiet opposed r.
         wide = ap (λ (x : Frame). length x.veh) a ∙ last-wide past.moments k.preempts.fits;
         names = names;
       });
-      requests = c.step-4.ensures.stands past m k.requests (one-more (moment_seen past).number)
-          (sym (ap (λ (x : Mode). some_number (active_in past.tables x ((moment_seen past).number + 1) past.asked)) r.mode));
-      orders = c.step-5.ensures.stands past m k.orders (record { number = refl; command = refl; is_commanded = refl; clock = refl })
-          e at;
       shown = shown;
       walking = walking;
       signalling = signalling;
-      names = names;
       last = each-ring c.args.self.now.last 0 (λ q. last_on q (m ∷ past.moments))
           (k.last 1 (omega arith) (omega arith) ∙ last-again m past.moments 1 (ap (λ (x : Frame). x.on) a) (ap (λ (x : Frame). x.mode) a) going r.first)
           (k.last 2 (omega arith) (omega arith) ∙ last-again m past.moments 2 (ap (λ (x : Frame). x.on) a) (ap (λ (x : Frame). x.mode) a) going r.second);
       latest = k.latest ∙ latest-again m past.moments (ap (λ (x : Frame). x.on) a) (ap (λ (x : Frame). x.mode) a) going r.first;
       start = k.start ∙ start-zero past.moments going
           ∙ start-next m past.moments c.args.self.now.start_run false (free-started m.frame.mode free) k.start;
-      few_start = few-next m past.moments
-          (λ now last. start-again past.tables past.version (command_now past) (preempts_on past.heard (moment_seen past)) past.moments
-          (colours_of past (moves_seen past)) last now);
-      binding = k.binding;
       counts = λ n st. absurd (false≢true (sym (free-apart m.frame past.version n free) ∙ st));
-      old_frame = same-most past.version;
     }

@@ -14,9 +14,9 @@ pub returns-else-not-is_current : goal.returns-else-not-is_current
 returns-else-not-is_current c = record {
   repeats = λ past r s was mode t.
       let k = r.keeps in
-      let seen : c.args.self.now.frame ≡ frame_seen past = k.frame in
+      let seen : c.args.self.now.context.frame ≡ frame_seen past = k.context.frame in
       let moves = c.moves-moves.ensures.moves past r s in
-      let veh : c.args.self.now.frame.veh ≡ colours_of past (moves_seen past) =
+      let veh : c.args.self.now.context.frame.veh ≡ colours_of past (moves_seen past) =
       c.is_still.ensures.still past (moves_seen past) k moves (ap (λ (f : Frame). f.veh) seen) c.if-not-is_still.false in
       let begins : ℕ → Bool = walk_after past Free (colours_of past (moves_seen past)) in
       let walks = c.walks-walks.ensures.walks past (moves_seen past) (frame_seen past).veh r s moves

@@ -7,33 +7,15 @@ pub returns-clause-stands : goal.returns-clause-stands
 returns-clause-stands c = λ h k.
     let past : Past = past_at h in
     record {
-      tables = k.tables;
-      layout = k.layout;
-      ordered = k.ordered;
-      version = k.version;
-      frame = k.frame;
-      calls = record { vehicle = k.calls.vehicle; pedestrian = k.calls.pedestrian; detectors = k.calls.detectors; turned_on = k.calls.turned_on };
+      context = c.request.ensures.stands past k.context;
       clocks = k.clocks;
       signals = k.signals;
       preempts = k.preempts;
-      requests = c.request.ensures.stands past k.requests (c.ticks-ticks.ensures.ticks ∙ k.orders.ticks);
       shown = k.shown;
       walking = k.walking;
       signalling = k.signalling;
-      names = k.names;
       last = k.last;
       latest = k.latest;
       start = k.start;
-      few_start = k.few_start;
-      orders = record {
-        command = k.orders.command;
-        since = k.orders.since;
-        clock = k.orders.clock;
-        ticks = k.orders.ticks;
-        gain = k.orders.gain;
-        lose = k.orders.lose;
-      };
-      binding = k.binding;
       counts = λ n s. let q = k.counts n s in record { stands = q.stands; within = q.within };
-      old_frame = k.old_frame;
     }

@@ -1,12 +1,8 @@
-use Rattle.std.proofs.Common.{◌≡◌, ℕ, [], sym, subst}
-use Rattle.sig_types.specs.declared.frame.Mode.{Mode}
+use Rattle.std.proofs.Common.{◌≡◌, [], sym, subst}
 use Rattle.sig_tables.specs.Moves.{Moves, ring_moves}
-use Rattle.sig_tables.specs.Layout.{Ordered}
-use Rattle.sig_tables.specs.Modes.{sequence_in}
-use Rattle.sig_tables.specs.Seen.{mode_seen, view_seen}
+use Rattle.sig_tables.specs.Seen.{view_seen}
 use Rattle.tick_context.specs.Moves.{AreMoves}
-use Rattle.tick_context.proofs.Binds.{in-coord, first-sequence}
-use Rattle.controller.proofs.Running.{coord-of, binding-in}
+use Rattle.controller.proofs.Running.{runs-context}
 use Rattle.controller.proofs.Controller.ring_changes.Goals as goal
 
 pub returns-then-is_resting : goal.returns-then-is_resting
@@ -14,7 +10,7 @@ returns-then-is_resting c = record {
   changes = λ past r s t.
       let still : ring_moves (view_seen past) ≡ record { ends = []; begins = [] } =
       c.is_resting.ensures (view_seen past) (c.opening-opening.ensures.opening past r.keeps) s.demand
-      (c.forced-forced.ensures.forced past r) c.if-is_resting.true in
+      (c.forced-forced.ensures.forced past (runs-context _ _ past r) r.keeps.shown.green) c.if-is_resting.true in
       subst (λ (w : Moves). AreMoves c.no_changes.result w) (sym still) c.no_changes.ensures;
 }
 
@@ -23,27 +19,18 @@ returns-then-is_idle c = record {
   changes = λ past r s t.
       let still : ring_moves (view_seen past) ≡ record { ends = []; begins = [] } =
       c.is_idle.ensures.idle (view_seen past) (c.opening-opening.ensures.opening past r.keeps) (c.done-done.ensures.done past r s)
-      (c.forced-forced.ensures.forced past r) c.if-is_idle.true in
+      (c.forced-forced.ensures.forced past (runs-context _ _ past r) r.keeps.shown.green) c.if-is_idle.true in
       subst (λ (w : Moves). AreMoves c.no_changes-then-is_idle.result w) (sym still) c.no_changes-then-is_idle.ensures;
 }
 
-pub returns-then-is_coord : goal.returns-then-is_coord
-returns-then-is_coord c = record {
-  changes = λ past r s t.
-      let (n, e) = in-coord (mode_seen past) (coord-of c.args.self.now c.args.course.now past _ _ r c.is_coord.ensures c.if-is_coord.true) in
-      let b = binding-in c.args.self.now c.args.course.now past n r e in
-      c.looking.ensures.changes past r b.laid (subst (λ (m : Mode). Ordered c.args.self.now.binding.layout past.tables (sequence_in past.tables m))
-      (sym e) b.ordered)
-      s.demand (c.opening-opening.ensures.opening past r.keeps) (c.done-done.ensures.done past r s) (c.forced-forced.ensures.forced past r);
-}
-
-pub returns-else-is_coord : goal.returns-else-is_coord
-returns-else-is_coord c = record {
-  changes = λ past r s t.
-      let one : sequence_in past.tables (mode_seen past) ≡ 1 =
-      first-sequence past.tables past.moments (mode_seen past) t
-      (coord-of c.args.self.now c.args.course.now past _ _ r c.is_coord.ensures c.if-is_coord.false) in
-      c.looking-else-is_coord.ensures.changes past r r.keeps.layout
-      (subst (λ (n : ℕ). Ordered c.args.self.now.layout past.tables n) (sym one) r.keeps.ordered)
-      s.demand (c.opening-opening.ensures.opening past r.keeps) (c.done-done.ensures.done past r s) (c.forced-forced.ensures.forced past r);
+pub returns : goal.returns
+returns c = record {
+  changes = λ past r s t. c.ring_changes.ensures.changes past (runs-context _ _ past r) s.demand t (record {
+    opening = c.opening-opening.ensures.opening past r.keeps;
+    startable = c.startable.ensures.startable past r.keeps;
+    last = r.keeps.last;
+    latest = r.keeps.latest;
+    done = c.done-done.ensures.done past r s;
+    forced = c.forced-forced.ensures.forced past (runs-context _ _ past r) r.keeps.shown.green;
+  });
 }

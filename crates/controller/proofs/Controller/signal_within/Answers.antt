@@ -5,17 +5,17 @@ use Rattle.sig_types.specs.declared.frame.Ped.TheVariants.{Walk}
 use Rattle.sig_types.specs.Colour.{signal_of}
 use Rattle.sig_tables.specs.declared.tables.Tables.{Tables}
 use Rattle.sig_tables.specs.Lesser.{signal_runs_within}
-use Rattle.ped_clock.specs.Signals.{lesser_of}
+use Rattle.call_store.specs.Signals.{lesser_of}
 use Rattle.sig_tables.specs.Seen.{frame_seen}
 use Rattle.controller.proofs.Controller.signal_within.Goals as goal
 
 pub returns : goal.returns
 returns c = record {
   follows = λ past k.
-      let seen : get_or c.args.self.now.frame.ped (c.args.phase - 1) Walk ≡ signal_of (frame_seen past) c.args.phase =
-      ap (λ (f : Frame). signal_of f c.args.phase) k.frame in
+      let seen : get_or c.args.self.now.context.frame.ped (c.args.phase - 1) Walk ≡ signal_of (frame_seen past) c.args.phase =
+      ap (λ (f : Frame). signal_of f c.args.phase) k.context.frame in
       c.next.ensures.next past.moments k.signals seen
-      ∙ ap (λ (t : Tables). signal_runs_within (lesser_of c.args.lesser) c.args.phase t past.moments (get_or c.args.self.now.frame.ped
-      (c.args.phase - 1) Walk)) k.tables
+      ∙ ap (λ (t : Tables). signal_runs_within (lesser_of c.args.lesser) c.args.phase t past.moments (get_or c.args.self.now.context.frame.ped
+      (c.args.phase - 1) Walk)) k.context.tables
       ∙ ap (λ (s : Ped). signal_runs_within (lesser_of c.args.lesser) c.args.phase past.tables past.moments s) seen;
 }

@@ -15,7 +15,7 @@ pub returns-then-has : goal.returns-then-has
 returns-then-has c = record {
   stays = λ past k s mode t h.
       let both : (is_enabled past.tables c.args.phase && same_colour (colour_of (frame_seen past) c.args.phase) Green) ≡ true =
-      rw (← k.layout.enabled c.args.phase h, ← k.shown.green c.args.phase h) (sym (c.meet.ensures.has c.args.phase) ∙ sym c.has.ensures.has ∙ c.if-has.true) in
+      rw (← k.context.layout.enabled c.args.phase h, ← k.shown.green c.args.phase h) (sym (c.meet.ensures.has c.args.phase) ∙ sym c.has.ensures.has ∙ c.if-has.true) in
       let parts = and_parts (is_enabled past.tables c.args.phase) (same_colour (colour_of (frame_seen past) c.args.phase) Green) both in
       sym (c.is_free_done.ensures.done past k mode parts.0 parts.1
       (c.has-active.ensures.has ∙ active-is _ _ _ (s.quiet c.args.phase h) parts.1)
@@ -27,6 +27,6 @@ pub returns-else-has : goal.returns-else-has
 returns-else-has c = record {
   stays = λ past k s mode t h.
       sym (done-not past c.args.phase
-      (rw (← k.layout.enabled c.args.phase h, ← k.shown.green c.args.phase h)
+      (rw (← k.context.layout.enabled c.args.phase h, ← k.shown.green c.args.phase h)
       (sym (c.meet.ensures.has c.args.phase) ∙ sym c.has.ensures.has ∙ c.if-has.false)));
 }

@@ -9,14 +9,14 @@ use Rattle.controller.proofs.Controller.stays_at_free.Goals as goal
 
 pub returns-else-self-ne0-2 : goal.returns-else-self-ne0-2
 returns-else-self-ne0-2 c = λ past k fresh o t.
-    let mine : c.command-command.result ≡ (moment_seen past).command = c.command-command.ensures.command past k.orders ∙ rw fresh.commanded refl in
-    let counter : c.args.self.now.frame.counter ≡ 0 = omega arith in
-    let target : c.args.self.now.frame.target ≡ 0 = omega arith in
+    let mine : c.command-command.result ≡ (moment_seen past).command = c.command-command.ensures.command past k.context.unit_commands ∙ rw fresh.commanded refl in
+    let counter : c.args.self.now.context.frame.counter ≡ 0 = omega arith in
+    let target : c.args.self.now.context.frame.target ≡ 0 = omega arith in
     record {
       other = λ x. c.if-command.false (mine ∙ x);
       undefined = ap (is_defined past.tables) (sym mine)
-          ∙ (ap (λ (x : Tables). is_defined x c.command-command.result) (sym k.tables) ∙ (sym c.is_defined.ensures ∙ c.if-is_defined.false));
-      counter = ap (λ (f : Frame). f.counter) (sym k.frame) ∙ counter;
-      target = ap (λ (f : Frame). f.target) (sym k.frame) ∙ target;
+          ∙ (ap (λ (x : Tables). is_defined x c.command-command.result) (sym k.context.tables) ∙ (sym c.is_defined.ensures ∙ c.if-is_defined.false));
+      counter = ap (λ (f : Frame). f.counter) (sym k.context.frame) ∙ counter;
+      target = ap (λ (f : Frame). f.target) (sym k.context.frame) ∙ target;
       uncalled = λ p h. c.is_uncalled.ensures.walks past (is_in (opposed_with None past)) p k o t h;
     }

@@ -3,7 +3,7 @@ use Rattle.sig_types.specs.declared.frame.Frame.{Frame}
 use Rattle.sig_tables.specs.Past.{History}
 use Rattle.sig_tables.specs.Decide.{decide, last_frame_of}
 use Rattle.tick_context.specs.Strides.{has_line, is_told, ticks_more}
-use Rattle.controller.specs.StandsFor.{StandsFor}
+use Rattle.controller.specs.StandsFor.{ControllerStands}
 use Rattle.tick_context.proofs.Striding.{more-more, plain-on}
 use Rattle.controller.proofs.Controller.stride_told.Goals as goal
 
@@ -30,12 +30,12 @@ loop-done-preserved c =
       stands = λ h s.
           let before = i.stands h s in
           let sum : suc done + more ≡ done + 1 + more = omega arith in
-          subst (λ (x : History). StandsFor c.pass_on-done.new.self x) (more-more more (suc done) h ∙ ap (λ (n : ℕ). ticks_more n h) sum)
+          subst (λ (x : History). ControllerStands c.pass_on-done.new.self x) (more-more more (suc done) h ∙ ap (λ (n : ℕ). ticks_more n h) sum)
           (c.pass_on-done.ensures.stands (ticks_more done h) (c.tick-next.ensures.stands (ticks_more done h) before));
       plain = λ h k s few.
           let before = i.stands h s in
           let now : is_told h (suc done) ≡ false =
-          told-by _ _ (last_frame_of (ticks_more done h)) (decide (ticks_more done h)) _ c.has_line.ensures before.frame
+          told-by _ _ (last_frame_of (ticks_more done h)) (decide (ticks_more done h)) _ c.has_line.ensures before.context.frame
           (c.tick-next.ensures.decided (ticks_more done h) before)
           ∙ c.if-has_line.false in
           plain-on h done more (λ j less. i.plain h j s less) now
@@ -57,7 +57,7 @@ returns-then-has_line-clause-least c = λ h s.
       plain = λ k less. let few : k ≤ done = omega arith in i.plain h k s few;
       told = λ less.
           ap (is_told h) next
-          ∙ told-by _ _ (last_frame_of (ticks_more done h)) (decide (ticks_more done h)) _ c.has_line.ensures before.frame
+          ∙ told-by _ _ (last_frame_of (ticks_more done h)) (decide (ticks_more done h)) _ c.has_line.ensures before.context.frame
           (c.tick-next.ensures.decided (ticks_more done h) before)
           ∙ c.if-has_line.true;
     }
@@ -66,7 +66,7 @@ pub returns-then-has_line-clause-stands : goal.returns-then-has_line-clause-stan
 returns-then-has_line-clause-stands c = λ h s.
     let done : ℕ = c.loop-done.done in
     let next : suc done ≡ done + 1 = omega arith in
-    subst (λ (n : ℕ). StandsFor c.tick-next.new.self (ticks_more n h)) next
+    subst (λ (n : ℕ). ControllerStands c.tick-next.new.self (ticks_more n h)) next
     (c.tick-next.ensures.stands (ticks_more done h) (c.loop-done.invariant.stands h s))
 
 pub returns-clause-least : goal.returns-clause-least
@@ -88,7 +88,7 @@ returns-then-has_line-clause-told c = λ h s.
     let next : done + 1 ≡ suc done = omega arith in
     let before = c.loop-done.invariant.stands h s in
     sym (ap (is_told h) next
-    ∙ told-by _ _ (last_frame_of (ticks_more done h)) (decide (ticks_more done h)) _ c.has_line.ensures before.frame
+    ∙ told-by _ _ (last_frame_of (ticks_more done h)) (decide (ticks_more done h)) _ c.has_line.ensures before.context.frame
     (c.tick-next.ensures.decided (ticks_more done h) before)
     ∙ c.if-has_line.true)
 

@@ -6,7 +6,7 @@ use Rattle.controller.proofs.Controller.tick_free.Goals as goal
 
 pub returns-then-is_at_rest-clause-given : goal.returns-then-is_at_rest-clause-given
 returns-then-is_at_rest-clause-given c = λ past k was mode e.
-    c.rest.ensures.again ∙ k.frame
+    c.rest.ensures.again ∙ k.context.frame
     ∙ sym (c.is_at_rest.ensures.repeats past k was mode (c.free_demand-demand.ensures.demand past k) c.if-is_at_rest.true).again
 
 pub returns-then-is_at_rest-clause-keeps : goal.returns-then-is_at_rest-clause-keeps
@@ -17,52 +17,52 @@ returns-then-is_at_rest-clause-keeps c = λ past k was mode beside e.
 
 pub returns-then-is_plain-clause-given : goal.returns-then-is_plain-clause-given
 returns-then-is_plain-clause-given c = λ past k was mode e.
-    let sees = c.free_sight-sight.ensures.sees past k mode (c.free_demand-demand.ensures.demand past k) in
-    c.repeat.ensures.again ∙ k.frame ∙ sym (c.is_plain.ensures.repeats past k sees was mode c.if-is_plain.true).again
+    let sees = c.free_tick_inputs-tick_inputs.ensures.sees past k mode (c.free_demand-demand.ensures.demand past k) in
+    c.repeat.ensures.again ∙ k.context.frame ∙ sym (c.is_plain.ensures.repeats past k sees was mode c.if-is_plain.true).again
 
 pub returns-then-is_plain-clause-keeps : goal.returns-then-is_plain-clause-keeps
 returns-then-is_plain-clause-keeps c = λ past k was mode beside e.
-    let sees = c.free_sight-sight.ensures.sees past k mode (c.free_demand-demand.ensures.demand past k) in
-    c.repeat.ensures.keeps past k beside e (c.clock_now-clock.ensures.clock past k.orders) sees.quiet sees.opposed
+    let sees = c.free_tick_inputs-tick_inputs.ensures.sees past k mode (c.free_demand-demand.ensures.demand past k) in
+    c.repeat.ensures.keeps past k beside e (c.clock_now-clock.ensures.clock past k.context.unit_commands) sees.quiet sees.opposed
     (c.is_plain.ensures.repeats past k sees was mode c.if-is_plain.true)
 
 pub returns-then-repeats-clause-given : goal.returns-then-repeats-clause-given
 returns-then-repeats-clause-given c = λ past k was mode e.
-    let runs : Runs c.args.self.now c.free_course-course.result past = record {
+    let runs : Runs c.args.self.now c.free_tick_state-tick_state.result past = record {
       keeps = k;
-      course = c.free_course-course.ensures.course past was mode e (c.clock_now-clock.ensures.clock past k.orders);
-      bound = subst (λ (m : Mode). IsBound c.args.self.now.binding past.tables m) (sym mode) tt;
+      tick_state = c.free_tick_state-tick_state.ensures.tick_state past was mode e (c.clock_now-clock.ensures.clock past k.context.unit_commands);
+      bound = subst (λ (m : Mode). IsBound c.args.self.now.context.active_pattern past.tables m) (sym mode) tt;
     } in
-    let sees = c.free_sight-sight.ensures.sees past k mode (c.free_demand-demand.ensures.demand past k) in
-    c.repeat-then-repeats.ensures.again ∙ k.frame ∙ sym (c.repeats.ensures.repeats past runs sees was mode c.if-repeats.true).again
+    let sees = c.free_tick_inputs-tick_inputs.ensures.sees past k mode (c.free_demand-demand.ensures.demand past k) in
+    c.repeat-then-repeats.ensures.again ∙ k.context.frame ∙ sym (c.repeats.ensures.repeats past runs sees was mode c.if-repeats.true).again
 
 pub returns-then-repeats-clause-keeps : goal.returns-then-repeats-clause-keeps
 returns-then-repeats-clause-keeps c = λ past k was mode beside e.
-    let runs : Runs c.args.self.now c.free_course-course.result past = record {
+    let runs : Runs c.args.self.now c.free_tick_state-tick_state.result past = record {
       keeps = k;
-      course = c.free_course-course.ensures.course past was mode e (c.clock_now-clock.ensures.clock past k.orders);
-      bound = subst (λ (m : Mode). IsBound c.args.self.now.binding past.tables m) (sym mode) tt;
+      tick_state = c.free_tick_state-tick_state.ensures.tick_state past was mode e (c.clock_now-clock.ensures.clock past k.context.unit_commands);
+      bound = subst (λ (m : Mode). IsBound c.args.self.now.context.active_pattern past.tables m) (sym mode) tt;
     } in
-    let sees = c.free_sight-sight.ensures.sees past k mode (c.free_demand-demand.ensures.demand past k) in
-    c.repeat-then-repeats.ensures.keeps past k beside e (c.clock_now-clock.ensures.clock past k.orders) sees.quiet sees.opposed
+    let sees = c.free_tick_inputs-tick_inputs.ensures.sees past k mode (c.free_demand-demand.ensures.demand past k) in
+    c.repeat-then-repeats.ensures.keeps past k beside e (c.clock_now-clock.ensures.clock past k.context.unit_commands) sees.quiet sees.opposed
     (c.repeats.ensures.repeats past runs sees was mode c.if-repeats.true)
 
 pub returns-clause-given : goal.returns-clause-given
 returns-clause-given c = λ past k was mode e.
-    let runs : Runs c.args.self.now c.free_course-course.result past = record {
+    let runs : Runs c.args.self.now c.free_tick_state-tick_state.result past = record {
       keeps = k;
-      course = c.free_course-course.ensures.course past was mode e (c.clock_now-clock.ensures.clock past k.orders);
-      bound = subst (λ (m : Mode). IsBound c.args.self.now.binding past.tables m) (sym mode) tt;
+      tick_state = c.free_tick_state-tick_state.ensures.tick_state past was mode e (c.clock_now-clock.ensures.clock past k.context.unit_commands);
+      bound = subst (λ (m : Mode). IsBound c.args.self.now.context.active_pattern past.tables m) (sym mode) tt;
     } in
-    let sees = c.free_sight-sight.ensures.sees past k mode (c.free_demand-demand.ensures.demand past k) in
+    let sees = c.free_tick_inputs-tick_inputs.ensures.sees past k mode (c.free_demand-demand.ensures.demand past k) in
     c.go_on.ensures.given past runs sees
 
 pub returns-clause-keeps : goal.returns-clause-keeps
 returns-clause-keeps c = λ past k was mode beside e.
-    let runs : Runs c.args.self.now c.free_course-course.result past = record {
+    let runs : Runs c.args.self.now c.free_tick_state-tick_state.result past = record {
       keeps = k;
-      course = c.free_course-course.ensures.course past was mode e (c.clock_now-clock.ensures.clock past k.orders);
-      bound = subst (λ (m : Mode). IsBound c.args.self.now.binding past.tables m) (sym mode) tt;
+      tick_state = c.free_tick_state-tick_state.ensures.tick_state past was mode e (c.clock_now-clock.ensures.clock past k.context.unit_commands);
+      bound = subst (λ (m : Mode). IsBound c.args.self.now.context.active_pattern past.tables m) (sym mode) tt;
     } in
-    let sees = c.free_sight-sight.ensures.sees past k mode (c.free_demand-demand.ensures.demand past k) in
+    let sees = c.free_tick_inputs-tick_inputs.ensures.sees past k mode (c.free_demand-demand.ensures.demand past k) in
     c.go_on.ensures.keeps past runs sees

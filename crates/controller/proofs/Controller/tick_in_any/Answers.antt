@@ -9,21 +9,21 @@ returns-clause-given c = λ past k command.
     let mode = c.mode-mode.ensures.mode past k command in
     let kept = c.follow.ensures.keeps past k in
     let bound = c.follow.ensures.bound past k mode in
-    let runs : Runs c.follow.new.self c.course-course.result past = record {
+    let runs : Runs c.follow.new.self c.tick_state-tick_state.result past = record {
       keeps = kept;
-      course = c.course-course.ensures.course past kept bound mode command;
-      bound = subst (λ (m : Mode). IsBound c.follow.new.self.binding past.tables m) mode bound;
+      tick_state = c.tick_state-tick_state.ensures.tick_state past kept.context kept.counts bound mode command;
+      bound = subst (λ (m : Mode). IsBound c.follow.new.self.context.active_pattern past.tables m) mode bound;
     } in
-    c.go_on.ensures.given past runs (c.sight-sight.ensures.sees past runs)
+    c.go_on.ensures.given past runs (c.tick_inputs-tick_inputs.ensures.sees past runs)
 
 pub returns-clause-keeps : goal.returns-clause-keeps
 returns-clause-keeps c = λ past k command.
     let mode = c.mode-mode.ensures.mode past k command in
     let kept = c.follow.ensures.keeps past k in
     let bound = c.follow.ensures.bound past k mode in
-    let runs : Runs c.follow.new.self c.course-course.result past = record {
+    let runs : Runs c.follow.new.self c.tick_state-tick_state.result past = record {
       keeps = kept;
-      course = c.course-course.ensures.course past kept bound mode command;
-      bound = subst (λ (m : Mode). IsBound c.follow.new.self.binding past.tables m) mode bound;
+      tick_state = c.tick_state-tick_state.ensures.tick_state past kept.context kept.counts bound mode command;
+      bound = subst (λ (m : Mode). IsBound c.follow.new.self.context.active_pattern past.tables m) mode bound;
     } in
-    c.go_on.ensures.keeps past runs (c.sight-sight.ensures.sees past runs)
+    c.go_on.ensures.keeps past runs (c.tick_inputs-tick_inputs.ensures.sees past runs)

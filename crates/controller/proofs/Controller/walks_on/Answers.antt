@@ -14,5 +14,5 @@ returns-else-phase-gt16 c = record {
       ap (λ (m : Mode). signal_runs_within (lesser_in past.tables m c.args.phase) c.args.phase past.tables past.moments (signal_of (frame_seen past) c.args.phase))
       mode
       ∙ sym (c.signal_within.ensures.follows past k)
-      ∙ (one_signal _ _ (sym c.eq.ensures ∙ t) ∙ ap (λ (f : Frame). signal_of f c.args.phase) k.frame);
+      ∙ (one_signal _ _ (sym c.eq.ensures ∙ t) ∙ ap (λ (f : Frame). signal_of f c.args.phase) k.context.frame);
 }

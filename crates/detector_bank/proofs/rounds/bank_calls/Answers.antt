@@ -8,11 +8,11 @@ loop-done-init c =
     let ds = c.args.bank.now.items in
     let ps = c.args.pulses.now.items in
     let w = c.in-Ok.ensures in
-    let tallies = c.new-calling.ensures ds c.in-Ok.walk.posts.items w.none in record {
+    let tallies = c.new-calling.ensures ds c.in-Ok.walk.detector_states.items w.none in record {
       fits = w.fits;
       stands = w.stands;
       tallies = tallies;
-      before = sets-called c.new-calling.result ds c.in-Ok.walk.posts.items ps 0 w.fits.posts (λ k p d low. (w.stands.each k p d low).told) tallies;
+      before = sets-called c.new-calling.result ds c.in-Ok.walk.detector_states.items ps 0 w.fits.detector_states (λ k p d low. (w.stands.each k p d low).told) tallies;
       calls = c.new-calls.ensures.items;
     }
 
@@ -21,11 +21,11 @@ loop-done-preserved c =
     let l = c.loop-done in
     let ps = c.args.pulses.now.items in
     let ds = c.args.bank.now.items in
-    let posts = c.call_round.new.walk.posts.items in
+    let detector_states = c.call_round.new.walk.detector_states.items in
     let fits = c.call_round.ensures.fits in
     let stands = c.call_round.ensures.stands ps l.done refl l.invariant.stands in
     let tallies = c.call_round.ensures.tallies l.invariant.tallies in
-    let now = sets-called c.call_round.new.calling ds posts ps (l.done + 1) fits.posts (λ k p d low. (stands.each k p d low).told) tallies in record {
+    let now = sets-called c.call_round.new.calling ds detector_states ps (l.done + 1) fits.detector_states (λ k p d low. (stands.each k p d low).told) tallies in record {
       fits = fits;
       stands = stands;
       tallies = tallies;

@@ -8,7 +8,7 @@ abbrev pub invariant-loop-done : goal.invariant-loop-done
 invariant-loop-done l = record {
   fits : WalkFits l.walk l.bank.items;
   stands : WalkStands l.walk l.bank.items l.pulses.items l.done;
-  tallies : Tallies l.calling l.bank.items l.walk.posts.items;
+  tallies : Tallies l.calling l.bank.items l.walk.detector_states.items;
   before : AreCalled l.before l.bank.items l.pulses.items l.done;
   calls : l.calls.items ≡ calls_until l.bank.items l.pulses.items l.done;
 }

@@ -9,7 +9,7 @@ loop-k-preserved c =
     let e = c.index.result.now in
     let inside : l.k < length ds = omega arith in record {
       walked = walked-next c.args.walk.now l.walk c.call_at.new.walk ds c.args.round l.k e inside c.index.ensures l.invariant.walked c.call_at.ensures.looks;
-      tallies = λ t. c.call_at.ensures.tallies ds e inside (sym l.invariant.walked.fits.posts) c.index.ensures (l.invariant.tallies t);
+      tallies = λ t. c.call_at.ensures.tallies ds e inside (sym l.invariant.walked.fits.detector_states) c.index.ensures (l.invariant.tallies t);
     }
 
 pub returns-clause-stands : goal.returns-clause-stands

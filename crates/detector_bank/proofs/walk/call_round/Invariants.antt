@@ -6,5 +6,5 @@ use Rattle.detector_bank.proofs.walk.call_round.Given as goal
 abbrev pub invariant-loop-k : goal.invariant-loop-k
 invariant-loop-k l = record {
   walked : Walked l.fn.walk l.walk l.bank.items l.round l.k;
-  tallies : Tallies l.fn.calling l.bank.items l.fn.walk.posts.items → Tallies l.calling l.bank.items l.walk.posts.items;
+  tallies : Tallies l.fn.calling l.bank.items l.fn.walk.detector_states.items → Tallies l.calling l.bank.items l.walk.detector_states.items;
 }

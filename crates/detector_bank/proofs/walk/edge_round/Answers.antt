@@ -1,7 +1,7 @@
 use Rattle.std.proofs.Common.{◌<◌, ◌++◌, length, ap, ◌∙◌, arith}
 use Rattle.detector_bank.specs.Lists.{edge_of}
 use Rattle.detector_bank.proofs.Ordering.{edges-next, edges-done}
-use Rattle.detector_bank.proofs.Walking.{walked-next, walked-all, walked-before, walked-sorts, no-post}
+use Rattle.detector_bank.proofs.Walking.{walked-next, walked-all, walked-before, walked-sorts, no-detector_state}
 use Rattle.detector_bank.proofs.walk.edge_round.Goals as goal
 
 pub loop-k-preserved : goal.loop-k-preserved
@@ -14,8 +14,8 @@ loop-k-preserved c =
       walked = walked-next c.args.walk.now l.walk c.edge_at.new.walk ds c.args.round l.k e inside c.index.ensures w c.in-Ok.ensures.looks;
       edges = λ ps j is h.
           edges-next ps c.args.round ds l.k e _ l.edges.items c.edge_at.new.edges.items inside
-          (c.in-Ok.ensures.edges ps j no-post is (walked-sorts c.args.walk.now l.walk ds c.args.round l.k w ps j h)
-          (walked-before c.args.walk.now l.walk ds c.args.round l.k e inside c.index.ensures w ps j no-post h) ∙ ap (λ f. l.edges.items ++ edge_of ps c.args.round f) c.index.ensures)
+          (c.in-Ok.ensures.edges ps j no-detector_state is (walked-sorts c.args.walk.now l.walk ds c.args.round l.k w ps j h)
+          (walked-before c.args.walk.now l.walk ds c.args.round l.k e inside c.index.ensures w ps j no-detector_state h) ∙ ap (λ f. l.edges.items ++ edge_of ps c.args.round f) c.index.ensures)
           (l.invariant.edges ps j is h);
     }
 

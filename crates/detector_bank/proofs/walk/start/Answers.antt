@@ -15,7 +15,7 @@ returns-in-Ok-vec-clause-stands c =
       sorts = sorts;
       each = λ k p d low.
           let none : get_or c.in-Ok-vec.dues.items k 0 ≡ 0 = ap (λ xs. get_or xs k 0) (c.in-Ok-vec.ensures.items_if_clones_equal (search rules)) ∙ zeros c.len.result k 0 in
-          subst (λ n. Posted (get_or c.in-Ok-posts_of.posts.items k p) n c.in-Ok.sorted.items (get_or c.args.bank.now.items k d) c.args.pulses.now.items 0) (sym none)
-          (subst (λ (xs : List Pulse). Posted (get_or c.in-Ok-posts_of.posts.items k p) 0 xs (get_or c.args.bank.now.items k d) c.args.pulses.now.items 0) c.as_slice-2.ensures.value
-          (c.in-Ok-posts_of.ensures.fresh c.args.pulses.now.items k p d (subst (λ (xs : List Pulse). Sorts xs c.args.pulses.now.items) (sym c.as_slice-2.ensures.value) sorts) low));
+          subst (λ n. Posted (get_or c.in-Ok-detector_states_of.detector_states.items k p) n c.in-Ok.sorted.items (get_or c.args.bank.now.items k d) c.args.pulses.now.items 0) (sym none)
+          (subst (λ (xs : List Pulse). Posted (get_or c.in-Ok-detector_states_of.detector_states.items k p) 0 xs (get_or c.args.bank.now.items k d) c.args.pulses.now.items 0) c.as_slice-2.ensures.value
+          (c.in-Ok-detector_states_of.ensures.fresh c.args.pulses.now.items k p d (subst (λ (xs : List Pulse). Sorts xs c.args.pulses.now.items) (sym c.as_slice-2.ensures.value) sorts) low));
     }

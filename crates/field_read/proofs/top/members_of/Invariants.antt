@@ -2,7 +2,7 @@ use Rattle.std.proofs.Common.{◌≡◌, ℕ, ◌≤◌, length}
 use Rattle.json.specs.Json.{members, value}
 use Rattle.serde_json.specs.Data.{Members, no_members}
 use Rattle.serde_json.specs.Read.{of_members, converted}
-use Rattle.field_read.specs.Parts.{Stands}
+use Rattle.field_read.specs.Parts.{PartsStand}
 use Rattle.field_read.proofs.top.members_of.Given as goal
 
 -- the parts were found at the members so far
@@ -11,7 +11,7 @@ invariant-members l =
     (n : ℕ) × (ms : Members) × (length l.reader ≤ n)
     × (converted (λ es. of_members es no_members) (members (value 126) (length l.fn.reader) l.fn.reader) ≡ converted (λ es. of_members es ms) (members (value 126) n l.reader))
     × (length l.reader ≤ length l.fn.reader)
-    × Stands l.parts ms
+    × PartsStand l.parts ms
 
 abbrev pub decreases-members : goal.decreases-members
 decreases-members l = length l.reader

@@ -3,7 +3,7 @@ use Rattle.std.proofs.lemmas.Grind.{common_steps}
 use Rattle.std.proofs.lemmas.Bool.{cases_lt}
 use Rattle.std.proofs.lemmas.List.{get_or_append_left, length-append}
 use Rattle.link_sim.specs.declared.lines.Lines.{Lines}
-use Rattle.link_sim.specs.Trio.{AreLines, nothing_passed}
+use Rattle.link_sim.specs.StreamFrames.{AreLines, nothing_passed}
 use Rattle.link_sim.proofs.Goes.{get_or_last}
 use Rattle.link_sim.proofs.link.open_lines.Goals as goal
 

@@ -1,7 +1,7 @@
 use Rattle.std.proofs.Common.{◌≡◌, ◌+◌, ◌<◌, ℕ, List, get_or, length}
 use Rattle.scenario_data.specs.declared.scenario.Fault.{Fault}
 use Rattle.link_sim.specs.declared.lines.Lines.{Lines}
-use Rattle.link_sim.specs.Trio.{AreLines, nothing_passed}
+use Rattle.link_sim.specs.StreamFrames.{AreLines, nothing_passed}
 use Rattle.link_sim.proofs.link.open_lines.Given as goal
 
 -- the lines so far are those of the first cabinets

@@ -2,39 +2,40 @@ use Rattle.std.proofs.Common.{ℕ, refl, sym, ◌∙◌, ap}
 use Rattle.sig_types.specs.declared.frame.Colour.TheVariants.{Green}
 use Rattle.sig_tables.specs.Coordinating.{is_released}
 use Rattle.sig_tables.specs.Looking.{run}
-use Rattle.sig_tables.specs.Course.{course_of}
+use Rattle.sig_tables.specs.TickState.{tick_state_of}
 use Rattle.sig_tables.proofs.Below.{phase-is}
 use Rattle.tick_context.proofs.Causes.{held-reason, asked-reason, gap-reason, fill-reason}
-use Rattle.observer.proofs.Bound.{binding-in}
+use Rattle.tick_context.proofs.Running.{active_pattern-in}
+use Rattle.observer.proofs.Bound.{runs-context}
 use Rattle.observer.proofs.Observer.bound_reason.Goals as goal
 
 pub returns-then-has : goal.returns-then-has
 returns-then-has c = record {
   reason = λ past r e a.
       let n = c.args.pattern in
-      let b = binding-in c.args.self.now c.args.course.now past n r e in
+      let b = active_pattern-in c.args.self.now.context c.args.tick_state.now past n (runs-context _ _ past r) e in
       let h = phase-is c.args.phase c.requires.above c.requires.within in
       held-reason past n c.args.phase c.released.result (sym (b.options.coordinated c.args.phase h) ∙ sym c.has.ensures.has ∙ c.if-has.true)
-      (c.released.ensures.released past.tables n (course_of past).active b.plan
-      (c.extension-held.ensures.extension past (course_of past).active r.keeps r.course.active)
-      ∙ ap (λ (k : ℕ). is_released past.tables n k (course_of past).active c.args.phase) r.course.counter);
+      (c.released.ensures.released past.tables n (tick_state_of past).active b.plan
+      (c.extension-held.ensures.extension past (tick_state_of past).active r.keeps r.tick_state.active)
+      ∙ ap (λ (k : ℕ). is_released past.tables n k (tick_state_of past).active c.args.phase) r.tick_state.counter);
 }
 
 pub returns-then-is_asked : goal.returns-then-is_asked
 returns-then-is_asked c = record {
   reason = λ past r e a.
       let n = c.args.pattern in
-      let b = binding-in c.args.self.now c.args.course.now past n r e in
+      let b = active_pattern-in c.args.self.now.context c.args.tick_state.now past n (runs-context _ _ past r) e in
       let h = phase-is c.args.phase c.requires.above c.requires.within in
       asked-reason past n c.args.phase (sym (b.options.coordinated c.args.phase h) ∙ sym c.has.ensures.has ∙ c.if-has.false)
-      (sym (c.is_asked.ensures (course_of past).active r.course.active) ∙ c.if-is_asked.true);
+      (sym (c.is_asked.ensures (tick_state_of past).active r.tick_state.active) ∙ c.if-is_asked.true);
 }
 
 pub returns-then-has_gap : goal.returns-then-has_gap
 returns-then-has_gap c = record {
   reason = λ past r e a.
       let n = c.args.pattern in
-      let b = binding-in c.args.self.now c.args.course.now past n r e in
+      let b = active_pattern-in c.args.self.now.context c.args.tick_state.now past n (runs-context _ _ past r) e in
       let h = phase-is c.args.phase c.requires.above c.requires.within in
       gap-reason past n c.args.phase (sym (b.options.coordinated c.args.phase h) ∙ sym c.has.ensures.has ∙ c.if-has.false)
       (sym (c.has_gap.ensures.gap past r a) ∙ c.if-has_gap.true);
@@ -44,11 +45,11 @@ pub returns-else-has_gap : goal.returns-else-has_gap
 returns-else-has_gap c = record {
   reason = λ past r e a.
       let n = c.args.pattern in
-      let b = binding-in c.args.self.now c.args.course.now past n r e in
+      let b = active_pattern-in c.args.self.now.context c.args.tick_state.now past n (runs-context _ _ past r) e in
       let h = phase-is c.args.phase c.requires.above c.requires.within in
       fill-reason past n c.args.phase (run c.args.phase Green past.moments) c.has_filled_split.result
       (sym (b.options.coordinated c.args.phase h) ∙ sym c.has.ensures.has ∙ c.if-has.false)
-      (sym (c.is_asked.ensures (course_of past).active r.course.active) ∙ c.if-is_asked.false)
+      (sym (c.is_asked.ensures (tick_state_of past).active r.tick_state.active) ∙ c.if-is_asked.false)
       (sym (c.has_gap.ensures.gap past r a) ∙ c.if-has_gap.false) refl
       (c.has_filled_split.ensures.filled past r.keeps);
 }

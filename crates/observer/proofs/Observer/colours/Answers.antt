@@ -10,6 +10,6 @@ use Rattle.observer.proofs.Observer.colours.Goals as goal
 pub returns : goal.returns
 returns c = record {
   colours = λ past w k m.
-      c.colours.ensures past.moments w k.lookout (ap (λ (f : Frame). f.veh) k.frame) m.ends m.begins
-      ∙ ap (λ (t : Tables). map (λ (p : ℕ). colour_after w p t past.moments (colour_of (frame_seen past) p)) all_phases) k.tables;
+      c.colours.ensures past.moments w k.frame_history (ap (λ (f : Frame). f.veh) k.context.frame) m.ends m.begins
+      ∙ ap (λ (t : Tables). map (λ (p : ℕ). colour_after w p t past.moments (colour_of (frame_seen past) p)) all_phases) k.context.tables;
 }

@@ -8,4 +8,4 @@ use Rattle.observer.proofs.Observer.done.Given as goal
 
 abbrev pub invariant-loop-phase : goal.invariant-loop-phase
 invariant-loop-phase l =
-    (past : Past) → Runs l.self l.course past → Sees l.sight past → Below l.done l.phase (is_done (view_seen past))
+    (past : Past) → Runs l.self l.tick_state past → Sees l.tick_inputs past → Below l.done l.phase (is_done (view_seen past))

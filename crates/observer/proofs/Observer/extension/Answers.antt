@@ -7,7 +7,7 @@ use Rattle.observer.proofs.Observer.extension.Goals as goal
 pub returns-in-Some : goal.returns-in-Some
 returns-in-Some c = record {
   extension = λ past n k e.
-      c.from.ensures ∙ ap (λ (u : Corrections). u.extension) c.unit.ensures.unit ∙ ap (λ (t : Tables). t.unit.extension) k.tables
+      c.from.ensures ∙ ap (λ (u : Corrections). u.extension) c.unit.ensures.unit ∙ ap (λ (t : Tables). t.unit.extension) k.context.tables
       ∙ extension-some past.tables n _ (sym c.in-Some.is ∙ e);
 }
 

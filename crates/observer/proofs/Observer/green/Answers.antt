@@ -6,5 +6,5 @@ use Rattle.observer.proofs.Observer.green.Goals as goal
 
 pub returns : goal.returns
 returns c = record {
-  green = λ past k p h. ap (λ (s : PhaseSet). has s p) c.in_colour.ensures ∙ (c.shown.ensures past.moments k.lookout).colours Green p h;
+  green = λ past k p h. ap (λ (s : PhaseSet). has s p) c.in_colour.ensures ∙ (c.shown.ensures past.moments k.frame_history).colours Green p h;
 }

@@ -13,7 +13,7 @@ pub returns-then-unit-ne2 : goal.returns-then-unit-ne2
 returns-then-unit-ne2 c = record {
   filled = λ past k.
       let mode : c.unit.result.now.force_mode ≡ past.tables.unit.force_mode =
-      ap (λ (u : Corrections). u.force_mode) c.unit.ensures.unit ∙ ap (λ (t : Tables). t.unit.force_mode) k.tables in
+      ap (λ (u : Corrections). u.force_mode) c.unit.ensures.unit ∙ ap (λ (t : Tables). t.unit.force_mode) k.context.tables in
       unfilled (view_seen past) c.args.pattern c.args.phase (λ e. c.if-unit-ne2.true (mode ∙ e));
 }
 
@@ -21,12 +21,12 @@ pub returns : goal.returns
 returns c = record {
   filled = λ past k.
       let mode : c.unit.result.now.force_mode ≡ past.tables.unit.force_mode =
-      ap (λ (u : Corrections). u.force_mode) c.unit.ensures.unit ∙ ap (λ (t : Tables). t.unit.force_mode) k.tables in
+      ap (λ (u : Corrections). u.force_mode) c.unit.ensures.unit ∙ ap (λ (t : Tables). t.unit.force_mode) k.context.tables in
       let two : c.unit.result.now.force_mode ≡ 2 = omega (arith, c.if-unit-ne2.false) in
       let split : c.time_of-split.result ≡ split_time past.tables c.args.pattern c.args.phase =
       c.time_of-split.ensures.time ∙ ap (λ (xs : List SplitEntry). time_of xs c.args.phase) c.entries.ensures.entries
-      ∙ ap (λ (t : Tables). split_time t c.args.pattern c.args.phase) k.tables in
+      ∙ ap (λ (t : Tables). split_time t c.args.pattern c.args.phase) k.context.tables in
       filled (view_seen past) c.args.pattern c.args.phase c.time_of-split.result c.clearance.result c.saturating_sub-least.result c.run.result
-      (sym mode ∙ two) split (c.clearance.ensures.time ∙ ap (λ (t : Tables). clearance t c.args.phase) k.tables)
-      c.saturating_sub-least.ensures (c.run.ensures past.moments (c.window.ensures past.moments k.lookout));
+      (sym mode ∙ two) split (c.clearance.ensures.time ∙ ap (λ (t : Tables). clearance t c.args.phase) k.context.tables)
+      c.saturating_sub-least.ensures (c.run.ensures past.moments (c.window.ensures past.moments k.frame_history));
 }

@@ -9,7 +9,7 @@ use Rattle.observer.proofs.Observer.has_reason.Goals as goal
 pub returns-in-Coord : goal.returns-in-Coord
 returns-in-Coord c = record {
   reason = λ past r a o.
-      let e : mode_seen past ≡ Coord c.in-Coord.pattern = sym r.course.mode ∙ c.in-Coord.is in
+      let e : mode_seen past ≡ Coord c.in-Coord.pattern = sym r.tick_state.mode ∙ c.in-Coord.is in
       c.bound_reason.ensures.reason past r e a
       ∙ ap (λ (m : Option ℕ). is_reasoned m (view_seen past) c.args.phase) (sym (ap bound e));
 }
@@ -17,7 +17,7 @@ returns-in-Coord c = record {
 pub returns-in_default : goal.returns-in_default
 returns-in_default c = record {
   reason = λ past r a o.
-      let e : bound (mode_seen past) ≡ None = unbound-but (mode_seen past) (λ n is. c.in_default.not-Coord n (r.course.mode ∙ is)) in
+      let e : bound (mode_seen past) ≡ None = unbound-but (mode_seen past) (λ n is. c.in_default.not-Coord n (r.tick_state.mode ∙ is)) in
       c.free_reason.ensures.reason past r a o
       ∙ ap (λ (m : Option ℕ). is_reasoned m (view_seen past) c.args.phase) (sym e);
 }

@@ -7,88 +7,31 @@ pub returns-in-Veh-clause-stands : goal.returns-in-Veh-clause-stands
 returns-in-Veh-clause-stands c = λ h k.
     let past : Past = past_at h in
     record {
-      tables = k.tables;
-      layout = k.layout;
-      ordered = k.ordered;
-      version = k.version;
-      frame = k.frame;
-      calls = c.input.ensures.stands past k.calls k.layout k.frame;
+      context = c.input.ensures.stands past k.context;
       inputs = heard-vehicle _ past c.args.field _ _ c.in-Veh.is k.inputs;
-      requests = λ i a b. let q = k.requests i a b in record { place = q.place; cancelled = q.cancelled; given = q.given; stays = q.stays; active = q.active };
-      orders = record {
-        command = k.orders.command;
-        since = k.orders.since;
-        clock = k.orders.clock;
-        ticks = k.orders.ticks;
-        gain = k.orders.gain;
-        lose = k.orders.lose;
-      };
       commanded = k.commanded;
-      binding = k.binding;
-      lookout = k.lookout;
-      some = k.some;
-      names = k.names;
+      frame_history = k.frame_history;
       within = k.within;
-      few_start = k.few_start;
-      old_frame = k.old_frame;
     }
 
 pub returns-in-Ped-clause-stands : goal.returns-in-Ped-clause-stands
 returns-in-Ped-clause-stands c = λ h k.
     let past : Past = past_at h in
     record {
-      tables = k.tables;
-      layout = k.layout;
-      ordered = k.ordered;
-      version = k.version;
-      frame = k.frame;
-      calls = c.input.ensures.stands past k.calls k.layout k.frame;
+      context = c.input.ensures.stands past k.context;
       inputs = heard-button _ past c.args.field _ c.in-Ped.is k.inputs;
-      requests = λ i a b. let q = k.requests i a b in record { place = q.place; cancelled = q.cancelled; given = q.given; stays = q.stays; active = q.active };
-      orders = record {
-        command = k.orders.command;
-        since = k.orders.since;
-        clock = k.orders.clock;
-        ticks = k.orders.ticks;
-        gain = k.orders.gain;
-        lose = k.orders.lose;
-      };
       commanded = k.commanded;
-      binding = k.binding;
-      lookout = k.lookout;
-      some = k.some;
-      names = k.names;
+      frame_history = k.frame_history;
       within = k.within;
-      few_start = k.few_start;
-      old_frame = k.old_frame;
     }
 
 pub returns-in-Preempt-clause-stands : goal.returns-in-Preempt-clause-stands
 returns-in-Preempt-clause-stands c = λ h k.
     let past : Past = past_at h in
     record {
-      tables = k.tables;
-      layout = k.layout;
-      ordered = k.ordered;
-      version = k.version;
-      frame = k.frame;
-      calls = c.input.ensures.stands past k.calls k.layout k.frame;
+      context = c.input.ensures.stands past k.context;
       inputs = heard-preempt _ _ past c.args.field _ _ c.in-Preempt.is k.inputs c.turned-self.ensures;
-      requests = λ i a b. let q = k.requests i a b in record { place = q.place; cancelled = q.cancelled; given = q.given; stays = q.stays; active = q.active };
-      orders = record {
-        command = k.orders.command;
-        since = k.orders.since;
-        clock = k.orders.clock;
-        ticks = k.orders.ticks;
-        gain = k.orders.gain;
-        lose = k.orders.lose;
-      };
       commanded = k.commanded;
-      binding = k.binding;
-      lookout = k.lookout;
-      some = k.some;
-      names = k.names;
+      frame_history = k.frame_history;
       within = k.within;
-      few_start = k.few_start;
-      old_frame = k.old_frame;
     }

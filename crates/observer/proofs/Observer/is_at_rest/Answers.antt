@@ -28,10 +28,10 @@ returns-else-not-is_empty c = record {
           beside = free.beside;
           version = refl;
           on = refl;
-          first = λ x. c.are_both_on.ensures.first t (ap (λ (f : Frame). on_in f 1) k.frame ∙ x);
-          second = λ x. c.are_both_on.ensures.second t (ap (λ (f : Frame). on_in f 2) k.frame ∙ x);
-          wide = ap (λ (f : Frame). length f.veh) (sym k.frame) ∙ c.shows_sixteen.ensures.veh;
-          long = ap (λ (f : Frame). length f.ped) (sym k.frame) ∙ c.shows_sixteen.ensures.ped;
+          first = λ x. c.are_both_on.ensures.first t (ap (λ (f : Frame). on_in f 1) k.context.frame ∙ x);
+          second = λ x. c.are_both_on.ensures.second t (ap (λ (f : Frame). on_in f 2) k.context.frame ∙ x);
+          wide = ap (λ (f : Frame). length f.veh) (sym k.context.frame) ∙ c.shows_sixteen.ensures.veh;
+          long = ap (λ (f : Frame). length f.ped) (sym k.context.frame) ∙ c.shows_sixteen.ensures.ped;
           goes = record {
             other = free.other;
             undefined = free.undefined;
@@ -44,7 +44,7 @@ returns-else-not-is_empty c = record {
           };
           phases = λ p i.
               let none : (is_clearing (frame_seen past).veh p || is_signalling (frame_seen past) p) ≡ false =
-              ap (λ (f : Frame). is_clearing f.veh p || is_signalling f p) (sym k.frame) ∙ sym (c.running_out.ensures p i)
+              ap (λ (f : Frame). is_clearing f.veh p || is_signalling f p) (sym k.context.frame) ∙ sym (c.running_out.ensures p i)
               ∙ none-has c.running_out.result p i (c.is_empty.ensures.empty.0 c.if-not-is_empty.false) in
               phase-rests n past p none demand;
         };

@@ -41,7 +41,7 @@ returns c = record {
       (c.has-active.ensures.has ∙ active-is _ _ _ (s.quiet c.args.phase h) parts.1)
       (c.has-opposed.ensures.has ∙ s.opposed c.args.phase h)) ∙ c.if-not-has_reason.false)
       parts.0 parts.1
-      (c.is_served.ensures past.moments r.keeps.lookout
-      (ap (λ (f : Frame). colour_of f c.args.phase) r.keeps.frame) (ap (λ (f : Frame). signal_of f c.args.phase) r.keeps.frame)
-      ∙ ap (λ (t : Tables). is_served t past.moments c.args.phase) r.keeps.tables);
+      (c.is_served.ensures past.moments r.keeps.frame_history
+      (ap (λ (f : Frame). colour_of f c.args.phase) r.keeps.context.frame) (ap (λ (f : Frame). signal_of f c.args.phase) r.keeps.context.frame)
+      ∙ ap (λ (t : Tables). is_served t past.moments c.args.phase) r.keeps.context.tables);
 }

@@ -11,8 +11,8 @@ pub returns-then-has : goal.returns-then-has
 returns-then-has c = record {
   service = λ past k.
       let on : is_enabled past.tables c.args.phase ≡ true =
-      sym (k.layout.enabled c.args.phase (phase-is c.args.phase c.requires.above c.requires.within)) ∙ sym c.has.ensures.has ∙ c.if-has.true in
-      c.eq.ensures ∙ same_colour-is _ _ ∙ ap (λ (f : Frame). is_green f c.args.phase) k.frame
+      sym (k.context.layout.enabled c.args.phase (phase-is c.args.phase c.requires.above c.requires.within)) ∙ sym c.has.ensures.has ∙ c.if-has.true in
+      c.eq.ensures ∙ same_colour-is _ _ ∙ ap (λ (f : Frame). is_green f c.args.phase) k.context.frame
       ∙ sym (ap (λ (b : Bool). b && is_green (frame_seen past) c.args.phase) on);
 }
 
@@ -20,6 +20,6 @@ pub returns-else-has : goal.returns-else-has
 returns-else-has c = record {
   service = λ past k.
       let off : is_enabled past.tables c.args.phase ≡ false =
-      sym (k.layout.enabled c.args.phase (phase-is c.args.phase c.requires.above c.requires.within)) ∙ sym c.has.ensures.has ∙ c.if-has.false in
+      sym (k.context.layout.enabled c.args.phase (phase-is c.args.phase c.requires.above c.requires.within)) ∙ sym c.has.ensures.has ∙ c.if-has.false in
       sym (ap (λ (b : Bool). b && is_green (frame_seen past) c.args.phase) off);
 }

@@ -10,8 +10,8 @@ use Rattle.sig_tables.specs.Seen.{frame_seen, moment_seen, moves_seen}
 use Rattle.sig_tables.specs.Layout.{Has}
 use Rattle.sig_tables.proofs.Below.{is-above, is-within}
 use Rattle.call_store.specs.Stands.{is_walking}
-use Rattle.preempt_run.proofs.Called.{seen-is}
-use Rattle.preempt_run.proofs.OnPhases.{names-phases}
+use Rattle.preempt_stages.proofs.Inputs.{seen-is}
+use Rattle.preempt_stages.proofs.OnPhases.{names-phases}
 use Rattle.tick_context.proofs.Seen.{opposed-green}
 use Rattle.tick_context.proofs.Sought.{start-again}
 use Rattle.tick_context.proofs.Pickups.{few-next, one-more, same-most}
@@ -28,30 +28,32 @@ returns-clause-keeps c = λ past r s f.
     let walking : Has c.signalling.result (is_walking m.frame) =
     subst (λ (x : Frame). Has c.signalling.result (is_walking x)) f (λ p h. c.signalling.ensures.shown p (is-above p h) (is-within p h)) in
     record {
-      tables = k.tables;
-      layout = k.layout;
-      ordered = k.ordered;
-      version = k.version;
-      frame = f;
-      calls = c.step.ensures.stands past m k.calls green walking refl refl refl;
+      context = record {
+        tables = k.context.tables;
+        layout = k.context.layout;
+        ordered = k.context.ordered;
+        version = k.context.version;
+        frame = f;
+        calls = c.step.ensures.stands past m k.context.calls green walking refl refl refl;
+        requests = c.step-2.ensures.stands past m k.context.requests (one-more (moment_seen past).number) r.tick_state.active;
+        unit_commands = c.step-3.ensures.stands past m k.context.unit_commands (record { number = refl; command = refl; is_commanded = refl; clock = refl })
+            r.tick_state.command r.tick_state.clock;
+        active_pattern = k.context.active_pattern;
+        some = omega arith;
+        names = names-phases m.frame past.tables (colours_of past (moves_seen past)) refl;
+        few_start = few-next m past.moments
+            (λ now last. start-again past.tables past.version (command_now past) (preempts_on past.heard (moment_seen past)) past.moments
+            (colours_of past (moves_seen past)) last now);
+        old_frame = same-most past.version;
+      };
       inputs = seen-on c.args.self.now.inputs past m (sym (seen-is past)) k.inputs;
-      requests = c.step-2.ensures.stands past m k.requests (one-more (moment_seen past).number) r.course.active;
-      orders = c.step-3.ensures.stands past m k.orders (record { number = refl; command = refl; is_commanded = refl; clock = refl })
-          r.course.command r.course.clock;
       commanded = refl;
-      binding = k.binding;
-      lookout = c.push.ensures past.moments m k.lookout
+      frame_history = c.push.ensures past.moments m k.frame_history
           (record {
             frame = sym f;
             quiet = s.quiet;
             opposed = λ p i. opposed-green past p i ∙ ap (λ (b : Bool). is_green (frame_seen past) p && b) (sym (s.opposed p i));
           })
-          (sym k.tables) (λ i a b. k.inputs i a b ∙ ap (λ (xs : List ℕ). is_in xs i) (seen-is past)) k.commanded;
-      some = omega arith;
-      names = names-phases m.frame past.tables (colours_of past (moves_seen past)) refl;
-      within = λ n. next-within c.args.course.now past n r.course;
-      few_start = few-next m past.moments
-          (λ now last. start-again past.tables past.version (command_now past) (preempts_on past.heard (moment_seen past)) past.moments
-          (colours_of past (moves_seen past)) last now);
-      old_frame = same-most past.version;
+          (sym k.context.tables) (λ i a b. k.inputs i a b ∙ ap (λ (xs : List ℕ). is_in xs i) (seen-is past)) k.commanded;
+      within = λ n. next-within c.args.tick_state.now past n r.tick_state;
     }

@@ -4,8 +4,8 @@ use Rattle.sig_tables.specs.Past.{Past}
 use Rattle.sig_tables.specs.Command.{command_now}
 use Rattle.sig_tables.specs.Choosing.{mode_sought}
 use Rattle.sig_tables.specs.Seen.{mode_seen}
-use Rattle.preempt_run.specs.Stands.{preempts_seen}
-use Rattle.preempt_run.proofs.Called.{none-beyond}
+use Rattle.preempt_stages.specs.Inputs.{preempts_seen}
+use Rattle.preempt_stages.proofs.Inputs.{none-beyond}
 use Rattle.observer.proofs.Observer.mode.Goals as goal
 
 mode-is : (past : Past) → mode_sought past.tables past.version (command_now past) (preempts_seen past) past.moments ≡ mode_seen past
@@ -14,9 +14,9 @@ mode-is past = refl
 
 pub returns : goal.returns
 returns c = λ past k e.
-    c.sought.ensures (preempts_seen past) past.moments (sym k.frame) (λ s. c.start_run.ensures past.moments k.lookout k.few_start)
-    (c.stage-stage.ensures past.moments (preempts_seen past) k.lookout k.frame k.inputs (none-beyond past))
-    ∙ ap (λ (t : Tables). mode_sought t c.args.self.now.version c.args.command (preempts_seen past) past.moments) k.tables
-    ∙ ap (λ (v : ℕ). mode_sought past.tables v c.args.command (preempts_seen past) past.moments) k.version
+    c.sought.ensures (preempts_seen past) past.moments (sym k.context.frame) (λ s. c.start_run.ensures past.moments k.frame_history k.context.few_start)
+    (c.stage-stage.ensures past.moments (preempts_seen past) k.frame_history k.context.frame k.inputs (none-beyond past))
+    ∙ ap (λ (t : Tables). mode_sought t c.args.self.now.context.version c.args.command (preempts_seen past) past.moments) k.context.tables
+    ∙ ap (λ (v : ℕ). mode_sought past.tables v c.args.command (preempts_seen past) past.moments) k.context.version
     ∙ ap (λ (n : ℕ). mode_sought past.tables past.version n (preempts_seen past) past.moments) e
     ∙ mode-is past

@@ -6,5 +6,5 @@ use Rattle.observer.proofs.Observer.red.Goals as goal
 
 pub returns : goal.returns
 returns c = record {
-  red = λ past k p h. ap (λ (s : PhaseSet). has s p) c.in_colour.ensures ∙ (c.shown.ensures past.moments k.lookout).colours Red p h;
+  red = λ past k p h. ap (λ (s : PhaseSet). has s p) c.in_colour.ensures ∙ (c.shown.ensures past.moments k.frame_history).colours Red p h;
 }

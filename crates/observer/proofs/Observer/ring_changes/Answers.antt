@@ -1,12 +1,11 @@
-use Rattle.std.proofs.Common.{◌≡◌, ℕ, [], sym, subst}
-use Rattle.sig_types.specs.declared.frame.Mode.{Mode}
+use Rattle.std.proofs.Common.{◌≡◌, [], ◌∷◌, sym, subst}
+use Rattle.sig_tables.specs.Looking.{last_on}
 use Rattle.sig_tables.specs.Moves.{Moves, ring_moves}
-use Rattle.sig_tables.specs.Layout.{Ordered}
-use Rattle.sig_tables.specs.Modes.{sequence_in}
-use Rattle.sig_tables.specs.Seen.{mode_seen, view_seen}
+use Rattle.sig_tables.specs.Seen.{view_seen}
 use Rattle.tick_context.specs.Moves.{AreMoves}
-use Rattle.tick_context.proofs.Binds.{in-coord, first-sequence}
-use Rattle.observer.proofs.Bound.{binding-in, coord-of}
+use Rattle.tick_context.proofs.Rings.{each-ring}
+use Rattle.look_back.specs.LongCounts.{LongCountsStands}
+use Rattle.observer.proofs.Bound.{runs-context}
 use Rattle.observer.proofs.Observer.ring_changes.Goals as goal
 
 pub returns-then-is_resting : goal.returns-then-is_resting
@@ -14,7 +13,7 @@ returns-then-is_resting c = record {
   changes = λ past r s t.
       let still : ring_moves (view_seen past) ≡ record { ends = []; begins = [] } =
       c.is_resting.ensures (view_seen past) (c.opening-opening.ensures.opening past r.keeps) s.demand
-      (c.forced-forced.ensures.forced past r) c.if-is_resting.true in
+      (c.forced-forced.ensures.forced past (runs-context _ _ past r) (c.green.ensures.green past r.keeps)) c.if-is_resting.true in
       subst (λ (w : Moves). AreMoves c.no_changes.result w) (sym still) c.no_changes.ensures;
 }
 
@@ -23,25 +22,21 @@ returns-then-is_idle c = record {
   changes = λ past r s t.
       let still : ring_moves (view_seen past) ≡ record { ends = []; begins = [] } =
       c.is_idle.ensures.idle (view_seen past) (c.opening-opening.ensures.opening past r.keeps) (c.done-done.ensures.done past r s)
-      (c.forced-forced.ensures.forced past r) c.if-is_idle.true in
+      (c.forced-forced.ensures.forced past (runs-context _ _ past r) (c.green.ensures.green past r.keeps)) c.if-is_idle.true in
       subst (λ (w : Moves). AreMoves c.no_changes-then-is_idle.result w) (sym still) c.no_changes-then-is_idle.ensures;
 }
 
-pub returns-then-is_coord : goal.returns-then-is_coord
-returns-then-is_coord c = record {
+pub returns : goal.returns
+returns c = record {
   changes = λ past r s t.
-      let (n, e) = in-coord (mode_seen past) (coord-of c.args.self.now c.args.course.now past _ _ r c.is_coord.ensures c.if-is_coord.true) in
-      let b = binding-in c.args.self.now c.args.course.now past n r e in
-      c.looking.ensures.changes past r s b.laid
-      (subst (λ (m : Mode). Ordered c.args.self.now.binding.layout past.tables (sequence_in past.tables m)) (sym e) b.ordered);
-}
-
-pub returns-else-is_coord : goal.returns-else-is_coord
-returns-else-is_coord c = record {
-  changes = λ past r s t.
-      let one : sequence_in past.tables (mode_seen past) ≡ 1 =
-      first-sequence past.tables past.moments (mode_seen past) t
-      (coord-of c.args.self.now c.args.course.now past _ _ r c.is_coord.ensures c.if-is_coord.false) in
-      c.looking-else-is_coord.ensures.changes past r s r.keeps.layout
-      (subst (λ (n : ℕ). Ordered c.args.self.now.layout past.tables n) (sym one) r.keeps.ordered);
+      let long_counts : LongCountsStands c.long_counts-long_counts.result.now past.moments = c.long_counts-long_counts.ensures past.moments r.keeps.frame_history in
+      c.ring_changes.ensures.changes past (runs-context _ _ past r) s.demand t (record {
+        opening = c.opening-opening.ensures.opening past r.keeps;
+        startable = c.startable.ensures.startable past r.keeps;
+        last = each-ring (c.last_on.result ∷ c.last_on-2.result ∷ []) 0 (λ q. last_on q past.moments)
+            (c.last_on.ensures past.moments long_counts) (c.last_on-2.ensures past.moments long_counts);
+        latest = c.latest_on.ensures past.moments long_counts;
+        done = c.done-done.ensures.done past r s;
+        forced = c.forced-forced.ensures.forced past (runs-context _ _ past r) (c.green.ensures.green past r.keeps);
+      });
 }

@@ -17,12 +17,12 @@ pub returns : goal.returns
 returns c = record {
   signals = λ past begins r walks.
       let cut : lesser_of c.cut_in-cut.result ≡ lesser_times past.tables (stage_of (mode_seen past)) =
-      c.cut_in-cut.ensures ∙ ap (λ (t : Tables). lesser_times t (stage_of c.args.course.now.mode)) r.keeps.tables
-      ∙ ap (λ (m : Mode). lesser_times past.tables (stage_of m)) r.course.mode in
+      c.cut_in-cut.ensures ∙ ap (λ (t : Tables). lesser_times t (stage_of c.args.tick_state.now.mode)) r.keeps.context.tables
+      ∙ ap (λ (m : Mode). lesser_times past.tables (stage_of m)) r.tick_state.mode in
       let cuts : (p : ℕ) → is_phase p ≡ true
-      → (if has c.args.course.now.goal p then InFull else lesser_of c.cut_in-cut.result) ≡ lesser_in past.tables (mode_seen past) p =
-      λ p h. rw (r.course.goal p h, cut) refl in
-      c.signals.ensures past.moments begins (lesser_in past.tables (mode_seen past)) r.keeps.lookout (ap (λ (f : Frame). f.ped) r.keeps.frame) walks cuts
+      → (if has c.args.tick_state.now.goal p then InFull else lesser_of c.cut_in-cut.result) ≡ lesser_in past.tables (mode_seen past) p =
+      λ p h. rw (r.tick_state.goal p h, cut) refl in
+      c.signals.ensures past.moments begins (lesser_in past.tables (mode_seen past)) r.keeps.frame_history (ap (λ (f : Frame). f.ped) r.keeps.context.frame) walks cuts
       ∙ ap (λ (t : Tables). map (λ (p : ℕ). if begins p then Walk
-      else signal_runs_within (lesser_in past.tables (mode_seen past) p) p t past.moments (signal_of (frame_seen past) p)) all_phases) r.keeps.tables;
+      else signal_runs_within (lesser_in past.tables (mode_seen past) p) p t past.moments (signal_of (frame_seen past) p)) all_phases) r.keeps.context.tables;
 }

@@ -14,9 +14,9 @@ both false b d = refl
 pub returns : goal.returns
 returns c = record {
   startable = λ past k p h.
-      c.startable.ensures past.moments (λ q. is_enabled past.tables q && same_colour (colour_of (frame_seen past) q) Red) k.lookout
-      (λ q i. c.meet-red.ensures.has q ∙ rw (k.layout.enabled q i, c.red.ensures.red past k q i) refl) p h
+      c.startable.ensures past.moments (λ q. is_enabled past.tables q && same_colour (colour_of (frame_seen past) q) Red) k.frame_history
+      (λ q i. c.meet-red.ensures.has q ∙ rw (k.context.layout.enabled q i, c.red.ensures.red past k q i) refl) p h
       ∙ ap (λ (t : Tables). (is_enabled past.tables p && same_colour (colour_of (frame_seen past) p) Red) && lasts (red_revert_time t p) (shows p Red) past.moments)
-      k.tables
+      k.context.tables
       ∙ both (is_enabled past.tables p) (same_colour (colour_of (frame_seen past) p) Red) (lasts (red_revert_time past.tables p) (shows p Red) past.moments);
 }

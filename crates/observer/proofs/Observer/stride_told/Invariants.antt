@@ -2,14 +2,14 @@ use Rattle.std.proofs.Common.{◌≡◌, ◌≤◌, ◌+◌, ◌-◌, ℕ, false
 use Rattle.sig_tables.specs.Past.{History}
 use Rattle.observer.specs.declared.Observer.{Observer}
 use Rattle.tick_context.specs.Strides.{is_told, ticks_more}
-use Rattle.observer.specs.Remembers.{StandsFor, tick_count, install_count}
+use Rattle.observer.specs.Remembers.{ObserverStands, tick_count, install_count}
 use Rattle.observer.proofs.Observer.stride_told.Given as goal
 
 -- so many ticks were taken, and all of them gave plain frames
 pub record Taken (old new : Observer) (done n : ℕ) : Type 0 where
   pub within : done ≤ n
-  pub stands : (h : History) → StandsFor old h → StandsFor new (ticks_more done h)
-  pub plain : (h : History) (k : ℕ) → StandsFor old h → k ≤ done → is_told h k ≡ false
+  pub stands : (h : History) → ObserverStands old h → ObserverStands new (ticks_more done h)
+  pub plain : (h : History) (k : ℕ) → ObserverStands old h → k ≤ done → is_told h k ≡ false
   pub ticks : tick_count new ≡ tick_count old + done
   pub installs : install_count new ≡ install_count old
 

@@ -1,7 +1,7 @@
 use Rattle.std.proofs.Common.{◌≡◌, ◌+◌, ◌++◌}
 use Rattle.overlap_run.specs.declared.overlap.Timing.{Timing}
 use Rattle.overlap_run.specs.Overlap.{overlap_at, greens_to}
-use Rattle.overlap_run.specs.StandsFor.{StandsFor, IsOpened}
+use Rattle.overlap_run.specs.StandsFor.{OverlapStands, IsOpened}
 use Rattle.overlap_run.specs.Text.{changes_to}
 use Rattle.overlap_run.specs.Parents.{parents_of, green_at, IsSeen}
 use Rattle.overlap_run.proofs.changes.add_changes.Given as goal
@@ -10,7 +10,7 @@ use Rattle.overlap_run.proofs.changes.add_changes.Given as goal
 abbrev pub invariant-loop-done : goal.invariant-loop-done
 invariant-loop-done l = record {
   seen : IsSeen (parents_of l.parents) l.frames.items (l.ticks + 1) l.done l.seen.0 l.seen.1;
-  stands : (t : Timing) → IsOpened l.fn.start t → StandsFor l.overlap t (greens_to (green_at (parents_of l.parents) l.frames.items) l.done);
+  stands : (t : Timing) → IsOpened l.fn.start t → OverlapStands l.overlap t (greens_to (green_at (parents_of l.parents) l.frames.items) l.done);
   lines : (t : Timing) → IsOpened l.fn.start t
       → l.out.items ≡ l.fn.out.items ++ changes_to (overlap_at t (green_at (parents_of l.parents) l.frames.items)) l.done;
 }

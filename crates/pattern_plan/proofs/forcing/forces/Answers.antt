@@ -18,7 +18,7 @@ loop-phase-init c = record { each = filled-start _ _ _ refl; side = c.none-side.
 pub loop-phase-preserved : goal.loop-phase-preserved
 loop-phase-preserved c =
     let k : ℕ = c.loop-phase.phase in
-    let t : Tables = c.args.street.now.tables.now in
+    let t : Tables = c.args.ring_layout.now.tables.now in
     let n : ℕ = c.args.pattern in
     let is : is_phase k ≡ true = phase-is k (omega arith) (omega arith) in
     let has : Has c.of-side.result.phases (are_of_one_side t k) =

@@ -5,6 +5,6 @@ use Rattle.pattern_plan.proofs.forcing.forces.Given as goal
 
 abbrev pub invariant-loop-phase : goal.invariant-loop-phase
 invariant-loop-phase l = record {
-  each : Filled 0 (force_point l.street.tables.now l.pattern) l.forces l.phase;
+  each : Filled 0 (force_point l.ring_layout.tables.now l.pattern) l.forces l.phase;
   side : Measures l.side l.ends l.clears;
 }

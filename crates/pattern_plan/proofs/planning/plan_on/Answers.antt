@@ -9,7 +9,7 @@ use Rattle.pattern_plan.proofs.planning.plan_on.Goals as goal
 
 pub returns : goal.returns
 returns c =
-    let t : Tables = c.args.street.now.tables.now in
+    let t : Tables = c.args.ring_layout.now.tables.now in
     let n : ℕ = c.args.pattern in
     same-plan _ _ _ _ _ _ _ _ _ _ _ _ _ _ _ _ _ _ _ _
     (c.ticks.ensures ∙ ap (λ (r : Pattern). 10 * r.cycle) c.pattern-row.ensures.row)

@@ -1,7 +1,7 @@
 use Rattle.std.proofs.Common.{sym, ◌∙◌, subst}
 use Rattle.sig_types.specs.declared.frame.Ped.{Ped}
 use Rattle.sig_types.specs.declared.frame.Ped.TheVariants.{Walk, Flash}
-use Rattle.ped_clock.specs.Passed.{SignalLasts}
+use Rattle.call_store.specs.Signals.{SignalLasts}
 use Rattle.ped_clock.proofs.PedClocks.left.Goals as goal
 
 pub returns-in-Walk : goal.returns-in-Walk

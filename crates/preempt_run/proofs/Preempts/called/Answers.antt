@@ -1,8 +1,8 @@
 use Rattle.std.proofs.Common.{◌<◌, inl, inr, sym, ◌∙◌, arith}
 use Rattle.std.proofs.lemmas.Bool.Decides.{eqb_tells}
 use Rattle.sig_tables.specs.Preempts.{is_preempt_called}
-use Rattle.preempt_run.specs.Stands.{preempts_seen}
-use Rattle.preempt_run.proofs.Least.{least-at}
+use Rattle.preempt_stages.specs.Inputs.{preempts_seen}
+use Rattle.preempt_stages.proofs.Least.{least-at}
 use Rattle.preempt_run.proofs.Called.{none-called}
 use Rattle.preempt_run.proofs.Preempts.called.Goals as goal
 

@@ -4,7 +4,7 @@ use Rattle.std.proofs.lemmas.Bool.Decides.{nat_tests}
 use Rattle.sig_types.specs.declared.frame.Mode.TheVariants.{Dwell}
 use Rattle.sig_tables.specs.Tables.{listed}
 use Rattle.sig_tables.specs.Looking.{lasts}
-use Rattle.preempt_run.specs.Dwelling.{dwells, each_green, each_off}
+use Rattle.preempt_stages.specs.Dwelling.{dwells, each_green, each_off}
 use Rattle.preempt_run.proofs.Dwelt.{dwelt, dwelt-short, dwell-lasts}
 use Rattle.preempt_run.proofs.Runs.{mode-lasts}
 use Rattle.preempt_run.proofs.Preempts.has_dwelt.Goals as goal

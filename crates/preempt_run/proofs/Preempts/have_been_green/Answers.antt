@@ -5,8 +5,8 @@ use Rattle.sig_types.proofs.Sets.{empty-is, some-same, listed-phase}
 use Rattle.sig_tables.specs.Tables.{listed}
 use Rattle.sig_tables.specs.Looking.{lasts}
 use Rattle.sig_tables.proofs.Below.{is-above, is-within}
-use Rattle.preempt_run.specs.Dwelling.{dwells_green}
-use Rattle.preempt_run.proofs.Covered.{is_due, covered}
+use Rattle.preempt_stages.specs.Dwelling.{dwells_green}
+use Rattle.preempt_stages.proofs.Covered.{is_due, covered}
 use Rattle.preempt_run.proofs.Dwelt.{beyond-green}
 use Rattle.preempt_run.proofs.Runs.{tally-lasts}
 use Rattle.preempt_run.proofs.Preempts.have_been_green.Goals as goal

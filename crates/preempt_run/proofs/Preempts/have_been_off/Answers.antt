@@ -5,9 +5,9 @@ use Rattle.sig_types.proofs.Sets.{empty-is, listed-phase}
 use Rattle.sig_tables.specs.Tables.{listed}
 use Rattle.sig_tables.specs.Looking.{lasts}
 use Rattle.sig_tables.proofs.Below.{is-above, is-within}
-use Rattle.preempt_run.specs.Dwelling.{dwells_off}
-use Rattle.preempt_run.proofs.Each.{not-some, every-same}
-use Rattle.preempt_run.proofs.Listed.{neither}
+use Rattle.preempt_stages.specs.Dwelling.{dwells_off}
+use Rattle.preempt_stages.proofs.Each.{not-some, every-same}
+use Rattle.preempt_stages.proofs.Listed.{neither}
 use Rattle.preempt_run.proofs.Runs.{tally-lasts}
 use Rattle.preempt_run.proofs.Preempts.have_been_off.Goals as goal
 

@@ -1,8 +1,9 @@
 use Rattle.std.proofs.Common.{◌≡◌, ◌<◌, ◌⊎◌, inl, inr, true, sym, ◌∙◌, arith}
 use Rattle.sig_types.specs.Phases.{is_in}
-use Rattle.preempt_run.specs.Stands.{preempts_seen}
-use Rattle.preempt_run.proofs.Tallies.{counted}
-use Rattle.preempt_run.proofs.Called.{seen-on, none-beyond, not-called, called-counted}
+use Rattle.preempt_stages.specs.Inputs.{preempts_seen}
+use Rattle.phase_clock.proofs.Tallies.{counted}
+use Rattle.preempt_stages.proofs.Inputs.{none-beyond, not-called}
+use Rattle.preempt_run.proofs.Called.{seen-on, called-counted}
 use Rattle.preempt_run.proofs.Preempts.is_called.Goals as goal
 
 pub returns-then-number-eq0 : goal.returns-then-number-eq0
@@ -21,7 +22,7 @@ returns-then-has c = record {
       seen-on c.args.self.now past stands c.args.number above c.if-number-gt8.false ∙ sym c.has.ensures.has ∙ c.if-has.true in
       c.calls.ensures
       ∙ rw c.preempt.ensures.row (sym (called-counted c.args.t.now (preempts_seen past) past.moments c.args.number c.count.result on
-      (c.count.ensures ∙ counted c.args.self.now.inputs c.args.self.now.steps c.args.number (λ m. is_in m.preempts c.args.number) past.moments
+      (c.count.ensures.counts ∙ counted c.args.self.now.inputs c.args.self.now.steps c.args.number (λ m. is_in m.preempts c.args.number) past.moments
       (stands.inputs c.args.number above c.if-number-gt8.false))));
 }
 

@@ -2,7 +2,7 @@ use Rattle.std.proofs.Common.{◌≡◌, ◌*◌, nat_le, max, refl, sym, ◌∙
 use Rattle.sig_tables.specs.Tables.{listed}
 use Rattle.sig_tables.specs.Cells.{preempt_of}
 use Rattle.sig_tables.specs.Preempts.{has_dwelt, has_lasted, dwell_set}
-use Rattle.preempt_run.proofs.Listed.{held, not-held}
+use Rattle.preempt_stages.proofs.Listed.{held, not-held}
 use Rattle.preempt_run.proofs.Runs.{stage-lasts}
 use Rattle.preempt_run.proofs.Preempts.is_dwell_over.Goals as goal
 

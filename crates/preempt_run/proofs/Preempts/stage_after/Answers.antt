@@ -4,7 +4,7 @@ use Rattle.sig_types.specs.declared.frame.Mode.{Mode}
 use Rattle.sig_types.specs.declared.frame.Mode.TheVariants.{Entry, Track, Dwell}
 use Rattle.sig_types.specs.Phases.{has_some}
 use Rattle.sig_tables.specs.Preempts.{has_reached, track_set, entry_set}
-use Rattle.preempt_run.proofs.Listed.{some-of}
+use Rattle.preempt_stages.proofs.Listed.{some-of}
 use Rattle.preempt_run.proofs.Preempts.stage_after.Goals as goal
 
 pub returns-in-Entry : goal.returns-in-Entry

@@ -4,8 +4,8 @@ use Rattle.sig_types.specs.declared.frame.Mode.{Mode}
 use Rattle.sig_types.specs.Phases.{is_in}
 use Rattle.sig_tables.specs.Modes.{stage_of}
 use Rattle.sig_tables.specs.Calls.{is_green}
-use Rattle.preempt_run.specs.Dwelling.{is_off, dwells_green, dwells_off}
-use Rattle.preempt_run.proofs.Goes.{same_mode-itself}
+use Rattle.preempt_stages.specs.Dwelling.{is_off, dwells_green, dwells_off}
+use Rattle.preempt_stages.proofs.Goes.{same_mode-itself}
 use Rattle.preempt_run.proofs.Called.{seen-on}
 use Rattle.preempt_run.proofs.Runs.{mode-steps, stage-steps}
 use Rattle.preempt_run.proofs.Preempts.stay.Goals as goal

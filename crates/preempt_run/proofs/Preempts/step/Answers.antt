@@ -5,8 +5,8 @@ use Rattle.sig_types.specs.PhaseSet.{has, phases_of}
 use Rattle.sig_types.specs.Phases.{is_phase, is_in}
 use Rattle.sig_types.proofs.Sets.{in-phases}
 use Rattle.sig_tables.proofs.Below.{phase-is}
-use Rattle.preempt_run.specs.Dwelling.{is_dwell, dwells_green, dwells_off}
-use Rattle.preempt_run.proofs.Goes.{one-mode}
+use Rattle.preempt_stages.specs.Dwelling.{is_dwell, dwells_green, dwells_off}
+use Rattle.preempt_stages.proofs.Goes.{one-mode}
 use Rattle.preempt_run.proofs.Called.{seen-on}
 use Rattle.preempt_run.proofs.Runs.{mode-steps, stage-steps}
 use Rattle.preempt_run.proofs.Preempts.step.Goals as goal

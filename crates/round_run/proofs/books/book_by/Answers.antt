@@ -1,7 +1,7 @@
 use Rattle.std.proofs.Common.{◌∙◌, ℕ, List, subst, arith}
 use Rattle.scenario_data.specs.Content.{cabinet_content}
 use Rattle.runnable.specs.Cabinets.{opening_history}
-use Rattle.cabinet_history.specs.Story.{opened}
+use Rattle.cabinet_history.specs.CabinetHistory.{opened}
 use Rattle.cab_book.specs.Books.{BookStands}
 use Rattle.round_run.proofs.Opening.{is-new, no-ticks}
 use Rattle.round_run.proofs.books.book_by.Goals as goal

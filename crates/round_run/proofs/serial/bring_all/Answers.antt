@@ -6,7 +6,7 @@ pub loop-book-preserved : goal.loop-book-preserved
 loop-book-preserved c =
     let brings = c.bring_some.ensures.brings in
     record {
-      stands = λ story stood. brings.stands story (c.loop-book.invariant.stands story stood);
+      stands = λ cabinet_history stood. brings.stands cabinet_history (c.loop-book.invariant.stands cabinet_history stood);
       streams = brings.streams ∙ c.loop-book.invariant.streams;
       journal = journal-more c.args.pass _ _ _ _ _ _ brings.journal brings.own c.loop-book.invariant.journal;
       others = λ p other. brings.others p other ∙ c.loop-book.invariant.others p other;

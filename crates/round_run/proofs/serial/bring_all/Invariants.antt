@@ -1,12 +1,12 @@
 use Rattle.std.proofs.Common.{◌≡◌, ◌≢◌, ◌++◌, ℕ, replicate}
-use Rattle.cabinet_history.specs.Story.{Story}
+use Rattle.cabinet_history.specs.CabinetHistory.{CabinetHistory}
 use Rattle.cab_book.specs.Books.{BookStands, streams_in, journal_of, left_of, ticks_by_end}
 use Rattle.round_run.proofs.serial.bring_all.Given as goal
 
 -- what is left of the stream is still to come behind the journal so far
 abbrev pub invariant-loop-book : goal.invariant-loop-book
 invariant-loop-book l = record {
-  stands : (story : Story) → BookStands l.fn.book story → BookStands l.book story;
+  stands : (cabinet_history : CabinetHistory) → BookStands l.fn.book cabinet_history → BookStands l.book cabinet_history;
   streams : streams_in l.book ≡ streams_in l.fn.book;
   journal : journal_of l.book ++ replicate (left_of l.book l.pass) l.pass ≡ journal_of l.fn.book ++ replicate (left_of l.fn.book l.pass) l.pass;
   others : (p : ℕ) → p ≢ l.pass → left_of l.book p ≡ left_of l.fn.book p;

@@ -8,7 +8,7 @@ use Rattle.sig_tables.specs.Tables.{ring_of, is_enabled}
 use Rattle.sig_tables.specs.Sides.{are_concurrent, are_of_one_side}
 use Rattle.sig_tables.specs.Layout.{Has, set_of}
 use Rattle.sig_tables.proofs.Below.{phase-is}
-use Rattle.rule_book.specs.Street.{is_of_ring}
+use Rattle.rule_book.specs.RingLayout.{is_of_ring}
 use Rattle.rule_book.specs.Patterns.{side_time}
 use Rattle.rule_book.proofs.Together.{enabled-phase}
 use Rattle.rule_book.proofs.patterns.fills_side.Goals as goal
@@ -46,11 +46,11 @@ returns c =
     let on : is_enabled t p ≡ true = sym (c.requires.reads.lists.enabled p is) ∙ sym c.has.ensures.has ∙ c.if-not-has.false in
     let first : c.time_within-first.result ≡ side_time t c.args.pattern p 1 =
     c.time_within-first.ensures (is-beside t 1 p) (is-beside-phase t 1 p)
-    (meets t 1 p (set_of c.args.street.now.rings 1) (set_of c.args.street.now.sides p) c.meet.result
+    (meets t 1 p (set_of c.args.ring_layout.now.rings 1) (set_of c.args.ring_layout.now.sides p) c.meet.result
     (c.requires.reads.rings 1 (omega arith) (omega arith)) (c.requires.reads.sides p is) c.meet.ensures.has) in
     let second : c.time_within-second.result ≡ side_time t c.args.pattern p 2 =
     c.time_within-second.ensures (is-beside t 2 p) (is-beside-phase t 2 p)
-    (meets t 2 p (set_of c.args.street.now.rings 2) (set_of c.args.street.now.sides p) c.meet-2.result
+    (meets t 2 p (set_of c.args.ring_layout.now.rings 2) (set_of c.args.ring_layout.now.sides p) c.meet-2.result
     (c.requires.reads.rings 2 (omega arith) (omega arith)) (c.requires.reads.sides p is) c.meet-2.ensures.has) in
     both-times (is_enabled t p) c.time_within-first.result c.time_within-second.result (side_time t c.args.pattern p 1)
     (side_time t c.args.pattern p 2) on first second

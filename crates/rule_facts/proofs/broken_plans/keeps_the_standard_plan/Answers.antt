@@ -6,6 +6,6 @@ pub returns-clause-turn : goal.returns-clause-turn
 unfolding std8 standard
 returns-clause-turn c = refl
 
-pub returns-clause-street : goal.returns-clause-street
+pub returns-clause-side_street : goal.returns-clause-side_street
 unfolding std8 standard
-returns-clause-street c = refl
+returns-clause-side_street c = refl

@@ -5,7 +5,7 @@ use Rattle.cabinet_history.specs.Journals.{passes_of}
 use Rattle.cab_book.specs.declared.happened.Answered.{Answered}
 use Rattle.cab_book.specs.Books.{journal_of, written_in, answered_in}
 use Rattle.cab_book.specs.Happenings.{AreInOrder}
-use Rattle.run_definition.specs.Standing.{coming_streams, round_acts}
+use Rattle.run_definition.specs.CabinetState.{coming_streams, round_acts}
 use Rattle.run_definition.specs.Lines.{acts_lines}
 use Rattle.round_run.specs.Lines.{told_lines}
 use Rattle.trace_laws.specs.Runs.{events_in}
@@ -17,7 +17,7 @@ use Rattle.trace_check.proofs.cabinets.check_cabinet.Goals as goal
 
 pub returns-in-Err-clause-reads : goal.returns-in-Err-clause-reads
 returns-in-Err-clause-reads c = λ s t begun rest.
-    c.in-Err.ensures.fails (coming_streams s c.args.cab t) (λ journal. say (acts_lines c.args.cab t.story (round_acts s c.args.cab t journal)) (rest journal)) (all-left s c.args.cab t _ begun)
+    c.in-Err.ensures.fails (coming_streams s c.args.cab t) (λ journal. say (acts_lines c.args.cab t.cabinet_history (round_acts s c.args.cab t journal)) (rest journal)) (all-left s c.args.cab t _ begun)
 
 pub bring_round-requires : goal.bring_round-requires
 bring_round-requires c = λ p. ap (events_in p) c.as_slice.ensures ∙ c.in-Ok.ensures.all p
@@ -50,7 +50,7 @@ returns-clause-reads c = λ s t begun rest. fails-none _ c.args.at c.in-Err-brin
 
 pub returns-in-Ok-bring_round-clause-seen : goal.returns-in-Ok-bring_round-clause-seen
 returns-in-Ok-bring_round-clause-seen c = when-ok c.expect_told.result (λ s t begun. record {
-  own = λ same is. c.in-Ok-bring_round.ensures.seen (eq-eqb c.args.cab c.args.watched (sym same)) t.story begun.stands begun.journal_is begun.one is;
+  own = λ same is. c.in-Ok-bring_round.ensures.seen (eq-eqb c.args.cab c.args.watched (sym same)) t.cabinet_history begun.stands begun.journal_is begun.one is;
   other = λ apart. elim c.in-Ok-bring_round.ensures.other [
     | inl is ↦ absurd (apart (sym (eqb-true c.args.cab c.args.watched is)))
     | inr stays ↦ stays

@@ -13,7 +13,7 @@ loop-run-preserved c =
     let so = c.loop-run.invariant in
     let run : ℕ × ℕ = get_or c.args.runs.now c.loop-run.run-index (0, 0) in
     record {
-      stands = λ story stands. c.bring.ensures.stands story (so.stands story stands);
+      stands = λ cabinet_history stands. c.bring.ensures.stands cabinet_history (so.stands cabinet_history stands);
       streams = c.bring.ensures.streams ∙ so.streams;
       journal = brought-more c.args.runs.now c.loop-run.run-index run _ _ _ (omega arith) refl c.bring.ensures.journal so.journal;
       left = left-more c.args.runs.now c.loop-run.run-index run (left_of c.loop-run.book) (left_of c.bring.new.book) (omega arith) refl c.bring.ensures.own c.bring.ensures.others so.left;

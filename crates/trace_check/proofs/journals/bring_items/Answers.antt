@@ -7,7 +7,7 @@ pub loop-brought-preserved : goal.loop-brought-preserved
 loop-brought-preserved c =
     let so = c.loop-brought.invariant in
     record {
-      stands = λ story stands. c.apply.ensures.stands story (so.stands story stands);
+      stands = λ cabinet_history stands. c.apply.ensures.stands cabinet_history (so.stands cabinet_history stands);
       streams = c.apply.ensures.streams ∙ so.streams;
       journal = brought-one _ _ _ _ _ so.journal c.apply.ensures.journal;
       own = omega (arith, c.apply.ensures.own, so.own);

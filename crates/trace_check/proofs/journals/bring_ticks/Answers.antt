@@ -7,7 +7,7 @@ loop-rest-preserved c =
     let so = c.loop-rest.invariant in
     let took = c.stride-taken.ensures in
     record {
-      stands = λ story stands. took.stands story (so.stands story stands);
+      stands = λ cabinet_history stands. took.stands cabinet_history (so.stands cabinet_history stands);
       streams = took.streams ∙ so.streams;
       journal = journal-more c.args.pass _ _ _ _ _ _ took.journal (omega (arith, took.within)) so.journal;
       own = omega (arith, took.own, so.own, took.within);

@@ -2,7 +2,7 @@ use Rattle.std.proofs.Common.{◌+◌, ◌∙◌, List, map, [], ap, sym, subst}
 use Rattle.sig_types.specs.declared.notes.MasterNote.{MasterNote}
 use Rattle.trace_text.specs.declared.lines.Line.TheVariants.{M}
 use Rattle.scenario_data.specs.Content.{scenario_content}
-use Rattle.run_definition.specs.Standing.{each_standing}
+use Rattle.run_definition.specs.CabinetState.{each_cabinet_state}
 use Rattle.trace_laws.specs.Script.{Script, cabinets_script}
 use Rattle.trace_check.specs.Reading.{Fails, Leads}
 use Rattle.trace_check.proofs.RoundLines.{head-due, round-text}
@@ -50,6 +50,6 @@ returns-in-Ok-end_round c = λ ts between.
       seen = watched-next s c.args.watched c.args.seen.now c.check_cabinets.new.seen ts read.journals c.check_cabinets.new.books.items read.run (c.in-Ok-check_cabinets.ensures.seen s ts begun);
       leads = λ rest.
           let cabinets : Script = cabinets_script s 1 [] ts rest in
-          subst (λ (due : Script). Leads due c.args.at (rest (each_standing s 1 ts read.journals)) c.in-Ok-check_cabinets.next) (sym (head-due s (c.args.done + 1) ts c.as_slice.result.now rest same))
-          (leads-on _ cabinets (rest (each_standing s 1 ts read.journals)) c.args.at c.in-Ok-expect_head.first c.in-Ok-check_cabinets.next (c.in-Ok-expect_head.ensures cabinets) (read.leads rest));
+          subst (λ (due : Script). Leads due c.args.at (rest (each_cabinet_state s 1 ts read.journals)) c.in-Ok-check_cabinets.next) (sym (head-due s (c.args.done + 1) ts c.as_slice.result.now rest same))
+          (leads-on _ cabinets (rest (each_cabinet_state s 1 ts read.journals)) c.args.at c.in-Ok-expect_head.first c.in-Ok-check_cabinets.next (c.in-Ok-expect_head.ensures cabinets) (read.leads rest));
     }

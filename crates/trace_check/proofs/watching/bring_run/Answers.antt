@@ -7,17 +7,17 @@ pub loop-brought-preserved : goal.loop-brought-preserved
 loop-brought-preserved c =
     let so = c.loop-brought.invariant in
     record {
-      stands = λ story stands. c.in-Ok.ensures.stands story (so.stands story stands);
+      stands = λ cabinet_history stands. c.in-Ok.ensures.stands cabinet_history (so.stands cabinet_history stands);
       streams = c.in-Ok.ensures.streams ∙ so.streams;
       journal = brought-one _ _ _ _ _ so.journal c.in-Ok.ensures.journal;
       own = omega (arith, c.in-Ok.ensures.own, so.own);
       others = λ p other. c.in-Ok.ensures.others p other ∙ so.others p other;
       ticks = c.in-Ok.ensures.ticks ∙ so.ticks;
-      tables = λ story stands are. c.in-Ok.ensures.tables story (so.stands story stands) (so.tables story stands are);
+      tables = λ cabinet_history stands are. c.in-Ok.ensures.tables cabinet_history (so.stands cabinet_history stands) (so.tables cabinet_history stands are);
     }
 
 pub returns-in-Err-clause-stands : goal.returns-in-Err-clause-stands
-returns-in-Err-clause-stands c = λ story stands. c.in-Err.ensures.stands story (c.loop-brought.invariant.stands story stands)
+returns-in-Err-clause-stands c = λ cabinet_history stands. c.in-Err.ensures.stands cabinet_history (c.loop-brought.invariant.stands cabinet_history stands)
 
 pub returns-clause-journal : goal.returns-clause-journal
 returns-clause-journal c =

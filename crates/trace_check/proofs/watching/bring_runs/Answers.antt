@@ -15,16 +15,16 @@ loop-run-preserved c =
     let so = c.loop-run.invariant in
     let run : ℕ × ℕ = get_or c.args.runs.now c.loop-run.run-index (0, 0) in
     record {
-      stands = λ story stands. c.in-Ok.ensures.stands story (so.stands story stands);
+      stands = λ cabinet_history stands. c.in-Ok.ensures.stands cabinet_history (so.stands cabinet_history stands);
       streams = c.in-Ok.ensures.streams ∙ so.streams;
       journal = brought-more c.args.runs.now c.loop-run.run-index run _ _ _ (omega arith) refl c.in-Ok.ensures.journal so.journal;
       left = left-more c.args.runs.now c.loop-run.run-index run (left_of c.loop-run.book) (left_of c.bring_run.new.book) (omega arith) refl c.in-Ok.ensures.own c.in-Ok.ensures.others so.left;
       ticks = c.in-Ok.ensures.ticks ∙ so.ticks;
-      tables = λ story stands are. c.in-Ok.ensures.tables story (so.stands story stands) (so.tables story stands are);
+      tables = λ cabinet_history stands are. c.in-Ok.ensures.tables cabinet_history (so.stands cabinet_history stands) (so.tables cabinet_history stands are);
     }
 
 pub returns-in-Err-clause-stands : goal.returns-in-Err-clause-stands
-returns-in-Err-clause-stands c = λ story stands. c.in-Err.ensures.stands story (c.loop-run.invariant.stands story stands)
+returns-in-Err-clause-stands c = λ cabinet_history stands. c.in-Err.ensures.stands cabinet_history (c.loop-run.invariant.stands cabinet_history stands)
 
 pub returns-clause-all : goal.returns-clause-all
 returns-clause-all c = λ p. sym (c.loop-run.invariant.left p) ∙ ap (events_in p) (drop_all c.loop-run.run-index c.args.runs.now (omega arith))

@@ -13,4 +13,4 @@ returns-then-place-len-clause-seen c = λ s at.
 pub returns-in-Ok-clause-seen : goal.returns-in-Ok-clause-seen
 returns-in-Ok-clause-seen c = λ s at.
     opened-watched s c.args.watched (c.args.watched - 1) c.args.books.now.items c.index.result.now c.see_book.new.seen at (omega arith) (omega arith) c.index.ensures
-    (λ story stands. (c.in-Ok.ensures.frames story stands, c.in-Ok.ensures.tables story stands, c.in-Ok.ensures.ticks))
+    (λ cabinet_history stands. (c.in-Ok.ensures.frames cabinet_history stands, c.in-Ok.ensures.tables cabinet_history stands, c.in-Ok.ensures.ticks))

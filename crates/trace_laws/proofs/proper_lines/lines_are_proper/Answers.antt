@@ -5,8 +5,8 @@ pub returns : goal.returns
 returns c = λ s run journals are.
     run-are
     (record {
-      stories = record {
-        admitted = c.stories_are_admitted.ensures.admitted;
+      cabinet_histories = record {
+        admitted = c.cabinet_histories_are_admitted.ensures.admitted;
         now = c.tables_stay_in_range.ensures.now;
         judged = c.downloads_end_as_judged.ensures;
       };

@@ -2,7 +2,7 @@ use Rattle.std.proofs.Common.{◌+◌, ◌*◌, List, subst, sym, ap, arith}
 use Rattle.scenario_data.specs.Content.{scenario_content}
 use Rattle.cab_book.specs.declared.book.Book.{Book}
 use Rattle.run_definition.specs.Orders.{serial_round}
-use Rattle.round_run.specs.Standings.{HaveRun}
+use Rattle.round_run.specs.CabinetStates.{HaveRun}
 use Rattle.whole_run.proofs.survey_rounds.run_round.Goals as goal
 
 pub end_round-requires-clause-begun : goal.end_round-requires-clause-begun

@@ -7,7 +7,7 @@ use Rattle.whole_run.proofs.Whole.{so-first, so-next, so-all}
 use Rattle.whole_run.proofs.survey_rounds.run_rounds.Goals as goal
 
 pub loop-done-init : goal.loop-done-init
-loop-done-init c = so-first (scenario_content c.args.s.now) c.args.before c.args.corridor.now c.requires.between c.requires.few
+loop-done-init c = so-first (scenario_content c.args.s.now) c.args.before c.args.closed_loop.now c.requires.between c.requires.few
 
 pub run_round-requires-clause-between : goal.run_round-requires-clause-between
 run_round-requires-clause-between c = let so = c.loop-done.invariant in (so.ts, so.between)
@@ -32,10 +32,10 @@ loop-done-preserved c =
     let s = scenario_content c.args.s.now in
     let so = c.loop-done.invariant in
     let run = c.in-Ok.ensures so.ts so.between in
-    so-next s c.args.before c.loop-done.done c.loop-done.tally c.with_books-tally.result c.loop-done.corridor c.run_round.new.corridor so run
+    so-next s c.args.before c.loop-done.done c.loop-done.tally c.with_books-tally.result c.loop-done.closed_loop c.run_round.new.closed_loop so run
     (c.with_books-tally.ensures.adds s so.ts (serial_round s 1 so.ts) run.run)
     (at-most c.with_books-tally.result (64 + c.loop-done.done * 8796093022208 + 64 * 137438953472) (64 + (c.loop-done.done + 1) * 8796093022208) (omega arith)
     (c.with_books-tally.ensures.most (64 + c.loop-done.done * 8796093022208) so.few))
 
 pub returns : goal.returns
-returns c = so-all (scenario_content c.args.s.now) c.args.before c.loop-done.done c.loop-done.tally c.loop-done.corridor c.loop-done.invariant (omega arith)
+returns c = so-all (scenario_content c.args.s.now) c.args.before c.loop-done.done c.loop-done.tally c.loop-done.closed_loop c.loop-done.invariant (omega arith)

@@ -1,6 +1,6 @@
 use Rattle.std.proofs.Common.{◌+◌, ◌*◌, List, drop, sym, subst, arith}
 use Rattle.std.proofs.lemmas.List.{drop_all}
-use Rattle.run_definition.specs.Standing.{Standing}
+use Rattle.run_definition.specs.CabinetState.{CabinetState}
 use Rattle.run_definition.specs.Lines.{each_lines}
 use Rattle.whole_run.specs.Tallies.{Adds}
 use Rattle.whole_run.proofs.Totals.{adds-none, at-most}
@@ -35,7 +35,7 @@ loop-i-preserved c = record {
 pub returns-clause-adds : goal.returns-clause-adds
 returns-clause-adds c = λ s ts journals run.
     c.loop-i.invariant.rest s ts journals run c.loop-i.so_far
-    (subst (λ (us : List Standing). Adds c.loop-i.so_far c.loop-i.so_far (each_lines s (c.loop-i.i + 1) us (drop c.loop-i.i journals)))
+    (subst (λ (us : List CabinetState). Adds c.loop-i.so_far c.loop-i.so_far (each_lines s (c.loop-i.i + 1) us (drop c.loop-i.i journals)))
     (sym (drop_all c.loop-i.i ts (omega (arith, run.many)))) (adds-none c.loop-i.so_far))
 
 pub returns-clause-most : goal.returns-clause-most

@@ -1,7 +1,7 @@
 use Rattle.std.proofs.Common.{List, ◌+◌, drop, ap, arith}
 use Rattle.std.proofs.lemmas.List.{drop_all}
 use Rattle.safety_laws.specs.TraceText.{lines_text}
-use Rattle.run_definition.specs.Standing.{Standing}
+use Rattle.run_definition.specs.CabinetState.{CabinetState}
 use Rattle.run_definition.specs.Lines.{each_lines}
 use Rattle.whole_run.proofs.Handed.{left-all, left-next, left-stops, left-none}
 use Rattle.whole_run.proofs.Books.{next_book, book_order}
@@ -27,5 +27,5 @@ returns-in-Err g c = λ s ts journals run. left-stops g.K.Sink.written g.K.Sink.
 
 pub returns : goal.returns
 returns g c = λ s ts journals run. left-none g.K.Sink.written g.K.Sink.faults _ _ _ _ _ _
-    (ap (λ (us : List Standing). lines_text (each_lines s (c.loop-i.i + 1) us (drop c.loop-i.i journals))) (drop_all c.loop-i.i ts (omega (arith, run.many))))
+    (ap (λ (us : List CabinetState). lines_text (each_lines s (c.loop-i.i + 1) us (drop c.loop-i.i journals))) (drop_all c.loop-i.i ts (omega (arith, run.many))))
     (c.loop-i.invariant s ts journals run)

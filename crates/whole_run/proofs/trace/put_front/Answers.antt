@@ -39,7 +39,7 @@ pub put_round-requires-clause-run : goal.put_round-requires-clause-run
 put_round-requires-clause-run g c =
     let s = scenario_content c.args.s.now in
     let so = c.loop-done.invariant in
-    (s, come_to s so.journals, journals_in c.run_round.new.corridor.books.items, (c.in-Ok-run_round.ensures (come_to s so.journals) so.between).merged.run)
+    (s, come_to s so.journals, journals_in c.run_round.new.closed_loop.books.items, (c.in-Ok-run_round.ensures (come_to s so.journals) so.between).merged.run)
 
 pub loop-done-preserved : goal.loop-done-preserved
 loop-done-preserved g c =

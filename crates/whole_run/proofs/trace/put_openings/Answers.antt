@@ -1,7 +1,7 @@
 use Rattle.std.proofs.Common.{List, ◌+◌, ap, arith}
 use Rattle.std.proofs.lemmas.List.{drop_all}
 use Rattle.safety_laws.specs.TraceText.{lines_text}
-use Rattle.run_definition.specs.Standing.{Standing}
+use Rattle.run_definition.specs.CabinetState.{CabinetState}
 use Rattle.run_definition.specs.Lines.{opening_lines}
 use Rattle.whole_run.proofs.Handed.{left-all, left-next, left-stops, left-none}
 use Rattle.whole_run.proofs.Books.{next_opening}
@@ -20,4 +20,4 @@ returns-in-Err g c = λ ts at. left-stops g.K.Sink.written g.K.Sink.faults _ _ _
 
 pub returns : goal.returns
 returns g c = λ ts at. left-none g.K.Sink.written g.K.Sink.faults _ _ _ _ _ _
-    (ap (λ (us : List Standing). lines_text (opening_lines (c.loop-i.i + 1) us)) (drop_all c.loop-i.i ts (omega (arith, at.many)))) (c.loop-i.invariant ts at)
+    (ap (λ (us : List CabinetState). lines_text (opening_lines (c.loop-i.i + 1) us)) (drop_all c.loop-i.i ts (omega (arith, at.many)))) (c.loop-i.invariant ts at)

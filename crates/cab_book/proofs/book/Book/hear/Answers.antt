@@ -51,9 +51,9 @@ returns c =
     let place : (c.len.result - get_or b.left 0 0) + get_or b.left 0 0 ≡ length b.streams.fields.items =
     omega (arith, c.len.ensures, b.streams.fields.ok.0, left-of-fields b.streams b.left b.happened b.tallied) in
     record {
-      stands = λ story so. heard c.deref_mut.result.now c.hear.new.self b.streams b.left b.happened c.add_input.new.self c.index.result.now (c.len.result - get_or b.left 0 0) b.tallied place
-          c.requires c.index.ensures c.hear.ensures.stands c.add_input.ensures.goes story
-          (subst (λ (k : Cabinet). RoundStands k b.streams b.happened story) (sym same) so);
+      stands = λ cabinet_history so. heard c.deref_mut.result.now c.hear.new.self b.streams b.left b.happened c.add_input.new.self c.index.result.now (c.len.result - get_or b.left 0 0) b.tallied place
+          c.requires c.index.ensures c.hear.ensures.stands c.add_input.ensures.goes cabinet_history
+          (subst (λ (k : Cabinet). RoundStands k b.streams b.happened cabinet_history) (sym same) so);
       streams = refl;
       journal = c.add_input.ensures.goes.journal;
       own = o.own;

@@ -37,7 +37,7 @@ returns c =
     let ticks : ℕ = c.ticks_left-ticks.result in
     let all : ticks ≡ ticks_left b.left = c.ticks_left-ticks.ensures in
     record {
-      stands = λ story so. round-reread b.cabinet.value b.streams b.happened c.join_ticks.new.self story e.journal e.written e.replies so;
+      stands = λ cabinet_history so. round-reread b.cabinet.value b.streams b.happened c.join_ticks.new.self cabinet_history e.journal e.written e.replies so;
       streams = refl;
       journal = e.journal;
       one = λ p from. joined-one b.streams b.left ticks b.happened c.join_ticks.new.self p b.tallied e.journal from;

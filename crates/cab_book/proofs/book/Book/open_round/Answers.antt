@@ -1,7 +1,7 @@
 use Rattle.std.proofs.Common.{◌+◌, ◌∙◌, ℕ, List, [], ◌∷◌, arith}
 use Rattle.std.proofs.Math.Logic.{∥∥₁_map}
 use Rattle.cab_book.specs.Shares.{ticks_left}
-use Rattle.cab_book.specs.Rounds.{frames_left, items_left, story_after}
+use Rattle.cab_book.specs.Rounds.{frames_left, items_left, cabinet_history_after}
 use Rattle.cab_book.proofs.Bringing.{room-less}
 use Rattle.cab_book.proofs.Beginning.{round-begins, taken-short, all-left}
 use Rattle.cab_book.proofs.book.Book.open_round.Goals as goal
@@ -25,8 +25,8 @@ invariant_of-self c =
       room = room-less happened streams.ticks (polls + loads + prios) (fields + (polls + loads + prios) + streams.ticks) (ticks_left left) (frames_left left)
           (items_left left) (omega arith) (omega arith) (omega arith) c.in-Ok.ensures.room;
       some = ∥∥₁_map b.some (λ some. (
-        story_after b.streams b.happened some.0,
-        round-begins b.cabinet.value streams happened (story_after b.streams b.happened some.0) c.in-Ok.ensures.journal c.in-Ok.ensures.none.0 c.in-Ok.ensures.none.1
+        cabinet_history_after b.streams b.happened some.0,
+        round-begins b.cabinet.value streams happened (cabinet_history_after b.streams b.happened some.0) c.in-Ok.ensures.journal c.in-Ok.ensures.none.0 c.in-Ok.ensures.none.1
             some.1.cabinet,
       ));
     }

@@ -3,7 +3,7 @@ use Rattle.std.proofs.Math.Logic.{∥∥₁_map}
 use Rattle.cab_book.specs.Shares.{ticks_left}
 use Rattle.cab_book.specs.declared.cabinet.Cabinet.{Cabinet}
 use Rattle.cab_book.specs.Stands.{CabinetStands}
-use Rattle.cab_book.specs.Rounds.{frames_left, items_left, story_after, RoundStands}
+use Rattle.cab_book.specs.Rounds.{frames_left, items_left, cabinet_history_after, RoundStands}
 use Rattle.cab_book.proofs.Bringing.{taken, tallied-more, frame-taken, room-less}
 use Rattle.cab_book.proofs.Coming.{left-of-frames, replied}
 use Rattle.cab_book.proofs.book.Book.receive.Goals as goal
@@ -13,8 +13,8 @@ receive-text-requires c =
     let b = c.args.self.now in
     record {
       some = ∥∥₁_map b.some (λ some. (
-        story_after b.streams b.happened some.0,
-        subst (λ (k : Cabinet). CabinetStands k (story_after b.streams b.happened some.0)) (sym c.deref_mut.ensures.value) some.1.cabinet,
+        cabinet_history_after b.streams b.happened some.0,
+        subst (λ (k : Cabinet). CabinetStands k (cabinet_history_after b.streams b.happened some.0)) (sym c.deref_mut.ensures.value) some.1.cabinet,
       ));
     }
 
@@ -60,11 +60,11 @@ returns c =
     let frames = c.frames_of-frames.result.now in
     let o = taken b.left pass 1 (get_or b.left pass 0 - 1) (omega arith) (omega (arith, c.requires.some)) in
     record {
-      stands = λ story so. replied c.deref_mut.result.now c.receive-text.new.self b.streams b.left b.happened c.add_reply.new.self pass (length frames - get_or b.left pass 0) frames
+      stands = λ cabinet_history so. replied c.deref_mut.result.now c.receive-text.new.self b.streams b.left b.happened c.add_reply.new.self pass (length frames - get_or b.left pass 0) frames
           c.next_of-octets.result.now c.receive-text.result.text c.receive-text.result.load (omega (arith, c.requires.within)) b.tallied c.frames_of-frames.ensures
           (left-of-frames b.streams b.left b.happened pass frames (omega (arith, c.requires.within)) b.tallied c.frames_of-frames.ensures) c.requires.some c.next_of-octets.ensures
-          c.receive-text.ensures.text c.receive-text.ensures.load c.receive-text.ensures.stands c.add_reply.ensures.goes story
-          (subst (λ (k : Cabinet). RoundStands k b.streams b.happened story) (sym same) so);
+          c.receive-text.ensures.text c.receive-text.ensures.load c.receive-text.ensures.stands c.add_reply.ensures.goes cabinet_history
+          (subst (λ (k : Cabinet). RoundStands k b.streams b.happened cabinet_history) (sym same) so);
       streams = refl;
       journal = c.add_reply.ensures.goes.journal;
       own = o.own;

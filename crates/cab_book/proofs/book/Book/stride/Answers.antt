@@ -1,11 +1,11 @@
 use Rattle.std.proofs.Common.{◌+◌, ◌-◌, ℕ, get_or, slice_set, option_to_list, refl, sym, ap, subst, arith}
 use Rattle.std.proofs.Math.Logic.{∥∥₁_map}
-use Rattle.cabinet_history.specs.Story.{Story}
+use Rattle.cabinet_history.specs.CabinetHistory.{CabinetHistory}
 use Rattle.cab_book.specs.Books.{BookStands}
 use Rattle.cab_book.specs.Shares.{ticks_left}
 use Rattle.cab_book.specs.declared.cabinet.Cabinet.{Cabinet}
 use Rattle.cab_book.specs.Stands.{CabinetStands}
-use Rattle.cab_book.specs.Rounds.{frames_left, items_left, story_after, RoundStands}
+use Rattle.cab_book.specs.Rounds.{frames_left, items_left, cabinet_history_after, RoundStands}
 use Rattle.cab_book.proofs.Bringing.{taken, tallied-more, ticks-taken, room-less, few-shared, pass-within}
 use Rattle.cab_book.proofs.Coming.{strode}
 use Rattle.cab_book.proofs.book.Book.stride.Goals as goal
@@ -17,8 +17,8 @@ stride-ticks-requires c =
       some = c.requires.some;
       few = omega (arith, b.few, ap (λ (k : Cabinet). k.ticks) c.deref_mut.ensures.value, pass-within b.left c.args.pass c.requires.above c.requires.below, c.requires.within);
       stood = ∥∥₁_map b.some (λ some. (
-        story_after b.streams b.happened some.0,
-        subst (λ (k : Cabinet). CabinetStands k (story_after b.streams b.happened some.0)) (sym c.deref_mut.ensures.value) some.1.cabinet,
+        cabinet_history_after b.streams b.happened some.0,
+        subst (λ (k : Cabinet). CabinetStands k (cabinet_history_after b.streams b.happened some.0)) (sym c.deref_mut.ensures.value) some.1.cabinet,
       ));
     }
 
@@ -74,12 +74,12 @@ returns c =
     let rest = slice_set b.left pass (get_or b.left pass 0 - m) in
     let o = taken b.left pass m (get_or b.left pass 0 - m) e.some (omega (arith, e.within, c.requires.within)) in
     let t = ticks-taken b.left rest pass m c.requires.above c.requires.below o in
-    let stands : (story : Story) → BookStands b story → RoundStands c.stride-ticks.new.self b.streams c.add_ticks.new.self story = λ story so.
+    let stands : (cabinet_history : CabinetHistory) → BookStands b cabinet_history → RoundStands c.stride-ticks.new.self b.streams c.add_ticks.new.self cabinet_history = λ cabinet_history so.
     strode c.deref_mut.result.now c.stride-ticks.new.self b.streams b.happened c.add_ticks.new.self pass m (option_to_list c.stride-ticks.result.1)
-    c.requires.above e.gives e.stands c.add_ticks.ensures.goes story (subst (λ (k : Cabinet). RoundStands k b.streams b.happened story) (sym same) so) in
+    c.requires.above e.gives e.stands c.add_ticks.ensures.goes cabinet_history (subst (λ (k : Cabinet). RoundStands k b.streams b.happened cabinet_history) (sym same) so) in
     record {
-      least = λ story so. e.least (story_after b.streams b.happened story)
-          (subst (λ (k : Cabinet). CabinetStands k (story_after b.streams b.happened story)) (sym same) so.cabinet);
+      least = λ cabinet_history so. e.least (cabinet_history_after b.streams b.happened cabinet_history)
+          (subst (λ (k : Cabinet). CabinetStands k (cabinet_history_after b.streams b.happened cabinet_history)) (sym same) so.cabinet);
       stands = stands;
       streams = refl;
       journal = c.add_ticks.ensures.goes.journal;
@@ -88,7 +88,7 @@ returns c =
       ticks = omega (arith, ap (λ (k : Cabinet). k.ticks) same, e.ticks, t.ticks_are);
       replays = λ first is. record {
         streams = is.streams;
-        stories = λ story so. stands story (is.stories story so);
+        cabinet_histories = λ cabinet_history so. stands cabinet_history (is.cabinet_histories cabinet_history so);
         ticks = omega (arith, ap (λ (k : Cabinet). k.ticks) same, e.ticks, t.ticks_are, is.ticks);
       };
       some = e.some;

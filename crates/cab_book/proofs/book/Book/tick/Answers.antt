@@ -3,7 +3,7 @@ use Rattle.std.proofs.Math.Logic.{∥∥₁_map}
 use Rattle.cab_book.specs.Shares.{ticks_left}
 use Rattle.cab_book.specs.declared.cabinet.Cabinet.{Cabinet}
 use Rattle.cab_book.specs.Stands.{CabinetStands}
-use Rattle.cab_book.specs.Rounds.{frames_left, items_left, story_after, RoundStands}
+use Rattle.cab_book.specs.Rounds.{frames_left, items_left, cabinet_history_after, RoundStands}
 use Rattle.cab_book.proofs.Bringing.{taken, tallied-more, ticks-taken, room-less, few-shared}
 use Rattle.cab_book.proofs.Coming.{strode}
 use Rattle.cab_book.proofs.book.Book.tick.Goals as goal
@@ -12,8 +12,8 @@ pub tick-written-requires-clause-some : goal.tick-written-requires-clause-some
 tick-written-requires-clause-some c =
     let b = c.args.self.now in
     ∥∥₁_map b.some (λ some. (
-      story_after b.streams b.happened some.0,
-      subst (λ (k : Cabinet). CabinetStands k (story_after b.streams b.happened some.0)) (sym c.deref_mut.ensures.value) some.1.cabinet,
+      cabinet_history_after b.streams b.happened some.0,
+      subst (λ (k : Cabinet). CabinetStands k (cabinet_history_after b.streams b.happened some.0)) (sym c.deref_mut.ensures.value) some.1.cabinet,
     ))
 
 pub add_ticks-requires-clause-few : goal.add_ticks-requires-clause-few
@@ -53,9 +53,9 @@ returns c =
     let rest = slice_set b.left pass (get_or b.left pass 0 - 1) in
     let o = taken b.left pass 1 (get_or b.left pass 0 - 1) (omega arith) (omega (arith, c.requires.some)) in
     record {
-      stands = λ story so. strode c.deref_mut.result.now c.tick-written.new.self b.streams b.happened c.add_ticks.new.self pass 1 (option_to_list c.tick-written.result)
-          c.requires.above c.tick-written.ensures.gives c.tick-written.ensures.stands c.add_ticks.ensures.goes story
-          (subst (λ (k : Cabinet). RoundStands k b.streams b.happened story) (sym same) so);
+      stands = λ cabinet_history so. strode c.deref_mut.result.now c.tick-written.new.self b.streams b.happened c.add_ticks.new.self pass 1 (option_to_list c.tick-written.result)
+          c.requires.above c.tick-written.ensures.gives c.tick-written.ensures.stands c.add_ticks.ensures.goes cabinet_history
+          (subst (λ (k : Cabinet). RoundStands k b.streams b.happened cabinet_history) (sym same) so);
       streams = refl;
       journal = c.add_ticks.ensures.goes.journal;
       own = o.own;

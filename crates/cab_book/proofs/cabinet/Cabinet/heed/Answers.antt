@@ -4,9 +4,9 @@ use Rattle.std.proofs.Math.Logic.{∥∥₁_elim, ∥∥₁_map}
 use Rattle.cabinet_history.specs.Told.{wish_end}
 use Rattle.sig_types.specs.declared.notes.StageAnswer.{StageAnswer}
 use Rattle.std.specs.Prelude.{Option}
-use Rattle.stage_txn.specs.Answers.{answered, kept, standing}
+use Rattle.stage_txn.specs.Answers.{answered, kept, stage_state}
 use Rattle.cabinet_history.specs.Coming.{Coming, past_of}
-use Rattle.cab_book.specs.Stands.{Keeps}
+use Rattle.cab_book.specs.Stands.{CabinetKeeps}
 use Rattle.cabinet_history.proofs.Installing.{few-within}
 use Rattle.cab_book.proofs.Wishes.{has-outcome}
 use Rattle.cab_book.proofs.Heeding.{carried-sound}
@@ -15,7 +15,7 @@ use Rattle.cab_book.proofs.cabinet.Cabinet.heed.Goals as goal
 
 pub answer-text-requires : goal.answer-text-requires
 answer-text-requires c =
-    let within = λ (some : (has : Coming) × Keeps c.args.self.now has).
+    let within = λ (some : (has : Coming) × CabinetKeeps c.args.self.now has).
     shown-within c.args.self.now.ticks some.0 c.shown-shown.result some.1.sound (c.shown-shown.ensures.shown some.0.history some.1.control) in
     record {
       asked = c.requires.asked;
@@ -36,7 +36,7 @@ end_of-load-requires c = record {
       let has = some.0 in
       let is = some.1 in
       let shown = c.shown-shown.ensures.shown has.history is.control in
-      omega (arith, shown.version, few-within (past_of has).version (kept (answered has.calls)) (standing (answered has.calls)) is.sound.few, is.sound.ids));
+      omega (arith, shown.version, few-within (past_of has).version (kept (answered has.calls)) (stage_state (answered has.calls)) is.sound.few, is.sound.ids));
 }
 
 pub carry_out-requires : goal.carry_out-requires

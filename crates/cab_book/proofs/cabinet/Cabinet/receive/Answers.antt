@@ -3,17 +3,17 @@ use Rattle.std.proofs.Math.Logic.{∥∥₁_map}
 use Rattle.sig_tables.specs.declared.tables.Tables.{Tables}
 use Rattle.agent.specs.declared.ask.Ask.{Ask}
 use Rattle.agent.specs.Asks.{ask_of}
-use Rattle.cabinet_history.specs.Story.{Story}
+use Rattle.cabinet_history.specs.CabinetHistory.{CabinetHistory}
 use Rattle.cabinet_history.specs.Coming.{coming, in_force, heeded, ask_after}
 use Rattle.cabinet_history.specs.Told.{replied, ask_end, in_frame}
-use Rattle.cab_book.specs.Stands.{Keeps}
+use Rattle.cab_book.specs.Stands.{CabinetKeeps}
 use Rattle.cab_book.proofs.cabinet.Cabinet.receive.Goals as goal
 
--- what was read is what the story says that the frame asks
-asked : (found : Option Ask) (octets community items : List ℕ) (t : Tables) (story : Story) → found ≡ ask_of octets community t → community ≡ items
-    → items ≡ story.community → t ≡ in_force (coming story) → found ≡ ask_after story octets
-asked found octets community items t story e a b f =
-    e ∙ ap (λ (x : List ℕ). ask_of octets x t) (a ∙ b) ∙ ap (λ (x : Tables). ask_of octets story.community x) f
+-- what was read is what the cabinet history says that the frame asks
+asked : (found : Option Ask) (octets community items : List ℕ) (t : Tables) (cabinet_history : CabinetHistory) → found ≡ ask_of octets community t → community ≡ items
+    → items ≡ cabinet_history.community → t ≡ in_force (coming cabinet_history) → found ≡ ask_after cabinet_history octets
+asked found octets community items t cabinet_history e a b f =
+    e ∙ ap (λ (x : List ℕ). ask_of octets x t) (a ∙ b) ∙ ap (λ (x : Tables). ask_of octets cabinet_history.community x) f
 
 some-none : (ask : Ask) → Some ask ≡ None → ⊥
 some-none ask e = cc
@@ -23,49 +23,49 @@ heed-requires c =
     record { some = ∥∥₁_map c.requires.some (λ some. (coming some.0, some.1.keeps)); asked = c.in-Some.ensures.asked; can = c.in-Some.ensures.fit }
 
 pub returns-in-Some-clause-text : goal.returns-in-Some-clause-text
-returns-in-Some-clause-text c = λ story is.
-    let e = asked (Some c.decode_into.new.ask) c.args.octets.now c.as_slice-community.result.now c.args.self.now.community.items c.tables.result.now story (sym c.in-Some.ensures.reads)
-    c.as_slice-community.ensures.value is.community (c.tables.ensures.tables (coming story).history is.keeps.control) in
-    c.heed.ensures.text (coming story) is.keeps ∙ ap (λ (x : Option Ask). in_frame (replied (coming story) x)) e
+returns-in-Some-clause-text c = λ cabinet_history is.
+    let e = asked (Some c.decode_into.new.ask) c.args.octets.now c.as_slice-community.result.now c.args.self.now.community.items c.tables.result.now cabinet_history (sym c.in-Some.ensures.reads)
+    c.as_slice-community.ensures.value is.community (c.tables.ensures.tables (coming cabinet_history).history is.keeps.control) in
+    c.heed.ensures.text (coming cabinet_history) is.keeps ∙ ap (λ (x : Option Ask). in_frame (replied (coming cabinet_history) x)) e
 
 pub returns-in-Some-clause-load : goal.returns-in-Some-clause-load
-returns-in-Some-clause-load c = λ story is.
-    let e = asked (Some c.decode_into.new.ask) c.args.octets.now c.as_slice-community.result.now c.args.self.now.community.items c.tables.result.now story (sym c.in-Some.ensures.reads)
-    c.as_slice-community.ensures.value is.community (c.tables.ensures.tables (coming story).history is.keeps.control) in
-    c.heed.ensures.load (coming story) is.keeps ∙ ap (ask_end (coming story)) e
+returns-in-Some-clause-load c = λ cabinet_history is.
+    let e = asked (Some c.decode_into.new.ask) c.args.octets.now c.as_slice-community.result.now c.args.self.now.community.items c.tables.result.now cabinet_history (sym c.in-Some.ensures.reads)
+    c.as_slice-community.ensures.value is.community (c.tables.ensures.tables (coming cabinet_history).history is.keeps.control) in
+    c.heed.ensures.load (coming cabinet_history) is.keeps ∙ ap (ask_end (coming cabinet_history)) e
 
 pub returns-in-Some-clause-stands : goal.returns-in-Some-clause-stands
-returns-in-Some-clause-stands c = λ story is.
-    let e = asked (Some c.decode_into.new.ask) c.args.octets.now c.as_slice-community.result.now c.args.self.now.community.items c.tables.result.now story (sym c.in-Some.ensures.reads)
-    c.as_slice-community.ensures.value is.community (c.tables.ensures.tables (coming story).history is.keeps.control) in
+returns-in-Some-clause-stands c = λ cabinet_history is.
+    let e = asked (Some c.decode_into.new.ask) c.args.octets.now c.as_slice-community.result.now c.args.self.now.community.items c.tables.result.now cabinet_history (sym c.in-Some.ensures.reads)
+    c.as_slice-community.ensures.value is.community (c.tables.ensures.tables (coming cabinet_history).history is.keeps.control) in
     record {
       community = ap (λ a. a.items) c.heed.ensures.community ∙ is.community;
-      keeps = subst (λ (x : Option Ask). Keeps c.heed.new.self (heeded (coming story) x)) e (c.heed.ensures.keeps (coming story) is.keeps);
+      keeps = subst (λ (x : Option Ask). CabinetKeeps c.heed.new.self (heeded (coming cabinet_history) x)) e (c.heed.ensures.keeps (coming cabinet_history) is.keeps);
     }
 
 pub returns-in-Some-clause-nothing : goal.returns-in-Some-clause-nothing
-returns-in-Some-clause-nothing c = λ story is none.
-    let e = asked (Some c.decode_into.new.ask) c.args.octets.now c.as_slice-community.result.now c.args.self.now.community.items c.tables.result.now story (sym c.in-Some.ensures.reads)
-    c.as_slice-community.ensures.value is.community (c.tables.ensures.tables (coming story).history is.keeps.control) in
+returns-in-Some-clause-nothing c = λ cabinet_history is none.
+    let e = asked (Some c.decode_into.new.ask) c.args.octets.now c.as_slice-community.result.now c.args.self.now.community.items c.tables.result.now cabinet_history (sym c.in-Some.ensures.reads)
+    c.as_slice-community.ensures.value is.community (c.tables.ensures.tables (coming cabinet_history).history is.keeps.control) in
     absurd (some-none c.decode_into.new.ask (e ∙ none))
 
 pub returns-in-None-clause-text : goal.returns-in-None-clause-text
-returns-in-None-clause-text c = λ story is.
-    let e = asked None c.args.octets.now c.as_slice-community.result.now c.args.self.now.community.items c.tables.result.now story (sym c.in-None.ensures.reads)
-    c.as_slice-community.ensures.value is.community (c.tables.ensures.tables (coming story).history is.keeps.control) in
-    ap (λ (x : Option Ask). in_frame (replied (coming story) x)) e
+returns-in-None-clause-text c = λ cabinet_history is.
+    let e = asked None c.args.octets.now c.as_slice-community.result.now c.args.self.now.community.items c.tables.result.now cabinet_history (sym c.in-None.ensures.reads)
+    c.as_slice-community.ensures.value is.community (c.tables.ensures.tables (coming cabinet_history).history is.keeps.control) in
+    ap (λ (x : Option Ask). in_frame (replied (coming cabinet_history) x)) e
 
 pub returns-in-None-clause-load : goal.returns-in-None-clause-load
-returns-in-None-clause-load c = λ story is.
-    let e = asked None c.args.octets.now c.as_slice-community.result.now c.args.self.now.community.items c.tables.result.now story (sym c.in-None.ensures.reads)
-    c.as_slice-community.ensures.value is.community (c.tables.ensures.tables (coming story).history is.keeps.control) in
-    ap (ask_end (coming story)) e
+returns-in-None-clause-load c = λ cabinet_history is.
+    let e = asked None c.args.octets.now c.as_slice-community.result.now c.args.self.now.community.items c.tables.result.now cabinet_history (sym c.in-None.ensures.reads)
+    c.as_slice-community.ensures.value is.community (c.tables.ensures.tables (coming cabinet_history).history is.keeps.control) in
+    ap (ask_end (coming cabinet_history)) e
 
 pub returns-in-None-clause-stands : goal.returns-in-None-clause-stands
-returns-in-None-clause-stands c = λ story is.
-    let e = asked None c.args.octets.now c.as_slice-community.result.now c.args.self.now.community.items c.tables.result.now story (sym c.in-None.ensures.reads)
-    c.as_slice-community.ensures.value is.community (c.tables.ensures.tables (coming story).history is.keeps.control) in
+returns-in-None-clause-stands c = λ cabinet_history is.
+    let e = asked None c.args.octets.now c.as_slice-community.result.now c.args.self.now.community.items c.tables.result.now cabinet_history (sym c.in-None.ensures.reads)
+    c.as_slice-community.ensures.value is.community (c.tables.ensures.tables (coming cabinet_history).history is.keeps.control) in
     record {
       community = is.community;
-      keeps = subst (λ (x : Option Ask). Keeps c.args.self.now (heeded (coming story) x)) e is.keeps;
+      keeps = subst (λ (x : Option Ask). CabinetKeeps c.args.self.now (heeded (coming cabinet_history) x)) e is.keeps;
     }

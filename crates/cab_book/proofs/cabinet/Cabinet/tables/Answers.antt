@@ -2,4 +2,4 @@ use Rattle.cabinet_history.specs.Coming.{history_of}
 use Rattle.cab_book.proofs.cabinet.Cabinet.tables.Goals as goal
 
 pub returns : goal.returns
-returns c = λ story is. c.tables.ensures.tables (history_of story) is.keeps.control
+returns c = λ cabinet_history is. c.tables.ensures.tables (history_of cabinet_history) is.keeps.control

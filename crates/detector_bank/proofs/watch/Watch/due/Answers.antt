@@ -43,7 +43,7 @@ returns-then-is_past c = λ ps i now later up low.
       left = c.is_restless.ensures.left c.if-is_restless.false;
       locked = λ on soon. let x = c.earlier-locked.ensures.behind (omega (arith, soon, locked)) in omega (arith, x, low, locked);
       delayed = λ on soon.
-          let is : present_at w r ≡ r - w.idle = ap (λ b. if b || (w.lit == r) then r - w.idle else 0) on in absurd (omega (arith, more, is, soon));
+          let is : present_at w r ≡ r - w.last_inactive = ap (λ b. if b || (w.last_on == r) then r - w.last_inactive else 0) on in absurd (omega (arith, more, is, soon));
     })
 
 pub returns : goal.returns

@@ -3,7 +3,7 @@ use Rattle.sig_types.specs.declared.frame.Frame.{Frame}
 use Rattle.sig_tables.specs.Looking.{last_frame}
 use Rattle.sig_tables.specs.Calls.{is_green}
 use Rattle.sig_tables.specs.Layout.{Has}
-use Rattle.look_back.proofs.Pushing.{green-before, glance-tells}
+use Rattle.look_back.proofs.Pushing.{green-before, sample-tells}
 use Rattle.look_back.proofs.window.Window.push.Goals as goal
 
 pub returns : goal.returns
@@ -11,7 +11,7 @@ returns c = record {
   stands = λ past m stands saw.
       let green : Has c.newest.result.shown.green (is_green (last_frame past)) = rw c.newest.ensures (green-before c.args.self.now past stands) in
       let tells =
-      glance-tells _ m c.args.seen.now past c.newest.result.shown.green (c.read.ensures past stands) refl refl refl saw green c.minus.ensures.has
+      sample-tells _ m c.args.seen.now past c.newest.result.shown.green (c.read.ensures past stands) refl refl refl saw green c.minus.ensures.has
       c.meet.ensures.has in
       record {
         kept = c.add.ensures.keeps past m stands.kept tells;

@@ -7,7 +7,7 @@ pub returns : goal.returns
 returns c = record {
   stands = λ last before ms stands few all.
       let s = c.args.self.now.kept in
-      let kept = newest-tells 4096 s.newest.ticks s.newest.glance s.older.items last before (omega arith) stands.kept.newest stands.kept.tells in
+      let kept = newest-tells 4096 s.newest.ticks s.newest.sample s.older.items last before (omega arith) stands.kept.newest stands.kept.tells in
       let tells : Tells c.newest-newest.result last = rw c.newest-newest.ensures kept in
       let shows = last-shows c.args.active c.args.opposed ms (last ∷ before) all in
       record {

@@ -1,1 +1,0 @@
-"""A live cabinet for management software, over the proved program; `./cabinet` is the command."""

@@ -1,9 +1,0 @@
-use Rattle.look_back.proofs.lookout.Lookout.push.Goals as goal
-
-pub returns : goal.returns
-returns c = λ past m looks saw tables preempts commanded. record {
-  window = c.push.ensures.stands past m looks.window saw;
-  latched = c.step.ensures past m looks.latched saw.frame tables;
-  further = c.step-2.ensures past m looks.further saw.frame preempts commanded;
-  counting = c.step-self.ensures past m looks.counting saw.frame;
-}

@@ -1,6 +1,0 @@
-use Rattle.std.proofs.Common.{refl}
-use Rattle.look_back.proofs.Adding.{none-kept}
-use Rattle.look_back.proofs.stretches.Stretches.of.Goals as goal
-
-pub returns-clause-keeps : goal.returns-clause-keeps
-returns-clause-keeps c = none-kept _ refl c.requires

@@ -1,4 +1,0 @@
-use Rattle.master_poll.proofs.post.Post.new.Goals as goal
-
-pub returns : goal.returns
-returns c = record { stands = λ retries cab all. record { desk = c.new.ensures.stands retries; loader = c.new-2.ensures cab all }; none = c.new.ensures.none }

@@ -1,9 +1,0 @@
-use Rattle.std.proofs.Common.{◌≡◌, length, All}
-use Rattle.master_rounds.specs.Answered.{IsEmpty}
-use Rattle.master_rounds.proofs.desk.nothing_from.Given as goal
-
-abbrev pub invariant-loop-place : goal.invariant-loop-place
-invariant-loop-place l = record {
-  count : length l.all.items ≡ l._place;
-  none : All IsEmpty l.all.items;
-}

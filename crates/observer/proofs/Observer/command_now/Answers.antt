@@ -1,4 +1,0 @@
-use Rattle.observer.proofs.Observer.command_now.Goals as goal
-
-pub returns : goal.returns
-returns c = λ past k. c.command_now.ensures.command past k.orders k.tables

@@ -1,6 +1,0 @@
-use Rattle.pattern_plan.proofs.street.sides_of.Goals as goal
-
-pub returns : goal.returns
-returns c =
-    c.side_sets.ensures c.args.tables.now c.requires.enabled
-    (c.concurrent_sets.ensures c.args.tables.now c.requires.enabled c.named_sets.ensures)

@@ -1,0 +1,9 @@
+-- Inputs of preempts as a tick looks at them.
+use Rattle.std.specs.Prelude.{ℕ, List}
+use Rattle.sig_tables.specs.Past.{Past}
+use Rattle.sig_tables.specs.Preempts.{preempts_on}
+use Rattle.sig_tables.specs.Seen.{moment_seen}
+
+-- the preempts whose input is on
+unfoldable pub preempts_seen : Past → List ℕ
+preempts_seen past = preempts_on past.heard (moment_seen past)

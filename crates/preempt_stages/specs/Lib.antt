@@ -1,0 +1,3 @@
+pub mod Dwelling
+pub mod Goals
+pub mod Inputs

@@ -1,4 +1,0 @@
-use Rattle.tick_context.proofs.binding.Binding.forced.Goals as goal
-
-pub returns : goal.returns
-returns c = record { forced = λ t n b. c.forced.ensures t n (c.gate.ensures.gate t n b) }

@@ -1,4 +1,0 @@
-use Rattle.tick_context.proofs.binding.Binding.gate.Goals as goal
-
-pub returns : goal.returns
-returns c = record { gate = λ t n b. record { plan = b.plan; coordinated = b.options.coordinated; services = b.services } }

@@ -1,0 +1,39 @@
+"""Runs a command of the tools: `python3 -m streettools look ..`, or `python3 tools/streettools look ..` with no
+installation."""
+
+import pathlib
+import signal
+import sys
+
+# the launcher's shell starts Python with Ctrl-C ignored, so that there is no traceback of Python's own start
+signal.signal(signal.SIGINT, signal.SIG_DFL)
+
+if __name__ == "__main__" and not __package__:
+    sys.dont_write_bytecode = True
+    sys.path[0] = str(pathlib.Path(__file__).resolve().parent.parent)
+
+from streettools import words  # noqa: E402
+from streettools.shared.status import Status  # noqa: E402
+
+
+def main(given: list[str] | None = None) -> int:
+    """Runs the command that the first word names, and returns its exit status."""
+    given = sys.argv[1:] if given is None else given
+    if not given or given[0] in ("-h", "--help"):
+        print("usage: streettools COMMAND ..\n")
+        for word in words.tools():
+            print(f"    {word.name:10} {word.does}")
+        return 0
+    if not words.is_word(given[0]):
+        near = words.meant(given[0])
+        print(f"streettools: no command {given[0]}" + (f": {near}?" if near else ""), file=sys.stderr)
+        return Status.REFUSED
+    signal.signal(signal.SIGINT, signal.default_int_handler)
+    try:
+        return words.run(given)
+    except KeyboardInterrupt:
+        return Status.INTERRUPTED
+
+
+if __name__ == "__main__":
+    sys.exit(main())

@@ -1,0 +1,1 @@
+"""A live cabinet for management software; `./cabinet` is the command."""

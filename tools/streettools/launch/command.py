@@ -1,0 +1,47 @@
+"""What the launcher's shell hands over to Python: `launch prove`, `unproved`, `help`, `meant`, `sums`, `record`."""
+
+import json
+import pathlib
+import sys
+
+from streettools.shared.commandline import say
+from streettools.shared.status import Status
+
+from . import crates, help, hint, prove, record, unproved
+
+
+def meant(words: list[str]) -> int:
+    """Prints what is said behind the usage line."""
+    print(hint.of(words))
+    return Status.DONE
+
+
+def sums(words: list[str]) -> int:
+    """Prints the checksums of all that a proof reads, for `record` after it."""
+    json.dump(crates.sums(crates.TOP), sys.stdout)
+    return Status.DONE
+
+
+def recorded(words: list[str]) -> int:
+    """Records the program that was proved since a file with the sums was written."""
+    try:
+        record.write(crates.TOP, json.loads(pathlib.Path(words[0]).read_text()))
+    except record.Changed as name:
+        say("arterial", f"{name} changed while it was proved, so the program is not recorded as proved")
+        return Status.NO_PROGRAM
+    return Status.DONE
+
+
+DOES = {
+    "prove": prove.main,
+    "unproved": unproved.main,
+    "help": help.main,
+    "meant": meant,
+    "sums": sums,
+    "record": recorded,
+}
+
+
+def main(words: list[str]) -> int:
+    """Does what the first word names, with the others, and returns the exit status."""
+    return DOES[words[0]](words[1:])

@@ -1,0 +1,21 @@
+"""The Rattle kit on this machine: its command, and what it is made of."""
+
+import pathlib
+import shutil
+
+
+def command() -> str | None:
+    """Returns the path of the command rt, None where there is none."""
+    return shutil.which("rt")
+
+
+def folder() -> pathlib.Path | None:
+    """Returns the kit's folder, None where there is no kit."""
+    found = command()
+    return pathlib.Path(found).resolve().parent.parent if found else None
+
+
+def identity(folder: pathlib.Path) -> str:
+    """Returns the kit's own account of what it was made of, with checksums; nothing where it has none."""
+    what = folder / "WHAT"
+    return what.read_text() if what.is_file() else ""

@@ -1,0 +1,208 @@
+"""The time-space diagram of a street: the coordinated greens of several cabinets, and the bands through them.
+
+Outbound goes with ring 1's coordinated phases from the first cabinet to the last, inbound with ring 2's back again. The bands are those of the
+greens that were shown; beside them those of a plan can be drawn.
+"""
+
+from itertools import accumulate
+
+from matplotlib.patches import Patch, Polygon
+
+from streettools.shared.cabinet import mode_of, opened
+from streettools.shared.course import Ended, RoundEnd
+from streettools.shared.lines import Frame
+from streettools.shared.plans import coordinated
+
+from . import pictures, planned
+
+OUTBOUND, INBOUND = "#1c7ed6", "#e8590c"
+STOP = "#f1b0b7"
+COLOURS = {"G": pictures.GREEN, "Y": pictures.YELLOW}
+
+
+class Corner:
+    """A cabinet of the street: `spans` has for each way (0 outbound, 1 inbound) and colour the ticks at which it is shown, whole
+    and as far as `margin` ticks around what is looked at, since bands come from there."""
+
+    def __init__(self, scenario, number, phases, start, end, margin):
+        self.cabinet, self.start, self.end, self.margin = opened(scenario, number), start, end, margin
+        self.fixed = phases
+        tables = self.cabinet.tables
+        chosen = [self.cabinet.opening, *tables.patterns()]
+        pairs = (coordinated(tables, it) for it in chosen if it in tables.patterns())
+        self.pair = phases or next((it for it in pairs if it), None) or (2, 6)
+        self.used, self.beat = [self.pair], None
+        self.now = [("R", 0), ("R", 0)]
+        self.spans = [{"G": [], "Y": []}, {"G": [], "Y": []}]
+
+    def take(self, happening):
+        """Takes over a frame or a download."""
+        if isinstance(happening, Ended):
+            self.cabinet.ended(happening.load)
+        if isinstance(happening, Frame):
+            self.follow(happening)
+            for way, phase in enumerate(self.pair):
+                self.show(way, happening.vehicles[phase - 1], happening.tick)
+
+    def follow(self, frame):
+        """Takes over the coordinated phases of the pattern that runs, and how its cycle runs."""
+        mode = mode_of(frame.mode)
+        plan = self.cabinet.plan(mode.number) if mode.letter in "CK" else None
+        if plan and frame.tick <= self.end:
+            self.beat = planned.beat(plan, frame)
+        if plan and not self.fixed and plan.coordinated != self.pair:
+            self.pair = plan.coordinated
+            if frame.tick >= self.start:
+                self.used.append(self.pair)
+            else:
+                self.used = [self.pair]
+
+    def show(self, way, letter, tick):
+        """Ends what a way showed before, where it differs, and begins what is shown now."""
+        before, since = self.now[way]
+        if letter == before:
+            return
+        self.now[way] = (letter, tick)
+        if before in COLOURS and tick > self.start - self.margin and since < self.end + self.margin:
+            self.spans[way][before].append((since, tick))
+
+    def seen(self, way, letter):
+        """Returns the spans of a colour that reach into what is looked at."""
+        return [(since, end) for since, end in self.spans[way][letter] if since < self.end and end > self.start]
+
+    def close(self, last):
+        """Ends at the end of the trace what is shown then."""
+        for way in (0, 1):
+            self.show(way, "R", last)
+
+    def name(self):
+        """Returns the cabinet with its coordinated phases."""
+        pairs = dict.fromkeys(self.used)
+        return f"cabinet {self.cabinet.number}\nphases " + " then ".join(f"{one}, {other}" for one, other in pairs)
+
+
+def collect(course, numbers, phases, start, end, margin):
+    """Reads the trace and returns each cabinet's coordinated greens, as far as `margin` ticks around what is looked at."""
+    corners = {number: Corner(course.scenario, number, phases, start, end, margin) for number in numbers}
+    last = 0
+    for happening in course.happenings():
+        if isinstance(happening, RoundEnd):
+            last = happening.tick
+        elif happening.cabinet in corners:
+            corners[happening.cabinet].take(happening)
+    for corner in corners.values():
+        corner.close(last)
+    return [corners[number] for number in numbers]
+
+
+def common(one, other):
+    """Returns the spans that two rising lists of spans have in common."""
+    found, i, j = [], 0, 0
+    while i < len(one) and j < len(other):
+        low, high = max(one[i][0], other[j][0]), min(one[i][1], other[j][1])
+        if low < high:
+            found.append((low, high))
+        if one[i][1] < other[j][1]:
+            i += 1
+        else:
+            j += 1
+    return found
+
+
+def bands(greens, delays):
+    """Returns when a vehicle may start so as to meet green at each place, as spans of ticks.
+
+    `greens` has each place's green, and `delays` the ticks from the start until the vehicle is there."""
+    spans = None
+    for green, delay in zip(greens, delays):
+        moved = [(start - delay, end - delay) for start, end in green]
+        spans = moved if spans is None else common(spans, moved)
+    return spans
+
+
+def ways(corners, travel):
+    """Returns for outbound and inbound the bands, with the delay at each cabinet in the order of the street."""
+    reached = list(accumulate(travel, initial=0))
+    back = [reached[-1] - it for it in reached]
+    found = []
+    for way, delays in ((0, reached), (1, back)):
+        found.append((bands([corner.spans[way]["G"] for corner in corners], delays), delays))
+    return found
+
+
+def draw_corner(axes, corner, height, tall):
+    """Draws a cabinet: outbound above the line, inbound below it."""
+    for way, low in ((0, height + 0.1 * tall), (1, height - tall)):
+        name = f"cabinet-{corner.cabinet.number}-{('outbound', 'inbound')[way]}"
+        pictures.bars(axes, [(corner.start, corner.end)], low, 0.9 * tall, f"{name}-red", facecolor=STOP)
+        for letter, colour in COLOURS.items():
+            shown = corner.seen(way, letter)
+            look = {"facecolor": colour, "edgecolor": "white", "linewidth": 0.3}
+            pictures.bars(axes, shown, low, 0.9 * tall, f"{name}-{'green' if letter == 'G' else 'yellow'}", **look)
+
+
+def draw_bands(axes, found, heights, start, end):
+    """Draws the bands of both ways, with their widths in seconds where they have room."""
+    for (spans, delays), colour, name in zip(found, (OUTBOUND, INBOUND), ("outbound", "inbound")):
+        for low, high in spans:
+            if low >= end or high + max(delays) <= start:
+                continue
+            left = [((low + delay) / 10, height) for delay, height in zip(delays, heights)]
+            right = [((high + delay) / 10, height) for delay, height in zip(delays, heights)]
+            axes.add_patch(Polygon(left + right[::-1], closed=True, facecolor=colour, alpha=0.25, linewidth=0, zorder=0.5,
+                                   gid=f"{name}-band-{low}"))  # fmt: skip
+            text = f"{(high - low) / 10:g} s"
+            place = 0 if name == "outbound" else -2
+            x = (low + high + delays[place] + delays[place + 1]) / 20
+            if pictures.room(axes, low, high) > pictures.width_of(text, 8) and start <= 10 * x <= end:
+                axes.text(x, (heights[place] + heights[place + 1]) / 2, text, ha="center", va="center", fontsize=8, color=pictures.INK)
+
+
+def draw_planned(axes, found, delays, heights, corner):
+    """Draws dashed outlines of a plan's bands, outbound and inbound, cycle by cycle, by the clock of a cabinet. Returns what explains them."""
+    keys = []
+    for band, colour, name, away in zip(found, (OUTBOUND, INBOUND), ("outbound", "inbound"), delays):
+        look = {"facecolor": "none", "edgecolor": colour, "linewidth": 1.2, "linestyle": (0, (4, 2))}
+        text = f"{name} by the plan, {band.width / 10:g} s" if band else f"none {name} by the plan"
+        keys.append(Patch(label=text, **look if band else {"color": colour, "alpha": 0}))
+        if not band:
+            continue
+        if corner.beat is None:
+            raise planned.NoBands(f"cabinet {corner.cabinet.number} is in no pattern in what is shown, so the times of its cycle aren't told")
+        for low, high in planned.spans(band, corner.beat, corner.start - max(away), corner.end):
+            left = [((low + it) / 10, height) for it, height in zip(away, heights)]
+            right = [((high + it) / 10, height) for it, height in zip(away, heights)]
+            axes.add_patch(Polygon(left + right[::-1], closed=True, zorder=4, gid=f"{name}-planned-{low}", **look))
+    return keys
+
+
+def draw(corners, travel, path, plan=None):
+    """Draws the time-space diagram and writes it; `travel` has the ticks from each cabinet to the next, or is None, and `plan` a plan's greatest
+    bands, outbound and inbound."""
+    start, end = corners[0].start, corners[0].end
+    tall = 1.5 + 0.85 * len(corners)
+    title = f"Coordinated greens, ticks {start} to {end}: above each line outbound (ring 1), below it inbound (ring 2)"
+    drawn, (axes,) = pictures.figure(tall, title)
+    pictures.frame(drawn, tall)
+    pictures.time_axis(axes, start, end)
+    even = not travel or not sum(travel) or min(travel) * len(travel) < 0.6 * sum(travel)
+    heights = list(range(len(corners))) if even else list(accumulate(travel, initial=0))
+    spacing = 1 if even else min(travel)
+    names = {}
+    for corner, height, away in zip(corners, heights, accumulate(travel or [0] * len(heights), initial=0)):
+        draw_corner(axes, corner, height, 0.16 * spacing)
+        names[height] = corner.name() + (f"\n{away / 10:g} s away" if away else "")
+    keys = [Patch(color=pictures.GREEN, label="green"), Patch(color=pictures.YELLOW, label="yellow"), Patch(color=STOP, label="red")]
+    if travel:
+        found = ways(corners, travel)
+        draw_bands(axes, found, heights, start, end)
+        for (spans, _), colour, name in zip(found, (OUTBOUND, INBOUND), ("outbound", "inbound")):
+            keys.append(Patch(color=colour, alpha=0.25 if spans else 0, label=f"{name} band" if spans else f"no {name} band"))
+        if plan:
+            keys += draw_planned(axes, plan, [delays for _, delays in found], heights, corners[0])
+    axes.set_ylim(heights[0] - 0.35 * spacing, heights[-1] + 0.35 * spacing)
+    axes.set_yticks(list(names), list(names.values()))
+    axes.tick_params(axis="y", length=0)
+    axes.spines["left"].set_visible(False)
+    pictures.legend(drawn, keys)
+    pictures.save(drawn, path)

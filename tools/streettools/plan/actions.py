@@ -1,0 +1,235 @@
+"""What each part of `./arterial plan` does with its words."""
+
+import argparse
+import json
+import pathlib
+import sys
+from dataclasses import replace
+
+from tqdm import tqdm
+
+from ..shared import files
+from ..shared.commandline import say
+from ..shared.status import Status
+from ..shared.tables import Tables
+from . import (
+    check,
+    explain,
+    jsontext,
+    live,
+    loads,
+    names,
+    sources,
+    toml_text,
+    utdf_in,
+    utdf_out,
+    utdf_text,
+    walk,
+    writing,
+)
+from .cells import cells_between, tables_of
+from .findings import Level, counted
+from .given import Unreadable
+from .reading import Street, street_of
+from .sources import Source
+
+BOOK, PICTURES = ".xlsx", (".svg", ".png", ".pdf")
+
+
+class Refused(Exception):
+    """A file or words can't be taken, in lines."""
+
+
+def taken(path: str, named: str | None = None) -> Source:
+    """Reads a file that must be without faults of its names and values."""
+    source = sources.load(path, named)
+    if source.errors:
+        raise Refused("\n".join(f"{path}: {it}" for it in source.errors))
+    return source
+
+
+def tell(notes: list[str]) -> None:
+    """Tells on standard error what was entered, or couldn't be taken as it stands."""
+    for note in notes:
+        say("plan", note)
+
+
+def write(path: str | None, text: str) -> None:
+    """Writes a text to a file, or to standard output."""
+    with files.output(path) as out:
+        out.write(text)
+
+
+def write_scenario(path: str | None, value: dict) -> None:
+    """Writes a scenario, or another object, in one line."""
+    write(path, json.dumps(value, separators=(",", ":"), ensure_ascii=False) + "\n")
+
+
+def write_sheet(path: str | None, sheet: dict) -> None:
+    """Writes a sheet as TOML, or as a workbook where the file's name says so."""
+    if path and path.endswith(BOOK):
+        from . import book  # here, since openpyxl takes a while
+
+        with files.whole(path) as name:
+            book.write(sheet, name)
+    else:
+        write(path, toml_text.text(sheet))
+
+
+def to_scenario(words: argparse.Namespace) -> int:
+    """Writes the scenario, or the field file, of a sheet; and its names."""
+    street = taken(words.file, words.names).street
+    tell(street.notes)
+    if street.is_field() and not words.field:
+        say(
+            "plan",
+            f"{len(street.bank)} detectors have no place in a scenario: --field writes a field file, for `./arterial respond`",
+        )
+    write_scenario(words.output, street.field_file() if words.field else street.scenario)
+    where = words.names_out or (words.output and str(names.beside(pathlib.Path(words.output))))
+    nothing = names.Names(intersections=[names.Intersection() for _ in street.names.intersections])
+    if where and street.names != nothing:
+        write(where, names.text(street.names))
+    return Status.DONE
+
+
+def to_sheet(words: argparse.Namespace) -> int:
+    """Writes the sheet of a scenario."""
+    write_sheet(words.output, writing.sheet_of(taken(words.file, words.names).street))
+    return Status.DONE
+
+
+def do_check(words: argparse.Namespace) -> int:
+    """Tells all that is wrong with a file. The status is 2 where the program refuses it."""
+    source = sources.load(words.file, words.names)
+    found = check.findings(source, words.program)
+    if words.json:
+        print(json.dumps([it.as_json() for it in found], indent=2, ensure_ascii=False))
+    else:
+        for it in found:
+            print(it)
+        print(f"{words.file}: {counted(found)}")
+    if words.fix and source.street is not None and not source.errors:
+        do_fix(words, source.street)
+    return Status.REFUSED if any(it.level is Level.ERROR for it in found) else Status.DONE
+
+
+def do_fix(words: argparse.Namespace, street: Street) -> None:
+    """Proposes the least change of splits for each pattern that breaks rule 17, 18 or 19; writes the street with it
+    where an output is named."""
+    from . import fix  # here, since numpy takes a while
+
+    for number, cabinet in enumerate(street.scenario["cabinets"], 1):
+        tables, known = tables_of(cabinet), street.names.intersection(number)
+        for line in fix.mend(tables, known):
+            print(f"{street.names.called(number)}: fix: {line}")
+        cabinet["cells"] = cells_between(Tables(cabinet.get("base", "std8")), tables)
+    if words.output:
+        put_fixed(words.output, street)
+
+
+def put_fixed(path: str, street: Street) -> None:
+    """Writes a street as its file's name says: a scenario or a sheet."""
+    if path.endswith(".json"):
+        write_scenario(path, street.field_file() if street.is_field() else street.scenario)
+    else:
+        write_sheet(path, writing.sheet_of(street))
+
+
+def draw(words: argparse.Namespace) -> int:
+    """Draws a pattern of an intersection."""
+    from . import picture  # here, since matplotlib takes a while
+
+    source = sources.load(words.file, words.names)
+    if source.errors or source.street is None:
+        raise Refused("\n".join(f"{words.file}: {it}" for it in source.errors))
+    cabinets = source.street.scenario["cabinets"]
+    if words.intersection > len(cabinets):
+        raise Refused(f"{words.file}: there is no intersection {words.intersection}")
+    if pathlib.Path(words.output).suffix not in PICTURES:
+        raise Refused(f"{words.output}: a picture's name ends in " + ", ".join(PICTURES))
+    known, called = source.street.names.intersection(words.intersection), source.street.names.called(words.intersection)
+    picture.write(tables_of(cabinets[words.intersection - 1]), known, called, words.pattern, words.output)
+    return Status.DONE
+
+
+def do_explain(words: argparse.Namespace) -> int:
+    """Tells what a line of the program says; or, of standard input, what each of its lines says. Lines that are none of
+    the program's go on to standard error as they are."""
+    source = sources.load(words.file, words.names)
+    if words.line != "-":
+        print("\n".join(explain.explained(source, words.line.strip())))
+        return Status.DONE
+    status = Status.DONE
+    for line in filter(None, map(str.strip, sys.stdin)):
+        if not explain.is_line(line):
+            print(line, file=sys.stderr)
+            continue
+        try:
+            print("\n".join(explain.explained(source, line)))
+        except explain.NotKnown as why:
+            say("plan", why)
+            status = Status.REFUSED
+    return status
+
+
+def from_utdf(words: argparse.Namespace) -> int:
+    """Writes the sheet of a UTDF file."""
+    text = jsontext.decoded(sources.content_of(words.file).removeprefix(b"\xef\xbb\xbf"), replaced=True)
+    sheet, notes = utdf_in.sheet_of(utdf_text.read(text))
+    street = street_of(sheet)
+    tell(notes + street.notes)
+    write_sheet(words.output, writing.sheet_of(street))
+    return Status.DONE
+
+
+def from_walk(words: argparse.Namespace) -> int:
+    """Writes the sheet of controllers that were walked over."""
+    walks = []
+    for path in words.files:
+        try:
+            walks.append(walk.read(jsontext.decoded(sources.content_of(path), replaced=True)))
+        except Unreadable as unreadable:
+            raise Unreadable([replace(it, where=path) for it in unreadable.faults]) from None
+    street = walk.street_of(walks, [pathlib.Path(path).stem for path in words.files])
+    tell(street.notes)
+    write_sheet(words.output, writing.sheet_of(street))
+    return Status.DONE
+
+
+def from_live(words: argparse.Namespace) -> int:
+    """Writes the sheet of a controller that answers."""
+    host, _, port = words.host.rpartition(":") if ":" in words.host else (words.host, "", "161")
+    if not port.isdecimal() or not 0 < int(port) < 65_536:
+        raise Refused(f"{words.host}: a host and a port are wanted, as 127.0.0.1:10161")
+    agent = live.Agent(live.address(host, words.anywhere), int(port), words.community)
+    with tqdm(total=len(live.COLUMNS), desc="columns", disable=None, leave=False) as bar:
+        objects = live.walk(agent, bar.update)
+    street = walk.street_of([objects], [words.host])
+    tell(street.notes)
+    write_sheet(words.output, writing.sheet_of(street))
+    return Status.DONE
+
+
+def to_utdf(words: argparse.Namespace) -> int:
+    """Writes a street as UTDF."""
+    street = taken(words.file, words.names).street
+    write(words.output, utdf_out.text(street, words.pattern))
+    return Status.DONE
+
+
+def do_loads(words: argparse.Namespace) -> int:
+    """Writes the downloads from one plan to another: as a scenario's loads, or as commands of snmpset."""
+    old, new = (taken(path).street for path in (words.old, words.new))
+    found = loads.between(old, new, words.round, words.flash)
+    if words.flash:
+        say("plan", "these downloads are taken while the cabinets flash (pattern 255) alone")
+    if words.sets is None:
+        write_scenario(words.output, {"loads": found})
+        return Status.DONE
+    lines = []
+    for number, load in enumerate(found, words.id):
+        lines.append(f"# download {number}, {new.names.called(load['cabinet'])}: {len(load['cells'])} cells")
+        lines += loads.sets(load, number, words.sets, words.community)
+    write(words.output, "\n".join(["set -e", *lines]) + "\n")
+    return Status.DONE

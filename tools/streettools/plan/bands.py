@@ -1,0 +1,63 @@
+"""Whether the offsets of a plan leave a through band, as `./arterial band` tells: asked where a sheet says how long the
+way to the next intersection takes."""
+
+import json
+import subprocess
+from collections.abc import Iterator
+
+from ..shared.program import NoProgram, found
+from .cells import tables_of
+from .findings import Finding, Level
+from .reading import Street
+
+SECONDS = 60
+
+
+def questions(street: Street) -> Iterator[tuple[int, int, list[int], list[int]]]:
+    """Yields each section and pattern of which a band can be asked: the numbers of the cabinets, and the times from
+    each to the next."""
+    cabinets = street.scenario["cabinets"]
+    for section in range(1, 9):
+        numbers = [number for number, it in enumerate(cabinets, 1) if it.get("section", 1) == section]
+        travel = [street.names.intersection(number).travel for number in numbers[:-1]]
+        if len(numbers) < 2 or any(it is None for it in travel):
+            continue
+        tables = [tables_of(cabinets[number - 1]) for number in numbers]
+        for pattern in sorted(set.intersection(*(set(it.patterns()) for it in tables))):
+            if len({it.pattern(pattern, 2) for it in tables}) == 1:
+                yield section, pattern, numbers, [round(10 * it) for it in travel]
+
+
+def findings(street: Street, path: str | None) -> Iterator[Finding]:
+    """Yields the plans whose offsets leave no band, one way or both."""
+    asked = list(questions(street))
+    if not asked:
+        return
+    try:
+        program = found(path)
+    except NoProgram as why:
+        yield Finding(Level.NOTE, "", f"bands are not looked at: {why}")
+        return
+    scenario = {name: street.scenario[name] for name in ("version", "rounds", "ticks", "cabinets")}
+    for section, pattern, numbers, travel in asked:
+        question = {"scenario": scenario, "section": section, "pattern": pattern, "travel": travel}
+        ran = subprocess.run(
+            [program, "band"], input=json.dumps(question).encode(), capture_output=True, timeout=SECONDS
+        )
+        lines = ran.stdout.decode().split("\n")
+        if ran.returncode == 0 and len(lines) > 1:
+            yield from told(street, section, pattern, numbers, lines)
+
+
+def told(street: Street, section: int, pattern: int, numbers: list[int], lines: list[str]) -> Iterator[Finding]:
+    """Yields what two lines of bands say that somebody should know."""
+    ways = {line.split()[0]: line.split()[1:] for line in lines if line}
+    none = [way for way, it in ways.items() if it == ["none"]]
+    name = street.names.sections.get(section, f"section {section}")
+    ends = f"{street.names.called(numbers[0])} to {street.names.called(numbers[-1])}"
+    if len(none) == 2:
+        yield Finding(Level.WARNING, name, f"the offsets of pattern {pattern} leave no through band, {ends} or back")
+    elif none:
+        way, band = next((way, it) for way, it in ways.items() if way not in none)
+        words = f"the offsets of pattern {pattern} leave a through band of {int(band[1]) / 10:g} s {way} ({ends} is outbound), and none {none[0]}"
+        yield Finding(Level.NOTE, name, words)

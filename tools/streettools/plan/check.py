@@ -1,0 +1,61 @@
+"""A check of a street: every broken rule in words, in the order of the program, and what else is doubtful."""
+
+from collections.abc import Iterator
+
+from ..shared.tables import Tables
+from . import bands, rules, warnings
+from .cells import tables_of
+from .findings import Finding, Level
+from .pattern_sentences import sentences
+from .reading import Street
+from .sources import Source
+
+RINGS_FIRST = range(1, 10)
+
+
+def broken_rules(street: Street, tables: list[Tables]) -> Iterator[Finding]:
+    """Yields the broken rules of the opening tables, cabinet by cabinet; the first is the one that the program
+    tells."""
+    for number, it in enumerate(tables, 1):
+        known, where = street.names.intersection(number), street.names.called(number)
+        found = rules.broken(it)
+        for broken in found:
+            line = f"scenario: cabinet {number} breaks rule {broken.rule} at row {broken.row}"
+            for words in sentences(it, known, broken):
+                yield Finding(Level.ERROR, where, words, broken.rule, line)
+        if it.patterns() and any(broken.rule in RINGS_FIRST for broken in found):
+            yield Finding(Level.NOTE, where, "its patterns are looked at once rings and orders hold together")
+
+
+def broken_loads(street: Street, tables: list[Tables]) -> Iterator[Finding]:
+    """Yields the downloads that a cabinet will refuse. A refused one changes nothing."""
+    in_force = [it.copy() for it in tables]
+    counts: dict[int, int] = {}
+    for load in street.scenario.get("loads", ()):
+        number = load["cabinet"]
+        counts[number] = counts.get(number, 0) + 1
+        before = in_force[number - 1]
+        new = before.copy()
+        new.put(load["cells"])
+        found = rules.broken(new, before)
+        if not found:
+            in_force[number - 1] = new
+            continue
+        head = f"download {counts[number]}, due in round {load['round']}, will be refused: "
+        for words in sentences(new, street.names.intersection(number), found[0], before):
+            yield Finding(Level.WARNING, street.names.called(number), head + words, found[0].rule)
+
+
+def findings(source: Source, program: str | None = None) -> list[Finding]:
+    """Returns all that a check finds in a file: errors first, in the order of the program. What names and values don't
+    allow to be looked at is left for later."""
+    found, street = list(source.findings), source.street
+    if street is not None and not (source.errors and source.text is None):
+        tables = [tables_of(it) for it in street.scenario["cabinets"]]
+        sound = [not rules.broken(it) for it in tables]
+        found += broken_rules(street, tables)
+        if not source.errors:
+            found += broken_loads(street, tables) if all(sound) else ()
+            found += warnings.all_of(street, tables, sound)
+            found += bands.findings(street, program) if all(sound) else ()
+    return sorted(found, key=lambda it: list(Level).index(it.level))

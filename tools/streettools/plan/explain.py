@@ -1,0 +1,155 @@
+"""What a line of the program says, in words, with the numbers of the file that it speaks of."""
+
+import re
+from collections.abc import Callable
+
+from . import rules
+from .cells import tables_of, with_cells
+from .pattern_sentences import sentences
+from .sources import Source
+
+RULES = {
+    1: "the ring of an enabled phase is 1 or 2",
+    2: "the list of concurrent phases holds phases 1 to 16, and not the phase itself",
+    3: "each phase of the list has this one in its own list",
+    4: "the list names phases of the other ring alone",
+    5: "some phase of the list is enabled",
+    6: "two phases of a ring with a concurrent phase in common have the same ones",
+    7: "there are two sides of the barrier or more",
+    8: "each ring of a sequence has each of its enabled phases once, and nothing else",
+    9: "the phases of a side come one after another, and the sides in the same order in both rings",
+    10: "the yellow change is 3.0 s or more",
+    11: "the red revert is no longer than the least service and clearance of any other phase together",
+    12: "phases that turn green as start-up ends may be on together",
+    13: "offsets are corrected by dwell, shortway or add only, and the limits are above 0",
+    14: "a pattern runs a split 1 to 32, and a sequence 1 to 16 that isn't empty",
+    15: "the offset is less than the cycle",
+    16: "a pattern coordinates one phase of each ring; both may be on together, and neither is omitted",
+    17: "the splits of each ring come to the cycle, and on each side those of both rings to the same",
+    18: "a phase that is neither coordinated nor omitted has time in its split for its least service and the clearances",
+    19: "the coordinated phases stay green together long enough for the correction of offsets and their least service",
+    20: "track, dwell and exit phases of a preempt are enabled, none twice, and may be on together",
+    21: "a download leaves the enabled phases, their rings and lists as they are, unless the cabinet is in flash",
+    22: "a phase without walk has no pedestrian clearance",
+}
+TRACE_RULES = {
+    1: "the text is longer than 67,108,864 bytes", 2: "these bytes are no line of a trace", 3: "line 1 is no S line of a scenario that can be run",
+    4: "a line of another kind, cabinet or number is due here", 5: "the journal doesn't take each item of the cabinet's round once",
+    6: "another frame is due here", 7: "another reply is due here", 8: "another end of a download is due here",
+    9: "another note of the master is due here", 10: "the text ends before its Z line", 11: "something stands behind the Z line",
+}  # fmt: skip
+OVERLAP_RULES = {
+    1: "the trace has no cabinet of this number", 2: "this parent is no enabled phase, or is named twice",
+    3: "the yellow change of an overlap is 3.0 s or more",
+    4: "trail, yellow and red clearance together take longer than this parent may clear in",
+}  # fmt: skip
+OTHERS = {
+    "read fault": "the input couldn't be read", "write fault": "the output couldn't be written: a full disk, or a pipe that was closed",
+    "out of memory": "the program found no memory",
+}  # fmt: skip
+
+
+class NotKnown(Exception):
+    """A line isn't one of the program's, or doesn't fit the file, in words."""
+
+
+def fault_of_value(source: Source, line: str) -> list[str]:
+    """Returns what is wrong with a name or a value."""
+    found = [it for it in source.errors if it.line == line]
+    if not found:
+        raise NotKnown("the file as it stands doesn't have this fault")
+    return [str(it) for it in found[:1]]
+
+
+def broken_rule(source: Source, line: str, found: re.Match) -> list[str]:
+    """Returns the sentences of a broken rule of the opening tables."""
+    number, rule, row = map(int, found.groups())
+    street = street_of(source)
+    if number > len(street.scenario["cabinets"]):
+        raise NotKnown(f"the file has no cabinet {number}")
+    tables = tables_of(street.scenario["cabinets"][number - 1])
+    return said(
+        street,
+        number,
+        rules.Broken(rule, row),
+        rules.broken(tables),
+        lambda it: sentences(tables, street.names.intersection(number), it),
+    )
+
+
+def refused_load(source: Source, line: str, found: re.Match) -> list[str]:
+    """Returns why a cabinet refuses a download, after those before it that it has taken."""
+    number, count, rule, row = map(int, found.groups())
+    street = street_of(source)
+    loads = [it for it in street.scenario.get("loads", ()) if it["cabinet"] == number]
+    if not 1 <= count <= len(loads):
+        raise NotKnown(f"the file has no download {count} of cabinet {number}")
+    before = tables_of(street.scenario["cabinets"][number - 1])
+    for load in loads[: count - 1]:
+        new = with_cells(before, load["cells"])
+        before = before if rules.broken(new, before) else new
+    new = with_cells(before, loads[count - 1]["cells"])
+    known = street.names.intersection(number)
+    return said(
+        street, number, rules.Broken(rule, row), rules.broken(new, before), lambda it: sentences(new, known, it, before)
+    )
+
+
+def said(street, number: int, broken: rules.Broken, all_broken: list[rules.Broken], words: Callable) -> list[str]:
+    """Returns what a rule asks, and the sentences about its row."""
+    if broken.rule not in RULES:
+        raise NotKnown(f"there is no rule {broken.rule}")
+    asks = f"rule {broken.rule} asks: {RULES[broken.rule]}"
+    if broken not in all_broken:
+        raise NotKnown(f"{asks}; the file as it stands keeps it in row {broken.row}")
+    more = len(all_broken) - 1
+    tail = (
+        [f"{more} more {'rule is' if more == 1 else 'rules are'} broken there: `plan check` has them all"]
+        if more
+        else []
+    )
+    return [asks, *(f"{street.names.called(number)}: {it}" for it in words(broken)), *tail]
+
+
+def street_of(source: Source):
+    """Returns the street of a file that can be read."""
+    if source.street is None or source.errors:
+        raise NotKnown(f"the file can't be read: {source.errors[0]}")
+    return source.street
+
+
+def by_table(words: dict[int, str]) -> Callable:
+    """Returns what explains a line by a table of rules."""
+
+    def explained(source: Source, line: str, found: re.Match) -> list[str]:
+        rule = int(found["rule"])
+        if rule not in words:
+            raise NotKnown(f"there is no rule {rule}")
+        return [f"rule {rule}: {words[rule]}"]
+
+    return explained
+
+
+LINES = (
+    (r"scenario: cabinet (\d+) breaks rule (\d+) at row (\d+)", broken_rule),
+    (r"scenario: (?:not JSON|field .*|limit .*)", lambda source, line, _: fault_of_value(source, line)),
+    (r"L (\d+) (\d+) refused (\d+) (\d+)", refused_load),
+    (r"trace: line \d+ breaks rule (?P<rule>\d+)", by_table(TRACE_RULES)),
+    (r"overlap: rule (?P<rule>\d+) at row \d+", by_table(OVERLAP_RULES)),
+    (r"read fault|write fault|out of memory", lambda _, line, __: [OTHERS[line]]),
+    (r"usage: .*", lambda *_: ["the words behind `arterial` are none of its commands: `./arterial --help` has them"]),
+)
+
+
+def is_line(line: str) -> bool:
+    """Tells whether a line is one that the program writes."""
+    return any(re.fullmatch(pattern, line) for pattern, _ in LINES)
+
+
+def explained(source: Source, line: str) -> list[str]:
+    """Returns what a line of the program says of a file."""
+    for pattern, words in LINES:
+        found = re.fullmatch(pattern, line)
+        if found:
+            return words(source, line, found)
+    raise NotKnown(f"no line of the program: {line!r}")

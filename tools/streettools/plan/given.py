@@ -1,0 +1,186 @@
+"""What a sheet says, taken up name by name: what can't be taken is kept as a fault with its place, and reading goes
+on."""
+
+import datetime
+import difflib
+from collections.abc import Callable, Iterable, Iterator
+from dataclasses import dataclass, field
+
+from .fields import Wrong, is_number
+
+DAY_TICKS = 864_000
+
+
+@dataclass(frozen=True)
+class Fault:
+    """Something that a sheet can't say, and where."""
+
+    where: str
+    words: str
+
+    def __str__(self) -> str:
+        return f"{self.where}: {self.words}" if self.where else self.words
+
+
+class Unreadable(Exception):
+    """A file can't be taken, for some reasons."""
+
+    def __init__(self, faults: Iterable[Fault]):
+        self.faults = list(faults)
+        super().__init__("\n".join(map(str, self.faults)))
+
+
+@dataclass
+class Given:
+    """A table of a sheet, the place where it stands, and all faults that were found so far."""
+
+    table: dict
+    where: str = ""
+    faults: list[Fault] = field(default_factory=list)
+
+    def fault(self, words: object, name: str = "") -> None:
+        """Keeps a fault."""
+        self.faults.append(Fault(", ".join(filter(None, (self.where, name))), str(words)))
+
+    def allow(self, names: Iterable[str]) -> None:
+        """Keeps a fault for each name that may not stand here."""
+        known = list(names)
+        for name in self.table:
+            if name not in known:
+                near = difflib.get_close_matches(name, known, 1)
+                self.fault("no such name" + (f": {near[0]}?" if near else ""), name)
+
+    def take(self, name: str, read: Callable, default: object = None) -> object:
+        """Returns what stands at a name, as it is read; the default where nothing stands there or it can't be taken."""
+        if name not in self.table:
+            return default
+        try:
+            return read(self.table[name])
+        except Wrong as wrong:
+            self.fault(wrong, name)
+            return default
+
+    def below(self, name: str) -> "Given":
+        """Returns the table at a name; an empty one where there is none."""
+        found = self.table.get(name, {})
+        if not isinstance(found, dict):
+            self.fault("a table is wanted here", name)
+            found = {}
+        return Given(found, ", ".join(filter(None, (self.where, name))), self.faults)
+
+    def each(self, name: str, most: int) -> Iterator[tuple[int, "Given"]]:
+        """Yields the tables below a name that are named by numbers from 1, as `phase.2`; "2 6" stands for both."""
+        for key, it in self.below(name).table.items():
+            numbers = key.replace(",", " ").split()
+            if not numbers or not all(word.isdecimal() and 1 <= int(word) <= most for word in numbers):
+                self.fault(f"{key!r} is no {name} from 1 to {most}", name)
+            elif not isinstance(it, dict):
+                self.fault("a table is wanted here", f"{name} {key}")
+            else:
+                for number in map(int, numbers):
+                    yield number, Given(it, ", ".join(filter(None, (self.where, f"{name} {number}"))), self.faults)
+
+    def tables(self, name: str) -> Iterator[tuple[int, "Given"]]:
+        """Yields the tables of a list, as `[[schedule]]`, with their places from 1."""
+        found = self.table.get(name, [])
+        if not isinstance(found, list) or not all(isinstance(it, dict) for it in found):
+            self.fault("a list of tables is wanted here", name)
+            found = []
+        for number, it in enumerate(found, 1):
+            yield number, Given(it, ", ".join(filter(None, (self.where, f"{name} {number}"))), self.faults)
+
+
+def text(given: object) -> str:
+    """Returns a text."""
+    if not isinstance(given, str):
+        raise Wrong(f"{given!r} is no text")
+    return given
+
+
+def number(least: int, most: int) -> Callable[[object], int]:
+    """Returns what reads a whole number in a range."""
+
+    def read(given: object) -> int:
+        if isinstance(given, float) and given.is_integer():
+            given = int(given)
+        if isinstance(given, bool) or not isinstance(given, int):
+            raise Wrong(f"{given!r} is no whole number")
+        if not least <= given <= most:
+            raise Wrong(f"{given} is not {least} to {most}")
+        return given
+
+    return read
+
+
+def measure(given: object) -> float:
+    """Returns a number that isn't below 0."""
+    if not is_number(given) or given < 0:
+        raise Wrong(f"{given!r} is no number from 0 on")
+    return given
+
+
+def percent(given: object) -> float:
+    """Returns a grade in per cent."""
+    if not is_number(given) or abs(given) > 30:
+        raise Wrong(f"{given!r} is no grade in per cent")
+    return given
+
+
+def day_ticks(given: object) -> int:
+    """Returns a time of day in tenths of a second: a time, a text as "7:00" or "07:00:00.5", or a number of seconds."""
+    if isinstance(given, datetime.datetime):
+        given = given.time()
+    if isinstance(given, datetime.time):
+        ticks = (given.hour * 3600 + given.minute * 60 + given.second) * 10 + given.microsecond / 100_000
+    elif isinstance(given, str):
+        ticks = 10 * clock_seconds(given)
+    elif is_number(given):
+        ticks = 10 * given
+    else:
+        raise Wrong(f"{given!r} is no time of day, as 07:30:00")
+    if abs(ticks - round(ticks)) > 1e-6 or not 0 <= ticks < DAY_TICKS:
+        raise Wrong(f"{given!r} is no time of day in tenths of a second")
+    return round(ticks)
+
+
+def clock_seconds(given: str) -> float:
+    """Returns the seconds since midnight of a time that is written with colons."""
+    parts = given.strip().split(":")
+    try:
+        hours, minutes, seconds = int(parts[0]), int(parts[1]), float(parts[2]) if len(parts) == 3 else 0.0
+    except (ValueError, IndexError):
+        raise Wrong(f"{given!r} is no time of day, as 07:30:00") from None
+    if len(parts) > 3 or not (0 <= hours < 24 and 0 <= minutes < 60 and 0 <= seconds < 60):
+        raise Wrong(f"{given!r} is no time of day, as 07:30:00")
+    return 3600 * hours + 60 * minutes + seconds
+
+
+def day_seconds(given: object) -> int:
+    """Returns a time of day in whole seconds."""
+    ticks = day_ticks(given)
+    if ticks % 10:
+        raise Wrong(f"{given!r} is no whole second")
+    return ticks // 10
+
+
+def day_time(ticks: int) -> datetime.time:
+    """Returns a time of day."""
+    seconds, tenths = divmod(ticks, 10)
+    return datetime.time(seconds // 3600, seconds // 60 % 60, seconds % 60, tenths * 100_000)
+
+
+COMMANDS = {"free": 254, "flash": 255}
+
+
+def command(given: object) -> int:
+    """Returns a pattern in command: a number, "free" or "flash"."""
+    if isinstance(given, str):
+        if given not in COMMANDS:
+            raise Wrong(f'{given!r} is no pattern: a number, "free" or "flash"')
+        return COMMANDS[given]
+    return number(0, 255)(given)
+
+
+def command_word(pattern: int) -> int | str:
+    """Returns what a sheet says of a pattern in command."""
+    return {value: word for word, value in COMMANDS.items()}.get(pattern, pattern)

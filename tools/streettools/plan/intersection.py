@@ -1,0 +1,129 @@
+"""An intersection of a sheet as a cabinet of a scenario: the standard table, the rings as drawn, and what the sheet
+says besides."""
+
+from ..shared.tables import Tables
+from . import drawing, fields, given, names
+from .cells import cells_between, put, value
+from .given import Given
+from .pattern_reading import SPLIT_NAMES, read_pattern, read_split
+from .started import Read, started, word_of
+
+NAMES = (
+    "name", "note", "standard", "command", "clock", "section", "gain", "lose", "rings", "coordination", "phase", "sequence",
+    "pattern", "split", "preempt", "detector", "travel",
+)  # fmt: skip
+ABOUT = ("name", "kind", "speed", "grade", "crossing")
+
+
+def read_phase(it: Given, number: int, found: Read) -> None:
+    """Takes up the row of a phase."""
+    it.allow((*ABOUT, *fields.PHASE_FIELDS, *fields.OPTIONS))
+    for name, each in fields.PHASE_FIELDS.items():
+        new = it.take(name, each.read)
+        if new is not None:
+            put(found.tables, ("phase", number, each.column), new)
+    cell = ("phase", number, 21)
+    for name in fields.OPTIONS:
+        options = value(found.tables, cell)
+        put(
+            found.tables,
+            cell,
+            it.take(name, lambda said, name=name, options=options: fields.read_option(name, said, options), options),
+        )
+    about = names.Phase(
+        name=it.take("name", given.text, ""), kind=it.take("kind", word_of("vehicle", "pedestrian"), "vehicle"),
+        speed=it.take("speed", given.measure), grade=it.take("grade", given.percent), crossing=it.take("crossing", given.measure),
+    )  # fmt: skip
+    if about != names.Phase():
+        found.names.phases[number] = about
+
+
+def fill_partners(found: Read) -> None:
+    """Gives each partner the times of the phase that it is like: no walk, no call."""
+    for partner, like in found.partners.items():
+        for column in (4, 8, 9, 10):
+            put(found.tables, ("phase", partner, column), value(found.tables, ("phase", like, column)))
+        for column, new in {2: 0, 3: 0, 5: 0, 6: 0, 20: 2, 21: fields.ENABLED}.items():
+            put(found.tables, ("phase", partner, column), new)
+
+
+def read_rows(it: Given, found: Read) -> None:
+    """Takes up all rows of the tables."""
+    for number, row in it.each("phase", 16):
+        if number in found.partners:
+            row.fault("this number is taken for the partner that the rings need: draw it, or say nothing of it")
+        read_phase(row, number, found)
+    fill_partners(found)
+    used: dict[int, str] = {}
+    for number, row in it.each("split", 32):
+        row.allow(SPLIT_NAMES)
+        used[number] = f"split {number}"
+        read_split(row, number, found, None)
+    for number, row in it.each("pattern", 48):
+        read_pattern(row, number, found, used)
+    for number, row in it.each("preempt", 8):
+        row.allow(("name", *fields.PREEMPT_FIELDS))
+        for name, each in fields.PREEMPT_FIELDS.items():
+            new = row.take(name, each.read)
+            if new is not None:
+                put(found.tables, ("preempt", number, each.column), new)
+        called = row.take("name", given.text, "")
+        if called:
+            found.names.preempts[number] = called
+
+
+def read_sequences(it: Given, found: Read) -> None:
+    """Takes up the orders of the rings. Partners stand at the place of the phases that they face."""
+    below = it.below("sequence")
+    below.allow(map(str, range(1, 17)))
+    for number in range(1, 17):
+        rings = below.take(str(number), drawing.read_order)
+        if rings is not None:
+            for ring, order in enumerate(rings, 1):
+                put(found.tables, ("sequence", number, ring), with_partners_in(order, ring, rings, found))
+
+
+def with_partners_in(order: tuple, ring: int, rings: list[tuple], found: Read) -> tuple:
+    """Returns the order of a ring with the partners that it lacks, by the order of the sides in the other ring."""
+    missing = {partner for partner in found.partners if partner in found.drawn.ring(ring) and partner not in order}
+    if not missing or not any(rings):
+        return order
+    sides = found.drawn.sides
+    place = {phase: number for number, side in enumerate(sides) for phase in (*side[0], *side[1])}
+    turns = list(dict.fromkeys(place[phase] for phase in rings[2 - ring] if phase in place))
+    turns += [number for number in range(len(sides)) if number not in turns]
+    laid = []
+    for number in turns:
+        laid += [it for it in order if place.get(it) == number] + [it for it in sorted(missing) if place[it] == number]
+    return (*laid, *(it for it in order if it not in place))
+
+
+def read(it: Given) -> tuple[Read, dict]:
+    """Returns an intersection, and the cabinet that it is in a scenario."""
+    it.allow(NAMES)
+    found = started(it)
+    found.names.name = it.take("name", given.text, "")
+    found.names.note = it.take("note", given.text, "")
+    found.names.travel = it.take("travel", given.measure)
+    unit = it.below("coordination")
+    unit.allow(fields.UNIT_FIELDS)
+    for name, each in fields.UNIT_FIELDS.items():
+        new = unit.take(name, each.read)
+        if new is not None:
+            put(found.tables, ("unit", each.column), new)
+    sequences = it.table.get("sequence")
+    read_rows(Given({name: row for name, row in it.table.items() if name != "sequence"}, it.where, it.faults), found)
+    if sequences is not None:
+        read_sequences(it, found)
+    cabinet: dict = {"base": found.base}
+    for name, taken in (
+        ("pattern", it.take("command", given.command)), ("clock", it.take("clock", given.day_ticks)),
+        ("section", it.take("section", given.number(1, 8))), ("gain", it.take("gain", given.number(0, 864_000))),
+        ("lose", it.take("lose", given.number(0, 864_000))),
+    ):  # fmt: skip
+        if taken is not None:
+            cabinet[name] = taken
+    cells = cells_between(Tables(found.base), found.tables)
+    if cells:
+        cabinet["cells"] = cells
+    return found, cabinet

@@ -1,0 +1,130 @@
+"""The downloads that bring cabinets from one plan to another, each of which keeps the rules; and the SNMP Sets that
+carry them."""
+
+from collections.abc import Iterator
+
+from ..shared.tables import Tables
+from . import rules
+from .cells import Cell, differing, tables_of, value, written
+from .pattern_sentences import sentences
+from .reading import Street
+from .walk import ASC, OWN, TABLES, UNIT, Name
+
+MOST_CELLS = 768
+PART = 24
+FLASH_RULE = 21
+OBJECTS = {name: front for front, name in TABLES.items()}
+BEGIN, ID, PARTS, TOTAL, FINISH = ((*OWN, 1, number, 0) for number in range(2, 7))
+
+
+class NoWay(Exception):
+    """Cabinets can't be brought from one plan to the other, in words."""
+
+
+def put_all(tables: Tables, new: Tables, cells: list[Cell]) -> Tables:
+    """Returns tables with some cells of others."""
+    found = tables.copy()
+    for cell in cells:
+        found.cells[cell] = value(new, cell)
+    return found
+
+
+def groups(cells: list[Cell]) -> list[list[Cell]]:
+    """Returns cells in groups that belong together: each split, each preempt, the rest of the tables, each pattern."""
+    found: dict[tuple, list[Cell]] = {}
+    for cell in cells:
+        key = cell[:2] if cell[0] in ("split", "preempt", "pattern") else ("street",)
+        found.setdefault(key, []).append(cell)
+    order = {"preempt": 0, "street": 1, "split": 2, "pattern": 3}
+    return [found[key] for key in sorted(found, key=lambda it: (order[it[0]], it[1:]))]
+
+
+def packed(old: Tables, new: Tables, cells: list[Cell], may: set[int]) -> list[list[Cell]] | None:
+    """Returns cells as downloads, each of which keeps the rules (or breaks those that it may), of whole groups; None
+    where that can't be."""
+    found: list[list[Cell]] = []
+    waiting, now = groups(cells), old
+    while waiting:
+        load: list[Cell] = []
+        best = 0
+        for count, group in enumerate(waiting, 1):
+            load = load + group
+            if len(load) > MOST_CELLS:
+                break
+            if all(it.rule in may for it in rules.broken(put_all(now, new, load), now)):
+                best = count
+        if not best:
+            return None
+        load = [cell for group in waiting[:best] for cell in group]
+        found.append(load)
+        now, waiting = put_all(now, new, load), waiting[best:]
+    return found
+
+
+def downloads(old: Tables, new: Tables, flash: bool = False) -> list[list[list]]:
+    """Returns the downloads, as lists of cells, from old to new tables. Where they don't go otherwise, the first takes
+    the patterns out that the last define anew. `flash` says that the cabinet flashes when they come."""
+    may = {FLASH_RULE} if flash else set()
+    wrong = [it for it in rules.broken(new, old) if it.rule not in may]
+    if wrong:
+        raise NoWay("; ".join(sentences(new, None, wrong[0], old)))
+    cells = differing(old, new)
+    whole = packed(old, new, cells, may)
+    if whole is not None:
+        return [[written(cell, value(new, cell)) for cell in load] for load in whole]
+    out = [("pattern", number, 2) for number in old.patterns()]
+    bare = old.copy()
+    for cell in out:
+        bare.cells[cell] = 0
+    rest = packed(bare, new, differing(bare, new), may)
+    if rest is None:
+        raise NoWay("no order of downloads keeps the rules on the way")
+    return [[written(cell, 0) for cell in out], *([written(cell, value(new, cell)) for cell in load] for load in rest)]
+
+
+def between(old: Street, new: Street, round_: int, flash: bool) -> list[dict]:
+    """Returns the downloads of all cabinets as a scenario's loads, from a round on."""
+    cabinets = [it.scenario["cabinets"] for it in (old, new)]
+    if len(cabinets[0]) != len(cabinets[1]):
+        raise NoWay(f"the old plan has {len(cabinets[0])} cabinets and the new one {len(cabinets[1])}")
+    found = []
+    for number, (before, after) in enumerate(zip(*cabinets, strict=True), 1):
+        try:
+            for cells in downloads(tables_of(before), tables_of(after), flash):
+                found.append({"round": round_, "cabinet": number, "cells": cells})
+        except NoWay as why:
+            raise NoWay(f"{new.names.called(number)}: {why}") from None
+    return found
+
+
+def object_of(cell: Cell) -> Name:
+    """Returns the name of the object that a cell is."""
+    match cell:
+        case ("unit", 1):
+            return (*ASC, 4, 2, 0)
+        case ("unit", column):
+            return (*OWN, *next(rest for rest, it in UNIT.items() if it == column))
+        case ("sequence", number, ring):
+            return (*ASC, 7, 3, 1, 3, number, ring)
+    table, *row, column = cell
+    return (*ASC, *OBJECTS[table], column, *row)
+
+
+def binding(name: Name, new: int | str) -> str:
+    """Returns a name and a value as `snmpset` has them."""
+    digits = ".".join(map(str, name))
+    return f'{digits} x "{new}"' if isinstance(new, str) else f"{digits} i {new}"
+
+
+def sets(load: dict, number: int, host: str, community: str) -> Iterator[str]:
+    """Yields the commands of snmpset that carry a download with this id: begin, parts, the total upon which the tables
+    are tested, finish."""
+    head = f"snmpset -v1 -c {community} {host}"
+    yield f"{head} {binding(BEGIN, number)}"
+    cells = load["cells"]
+    parts = [cells[at : at + PART] for at in range(0, len(cells), PART)]
+    for count, part in enumerate(parts, 1):
+        bindings = (binding(object_of(tuple(cell)), new) for *cell, new in part)
+        yield f"{head} {binding(ID, number)} {binding(PARTS, count)} {' '.join(bindings)}"
+    yield f"{head} {binding(ID, number)} {binding(TOTAL, len(parts))}"
+    yield f"{head} {binding(ID, number)} {binding(FINISH, 1)}"

@@ -1,0 +1,142 @@
+"""What people call the things of a scenario, which has numbers alone: a file beside it, `street.names.json`.
+
+It also says which phases were entered only because the rings need a partner. Pictures and reports leave these out.
+"""
+
+import dataclasses
+import json
+import pathlib
+from dataclasses import dataclass, field
+
+from .fields import is_number
+
+
+@dataclass
+class Phase:
+    """A phase: its name, whether it is a crossing alone, and what a check needs to know of the street."""
+
+    name: str = ""
+    kind: str = "vehicle"
+    speed: float | None = None
+    grade: float | None = None
+    crossing: float | None = None
+
+
+@dataclass
+class Intersection:
+    """An intersection: its name and those of its phases, preempts and detectors; the phases that are partners alone."""
+
+    name: str = ""
+    note: str = ""
+    phases: dict[int, Phase] = field(default_factory=dict)
+    preempts: dict[int, str] = field(default_factory=dict)
+    detectors: dict[int, str] = field(default_factory=dict)
+    partners: list[int] = field(default_factory=list)
+    travel: float | None = None
+
+    def phase(self, number: int) -> Phase:
+        """Returns what is known of a phase."""
+        return self.phases.get(number, Phase())
+
+    def phase_name(self, number: int) -> str:
+        """Returns a phase with its name where it has one."""
+        name = self.phase(number).name
+        return f"phase {number} ({name})" if name else f"phase {number}"
+
+
+@dataclass
+class Names:
+    """Names of a street. Speeds are in miles an hour and lengths in feet, or with `metric` in kilometres an hour and
+    metres."""
+
+    title: str = ""
+    units: str = "us"
+    sections: dict[int, str] = field(default_factory=dict)
+    intersections: list[Intersection] = field(default_factory=list)
+
+    def intersection(self, number: int) -> Intersection:
+        """Returns what is known of a cabinet, by its number from 1."""
+        return self.intersections[number - 1] if number <= len(self.intersections) else Intersection()
+
+    def called(self, number: int) -> str:
+        """Returns what a cabinet is called."""
+        return self.intersection(number).name or f"cabinet {number}"
+
+
+def bare(it: object) -> dict:
+    """Returns the fields of a dataclass that differ from their defaults, as JSON has them."""
+    blank = type(it)()
+    found = {}
+    for each in dataclasses.fields(it):
+        value = getattr(it, each.name)
+        if value == getattr(blank, each.name):
+            continue
+        if isinstance(value, list):
+            value = [bare(item) if dataclasses.is_dataclass(item) else item for item in value]
+        elif isinstance(value, dict):
+            value = {str(key): bare(item) if dataclasses.is_dataclass(item) else item for key, item in value.items()}
+        found[each.name] = value
+    return found
+
+
+def text(names: Names) -> str:
+    """Returns the text of a names file."""
+    return json.dumps(bare(names), indent=2, ensure_ascii=False) + "\n"
+
+
+def of_intersection(given: dict) -> Intersection:
+    """Returns an intersection as a names file has it."""
+    phases = {int(number): Phase(**it) for number, it in given.get("phases", {}).items()}
+    numbered = {
+        name: {int(number): it for number, it in given.get(name, {}).items()} for name in ("preempts", "detectors")
+    }
+    rest = {name: it for name, it in given.items() if name not in ("phases", "preempts", "detectors")}
+    return Intersection(**rest, **numbered, phases=phases)
+
+
+class NoNames(Exception):
+    """A file isn't a names file, in words."""
+
+
+def is_measure(value: object) -> bool:
+    """Tells whether a value is a number, or none."""
+    return value is None or is_number(value)
+
+
+def refuse_kinds(found: Names) -> None:
+    """Refuses names that are no texts, measures that are no numbers, and partners that are no phases."""
+    for it in found.intersections:
+        measures = [
+            it.travel,
+            *(value for phase in it.phases.values() for value in (phase.speed, phase.grade, phase.crossing)),
+        ]
+        texts = [
+            it.name,
+            it.note,
+            *it.preempts.values(),
+            *it.detectors.values(),
+            *(phase.name for phase in it.phases.values()),
+        ]
+        if not all(map(is_measure, measures)) or not all(isinstance(text, str) for text in texts):
+            raise TypeError(f"intersection {it.name!r} has a name that is no text, or a measure that is no number")
+        if not all(isinstance(phase, int) for phase in it.partners):
+            raise TypeError(f"intersection {it.name!r} has partners that are no phases")
+
+
+def read(content: str) -> Names:
+    """Returns what a names file says."""
+    try:
+        given = json.loads(content)
+        intersections = [of_intersection(it) for it in given.get("intersections", ())]
+        sections = {int(number): it for number, it in given.get("sections", {}).items()}
+        rest = {name: it for name, it in given.items() if name not in ("intersections", "sections")}
+        found = Names(**rest, intersections=intersections, sections=sections)
+        refuse_kinds(found)
+        return found
+    except (ValueError, TypeError, AttributeError) as fault:
+        raise NoNames(f"no names file: {fault}") from None
+
+
+def beside(path: pathlib.Path) -> pathlib.Path:
+    """Returns where the names of a scenario's file stand: street.json has street.names.json."""
+    return path.with_name(path.name.removesuffix(".json") + ".names.json")

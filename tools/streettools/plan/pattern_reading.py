@@ -1,0 +1,92 @@
+"""Patterns and splits of a sheet: what it says, what is entered where it says nothing, and what partners get."""
+
+from ..shared.tables import ALL
+from . import fields
+from .cells import SPLITS, put, value
+from .fields import Wrong
+from .given import Given
+from .started import Read
+
+SPLIT_NAMES = ("splits", "coordinated", "modes")
+
+
+def read_split(it: Given, number: int, found: Read, usual: tuple[int, ...] | None) -> None:
+    """Takes up times, modes and coordinated phases of a split, and gives partners theirs. `usual` are the phases that
+    are coordinated where nothing is said."""
+    said_times = set()
+    for name, each, column in (("splits", fields.SPLIT_TIME, 3), ("modes", fields.SPLIT_MODES, 4)):
+        below = it.below(name)
+        below.allow(map(str, ALL))
+        for phase in ALL:
+            new = below.take(str(phase), each.read)
+            if new is not None:
+                put(found.tables, ("split", number, phase, column), new)
+                if column == 3:
+                    said_times.add(phase)
+    pair = it.take("coordinated", lambda said: coordinated(said, found), usual)
+    if pair is not None:
+        for phase in ALL:
+            put(found.tables, ("split", number, phase, 5), int(phase in pair))
+    if said_times or "coordinated" in it.table:
+        fill_split_partners(found, number, said_times, pair)
+
+
+def coordinated(said: object, found: Read) -> tuple[int, ...]:
+    """Returns the coordinated phases; a partner is coordinated beside the phase that it faces."""
+    pair = fields.Phases(5).read(said)
+    if any(it not in ALL for it in pair):
+        raise Wrong(f"{said!r} has numbers that are no phases")
+    return pair
+
+
+def fill_split_partners(found: Read, number: int, said: set[int], pair: tuple[int, ...] | None) -> None:
+    """Gives each partner that nothing was said of the time of the phases that it faces, and coordinates it beside
+    them."""
+    for partner in found.partners:
+        if partner in said:
+            continue
+        side = next(it for it in found.drawn.sides if partner in (*it[0], *it[1]))
+        faced = side[0] if side[1] == (partner,) else side[1]
+        time = sum(value(found.tables, ("split", number, phase, 3)) for phase in faced)
+        put(found.tables, ("split", number, partner, 3), min(time, 255))
+        if pair is not None:
+            put(
+                found.tables,
+                ("split", number, partner, 5),
+                int(partner in pair or any(phase in pair for phase in faced)),
+            )
+
+
+def usual_pair(found: Read, number: int) -> tuple[int, ...]:
+    """Returns the phases that a split coordinates where nothing is said: those that it has, or the main street, 2 and
+    6, as far as drawn."""
+    drawn = [phase for phase in found.tables.enabled() if phase not in found.partners]
+    has = tuple(phase for phase in drawn if value(found.tables, ("split", number, phase, 5)))
+    return has or tuple(phase for phase in (2, 6) if phase in drawn)
+
+
+def read_pattern(it: Given, number: int, found: Read, used: dict[int, str]) -> None:
+    """Takes up a pattern, with its splits where they stand with it. A pattern that is named with a cycle has split and
+    sequence of its own number and 1, where nothing else is said."""
+    it.allow((*fields.PATTERN_FIELDS, *SPLIT_NAMES))
+    said = {name: it.take(name, each.read) for name, each in fields.PATTERN_FIELDS.items()}
+    if said["cycle"]:
+        for name, usual in (("split", number if number in SPLITS else 0), ("sequence", 1)):
+            if said[name] is None and value(found.tables, ("pattern", number, fields.PATTERN_FIELDS[name].column)) == 0:
+                said[name] = usual
+    for name, new in said.items():
+        if new is not None:
+            put(found.tables, ("pattern", number, fields.PATTERN_FIELDS[name].column), new)
+    if not any(name in it.table for name in SPLIT_NAMES):
+        return
+    split = value(found.tables, ("pattern", number, 4))
+    if split not in SPLITS:
+        it.fault("say the number of the split in which these times stand, 1 to 32", "split")
+    elif split in used:
+        it.fault(
+            f"the times of split {split} stand with {used[split]} already: say them once, or give this pattern another split",
+            "splits",
+        )
+    else:
+        used[split] = f"pattern {number}"
+        read_split(it, split, found, usual_pair(found, split))

@@ -1,0 +1,193 @@
+"""A sheet, as the tables of TOML or of a workbook, as a scenario with its names; or as a field file, where it has
+detectors."""
+
+import json
+from collections.abc import Callable
+from dataclasses import dataclass, field
+
+from . import given, intersection, names, started
+from .fields import Wrong
+from .given import Given, Unreadable
+
+TOP = ("title", "units", "run", "master", "schedule", "sections", "intersection", "events", "respond")
+RUN = {"version": (1, 2), "rounds": (1, 86_400), "ticks": (1, 600)}
+USUAL_RUN = {"version": 1, "rounds": 600, "ticks": 10}
+"""Where a sheet doesn't say how long its street is run: ten minutes, in rounds of a second."""
+EVERY = ("poll_every", "clock_every", "pattern_every")
+LISTS = ("inputs", "loads", "priority", "frames", "faults")
+
+
+@dataclass
+class Street:
+    """What a sheet comes to: a scenario, the names, what was entered for it, and what only a field file can hold."""
+
+    scenario: dict
+    names: names.Names
+    notes: list[str] = field(default_factory=list)
+    bank: list[dict] = field(default_factory=list)
+    pulses: list | None = None
+    respond: dict | None = None
+
+    def field_file(self) -> dict:
+        """Returns the field file around the scenario."""
+        found = {"scenario": self.scenario, "bank": self.bank}
+        found |= {name: it for name, it in (("pulses", self.pulses), ("respond", self.respond)) if it is not None}
+        return found
+
+    def is_field(self) -> bool:
+        """Tells whether it has anything that a scenario can't hold."""
+        return bool(self.bank) or self.pulses is not None or self.respond is not None
+
+
+def read_run(it: Given, drifts: bool) -> dict:
+    """Returns the head of the scenario: how long it is run, and the community."""
+    it.allow((*RUN, "community"))
+    found = {name: it.take(name, given.number(*limits), USUAL_RUN[name]) for name, limits in RUN.items()}
+    if drifts and "version" not in it.table:
+        found["version"] = 2
+    community = it.take("community", given.text)
+    return found if community is None else found | {"community": community}
+
+
+def read_master(it: Given, schedule: list[dict] | None) -> dict | None:
+    """Returns the master, None where the sheet says nothing of it."""
+    it.allow(("clock", *EVERY, "retries"))
+    found: dict = {}
+    clock = it.take("clock", given.day_ticks)
+    if clock is not None:
+        found["clock"] = clock
+    for name, limits in (*((name, (0, 86_400)) for name in EVERY), ("retries", (1, 10))):
+        said = it.take(name, given.number(*limits))
+        if said is not None:
+            found[name] = said
+    if schedule is not None:
+        found["schedule"] = schedule
+    return found or None
+
+
+def read_schedule(top: Given) -> list[dict] | None:
+    """Returns the schedule of patterns by the time of day."""
+    entries = []
+    for _, it in top.tables("schedule"):
+        it.allow(("at", "section", "pattern"))
+        for name in ("at", "pattern"):
+            if name not in it.table:
+                it.fault("is missing", name)
+        entries.append({
+            "second": it.take("at", given.day_seconds, 0), "section": it.take("section", given.number(1, 8), 1),
+            "pattern": it.take("pattern", given.command, 0),
+        })  # fmt: skip
+    return entries if "schedule" in top.table else None
+
+
+def rounds_of(ticks: int) -> Callable[[object], int]:
+    """Returns what reads a time in seconds as a number of rounds."""
+
+    def read(said: object) -> int:
+        found = given.measure(said) * 10 / ticks
+        if abs(found - round(found)) > 1e-6:
+            raise Wrong(f"{said:g} s: detectors are timed in whole rounds, here of {ticks / 10:g} s")
+        return round(found)
+
+    return read
+
+
+def read_detectors(it: Given, cabinet: int, ticks: int, found: names.Intersection) -> list[dict]:
+    """Returns the detectors of an intersection as a bank has them."""
+    bank = []
+    for number, row in it.each("detector", 64):
+        row.allow(("name", "phase", "delay", "extend", "no_activity", "max_presence", "erratic"))
+        if "phase" not in row.table:
+            row.fault("say which phase it calls", "phase")
+        times = {
+            name: row.take(name, rounds_of(ticks), 0) for name in ("delay", "extend", "no_activity", "max_presence")
+        }
+        bank.append({
+            "cabinet": cabinet, "detector": number, "phase": row.take("phase", given.number(1, 16), 1), **times,
+            "erratic": row.take("erratic", given.number(0, 255), 0),
+        })  # fmt: skip
+        called = row.take("name", given.text, "")
+        if called:
+            found.detectors[number] = called
+    return bank
+
+
+def read_names(top: Given) -> names.Names:
+    """Returns the names that stand at the top of a sheet."""
+    sections = top.below("sections")
+    sections.allow(map(str, range(1, 9)))
+    called = {number: sections.take(str(number), given.text) for number in range(1, 9)}
+    return names.Names(
+        title=top.take("title", given.text, ""), units=top.take("units", started.word_of("us", "metric"), "us"),
+        sections={number: name for number, name in called.items() if name},
+    )  # fmt: skip
+
+
+def plain(said: object) -> object:
+    """Returns a value that JSON can have."""
+    try:
+        json.dumps(said, allow_nan=False)
+    except (TypeError, ValueError):
+        raise Wrong("numbers, texts, true and false, lists and tables alone may stand here") from None
+    return said
+
+
+def listed(said: object) -> list:
+    """Returns a list that JSON can have."""
+    if not isinstance(said, list):
+        raise Wrong("a list is wanted here")
+    return plain(said)
+
+
+def respond_of(top: Given) -> dict | None:
+    """Returns by what rule patterns follow the traffic, as a field file has it."""
+    top.below("respond").allow(("period", "sections"))
+    return top.take("respond", plain)
+
+
+def read_events(top: Given, scenario: dict) -> list | None:
+    """Takes up what comes in round by round, which a sheet has as a scenario has it; returns the pulses of
+    detectors."""
+    it = top.below("events")
+    it.allow((*LISTS, "pulses"))
+    for name in LISTS:
+        said = it.take(name, listed)
+        if said is not None:
+            scenario[name] = said
+    return it.take("pulses", listed)
+
+
+def read_sheet(sheet: dict) -> tuple[Street, list[given.Fault]]:
+    """Returns what a sheet comes to, and all faults that were found in it."""
+    top = Given(sheet)
+    top.allow(TOP)
+    found = read_names(top)
+    rows = list(top.tables("intersection"))
+    if not rows:
+        top.fault("a sheet has an [[intersection]] at least")
+    drifts = any("gain" in it.table or "lose" in it.table for _, it in rows)
+    scenario = read_run(top.below("run"), drifts)
+    street = Street(scenario, found)
+    scenario["cabinets"] = []
+    for number, it in rows:
+        called = it.table.get("name")
+        it.where = f"intersection {number}" + (f" ({called})" if called else "")
+        read, cabinet = intersection.read(it)
+        scenario["cabinets"].append(cabinet)
+        found.intersections.append(read.names)
+        street.notes += [f"{it.where}: {note}" for note in read.notes]
+        street.bank += read_detectors(it, number, scenario["ticks"], read.names)
+    master = read_master(top.below("master"), read_schedule(top))
+    if master is not None:
+        scenario["master"] = master
+    street.pulses = read_events(top, scenario)
+    street.respond = respond_of(top)
+    return street, top.faults
+
+
+def street_of(sheet: dict) -> Street:
+    """Returns what a sheet comes to; Unreadable where it has faults."""
+    street, faults = read_sheet(sheet)
+    if faults:
+        raise Unreadable(faults)
+    return street

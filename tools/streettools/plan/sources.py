@@ -1,0 +1,117 @@
+"""Files that `plan` reads: sheets (TOML), workbooks, scenarios and field files (JSON), told apart by their names or by
+their first letters."""
+
+import pathlib
+import sys
+from dataclasses import dataclass, field
+
+from . import jsontext, names, reading, shapes, toml_text
+from .findings import Finding, Level
+from .given import Unreadable
+from .reading import Street
+from .values import MOST_BYTES
+
+
+@dataclass
+class Source:
+    """A file: its name, its text where it is JSON, what it comes to, and what was found while it was read."""
+
+    path: str
+    text: str | None = None
+    street: Street | None = None
+    findings: list[Finding] = field(default_factory=list)
+
+    def error(self, words: str, where: str = "", line: str | None = None, place: str | None = None) -> None:
+        """Keeps an error."""
+        self.findings.append(Finding(Level.ERROR, where, words, line=line, place=place))
+
+    @property
+    def errors(self) -> list[Finding]:
+        """What keeps the file from being taken."""
+        return [it for it in self.findings if it.level is Level.ERROR]
+
+
+def content_of(path: str) -> bytes:
+    """Returns the bytes of a file; `-` is standard input."""
+    return sys.stdin.buffer.read() if path == "-" else pathlib.Path(path).read_bytes()
+
+
+def load(path: str, named: str | None = None) -> Source:
+    """Reads a file. `named` is the file with the names of a scenario; where it isn't said, that beside the scenario, if
+    there is one."""
+    source = Source(path)
+    content = content_of(path)
+    if path.endswith(".xlsx") or content[:4] == b"PK\x03\x04":
+        from . import book_reading  # here, since openpyxl takes a while
+
+        read_sheet(source, lambda: book_reading.read(content))
+    elif path.endswith(".json") or (not path.endswith(".toml") and content.lstrip()[:1] == b"{"):
+        read_json(source, content, names_of(path, named))
+    else:
+        read_sheet(source, lambda: toml_text.read(utf8(content)))
+    return source
+
+
+def utf8(content: bytes) -> str:
+    """Returns the text of a sheet."""
+    try:
+        return jsontext.decoded(content.removeprefix(b"\xef\xbb\xbf")).replace("\r\n", "\n")
+    except jsontext.NoJson as fault:
+        raise Unreadable([reading.given.Fault(str(fault.place), fault.words)]) from None
+
+
+def names_of(path: str, named: str | None) -> names.Names:
+    """Returns the names of a scenario."""
+    if named is not None:
+        return names.read(pathlib.Path(named).read_text(encoding="utf-8"))
+    beside = names.beside(pathlib.Path(path))
+    return names.read(beside.read_text(encoding="utf-8")) if path != "-" and beside.is_file() else names.Names()
+
+
+def read_sheet(source: Source, read) -> None:
+    """Takes up a sheet."""
+    try:
+        sheet = read()
+    except Unreadable as unreadable:
+        for fault in unreadable.faults:
+            source.error(fault.words, fault.where)
+        return
+    street, faults = reading.read_sheet(sheet)
+    for fault in faults:
+        source.error(fault.words, fault.where)
+    if not faults:
+        for fault in shapes.scenario_faults(street.scenario):
+            source.error(
+                fault.words,
+                f"events, {fault.path}" if fault.path.startswith(reading.LISTS) else fault.path,
+                line=fault.line,
+            )
+    for note in street.notes:
+        source.findings.append(Finding(Level.NOTE, "", note))
+    source.street = street
+
+
+def read_json(source: Source, content: bytes, known: names.Names) -> None:
+    """Takes up a scenario or a field file."""
+    if len(content) > MOST_BYTES:
+        source.error(f"{len(content)} bytes, and {MOST_BYTES} is the most", line="scenario: limit .")
+        return
+    try:
+        value = jsontext.read(content)
+    except jsontext.NoJson as fault:
+        source.error(fault.words, line="scenario: not JSON", place=str(fault.place))
+        return
+    source.text = content.decode()
+    is_field = isinstance(value, dict) and isinstance(value.get("scenario"), dict)
+    scenario = value["scenario"] if is_field else value
+    front = "scenario." if is_field else ""
+    for fault in shapes.scenario_faults(scenario):
+        place = jsontext.place_of(source.text, front + fault.path if fault.path != "." else front.rstrip(".") or ".")
+        source.error(fault.words, fault.path, line=fault.line, place=str(place))
+    if isinstance(scenario, dict) and not any(
+        fault.startswith(("cabinets", ".", "version")) for fault in (it.where for it in source.errors)
+    ):
+        around = (
+            {name: value.get(name) for name in ("pulses", "respond")} if is_field else {"pulses": None, "respond": None}
+        )
+        source.street = Street(scenario, known, [], value.get("bank", []) if is_field else [], **around)

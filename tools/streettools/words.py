@@ -1,0 +1,63 @@
+"""The words of the launcher: the one place where a command of the tools is named.
+
+A new command is one line in TOOLS, and a module `streettools/NAME/command.py` with `main(words: list[str]) -> int`.
+It is shown in help and taken as a word only if that module is there.
+"""
+
+import difflib
+import importlib
+import pathlib
+from dataclasses import dataclass
+
+HERE = pathlib.Path(__file__).resolve().parent
+
+
+@dataclass(frozen=True)
+class Word:
+    """A word, and what it does in half a line."""
+
+    name: str
+    does: str
+
+    def is_there(self) -> bool:
+        """Tells whether this checkout has the command."""
+        return (HERE / self.name / "command.py").is_file()
+
+
+TOOLS = (
+    Word("look", "pictures, a timing report and an event log of a trace"),
+    Word("cabinet", "a live cabinet that answers SNMP version 1 on loopback"),
+    Word("plan", "a timing sheet as a scenario, and its refusals in words"),
+    Word("sweep", "many plans over many scenarios, on one machine or several"),
+)
+"""Commands of the tools, which are not proved."""
+
+PROVE = Word("prove", "proves the program here, and builds it")
+"""What the launcher itself does."""
+
+LAUNCH = Word("launch", "what the launcher's shell hands over to Python; no word for users")
+
+PROGRAM = ("run", "check", "overlaps", "band", "respond", "generate", "survey")
+"""Commands of the program itself."""
+
+
+def tools() -> list[Word]:
+    """Returns the commands of the tools that this checkout has."""
+    return [word for word in TOOLS if word.is_there()]
+
+
+def meant(word: str) -> str | None:
+    """Returns the command that is nearest to a word that is none, None if no command is near."""
+    known = [*PROGRAM, PROVE.name, *(it.name for it in tools()), "--help", "--version"]
+    return next(iter(difflib.get_close_matches(word, known, 1)), None)
+
+
+def is_word(word: str) -> bool:
+    """Tells whether a word is a command that `run` takes."""
+    return word in [it.name for it in (*tools(), LAUNCH)]
+
+
+def run(words: list[str]) -> int:
+    """Runs the command of the tools that the first word names with the other words, and returns its exit status."""
+    name, *rest = words
+    return importlib.import_module(f"streettools.{name}.command").main(rest)

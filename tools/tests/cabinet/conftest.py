@@ -1,0 +1,80 @@
+"""What the tests share: the built program, an agent that answers at a free port, and messages to send to it."""
+
+import os
+import pathlib
+import re
+import signal
+import socket
+import subprocess
+import sys
+
+import pytest
+
+TOP = pathlib.Path(__file__).resolve().parents[3]
+sys.dont_write_bytecode = True
+
+PROGRAM = pathlib.Path(os.environ.get("ARTERIAL_PROGRAM", TOP / "crates/arterial/out/arterial"))
+SECONDS = 60
+"""How long anything may take."""
+
+ASC = (1, 3, 6, 1, 4, 1, 1206, 4, 2, 1)
+OWN = (1, 3, 6, 1, 4, 1, 32473, 1)
+CONTROL, CLOCK, VERSION = (*ASC, 4, 14, 0), (*OWN, 2, 1, 0), (*OWN, 1, 10, 0)
+
+
+class Client:
+    """An agent that runs, and the software that talks with it."""
+
+    def __init__(self, words):
+        self.agent = subprocess.Popen(
+            [TOP / "cabinet", "--port", "0", "--program", PROGRAM, *map(str, words)], stderr=subprocess.PIPE, text=True
+        )
+        self.said = self.agent.stderr.readline()
+        found = re.search(r"127\.0\.0\.1:(\d+)", self.said)
+        self.port = int(found[1]) if found else None
+        self.socket = socket.socket(socket.AF_INET, socket.SOCK_DGRAM)
+        self.socket.settimeout(SECONDS)
+
+    def send(self, octets):
+        """Sends a datagram."""
+        self.socket.sendto(octets, ("127.0.0.1", self.port))
+
+    def ask(self, octets):
+        """Sends a datagram and returns the reply."""
+        self.send(octets)
+        return self.socket.recv(65_536)
+
+    def end(self, number=signal.SIGINT):
+        """Ends the agent, and returns its exit status and what else it said."""
+        self.agent.send_signal(number)
+        return self.ended()
+
+    def ended(self):
+        """Waits until the agent ends, and returns its exit status and what else it said."""
+        said = self.agent.communicate(timeout=SECONDS)[1]
+        return self.agent.returncode, said
+
+
+@pytest.fixture
+def program():
+    """The built program; a test is skipped where there is none."""
+    if not PROGRAM.is_file():
+        pytest.skip(f"no program at {PROGRAM}")
+    return PROGRAM
+
+
+@pytest.fixture
+def client(program):
+    """Starts agents, with the words given to each."""
+    clients = []
+
+    def start(*words):
+        clients.append(Client(words))
+        return clients[-1]
+
+    yield start
+    for it in clients:
+        it.socket.close()
+        if it.agent.poll() is None:
+            it.agent.kill()
+        it.agent.communicate()

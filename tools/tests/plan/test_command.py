@@ -1,0 +1,115 @@
+"""The command as it is called: what it writes, one line for what it can't take, and its exit statuses."""
+
+import json
+
+import pytest
+
+from .conftest import TOP, plan, said
+
+SHEET = TOP / "scenarios/sheets/main-street.toml"
+BAD = '[[intersection]]\nname = "Main & 3rd"\n[intersection.pattern.1]\ncycle = 80\n'
+
+
+def test_a_sheet_goes_to_a_scenario_and_back_with_its_names(tmp_path):
+    """The scenario and the names are written; from these two comes the same scenario again."""
+    out = tmp_path / "street.json"
+    ran = plan("scenario", SHEET, "-o", out)
+    assert ran.returncode == 0 and b"phase 8 is entered beside phase 4" in ran.stderr
+    assert json.loads((tmp_path / "street.names.json").read_text())["intersections"][1]["partners"] == [8]
+    back = plan("sheet", out)
+    assert (
+        b'name = "Main St & Station Sq"' in back.stdout
+        and b'"- | -"' not in back.stdout
+        and b'"6   | -",' in back.stdout
+    )
+    (tmp_path / "again.toml").write_bytes(back.stdout)
+    assert plan("scenario", tmp_path / "again.toml").stdout == out.read_bytes()
+
+
+def test_the_sheet_of_four_intersections_is_run(program):
+    """The program takes the scenario of the sheet, and the field file with its detectors."""
+    assert said(program, plan("scenario", SHEET).stdout) == ""
+    value = json.loads(plan("scenario", "--field", SHEET).stdout)
+    assert [it["phase"] for it in value["bank"]] == [4, 1] and set(value) == {"scenario", "bank"}
+
+
+def test_a_check_tells_errors_and_ends_with_status_2(tmp_path):
+    """In words, as JSON, and with the least change of splits, which mends the plan."""
+    path = tmp_path / "street.toml"
+    path.write_text(BAD)
+    ran = plan("check", path)
+    assert (
+        ran.returncode == 2 and b"Main & 3rd: error, rule 17: pattern 1 (split 1): the splits of ring 1" in ran.stdout
+    )
+    found = json.loads(plan("check", "--json", path).stdout)
+    assert found[0]["rule"] == 17 and found[0]["line"] == "scenario: cabinet 1 breaks rule 17 at row 1"
+    ran = plan("check", "--fix", path, "-o", tmp_path / "mended.toml")
+    assert ran.returncode == 2 and b"20 s of change, the least there is" in ran.stdout
+    assert plan("check", tmp_path / "mended.toml").returncode == 0
+
+
+def test_refusals_can_be_piped_into_explain(tmp_path):
+    """Lines on standard input, each in words."""
+    path = tmp_path / "street.json"
+    path.write_bytes(b'{"version":1,"rounds":1,"ticks":1,"cabinets":[{"cells":[["phase",2,8,29]]}]}')
+    ran = plan("explain", "-", path, given=b"arterial: not proved\nscenario: cabinet 1 breaks rule 10 at row 2\n")
+    assert ran.returncode == 0 and b"phase 2 has a yellow change of 2.9 s" in ran.stdout
+    assert ran.stderr == b"arterial: not proved\n"
+
+
+def test_a_workbook_is_a_sheet(tmp_path):
+    """Written, checked, and turned into the same scenario."""
+    path = tmp_path / "street.xlsx"
+    assert plan("sheet", SHEET, "-o", path).returncode == 0
+    assert plan("scenario", path).stdout == plan("scenario", SHEET).stdout
+
+
+@pytest.mark.parametrize(
+    ("words", "status"),
+    [
+        (["check", "nowhere.toml"], 1),
+        (["check", "folder.toml"], 1),
+        (["sheet", "bad.json"], 2),
+        (["scenario", "bad.toml"], 2),
+        (["check", "bad.xlsx"], 2),
+        (["from", "utdf", "bad.json"], 2),
+        (["from", "walk", "bad.json"], 2),
+        (["from", "live", "192.0.2.1"], 2),
+        (["from", "live", "127.0.0.1:x"], 2),
+        (["explain", "what is this", "good.json"], 2),
+        (["loads", "good.json", "two.json"], 2),
+        (["sheet", "good.json", "--names", "bad.json"], 2),
+        (["sheet", "good.json", "-o", "nowhere/x.toml"], 1),
+        (["check"], 2),
+        (["mend", "good.json"], 2),
+    ],
+)
+def test_what_can_not_be_taken_gets_a_line_and_a_status(words, status, tmp_path):
+    """Files that aren't there, of another kind, damaged; words that are none. Never a traceback."""
+    (tmp_path / "bad.json").write_bytes(b'{"version": 1,,}')
+    (tmp_path / "bad.toml").write_bytes(b"[[intersection]\n\xff")
+    (tmp_path / "bad.xlsx").write_bytes(b"PK\x03\x04 no workbook")
+    good = '{"version":1,"rounds":1,"ticks":1,"cabinets":[%s]}'
+    (tmp_path / "good.json").write_text(good % "{}")
+    (tmp_path / "two.json").write_text(good % "{},{}")
+    (tmp_path / "folder.toml").mkdir()
+    names = {it.name for it in tmp_path.iterdir()}
+    ran = plan(*(tmp_path / it if it in names or it.startswith("nowhere") else it for it in words))
+    assert ran.returncode == status and b"Traceback" not in ran.stderr
+    assert ran.stderr or words[-1].endswith(".xlsx")
+
+
+def test_loads_are_written_for_a_scenario_and_for_snmp(tmp_path):
+    """The cells that differ, in the round that is said; or Sets for an agent."""
+    old, new = tmp_path / "old.json", tmp_path / "new.json"
+    old.write_text('{"version":1,"rounds":9,"ticks":10,"cabinets":[{}]}')
+    new.write_text('{"version":1,"rounds":9,"ticks":10,"cabinets":[{"cells":[["phase",2,8,43]]}]}')
+    assert json.loads(plan("loads", old, new, "--round", "3").stdout) == {
+        "loads": [{"round": 3, "cabinet": 1, "cells": [["phase", 2, 8, 43]]}]
+    }
+    assert (
+        plan("loads", old, new, "--sets", "127.0.0.1:10161", "--id", "5").stdout.count(
+            b"snmpset -v1 -c public 127.0.0.1:10161"
+        )
+        == 4
+    )
