@@ -18,7 +18,7 @@ def times_of(draw: Random, made: Structure, needs: dict[int, int]) -> dict[int, 
     times: dict[int, int] = {}
     for side in made.sides:
         for ring in side:
-            times |= {p: needs[p] + draw.choice([0, 0, 1, 2, 5]) for p in ring}
+            times |= {p: needs[p] + draw.choice([0, 0, 0, 1, 2, 5]) for p in ring}
         totals = [sum(times[p] for p in ring) for ring in side]
         shorter = side[0] if totals[0] < totals[1] else side[1]
         times[draw.choice(shorter)] += abs(totals[0] - totals[1])

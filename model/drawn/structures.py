@@ -72,7 +72,7 @@ def sequence_cells(draw: Random, made: Structure, number: int) -> list[CellList]
 def options(draw: Random) -> int:
     """Draws the options of a phase in use."""
     return 1 + sum(
-        bit for bit, often in ((32, 0.3), (64, 0.25), (128, 0.12), (256, 0.15), (1024, 0.5)) if draw.random() < often
+        bit for bit, often in ((32, 0.3), (64, 0.35), (128, 0.12), (256, 0.15), (1024, 0.5)) if draw.random() < often
     )
 
 
@@ -99,7 +99,7 @@ class Usual:
 SLOW = Usual(
     [0, 0, 1, 2, 3, 4, 6], [0, 1, 2, 5], [0, 1, 2, 3, 5], [0, 1, 7, 15, 30], [30, 31, 35, 42], [0, 1, 5, 12], 0.02
 )
-QUICK = Usual([0, 0, 0, 1], [0, 1], [0, 0, 1], [0, 1, 3, 9], [30, 30, 31], [0, 0, 1, 4], 0)
+QUICK = Usual([0, 0, 0, 1], [0, 1], [0, 1, 1, 2], [0, 1, 3, 9], [30, 30, 30, 30, 31], [0, 0, 0, 10, 4], 0)
 EDGY = Usual(*[getattr(SLOW, name) for name in SLOW.__dataclass_fields__ if name != "edgy"], 0.1)
 STYLES = [QUICK, QUICK, QUICK, SLOW, SLOW, EDGY]
 
