@@ -1,7 +1,8 @@
 """Lengths, numbers, texts and names as octets, both ways.
 
-ITU-T X.690 as RFC 1157 takes it; docs/DEFINITIONS.md, "Messages". A reader takes the octets and the place at which a
-field begins, and returns the field and the place behind it; octets that aren't the field's are told by `Unreadable`.
+ITU-T X.690 as RFC 1157 takes it; docs/DEFINITIONS.md, "Messages (RFC 1157, ITU-T X.690)". A reader takes the octets
+and the place at which a field begins, and returns the field and the place behind it; octets that aren't the field's
+are told by `Unreadable`.
 """
 
 import functools

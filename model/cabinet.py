@@ -1,6 +1,6 @@
 """A cabinet: its controller, its download stage and its agent, and the lines of what comes to it.
 
-docs/TRACE.md, "How a trace is read"; docs/DEFINITIONS.md, "A cabinet's story".
+docs/TRACE.md, "How a trace is read".
 """
 
 from collections.abc import Iterator

@@ -1,6 +1,6 @@
 """The calls of vehicles and pedestrians, and which phases have demand or are active at a tick.
 
-docs/SCENARIO.md, "What an input does"; docs/DEFINITIONS.md, "A tick: calls". What is said of the split holds while a
+docs/SCENARIO.md, "Names"; docs/DEFINITIONS.md, "A tick: calls". What is said of the split holds while a
 pattern binds: `bound` is its number, None where none does.
 """
 

@@ -1,4 +1,4 @@
-"""The master's desk: what it sends to each cabinet in a round, and what it notes.
+"""The master: what it sends to each cabinet in a round, and what it notes.
 
 docs/SCENARIO.md, "The master" and "What is sent in a round"; docs/TRACE.md, the M lines.
 """
@@ -52,7 +52,7 @@ class Sent:
     load: list[bytes] = field(default_factory=list)
 
 
-class Desk:
+class Master:
     """What the master keeps of a cabinet."""
 
     def __init__(self, number: int, scenario: Scenario, setup: CabinetSetup) -> None:

@@ -12,7 +12,7 @@ from model.cabinet import FIELDS, TICKS, Cabinet
 from model.controller import Controller
 from model.link import Link
 from model.lines import frame_line, journal_line
-from model.master import Desk
+from model.master import Master
 from model.scenario import Input, Scenario, Stream
 
 Runs = list[tuple[int, int]]
@@ -76,7 +76,7 @@ class Run:
             Cabinet(number, Controller(setup.tables, setup.pattern, setup.clock, setup.drift), scenario.community)
             for number, setup in enumerate(scenario.cabinets, 1)
         ]
-        self.desks = [Desk(number, scenario, setup) for number, setup in enumerate(scenario.cabinets, 1)]
+        self.masters = [Master(number, scenario, setup) for number, setup in enumerate(scenario.cabinets, 1)]
         self.link = Link(scenario)
         self.arrived: list[dict[Stream, list[bytes]]] = [{stream: [] for stream in Stream} for _ in self.cabinets]
         self.inputs: dict[tuple[int, int], list[Input]] = defaultdict(list)
@@ -95,8 +95,8 @@ class Run:
         """Gives the lines of a round: the master's notes, then cabinet by cabinet what comes to it."""
         yield b"R %d" % number
         turns = [
-            desk.turn(number, arrived[Stream.POLL], arrived[Stream.LOAD])
-            for desk, arrived in zip(self.desks, self.arrived)
+            master.turn(number, arrived[Stream.POLL], arrived[Stream.LOAD])
+            for master, arrived in zip(self.masters, self.arrived)
         ]
         for notes, _ in turns:
             yield from notes

@@ -1,6 +1,6 @@
 """The pattern that the master's schedule has for a section.
 
-docs/SCENARIO.md, "The master"; docs/DEFINITIONS.md, "The master's desk and the line".
+docs/SCENARIO.md, "The master"; docs/DEFINITIONS.md, "Master and line".
 """
 
 from model.scenario import Entry, Scenario

@@ -2,10 +2,11 @@
 
 from random import Random
 
+from model.cells import Cell
 from model.drawn.cabinets import Drawn, draw_cells
-from model.drawn.structures import STANDARD, CellList
+from model.drawn.structures import STANDARD, CellList, time_cells
 from model.messages import Bind, Message, Pdu, Value, write
-from model.names import NAMES, OWN, READABLE, Oid, Scalar, oid_of_cell
+from model.names import NAMES, OWN, READABLE, Index, Oid, Scalar, is_readable, oid_of_cell
 from model.priority import Request
 from model.master import request_binds
 from model.shapes import cell
@@ -20,6 +21,10 @@ ODD_NAMES: list[Oid] = [
     OWN + (9,) * 20,
     (1, 3, 6, 1, 4, 1, 1206, 4, 2, 1),
 ]
+
+
+TELLING: list[Oid] = [oid for oid, name in NAMES.items() if is_readable(oid) and not isinstance(name, (Cell, Index))]
+"""The names of what a cabinet shows: states of requests, groups of phases, clock, counter, mode, outcomes."""
 
 
 def octets_of(draw: Random, pdu: Pdu, binds: list[Bind], community: bytes) -> bytes:
@@ -84,7 +89,9 @@ def name_near(draw: Random) -> Oid:
 
 
 def read_frame(draw: Random, community: bytes) -> bytes:
-    """Draws a Get or a GetNext of some names."""
+    """Draws a Get or a GetNext of some names: often of those that tell most of what a cabinet does."""
+    if draw.random() < 0.6:
+        return octets_of(draw, Pdu.GET, [Bind(oid, None) for oid in draw.sample(TELLING, 32)], community)
     count = draw.choice([0, 1, 1, 2, 8, 32])
     binds = [Bind(draw.choice(READABLE) if draw.random() < 0.7 else name_near(draw), None) for _ in range(count)]
     return octets_of(draw, draw.choice([Pdu.GET, Pdu.NEXT]), binds, community)
@@ -106,18 +113,20 @@ def load_binds(draw: Random, drawn: Drawn, load: int) -> list[Bind]:
 
 
 def load_cells(draw: Random, drawn: Drawn) -> list[CellList]:
-    """Draws the cells of a download: mostly all cells of a cabinet of this structure drawn anew, at times of
-    another."""
-    made = drawn.made if draw.random() < 0.85 else STANDARD
-    return draw_cells(draw, "std8", made, drawn.patterns, drawn.preempts)
+    """Draws the cells of a download: times of phases, else all cells of a cabinet of this structure drawn anew, at
+    times of another."""
+    made = drawn.made if draw.random() < 0.9 else STANDARD
+    if draw.random() < 0.5:
+        return time_cells(draw, made)
+    return draw_cells(draw, "std8", made, drawn.patterns, drawn.preempts)[1]
 
 
 def frame(draw: Random, drawn: Drawn, community: bytes, load: int) -> bytes:
     """Draws a frame for a cabinet."""
     kind = draw.random()
-    if kind < 0.45:
+    if kind < 0.35:
         octets = octets_of(draw, Pdu.SET, command_binds(draw, drawn), community)
-    elif kind < 0.65:
+    elif kind < 0.5:
         octets = octets_of(draw, Pdu.SET, load_binds(draw, drawn, load), community)
     elif kind < 0.85:
         octets = read_frame(draw, community)

@@ -1,5 +1,6 @@
 """Patterns, units and preempts of a drawn cabinet."""
 
+from dataclasses import dataclass
 from random import Random
 
 from model.drawn.structures import CellList, Structure, octets, sequence_cells
@@ -17,7 +18,7 @@ def times_of(draw: Random, made: Structure, needs: dict[int, int]) -> dict[int, 
     times: dict[int, int] = {}
     for side in made.sides:
         for ring in side:
-            times |= {p: needs[p] + draw.choice([0, 0, 1, 2, 5]) for p in ring}
+            times |= {p: needs[p] + draw.choice([0, 0, 0, 1, 2, 5]) for p in ring}
         totals = [sum(times[p] for p in ring) for ring in side]
         shorter = side[0] if totals[0] < totals[1] else side[1]
         times[draw.choice(shorter)] += abs(totals[0] - totals[1])
@@ -35,32 +36,47 @@ def split_cells(
     return cells
 
 
-def pattern_cells(draw: Random, made: Structure, number: int, needs: dict[int, int]) -> list[CellList]:
+@dataclass
+class Plan:
+    """A drawn pattern: its number, cycle and offset in seconds, and its coordinated phases."""
+
+    number: int
+    cycle: int
+    offset: int
+    held: tuple[int, ...]
+
+
+def pattern_cells(draw: Random, made: Structure, number: int, needs: dict[int, int]) -> tuple[Plan, list[CellList]]:
     """Draws a pattern with a split and, at times, a sequence of its own."""
     held, split = pair(draw, made), draw.choice([1, min(number, 31), 32])
-    times = times_of(draw, made, {p: need + (draw.choice([3, 6, 12]) if p in held else 0) for p, need in needs.items()})
+    times = times_of(
+        draw, made, {p: need + (draw.choice([1, 3, 6, 9]) if p in held else 0) for p, need in needs.items()}
+    )
     cycle = sum(times[p] for side in made.sides for p in side[0])
     sequence = draw.choice([1, 1, 2, 16])
     cells = [] if sequence == 1 else sequence_cells(draw, made, sequence)
-    offset = draw.choice([0, cycle - 1, draw.randrange(cycle)])
-    columns = {2: cycle, 3: offset, 4: split, 5: sequence}
+    plan = Plan(number, cycle, draw.choice([0, cycle - 1, draw.randrange(cycle)]), held)
+    columns = {2: cycle, 3: plan.offset, 4: split, 5: sequence}
     cells += split_cells(draw, made, split, times, held)
-    return cells + [["pattern", number, column, min(value, 255)] for column, value in columns.items()]
+    return plan, cells + [["pattern", number, column, min(value, 255)] for column, value in columns.items()]
 
 
-def unit_cells(draw: Random) -> list[CellList]:
-    """Draws correction, backup time, extension, force mode and offset reference."""
+def unit_cells(draw: Random, window: int, least: int) -> list[CellList]:
+    """Draws correction, backup time, extension, force mode and offset reference; the limits of correction up to what a
+    window and the least service of the coordinated phases leave."""
+    widest = max(1, window)
+    skip = max(1, min(widest // 2, window - least))
     columns = {
-        1: draw.choice([2, 3, 4]),
+        1: draw.choice([2, 3, 3, 4]),
         2: draw.choice([1, 3, 20, 100, 2550]),
-        3: draw.choice([1, 2, 10, 30, 50]),
-        4: draw.choice([1, 2, 10, 20]),
-        5: draw.choice([0, 0, 0, 3, 9, 40, 65535]),
+        3: draw.choice([1, 2, widest // 3 or 1, widest, widest]),
+        4: draw.choice([1, 2, skip // 2 or 1, skip, skip]),
+        5: draw.choice([0, 0, 0, 0, 9, 25, 40, 65535]),
         6: draw.choice([0, 10, 60, 2550]),
         7: draw.choice([1, 2]),
         8: draw.choice([1, 2]),
     }
-    return [["unit", column, value] for column, value in columns.items()]
+    return [["unit", column, min(value, 2550)] for column, value in columns.items()]
 
 
 def set_of(draw: Random, made: Structure) -> str:

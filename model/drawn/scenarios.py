@@ -37,6 +37,19 @@ class Street:
             return place | {"ped": draw.choice([*drawn.made.phases, draw.randint(1, 16)])}
         return place | {"preempt": draw.choice(drawn.preempts or [draw.randint(1, 8)]), "on": draw.random() < 0.5}
 
+    def pulses(self) -> list[dict[str, Any]]:
+        """Draws inputs that go off soon after they went on: of detectors and of preempts."""
+        draw, inputs = self.draw, []
+        for _ in range(draw.choice([0, 1, 3, 8])):
+            place = self.place()
+            drawn = self.at(place)
+            last = min(self.rounds, place["round"] + draw.choice([1, 2, 5, 20]))
+            told = {"veh": draw.choice(drawn.made.phases)}
+            if drawn.preempts and draw.random() < 0.4:
+                told = {"preempt": draw.choice(drawn.preempts)}
+            inputs += [place | told | {"on": True}, place | told | {"round": last, "on": False}]
+        return inputs
+
     def load(self) -> dict[str, Any]:
         """Draws a download."""
         place = self.place()
@@ -134,12 +147,12 @@ def scenario(draw: Random, most_ticks: int = 1 << 20) -> dict[str, Any]:
         told["community"] = community
     if draw.random() < 0.7:
         told["master"] = master(draw, street, draw.choice([0, 863_950, cabinets[0].value["clock"]]))
-    many = max(2, min(60, rounds * ticks // 8))
+    many = max(2, min(150, rounds * ticks // draw.choice([3, 8, 20])))
     lists = {
-        "inputs": street.some(street.input, many),
+        "inputs": street.some(street.input, many) + street.pulses(),
         "loads": street.some(street.load, 3),
         "priority": street.some(street.priority, 8),
-        "frames": street.some(street.frame, 10),
+        "frames": street.some(street.frame, 16),
         "faults": street.some(street.fault, 12),
     }
     return told | {name: items for name, items in lists.items() if items}

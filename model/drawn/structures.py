@@ -72,7 +72,7 @@ def sequence_cells(draw: Random, made: Structure, number: int) -> list[CellList]
 def options(draw: Random) -> int:
     """Draws the options of a phase in use."""
     return 1 + sum(
-        bit for bit, often in ((32, 0.3), (64, 0.25), (128, 0.12), (256, 0.15), (1024, 0.5)) if draw.random() < often
+        bit for bit, often in ((32, 0.3), (64, 0.35), (128, 0.12), (256, 0.15), (1024, 0.5)) if draw.random() < often
     )
 
 
@@ -83,30 +83,46 @@ def start_ups(draw: Random, made: Structure) -> dict[int, int]:
     return {p: draw.choice([3, 4]) if p in chosen else draw.choice([1, 2, 5, 6]) for p in made.phases}
 
 
-EDGY = [0, 0, 0, 0, 0.02, 0.1]
-"""How often a time of a cabinet is one at an edge of its range."""
+@dataclass(frozen=True)
+class Usual:
+    """The usual values of the times of phases, and how often a time is one at an edge of its range instead."""
+
+    walk: list[int]
+    ped_clear: list[int]
+    least_green: list[int]
+    passage: list[int]
+    yellow: list[int]
+    red_clear: list[int]
+    edgy: float
+
+
+SLOW = Usual(
+    [0, 0, 1, 2, 3, 4, 6], [0, 1, 2, 5], [0, 1, 2, 3, 5], [0, 1, 7, 15, 30], [30, 31, 35, 42], [0, 1, 5, 12], 0.02
+)
+QUICK = Usual([0, 0, 0, 1], [0, 1], [0, 1, 1, 2], [0, 1, 3, 9], [30, 30, 30, 30, 31], [0, 0, 0, 10, 4], 0)
+EDGY = Usual(*[getattr(SLOW, name) for name in SLOW.__dataclass_fields__ if name != "edgy"], 0.1)
+STYLES = [QUICK, QUICK, QUICK, SLOW, SLOW, EDGY]
 
 
 def time_cells(draw: Random, made: Structure) -> list[CellList]:
-    """Draws the times and options of all phases, short ones, so that much happens."""
+    """Draws the times and options of all phases: mostly short ones, so that cycles are short and much happens."""
     cells: list[CellList] = []
-    starts, edgy = start_ups(draw, made), draw.choice(EDGY)
+    starts, usual = start_ups(draw, made), draw.choice(STYLES)
 
-    def near(usual: list[int], edges: list[int]) -> int:
-        return draw.choice(edges if draw.random() < edgy else usual)
+    def near(values: list[int], edges: list[int]) -> int:
+        return draw.choice(edges if draw.random() < usual.edgy else values)
 
     for p in made.phases:
-        walk = near([0, 0, 1, 2, 3, 4, 6], [20, 255])
-        clear = near([0, 1, 2, 5], [20, 255]) if walk else 0
+        walk = near(usual.walk, [20, 255])
         columns = {
             2: walk,
-            3: clear,
-            4: near([0, 1, 2, 3, 5], [255]),
-            5: near([0, 1, 7, 15, 30], [255]),
-            6: near([0, 2, 4, 8, 12], [255]),
-            8: near([30, 30, 31, 35, 42], [29, 255]),
-            9: near([0, 0, 1, 5, 12], [255]),
-            10: near([0, 1, 10, 20, 30], [60, 255]),
+            3: near(usual.ped_clear, [20, 255]) if walk else 0,
+            4: near(usual.least_green, [255]),
+            5: near(usual.passage, [255]),
+            6: near([0, 1, 2, 4, 8], [255]),
+            8: near(usual.yellow, [29, 255]),
+            9: near(usual.red_clear, [255]),
+            10: near([0, 1, 10, 20, 30, 30], [60, 255]),
             20: starts[p],
             21: options(draw),
         }
