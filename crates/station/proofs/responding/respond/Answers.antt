@@ -3,7 +3,7 @@ use Rattle.field_file.specs.Told.{HasResult, TellsResult, IsFirstResultFault}
 use Rattle.scenario_data.specs.declared.refusal.Refusal.{Refusal}
 use Rattle.station.specs.Io.{Io, io_of}
 use Rattle.station.specs.Replied.{ReplyAnswer}
-use Rattle.station.specs.declared.status.Status.TheVariants.{Scenario, ReadFault, NoMemory}
+use Rattle.station.specs.declared.status.Status.TheVariants.{Scenario}
 use Rattle.station.proofs.Refusals.{named_elsewhere, refused_first}
 use Rattle.station.proofs.Due.{reply_answer, told_reply}
 use Rattle.station.proofs.responding.respond.Goals as goal

@@ -1,9 +1,9 @@
-use Rattle.std.proofs.Common.{inl, inr, Err, refl, sym, ap, subst}
+use Rattle.std.proofs.Common.{inr, Err, refl, sym, ap, subst}
 use Rattle.scenario_data.specs.Content.{scenario_content}
 use Rattle.scenario_data.specs.declared.refusal.Refusal.{Refusal}
 use Rattle.station.specs.Io.{Io, io_of}
 use Rattle.station.specs.Answers.{RunAnswer}
-use Rattle.station.specs.declared.status.Status.TheVariants.{Done, Scenario, ReadFault, WriteFault, NoMemory}
+use Rattle.station.specs.declared.status.Status.TheVariants.{Done, Scenario, WriteFault, NoMemory}
 use Rattle.station.proofs.Due.{run_answer}
 use Rattle.station.proofs.top.run.Goals as goal
 
