@@ -100,11 +100,12 @@ def simple(draw: Random, base: str) -> Drawn:
 
 
 def clock(draw: Random, plans: list[Plan]) -> int:
-    """Draws the opening clock: mostly one by which a pattern is picked up a little off its offset, else any."""
+    """Draws the opening clock: mostly one by which a pattern is picked up near its offset or anywhere in its cycle."""
     if plans and draw.random() < 0.7:
         plan = draw.choice(plans)
         cycles = draw.choice([0, 1, 400, 864_000 // (10 * plan.cycle)])
-        return (10 * plan.offset - 60 + draw.randint(-60, 60) + 10 * plan.cycle * cycles) % 864_000
+        early = draw.choice([draw.randint(-60, 60), draw.randrange(10 * plan.cycle)])
+        return (10 * plan.offset - 60 + early + 10 * plan.cycle * cycles) % 864_000
     return draw.choice([0, 1, 863_999, 863_900, 863_000, draw.randrange(864_000), draw.randrange(2000)])
 
 

@@ -90,8 +90,8 @@ def preempt_cells(draw: Random, made: Structure, number: int) -> list[CellList]:
     """Draws a preempt."""
     cells: list[CellList] = [["preempt", number, column, set_of(draw, made)] for column in (12, 13, 14, 15)]
     for column, values in {
-        4: [0, 0, 1, 2],
-        5: [0, 1, 5],
+        4: [0, 0, 0, 1],
+        5: [0, 1, 5, 5, 8],
         6: [0, 1, 2],
         7: [0, 1, 2],
         8: [0, 1, 3],
