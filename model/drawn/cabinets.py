@@ -83,7 +83,7 @@ def kept_cells(
     draw: Random, base: str, made: Structure, patterns: list[int], preempts: list[int]
 ) -> tuple[list[Plan], list[CellList]]:
     """Draws cells until they keep the rules, or a few times."""
-    for _ in range(draw.choice([1, TRIES, TRIES])):
+    for _ in range(draw.choice([1, *4 * [TRIES]])):
         plans, cells = draw_cells(draw, base, made, patterns, preempts)
         tables = tables_of(base, cells)
         if first_broken(tables, tables, False) is None:
