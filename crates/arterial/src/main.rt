@@ -5,17 +5,14 @@
 ghost use Rattle.std.specs.Prelude.{◌≡◌};
 ghost use Rattle.arterial.specs.Outcome.{exit_status};
 
+mod reporting;
+
 use io_edge::{OpenGate, StdSink, StdSource};
-use station::{Refusal, Status, station};
+use reporting::report;
+use station::{Status, station};
 use std::env;
 use std::io::ErrorKind;
 use std::process::ExitCode;
-
-/// The line for words that are no command.
-const USAGE: &str = "usage: arterial run [--workers N] | check | generate | survey";
-
-/// The line for a refusal of memory.
-const NO_MEMORY: &str = "out of memory";
 
 /// The exit status.
 fn code_of(status: &Status) -> u8
@@ -33,46 +30,29 @@ fn code_of(status: &Status) -> u8
     }
 }
 
-fn main(rt: HostRuntime) -> ExitCode {
-    let alloc = rt.alloc();
-    let args = match env::args(&rt) {
+/// The words behind the program's name. Words that aren't UTF-8 are no command.
+fn words_of(rt: &HostRuntime) -> Result<Vec<String>, Status> {
+    let args = match env::args(rt) {
         Ok(args) => args,
-        Err(e) if e.kind() == ErrorKind::OutOfMemory => {
-            let _ = eprintln!(rt; "{NO_MEMORY}");
-            return ExitCode::from(6);
-        }
-        Err(_) => {
-            let _ = eprintln!(rt; "{USAGE}");
-            return ExitCode::from(1);
-        }
+        Err(e) if e.kind() == ErrorKind::OutOfMemory => return Err(Status::NoMemory),
+        Err(_) => return Err(Status::Usage),
     };
-    let Ok(words) = args.skip(1).collect::<Vec<String>>(alloc) else {
-        let _ = eprintln!(rt; "{NO_MEMORY}");
-        return ExitCode::from(6);
-    };
-    let mut source = StdSource::new(rt.stdin());
-    let mut sink = StdSink::new(rt.stdout());
-    let status = station(&rt, alloc, &words, &mut source, &mut sink, &OpenGate);
-    let _ = match &status {
-        Status::Done => Ok(()),
-        Status::Usage => eprintln!(rt; "{USAGE}"),
-        Status::Scenario(Refusal::Syntax) => eprintln!(rt; "scenario: not JSON"),
-        Status::Scenario(Refusal::Field(path)) => eprintln!(rt; "scenario: field {path}"),
-        Status::Scenario(Refusal::Limit(path)) => eprintln!(rt; "scenario: limit {path}"),
-        Status::Scenario(Refusal::Broken { cab, rule, row }) => {
-            eprintln!(rt; "scenario: cabinet {cab} breaks rule {rule} at row {row}")
+    match args.skip(1).collect::<Vec<String>>(rt.alloc()) {
+        Ok(words) => Ok(words),
+        Err(_) => Err(Status::NoMemory),
+    }
+}
+
+fn main(rt: HostRuntime) -> ExitCode {
+    let status = match words_of(&rt) {
+        Ok(words) => {
+            let mut source = StdSource::new(rt.stdin());
+            let mut sink = StdSink::new(rt.stdout());
+            station(&rt, rt.alloc(), &words, &mut source, &mut sink, &OpenGate)
         }
-        Status::NotATrace(fault) => eprintln!(rt;
-            "trace: line {} breaks rule {}",
-            fault.line, fault.rule
-        ),
-        Status::Overlap(fault) => eprintln!(rt;
-            "overlap: rule {} at row {}",
-            fault.rule, fault.row
-        ),
-        Status::ReadFault => eprintln!(rt; "read fault"),
-        Status::WriteFault => eprintln!(rt; "write fault"),
-        Status::NoMemory => eprintln!(rt; "{NO_MEMORY}"),
+        Err(status) => status,
     };
+    let mut errors = StdSink::new(rt.stderr());
+    let _ = report(&status, &mut errors);
     ExitCode::from(code_of(&status))
 }

@@ -19,13 +19,13 @@ use Rattle.cab_book.specs.Controls.{ControlKeeps, ControlStands, tick_count, ins
 
 -- as many tables were put in force as the version says
 pub installs-are : (c : Control) (h : History) → ControlStands c h → install_count c ≡ (past_at h).version
-installs-are (Registers c) h k = k.version
-installs-are (LookingBack o) h k = k.version
+installs-are (Registers c) h k = k.context.version
+installs-are (LookingBack o) h k = k.context.version
 
 -- before any tick none is counted
 pub first-ticks : (c : Control) (h : History) → ControlStands c h → length (past_at h).moments ≡ 1 → (moment_seen (past_at h)).number ≡ 0 → tick_count c ≡ 0
-first-ticks (Registers c) h k one number = omega (arith, one, number, k.clocks.steps, k.signals.steps, k.preempts.steps, k.orders.ticks)
-first-ticks (LookingBack o) h k one number = omega (arith, number, k.orders.ticks)
+first-ticks (Registers c) h k one number = omega (arith, one, number, k.clocks.steps, k.signals.steps, k.preempts.steps, k.context.unit_commands.ticks)
+first-ticks (LookingBack o) h k one number = omega (arith, number, k.context.unit_commands.ticks)
 
 head_counter : (b : Bool) (x : ℕ) (xs : List ℕ) → b ≡ true → last_counter (if b then x ∷ xs else []) ≡ x
 head_counter true x xs e = refl

@@ -16,7 +16,7 @@ use Rattle.tick_context.specs.Modes.{is_coord}
 use Rattle.tick_context.specs.Binds.{IsBound}
 use Rattle.tick_context.specs.Even.{IsEven, UnitCommandsPassed}
 use Rattle.tick_context.specs.Lasting.{Looks}
-use Rattle.tick_context.specs.Passed.{timed, planned_target}
+use Rattle.tick_context.specs.Passed.{gone_on}
 
 -- the count after so many ticks more, where it counts
 abbrev pub counted : Bool → ℕ → Count → Count
@@ -26,10 +26,7 @@ counted false k count = count
 -- the controller after so many ticks at which it shows what it showed, which leave these orders
 abbrev pub passed : ℕ → Controller → UnitCommands → Controller
 passed k c o = record c {
-  context = record c.context {
-    frame = timed (is_coord c.context.frame.mode) (c.count.counter + k) (planned_target c.context.active_pattern.plan o.clock) c.context.frame;
-    unit_commands = o;
-  };
+  context = gone_on (c.count.counter + k) c.context o;
   clocks = clocks_passed k c.clocks;
   signals = signals_passed k c.signals;
   preempts = preempts_passed k c.preempts;

@@ -244,14 +244,12 @@ impl Controller {
         self.clocks.pass(ticks);
         self.signals.pass(ticks);
         self.preempts.pass(ticks);
-        let mut unit_commands = self.context.unit_commands;
-        unit_commands.pass(ticks, &self.context.tables);
-        self.context.unit_commands = unit_commands;
         if is_coord(self.context.frame.mode) {
             self.count.pass(ticks);
-            let target = self.context.active_pattern.target(unit_commands.clock());
-            self.context.frame.counter = self.count.counter();
-            self.context.frame.target = target;
+            let counter = self.count.counter();
+            self.context.pass(ticks, counter);
+        } else {
+            self.context.pass(ticks, 0);
         }
     }
 }

@@ -1,4 +1,3 @@
-mod Shown
 mod Greens
 mod Cabinets
 mod Says

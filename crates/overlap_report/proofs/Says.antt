@@ -10,6 +10,7 @@ use Rattle.safety_laws.specs.Whole.{downloads}
 use Rattle.safety_laws.specs.Written.{written, tables_of}
 use Rattle.safety_laws.specs.TraceText.{AreLines}
 use Rattle.safety_laws.specs.Told.{told_in, history_told}
+use Rattle.safety_laws.proofs.Shown.{lines-show}
 use Rattle.scenario_data.specs.Content.{CabinetContent, ScenarioContent}
 use Rattle.scenario_data.specs.Opening.{opening_tables}
 use Rattle.runnable.specs.Cabinets.{IsCabinet}
@@ -37,7 +38,6 @@ use Rattle.overlap_report.specs.declared.asking.Asked.{Asked}
 use Rattle.overlap_report.specs.Overlaps.{HasEnded, AreInForce, AtCabinet, NoCabinet, times_of, verdict_of, BreaksRule, street_of, TellsOverlap}
 use Rattle.overlap_report.specs.BySeen.{IsUnbroken, SaysOfOverlap}
 use Rattle.overlap_report.proofs.Cabinets.{SomeOrNone, some-or-none, one-cabinet_state, one-by-version}
-use Rattle.overlap_report.proofs.Shown.{lines-show}
 
 -- a fact of every overlap at a cabinet of which lines have told, where it breaks no rule
 abbrev WhereUnbroken : (Timing → List ℕ → ℕ → (ℕ → Tables) → List Line → Type 0) → Type 0

@@ -1,5 +1,6 @@
-//! Sources and sinks that move small pieces: the bytes that each call moves, and the calls that fail.
-use io_edge::{Failed, MemSink, MemSource, Sink, Source};
+//! Sources and sinks that move small pieces, the bytes that each call moves and the calls that fail; and the adapters over a reader and
+//! over a writer in memory.
+use io_edge::{Failed, MemSink, MemSource, Sink, Source, StdSink, StdSource};
 use std::test::Fail;
 
 #[test]
@@ -31,5 +32,28 @@ fn a_sink_takes_two_bytes_at_a_time(rt: HostRuntime) -> Result<(), Fail> {
         assert!(rt; sink.write(&[7, 8, 9]) == due);
     }
     assert!(rt; sink.bytes().as_slice() == &[7u8, 8, 7, 8, 7][..]);
+    Ok(())
+}
+
+#[test]
+fn a_source_over_a_reader_gives_its_bytes(rt: HostRuntime) -> Result<(), Fail> {
+    let mut source = StdSource::new(&b"3412"[..]);
+    let mut buf = [0u8; 3];
+    assert!(rt; source.read(&mut buf) == Ok(3));
+    assert!(rt; &buf[..] == &b"341"[..]);
+    assert!(rt; source.read(&mut buf) == Ok(1));
+    assert!(rt; &buf[..1] == &b"2"[..]);
+    assert!(rt; source.read(&mut buf) == Ok(0));
+    Ok(())
+}
+
+#[test]
+fn a_sink_over_a_writer_gives_it_the_bytes(rt: HostRuntime) -> Result<(), Fail> {
+    let alloc = rt.alloc();
+    let mut sink = StdSink::new(Vec::new(alloc));
+    assert!(rt; sink.write(b"34") == Ok(2));
+    assert!(rt; sink.write(b"12") == Ok(2));
+    let bytes: Vec<u8> = sink.into_inner();
+    assert!(rt; bytes.as_slice() == &b"3412"[..]);
     Ok(())
 }

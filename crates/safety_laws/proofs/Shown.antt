@@ -83,10 +83,14 @@ events-shown has_line opening (Install t ∷ events) =
     ∙ append-none (shown_in (told_of has_line opening events)) ∙ events-shown has_line opening events
 events-shown has_line opening (_ ∷ events) = events-shown has_line opening events
 
+-- those that lines tell, where they tell the history
+pub lines-show : (cab : ℕ) (lines : List Line) (h : History) (has_line : Frame → Frame → Bool) → told_in cab lines ≡ history_told has_line h
+    → told cab lines ≡ written has_line (frames h)
+lines-show cab lines h has_line e = sym (lines-shown cab lines) ∙ ap shown_in e ∙ events-shown has_line h.tables (since_opening h)
+
 -- so the street is safe
 pub admitted-safe : (h : History) (has_line : Frame → Frame → Bool) (cab : ℕ) (lines : List Line) → Admitted h.tables (since_opening h)
     → TellsChanges has_line → told_in cab lines ≡ history_told has_line h → Safe (intersection_of cab (tables_of h) lines)
 admitted-safe h has_line cab lines admitted tells e =
-    let same : told cab lines ≡ written has_line (frames h)
-    = sym (lines-shown cab lines) ∙ ap shown_in e ∙ events-shown has_line h.tables (since_opening h) in
-    history-safe h (tables_of h) has_line cab lines (λ version. refl) (lawful h.tables (since_opening h) admitted) tells same
+    history-safe h (tables_of h) has_line cab lines (λ version. refl) (lawful h.tables (since_opening h) admitted) tells
+    (lines-show cab lines h has_line e)

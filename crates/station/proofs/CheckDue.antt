@@ -4,6 +4,7 @@ use Rattle.trace_check.specs.declared.faults.TraceFault.{TraceFault}
 use Rattle.trace_laws.specs.Traces.{IsTrace, IsCheckable}
 use Rattle.trace_laws.specs.Faults.{FirstFault, TooLong}
 use Rattle.trace_laws.specs.Laws.{FaultsAreDetermined, TracesHaveNoFault, TellsOfRun}
+use Rattle.band_laws.specs.Driving.{BandIsGreen}
 use Rattle.station.specs.declared.status.Status.{Status}
 use Rattle.station.specs.declared.status.Status.TheVariants.{Done, Usage, Scenario, NotATrace, Overlap as BrokenOverlap, ReadFault, WriteFault, NoMemory}
 use Rattle.station.specs.Bytes.{AreInput, nothing_left}
@@ -16,13 +17,14 @@ too_long_text None ends long stopped = inl (refl, tt)
 too_long_text (Some input) ends long stopped = inl (refl, (long, stopped))
 
 -- all of the input was read, and it is a trace
-pub trace_read : (left ends : Option (List ℕ)) (bytes slice : List ℕ) → AreInput left bytes → slice ≡ bytes → IsCheckable slice → TellsOfRun slice
-    → ends ≡ nothing_left left → IsTraceRead left ends
-trace_read left ends bytes slice all same short tells ended = record {
+pub trace_read : (left ends : Option (List ℕ)) (bytes slice : List ℕ) → AreInput left bytes → slice ≡ bytes → IsCheckable slice
+    → (tells : TellsOfRun slice) → BandIsGreen slice tells → ends ≡ nothing_left left → IsTraceRead left ends
+trace_read left ends bytes slice all same short tells bands ended = record {
   bytes = slice;
   all = subst (λ (x : List ℕ). AreInput left x) (sym same) all;
   short = short;
   tells = tells;
+  bands = bands;
   ended = ended;
 }
 

@@ -6,8 +6,9 @@ use Rattle.scenario_read.specs.Answers.{IsScenario, IsFirstFault}
 use Rattle.scenario_read.proofs.OneAnswer.{no-fault-beside}
 use Rattle.station.specs.declared.status.Status.{Status}
 use Rattle.station.specs.declared.status.Status.TheVariants.{Done, Usage, Scenario, NotATrace, Overlap as BrokenOverlap, ReadFault, WriteFault, NoMemory}
-use Rattle.station.specs.Answers.{IsShort, IsRead, IsRefused, Ran, IsDue, IsLengthRefusal, WritesText}
-use Rattle.station.specs.Replied.{IsTextOfInput, Replied, IsReplyDue}
+use Rattle.station.specs.Io.{io}
+use Rattle.station.specs.Answers.{IsShort, IsRead, IsRefused, Ran, RunAnswer, IsDue, IsLengthRefusal, WritesText}
+use Rattle.station.specs.Replied.{IsTextOfInput, Replied, ReplyAnswer, IsReplyDue}
 
 -- what a refusal tells where nothing but it is the answer: the length's where the input is too long, and else a first fault
 module _ (IsFirst : List ℕ → Refusal → Type 0) where
@@ -46,8 +47,8 @@ due_refused refusal input ends unwritten is = record {
   done = λ short s read put. absurd (no-fault-beside input s refusal read (refused_named IsFirstFault refusal input ends is short));
 }
 
-pub due : (workers : ℕ) (status : Status) (left ends : Option (List ℕ)) (unread : Type 0) (old new : Option (List ℕ)) (unwritten : Type 0)
-    → Ran workers status left ends unread old new unwritten → ¬ unread → IfSome left (λ input. IsDue status input unwritten ⊎ (status ≡ NoMemory))
+due : (workers : ℕ) (status : Status) (left ends : Option (List ℕ)) (unread : Type 0) (old new : Option (List ℕ)) (unwritten : Type 0)
+    → Ran workers status (io left ends unread old new unwritten) → ¬ unread → IfSome left (λ input. IsDue status input unwritten ⊎ (status ≡ NoMemory))
 due workers status None ends unread old new unwritten ran sound = tt
 due workers Done (Some input) ends unread old new unwritten ran sound = inl (due_run Done input ran.scenario unwritten ran.input (λ put. refl))
 due workers Usage (Some input) ends unread old new unwritten ran sound = absurd ran
@@ -57,6 +58,14 @@ due workers (BrokenOverlap fault) (Some input) ends unread old new unwritten ran
 due workers ReadFault (Some input) ends unread old new unwritten ran sound = absurd (sound ran.0)
 due workers WriteFault (Some input) ends unread old new unwritten ran sound = inl (due_run WriteFault input ran.1.scenario unwritten ran.1.input (λ put. absurd (put ran.0)))
 due workers NoMemory (Some input) ends unread old new unwritten ran sound = inr refl
+
+-- what an answer to a run tells, and that it is due
+pub run_answer : (workers : ℕ) (status : Status) (left ends : Option (List ℕ)) (unread : Type 0) (old new : Option (List ℕ)) (unwritten : Type 0)
+    → Ran workers status (io left ends unread old new unwritten) → RunAnswer workers status (io left ends unread old new unwritten)
+run_answer workers status left ends unread old new unwritten ran = record {
+  told = ran;
+  due = λ sound. due workers status left ends unread old new unwritten ran sound;
+}
 
 -- the same of a command that reads an object and writes a text of it
 module _ (Tells : List ℕ → List ℕ → Type 0) (IsFirst : List ℕ → Refusal → Type 0) (Asks : List ℕ → Type 0)
@@ -81,8 +90,8 @@ module _ (Tells : List ℕ → List ℕ → Type 0) (IsFirst : List ℕ → Refu
       done = λ short asked put. absurd (apart input refusal asked (refused_named IsFirst refusal input ends is short));
     }
 
-    pub reply_due : (status : Status) (left ends : Option (List ℕ)) (unread : Type 0) (old new : Option (List ℕ)) (unwritten : Type 0)
-        → Replied Tells IsFirst status left ends unread old new unwritten → ¬ unread
+    reply_due : (status : Status) (left ends : Option (List ℕ)) (unread : Type 0) (old new : Option (List ℕ)) (unwritten : Type 0)
+        → Replied Tells IsFirst status (io left ends unread old new unwritten) → ¬ unread
         → IfSome left (λ input. IsReplyDue Asks IsFirst status input unwritten ⊎ (status ≡ NoMemory))
     reply_due status None ends unread old new unwritten is sound = tt
     reply_due Done (Some input) ends unread old new unwritten is sound = inl (told_due Done input is.text ends unwritten is.of_input (λ put. refl))
@@ -95,10 +104,17 @@ module _ (Tells : List ℕ → List ℕ → Type 0) (IsFirst : List ℕ → Refu
         inl (told_due WriteFault input is.1.text ends unwritten is.1.of_input (λ put. absurd (put is.0)))
     reply_due NoMemory (Some input) ends unread old new unwritten is sound = inr refl
 
+    pub reply_answer : (status : Status) (left ends : Option (List ℕ)) (unread : Type 0) (old new : Option (List ℕ)) (unwritten : Type 0)
+        → Replied Tells IsFirst status (io left ends unread old new unwritten) → ReplyAnswer Tells Asks IsFirst status (io left ends unread old new unwritten)
+    reply_answer status left ends unread old new unwritten is = record {
+      told = is;
+      due = λ sound. reply_due status left ends unread old new unwritten is sound;
+    }
+
 -- an answer to a command that reads and writes so: a text was told, and written or not
 pub told_reply : (Tells : List ℕ → List ℕ → Type 0) (IsFirst : List ℕ → Refusal → Type 0) (status : Status) (left ends : Option (List ℕ)) (unread : Type 0)
     (old new : Option (List ℕ)) (unwritten : Type 0) (text : List ℕ) → IsTextOfInput Tells text left ends → WritesText status text unwritten old new
-    → Replied Tells IsFirst status left ends unread old new unwritten
+    → Replied Tells IsFirst status (io left ends unread old new unwritten)
 told_reply Tells IsFirst Done left ends unread old new unwritten text is so = record { text = text; of_input = is; written = so }
 told_reply Tells IsFirst WriteFault left ends unread old new unwritten text is so = (so.0, record { text = text; of_input = is; front = so.1 })
 told_reply Tells IsFirst Usage left ends unread old new unwritten text is so = absurd so

@@ -9,6 +9,7 @@ use Rattle.trace_laws.specs.Laws.{FaultsAreDetermined, TracesHaveNoFault}
 use Rattle.station.specs.declared.status.Status.{Status}
 use Rattle.station.specs.declared.status.Status.TheVariants.{Done, Usage, Scenario, NotATrace, Overlap as BrokenOverlap, ReadFault, WriteFault, NoMemory}
 use Rattle.station.specs.Bytes.{AreInput, nothing_left}
+use Rattle.station.specs.Io.{io}
 use Rattle.station.specs.Answers.{WritesText}
 use Rattle.station.specs.Checked.{IsNoTrace}
 use Rattle.station.specs.Overlapped.{IsTextRead, Overlapped, IsOverlapDue}
@@ -33,7 +34,7 @@ of_input P (Some input) bytes slice all same so = subst P all (subst P same so)
 -- the text of the overlap was written, or a front of it
 pub told_overlap : (asked : Asked) (status : Status) (left ends : Option (List ℕ)) (unread : Type 0) (old new : Option (List ℕ)) (unwritten : Type 0) (text : List ℕ)
     → IsTextRead (λ bytes. TellsOverlap bytes asked text) left ends → WritesText status text unwritten old new
-    → Overlapped asked status left ends unread old new unwritten
+    → Overlapped asked status (io left ends unread old new unwritten)
 told_overlap asked Done left ends unread old new unwritten text is so = (text, is, so)
 told_overlap asked WriteFault left ends unread old new unwritten text is so = (so.0, (text, is, so.1))
 told_overlap asked Usage left ends unread old new unwritten text is so = absurd so

@@ -5,12 +5,13 @@ use Rattle.trace_check.specs.declared.faults.TraceFault.{TraceFault}
 use Rattle.command_words.specs.declared.command.Command.{Command}
 use Rattle.command_words.specs.declared.command.Command.TheVariants.{Run, Check, Generate, Survey, Band, Respond, Overlaps, Help, Version}
 use Rattle.command_words.specs.declared.command.Overlap.{Overlap}
-use Rattle.command_words.specs.Words.{IsRun, IsCheck, IsOverlaps, AskFor, IsCommand}
+use Rattle.command_words.specs.Words.{IsRun, IsCheck, IsGenerate, IsSurvey, IsBand, IsRespond, IsOverlaps, IsHelp, IsVersion, AskFor, IsCommand}
 use Rattle.overlap_run.specs.declared.faults.OverlapFault.{OverlapFault}
 use Rattle.station.specs.declared.status.Status.{Status}
 use Rattle.station.specs.declared.status.Status.TheVariants.{Done, Usage, Scenario, NotATrace, Overlap as BrokenOverlap, ReadFault, WriteFault, NoMemory}
-use Rattle.station.specs.Answers.{RunsWhole, StopsShort}
-use Rattle.station.specs.Commands.{Answered, ReadsNothing, IsRefusedFor}
+use Rattle.station.specs.Io.{Io}
+use Rattle.station.specs.Answers.{StopsShort}
+use Rattle.station.specs.Commands.{Answered, ReadsNothing, NeedsNoInput, IsRefusedFor, Causes, Answers}
 
 -- the words ask for one command, or for none
 pub one_command : (found : Option Command) (c d : Command) → found ≡ Some c → found ≡ Some d → c ≡ d
@@ -26,9 +27,9 @@ no_command words found none is (c, asked) = none_found found c none ((is c).1 as
 pub reads_nothing : (c d : Command) → c ≡ d → ReadsNothing d → ReadsNothing c
 reads_nothing c d same none = subst (λ (x : Command). ReadsNothing x) (sym same) none
 
-module _ (status : Status) (left ends : Option (List ℕ)) (unread : Type 0) (old new : Option (List ℕ)) (unwritten : Type 0) where
+module _ (status : Status) (io : Io) where
   abbrev Tells : Command → Status → Type 0
-  Tells c answer = Answered c answer left ends unread old new unwritten
+  Tells c answer = Answered c answer io
 
   -- an answer to a command is one to the same command by another name
   pub to_same : (c d : Command) → c ≡ d → Tells c status → Tells d status
@@ -39,68 +40,62 @@ module _ (status : Status) (left ends : Option (List ℕ)) (unread : Type 0) (ol
   never_usage c tells e = none c (subst (λ (x : Status). Tells c x) e tells)
     where
       none : (d : Command) → Tells d Usage → ⊥
-      none (Run workers) is = is
-      none Check is = is.1
+      none (Run workers) is = is.told
+      none Check is = is.1.told
       none (Generate from) is = is
       none (Survey from) is = is
-      none Band is = is
-      none Respond is = is
-      none (Overlaps o) is = is
+      none Band is = is.told
+      none Respond is = is.told
+      none (Overlaps o) is = is.told
       none Help is = is
       none Version is = is
 
-  pub told_done : (workers : ℕ) → Tells (Run workers) status → status ≡ Done → RunsWhole workers left ends old new
-  told_done workers tells e = subst (λ (x : Status). Tells (Run workers) x) e tells
-
-  pub told_write_fault : (workers : ℕ) → Tells (Run workers) status → status ≡ WriteFault → unwritten × StopsShort workers left ends old new
-  told_write_fault workers tells e = subst (λ (x : Status). Tells (Run workers) x) e tells
-
   pub told_no_memory : (words : List (List ℕ)) (c : Command) → AskFor words c → Tells c status → status ≡ NoMemory
-      → (new ≡ old) ⊎ ((workers : ℕ) × IsRun words workers × StopsShort workers left ends old new)
+      → (io.new ≡ io.old) ⊎ ((workers : ℕ) × IsRun words workers × StopsShort workers io.left io.ends io.old io.new)
   told_no_memory words c asked tells e = from c asked (subst (λ (x : Status). Tells c x) e tells)
     where
-      run : (workers : ℕ) → IsRun words workers → (new ≡ old) ⊎ StopsShort workers left ends old new
-          → (new ≡ old) ⊎ ((workers : ℕ) × IsRun words workers × StopsShort workers left ends old new)
+      run : (workers : ℕ) → IsRun words workers → (io.new ≡ io.old) ⊎ StopsShort workers io.left io.ends io.old io.new
+          → (io.new ≡ io.old) ⊎ ((workers : ℕ) × IsRun words workers × StopsShort workers io.left io.ends io.old io.new)
       run workers is (inl same) = inl same
       run workers is (inr short) = inr (workers, is, short)
 
-      from : (d : Command) → AskFor words d → Tells d NoMemory → (new ≡ old) ⊎ ((workers : ℕ) × IsRun words workers × StopsShort workers left ends old new)
-      from (Run workers) is so = run workers is so
+      from : (d : Command) → AskFor words d → Tells d NoMemory → (io.new ≡ io.old) ⊎ ((workers : ℕ) × IsRun words workers × StopsShort workers io.left io.ends io.old io.new)
+      from (Run workers) is so = run workers is so.told
       from Check is so = inl so.0
       from (Generate seeding) is so = inl so
       from (Survey seeding) is so = inl so
-      from Band is so = inl so
-      from Respond is so = inl so
-      from (Overlaps o) is so = inl so
+      from Band is so = inl so.told
+      from Respond is so = inl so.told
+      from (Overlaps o) is so = inl so.told
       from Help is so = absurd so
       from Version is so = absurd so
 
-  pub told_read_fault : (c : Command) → Tells c status → status ≡ ReadFault → unread × (new ≡ old)
+  pub told_read_fault : (c : Command) → Tells c status → status ≡ ReadFault → io.unread × (io.new ≡ io.old)
   told_read_fault c tells e = from c (subst (λ (x : Status). Tells c x) e tells)
     where
-      from : (d : Command) → Tells d ReadFault → unread × (new ≡ old)
-      from (Run workers) so = so
-      from Check so = (so.1, so.0)
+      from : (d : Command) → Tells d ReadFault → io.unread × (io.new ≡ io.old)
+      from (Run workers) so = so.told
+      from Check so = (so.1.told, so.0)
       from (Generate seeding) so = absurd so
       from (Survey seeding) so = absurd so
-      from Band so = so
-      from Respond so = so
-      from (Overlaps o) so = so
+      from Band so = so.told
+      from Respond so = so.told
+      from (Overlaps o) so = so.told
       from Help so = absurd so
       from Version so = absurd so
 
   pub told_refused : (words : List (List ℕ)) (c : Command) (r : Refusal) → AskFor words c → Tells c status → status ≡ Scenario r
-      → IsRefusedFor words r left ends × (new ≡ old)
+      → IsRefusedFor words r io.left io.ends × (io.new ≡ io.old)
   told_refused words c r asked tells e = from c asked (subst (λ (x : Status). Tells c x) e tells)
     where
-      from : (d : Command) → AskFor words d → Tells d (Scenario r) → IsRefusedFor words r left ends × (new ≡ old)
-      from (Run workers) is so = (inl ((workers, is), so.0), so.1)
-      from Check is so = absurd so.1
+      from : (d : Command) → AskFor words d → Tells d (Scenario r) → IsRefusedFor words r io.left io.ends × (io.new ≡ io.old)
+      from (Run workers) is so = (inl ((workers, is), so.told.0), so.told.1)
+      from Check is so = absurd so.1.told
       from (Generate seeding) is so = absurd so
       from (Survey seeding) is so = absurd so
-      from Band is so = (inr (inl (is, so.0)), so.1)
-      from Respond is so = (inr (inr (is, so.0)), so.1)
-      from (Overlaps o) is so = absurd so
+      from Band is so = (inr (inl (is, so.told.0)), so.told.1)
+      from Respond is so = (inr (inr (is, so.told.0)), so.told.1)
+      from (Overlaps o) is so = absurd so.told
       from Help is so = absurd so
       from Version is so = absurd so
 
@@ -109,12 +104,12 @@ module _ (status : Status) (left ends : Option (List ℕ)) (unread : Type 0) (ol
   told_no_trace words c fault asked tells e = from c asked (subst (λ (x : Status). Tells c x) e tells)
     where
       from : (d : Command) → AskFor words d → Tells d (NotATrace fault) → IsCheck words ⊎ ((o : Overlap) × IsOverlaps words o)
-      from (Run workers) is so = absurd so
+      from (Run workers) is so = absurd so.told
       from Check is so = inl is
       from (Generate seeding) is so = absurd so
       from (Survey seeding) is so = absurd so
-      from Band is so = absurd so
-      from Respond is so = absurd so
+      from Band is so = absurd so.told
+      from Respond is so = absurd so.told
       from (Overlaps o) is so = inr (o, is)
       from Help is so = absurd so
       from Version is so = absurd so
@@ -124,12 +119,69 @@ module _ (status : Status) (left ends : Option (List ℕ)) (unread : Type 0) (ol
   told_broken words c fault asked tells e = from c asked (subst (λ (x : Status). Tells c x) e tells)
     where
       from : (d : Command) → AskFor words d → Tells d (BrokenOverlap fault) → (o : Overlap) × IsOverlaps words o
-      from (Run workers) is so = absurd so
-      from Check is so = absurd so.1
+      from (Run workers) is so = absurd so.told
+      from Check is so = absurd so.1.told
       from (Generate seeding) is so = absurd so
       from (Survey seeding) is so = absurd so
-      from Band is so = absurd so
-      from Respond is so = absurd so
+      from Band is so = absurd so.told
+      from Respond is so = absurd so.told
       from (Overlaps o) is so = (o, is)
       from Help is so = absurd so
       from Version is so = absurd so
+
+  -- the causes of an answer to a command that the words ask for
+  causes : (words : List (List ℕ)) (c : Command) → AskFor words c → Tells c status → Causes words status io
+  causes words c asked tells = record {
+    no_memory = λ e. told_no_memory words c asked tells e;
+    read_fault = λ e. told_read_fault c tells e;
+    refused = λ r e. told_refused words c r asked tells e;
+    no_trace = λ fault e. told_no_trace words c fault asked tells e;
+    broken_overlap = λ fault e. told_broken words c fault asked tells e;
+  }
+
+  -- what an answer to the command that was found tells, by the words
+  pub found_answers : (words : List (List ℕ)) (found : Option Command) (c : Command) → found ≡ Some c
+      → ((d : Command) → (found ≡ Some d) ↔ AskFor words d) → Tells c status → Answers words status io
+  found_answers words found c some is tells =
+      let told : (d : Command) → AskFor words d → Tells d status = λ d asked. to_same c d (one_command found c d some ((is d).1 asked)) tells in
+      record {
+        help = told Help;
+        version = told Version;
+        generate = λ from. told (Generate from);
+        survey = λ from. told (Survey from);
+        run = λ workers. told (Run workers);
+        check = λ asked. (told Check asked).1;
+        overlaps = λ o. told (Overlaps o);
+        band = told Band;
+        respond = told Respond;
+        causes = causes words c ((is c).0 some) tells;
+      }
+
+-- the words ask for no command: the answer is Usage, and it tells of none
+pub none_answers : (words : List (List ℕ)) (found : Option Command) (io : Io) → found ≡ None
+    → ((d : Command) → (found ≡ Some d) ↔ AskFor words d) → Answers words Usage io
+none_answers words found io none is =
+    let never : (d : Command) → AskFor words d → ⊥ = λ d asked. none_found found d none ((is d).1 asked) in
+    record {
+      help = λ asked. absurd (never Help asked);
+      version = λ asked. absurd (never Version asked);
+      generate = λ from asked. absurd (never (Generate from) asked);
+      survey = λ from asked. absurd (never (Survey from) asked);
+      run = λ workers asked. absurd (never (Run workers) asked);
+      check = λ asked. absurd (never Check asked);
+      overlaps = λ o asked. absurd (never (Overlaps o) asked);
+      band = λ asked. absurd (never Band asked);
+      respond = λ asked. absurd (never Respond asked);
+      causes = record {
+        no_memory = λ e. absurd (cc);
+        read_fault = λ e. absurd (cc);
+        refused = λ r e. absurd (cc);
+        no_trace = λ fault e. absurd (cc);
+        broken_overlap = λ fault e. absurd (cc);
+      };
+    }
+
+-- a command that needs no input reads nothing
+pub found_unread : (words : List (List ℕ)) (found : Option Command) (c : Command) → found ≡ Some c → ((d : Command) → (found ≡ Some d) ↔ AskFor words d)
+    → NeedsNoInput words → ReadsNothing c
+found_unread words found c some is (d, asked, none) = reads_nothing c d (one_command found c d some ((is d).1 asked)) none

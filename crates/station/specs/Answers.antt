@@ -7,11 +7,12 @@ use Rattle.scenario_data.specs.Content.{ScenarioContent}
 use Rattle.scenario_read.specs.Answers.{IsScenario, IsFirstFault}
 use Rattle.station.specs.declared.status.Status.{Status}
 use Rattle.station.specs.declared.status.Status.TheVariants.{Done, Scenario, ReadFault, WriteFault, NoMemory}
-use Rattle.whole_run.specs.Bytes.{AppendsFront}
+use Rattle.whole_run.specs.Bytes.{AppendsFront, AppendsUpTo}
 use Rattle.station.specs.Bytes.{AreInput, nothing_left}
+use Rattle.station.specs.Io.{Io}
 use Rattle.run_definition.specs.Lines.{run_text}
 use Rattle.trace_laws.specs.Text.{TellsAllKept}
-use Rattle.whole_run.specs.Orders.{AreBroughtBy}
+use Rattle.whole_run.specs.Orders.{AreBroughtBy, GoesOnSerially, closed_text}
 
 -- a text was written whole, or a write failed, and a front of the text was written and not all of it
 abbrev pub WritesText : Status → List ℕ → Type 0 → Option (List ℕ) → Option (List ℕ) → Type 0
@@ -45,7 +46,8 @@ pub record RunsWhole (workers : ℕ) (left ends old new : Option (List ℕ)) : T
   pub kept : TellsAllKept scenario journals (run_text scenario journals)
 
 -- it stopped short while it wrote: the source was read to its end, its bytes are a scenario, and a front of such a text was appended, and
--- not all of it
+-- not all of it: by the actual journals of the rounds that were closed and serial ones for those that are left; and where some are left,
+-- nothing was written beyond the lines of the closed ones
 pub record StopsShort (workers : ℕ) (left ends old new : Option (List ℕ)) : Type 0 where
   pub scenario : ScenarioContent
   pub journals : List (List (List ℕ))
@@ -53,6 +55,9 @@ pub record StopsShort (workers : ℕ) (left ends old new : Option (List ℕ)) : 
   pub input : IsRead left scenario
   pub ended : ends ≡ nothing_left left
   pub front : AppendsFront old new (run_text scenario journals)
+  pub closed : List (List (List ℕ))
+  pub goes_on : GoesOnSerially scenario closed journals
+  pub within : 0 < goes_on.left → AppendsUpTo old new (closed_text scenario closed)
 
 -- the refusal is that of the whole input, for its length
 abbrev pub IsLengthLimit : Refusal → Type 0
@@ -78,15 +83,14 @@ abbrev pub IsRefused : (List ℕ → Refusal → Type 0) → Refusal → Option 
 IsRefused IsFirst refusal left ends =
     (IsLengthLimit refusal × IsTooLong left ends) ⊎ ((IsLengthLimit refusal → ⊥) × HasFault IsFirst refusal left ends)
 
--- what an answer to a run by so many workers tells of the input, with the faults of reading, and of the output, with the faults of
--- writing
-abbrev pub Ran : ℕ → Status → Option (List ℕ) → Option (List ℕ) → Type 0 → Option (List ℕ) → Option (List ℕ) → Type 0 → Type 0
-Ran workers Done left ends unread old new unwritten = RunsWhole workers left ends old new
-Ran workers (Scenario refusal) left ends unread old new unwritten = IsRefused IsFirstFault refusal left ends × (new ≡ old)
-Ran workers ReadFault left ends unread old new unwritten = unread × (new ≡ old)
-Ran workers WriteFault left ends unread old new unwritten = unwritten × StopsShort workers left ends old new
-Ran workers NoMemory left ends unread old new unwritten = (new ≡ old) ⊎ StopsShort workers left ends old new
-Ran workers _ left ends unread old new unwritten = ⊥
+-- what an answer to a run by so many workers tells of the input and the output
+abbrev pub Ran : ℕ → Status → Io → Type 0
+Ran workers Done io = RunsWhole workers io.left io.ends io.old io.new
+Ran workers (Scenario refusal) io = IsRefused IsFirstFault refusal io.left io.ends × (io.new ≡ io.old)
+Ran workers ReadFault io = io.unread × (io.new ≡ io.old)
+Ran workers WriteFault io = io.unwritten × StopsShort workers io.left io.ends io.old io.new
+Ran workers NoMemory io = (io.new ≡ io.old) ⊎ StopsShort workers io.left io.ends io.old io.new
+Ran workers _ io = ⊥
 
 -- the answer is the refusal of the whole input for its length
 abbrev pub IsLengthRefusal : Status → Type 0
@@ -102,3 +106,8 @@ pub record IsDue (status : Status) (input : List ℕ) (unwritten : Type 0) : Typ
   pub too_long : 16777216 < length input → IsLengthRefusal status
   pub fault : IsShort input → IsNoScenario input → NamesFault IsFirstFault status input
   pub done : IsShort input → (s : ScenarioContent) → IsScenario input s → ¬ unwritten → status ≡ Done
+
+-- what an answer to a run tells; and where no read fails it is the one that the input is due, or memory was wanting
+pub record RunAnswer (workers : ℕ) (status : Status) (io : Io) : Type 0 where
+  pub told : Ran workers status io
+  pub due : ¬ io.unread → IfSome io.left (λ input. IsDue status input io.unwritten ⊎ (status ≡ NoMemory))

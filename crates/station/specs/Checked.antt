@@ -4,17 +4,21 @@ use Rattle.trace_check.specs.declared.faults.TraceFault.{TraceFault}
 use Rattle.trace_laws.specs.Traces.{IsTrace, IsCheckable}
 use Rattle.trace_laws.specs.Faults.{FirstFault}
 use Rattle.trace_laws.specs.Laws.{TellsOfRun}
+use Rattle.band_laws.specs.Driving.{BandIsGreen}
 use Rattle.station.specs.declared.status.Status.{Status}
 use Rattle.station.specs.declared.status.Status.TheVariants.{Done, NotATrace, ReadFault, NoMemory}
 use Rattle.station.specs.Bytes.{AreInput, nothing_left}
+use Rattle.station.specs.Io.{Io}
 
 -- the source was read to its end; its bytes are a trace, which has at most 67,108,864 bytes: the text of a run of a scenario with some
--- journals, by whose lines every street is safe, versions are whole, and coordination is met
+-- journals, by whose lines every street is safe, versions are whole, coordination is met, and a vehicle inside a through band meets green at
+-- each cabinet that is in step
 pub record IsTraceRead (left ends : Option (List ℕ)) : Type 0 where
   pub bytes : List ℕ
   pub all : AreInput left bytes
   pub short : IsCheckable bytes
   pub tells : TellsOfRun bytes
+  pub bands : BandIsGreen bytes tells
   pub ended : ends ≡ nothing_left left
 
 -- the input is too long for a trace: it was read to one byte past the limit
@@ -45,3 +49,8 @@ Checked _ left ends unread = ⊥
 pub record IsCheckDue (status : Status) (input : List ℕ) : Type 0 where
   pub trace : IsCheckable input → IsTrace input → status ≡ Done
   pub fault : (fault : TraceFault) → FirstFault input fault.line fault.rule → status ≡ NotATrace fault
+
+-- what an answer to `check` tells; and where no read fails it is the one that the input is due, or memory was wanting
+pub record CheckAnswer (status : Status) (io : Io) : Type 0 where
+  pub told : Checked status io.left io.ends io.unread
+  pub due : ¬ io.unread → IfSome io.left (λ input. IsCheckDue status input ⊎ (status ≡ NoMemory))

@@ -9,15 +9,20 @@ use Rattle.whole_run.specs.Counting.{surveyed_text}
 use Rattle.station.specs.declared.status.Status.{Status}
 use Rattle.scenario_data.specs.declared.refusal.Refusal.{Refusal}
 use Rattle.scenario_read.specs.Answers.{IsFirstFault}
-use Rattle.band_report.specs.Told.{TellsBands, IsFirstBandFault}
-use Rattle.field_file.specs.Told.{TellsResult, IsFirstResultFault}
-use Rattle.command_words.specs.Words.{IsRun, IsBand, IsRespond}
-use Rattle.station.specs.declared.status.Status.TheVariants.{Done, WriteFault, NoMemory}
+use Rattle.band_report.specs.Told.{AsksOfBands, TellsBands, IsFirstBandFault}
+use Rattle.field_file.specs.Told.{HasResult, TellsResult, IsFirstResultFault}
+use Rattle.command_words.specs.Words.{IsRun, IsCheck, IsGenerate, IsSurvey, IsBand, IsRespond, IsOverlaps, IsHelp, IsVersion, AskFor}
+use Rattle.command_words.specs.declared.command.Seeding.{Seeding}
+use Rattle.command_words.specs.declared.command.Overlap.{Overlap}
+use Rattle.overlap_run.specs.declared.faults.OverlapFault.{OverlapFault}
+use Rattle.trace_check.specs.declared.faults.TraceFault.{TraceFault}
+use Rattle.station.specs.declared.status.Status.TheVariants.{Done, Scenario, NotATrace, Overlap as BrokenOverlap, ReadFault, WriteFault, NoMemory}
 use Rattle.station.specs.declared.help.TheConstants.{HELP, VERSION}
-use Rattle.station.specs.Answers.{WritesText, Ran, IsRefused}
-use Rattle.station.specs.Replied.{Replied}
-use Rattle.station.specs.Checked.{Checked}
-use Rattle.station.specs.Overlapped.{asked_by, Overlapped}
+use Rattle.station.specs.Io.{Io}
+use Rattle.station.specs.Answers.{WritesText, StopsShort, RunAnswer, IsRefused}
+use Rattle.station.specs.Replied.{ReplyAnswer}
+use Rattle.station.specs.Checked.{CheckAnswer}
+use Rattle.station.specs.Overlapped.{asked_by, OverlapAnswer}
 
 -- a text that the program makes was written whole; or a write failed, and a front of it was written and not all of it; or there was not
 -- memory enough to make it, and nothing was written
@@ -27,19 +32,17 @@ MakesText WriteFault text unwritten old new = unwritten × AppendsFront old new 
 MakesText NoMemory text unwritten old new = new ≡ old
 MakesText _ text unwritten old new = ⊥
 
--- what an answer to a command tells of the input, with the faults of reading, and of the output, with the faults of writing
-abbrev pub Answered : Command → Status → Option (List ℕ) → Option (List ℕ) → Type 0 → Option (List ℕ) → Option (List ℕ) → Type 0 → Type 0
-Answered (Run workers) status left ends unread old new unwritten = Ran workers status left ends unread old new unwritten
-Answered Check status left ends unread old new unwritten = (new ≡ old) × Checked status left ends unread
-Answered (Generate from) status left ends unread old new unwritten =
-    MakesText status (generated_text from.seed from.cabinets from.rounds) unwritten old new
-Answered (Survey from) status left ends unread old new unwritten =
-    MakesText status (surveyed_text (generated from.seed from.cabinets from.rounds)) unwritten old new
-Answered Band status left ends unread old new unwritten = Replied TellsBands IsFirstBandFault status left ends unread old new unwritten
-Answered Respond status left ends unread old new unwritten = Replied TellsResult IsFirstResultFault status left ends unread old new unwritten
-Answered (Overlaps o) status left ends unread old new unwritten = Overlapped (asked_by o) status left ends unread old new unwritten
-Answered Help status left ends unread old new unwritten = WritesText status HELP.now unwritten old new
-Answered Version status left ends unread old new unwritten = WritesText status VERSION.now unwritten old new
+-- what an answer to a command tells of the input and the output, and which answer is due
+abbrev pub Answered : Command → Status → Io → Type 0
+Answered (Run workers) status io = RunAnswer workers status io
+Answered Check status io = (io.new ≡ io.old) × CheckAnswer status io
+Answered (Generate from) status io = MakesText status (generated_text from.seed from.cabinets from.rounds) io.unwritten io.old io.new
+Answered (Survey from) status io = MakesText status (surveyed_text (generated from.seed from.cabinets from.rounds)) io.unwritten io.old io.new
+Answered Band status io = ReplyAnswer TellsBands AsksOfBands IsFirstBandFault status io
+Answered Respond status io = ReplyAnswer TellsResult HasResult IsFirstResultFault status io
+Answered (Overlaps o) status io = OverlapAnswer (asked_by o) status io
+Answered Help status io = WritesText status HELP.now io.unwritten io.old io.new
+Answered Version status io = WritesText status VERSION.now io.unwritten io.old io.new
 
 -- the command reads nothing
 abbrev pub ReadsNothing : Command → Type 0
@@ -55,3 +58,33 @@ abbrev pub IsRefusedFor : List (List ℕ) → Refusal → Option (List ℕ) → 
 IsRefusedFor words refusal left ends =
     (((workers : ℕ) × IsRun words workers) × IsRefused IsFirstFault refusal left ends)
     ⊎ ((IsBand words × IsRefused IsFirstBandFault refusal left ends) ⊎ (IsRespond words × IsRefused IsFirstResultFault refusal left ends))
+
+-- the words ask for what reads nothing
+abbrev pub NeedsNoInput : List (List ℕ) → Type 0
+NeedsNoInput words = (command : Command) × AskFor words command × ReadsNothing command
+
+-- why an answer comes, whatever the words ask for. Want of memory: nothing was written, or a run stopped short while it wrote. A failed read and
+-- each refusal: nothing was written; a refusal names the first fault of the input that `run`, `band` or `respond` read; the path `.` with
+-- `Limit` is the input's length alone, and no other fault has it.
+pub record Causes (words : List (List ℕ)) (status : Status) (io : Io) : Type 0 where
+  pub no_memory : status ≡ NoMemory → (io.new ≡ io.old) ⊎ ((workers : ℕ) × IsRun words workers × StopsShort workers io.left io.ends io.old io.new)
+  pub read_fault : status ≡ ReadFault → io.unread × (io.new ≡ io.old)
+  pub refused : (refusal : Refusal) → status ≡ Scenario refusal → IsRefusedFor words refusal io.left io.ends × (io.new ≡ io.old)
+  pub no_trace : (fault : TraceFault) → status ≡ NotATrace fault → IsCheck words ⊎ ((o : Overlap) × IsOverlaps words o)
+  pub broken_overlap : (fault : OverlapFault) → status ≡ BrokenOverlap fault → (o : Overlap) × IsOverlaps words o
+
+-- what an answer tells, by the words. Help and version: the whole text was written, or a write failed and a front of it was. Generate: the
+-- text of the scenario that these numbers give was, in the same way, or there was not memory enough to make it. Survey: the text of what a
+-- run of that scenario comes to, counted in the lines of its trace in the serial order, was.
+pub record Answers (words : List (List ℕ)) (status : Status) (io : Io) : Type 0 where
+  pub help : IsHelp words → WritesText status HELP.now io.unwritten io.old io.new
+  pub version : IsVersion words → WritesText status VERSION.now io.unwritten io.old io.new
+  pub generate : (from : Seeding) → IsGenerate words from → MakesText status (generated_text from.seed from.cabinets from.rounds) io.unwritten io.old io.new
+  pub survey : (from : Seeding) → IsSurvey words from
+      → MakesText status (surveyed_text (generated from.seed from.cabinets from.rounds)) io.unwritten io.old io.new
+  pub run : (workers : ℕ) → IsRun words workers → RunAnswer workers status io
+  pub check : IsCheck words → CheckAnswer status io
+  pub overlaps : (o : Overlap) → IsOverlaps words o → OverlapAnswer (asked_by o) status io
+  pub band : IsBand words → ReplyAnswer TellsBands AsksOfBands IsFirstBandFault status io
+  pub respond : IsRespond words → ReplyAnswer TellsResult HasResult IsFirstResultFault status io
+  pub causes : Causes words status io

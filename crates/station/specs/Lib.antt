@@ -1,4 +1,5 @@
 pub mod Bytes
+pub mod Io
 pub mod Checked
 pub mod Answers
 pub mod Replied

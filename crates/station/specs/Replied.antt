@@ -1,12 +1,13 @@
 -- What an answer tells of a command that reads an object from the input and writes a text of it: what such a text is, and what the first
 -- fault of such an input, is a matter of the command.
-use Rattle.std.specs.Prelude.{◌≡◌, ◌<◌, ℕ, List, Option, length}
+use Rattle.std.specs.Prelude.{◌≡◌, ◌<◌, ◌⊎◌, ℕ, List, Option, IfSome, length}
 use Rattle.io_edge.specs.Edge.{Appends}
 use Rattle.whole_run.specs.Bytes.{AppendsFront}
 use Rattle.scenario_data.specs.declared.refusal.Refusal.{Refusal}
 use Rattle.station.specs.declared.status.Status.{Status}
 use Rattle.station.specs.declared.status.Status.TheVariants.{Done, Scenario, ReadFault, WriteFault, NoMemory}
 use Rattle.station.specs.Bytes.{AreInput, nothing_left}
+use Rattle.station.specs.Io.{Io}
 use Rattle.station.specs.Answers.{IsShort, IsRefused, IsLengthRefusal, NamesFault}
 
 -- the source was read to its end, and this is a text of its bytes
@@ -29,17 +30,22 @@ pub record RepliesShort (Tells : List ℕ → List ℕ → Type 0) (left ends ol
   pub of_input : IsTextOfInput Tells text left ends
   pub front : AppendsFront old new text
 
--- what an answer tells of the input, with the faults of reading, and of the output, with the faults of writing
-abbrev pub Replied : (List ℕ → List ℕ → Type 0) → (List ℕ → Refusal → Type 0) → Status → Option (List ℕ) → Option (List ℕ) → Type 0 → Option (List ℕ) → Option (List ℕ) → Type 0 → Type 0
-Replied Tells IsFirst Done left ends unread old new unwritten = RepliesWhole Tells left ends old new
-Replied Tells IsFirst (Scenario refusal) left ends unread old new unwritten = IsRefused IsFirst refusal left ends × (new ≡ old)
-Replied Tells IsFirst ReadFault left ends unread old new unwritten = unread × (new ≡ old)
-Replied Tells IsFirst WriteFault left ends unread old new unwritten = unwritten × RepliesShort Tells left ends old new
-Replied Tells IsFirst NoMemory left ends unread old new unwritten = new ≡ old
-Replied Tells IsFirst _ left ends unread old new unwritten = ⊥
+-- what an answer tells of the input and the output
+abbrev pub Replied : (List ℕ → List ℕ → Type 0) → (List ℕ → Refusal → Type 0) → Status → Io → Type 0
+Replied Tells IsFirst Done io = RepliesWhole Tells io.left io.ends io.old io.new
+Replied Tells IsFirst (Scenario refusal) io = IsRefused IsFirst refusal io.left io.ends × (io.new ≡ io.old)
+Replied Tells IsFirst ReadFault io = io.unread × (io.new ≡ io.old)
+Replied Tells IsFirst WriteFault io = io.unwritten × RepliesShort Tells io.left io.ends io.old io.new
+Replied Tells IsFirst NoMemory io = io.new ≡ io.old
+Replied Tells IsFirst _ io = ⊥
 
 -- the answer that an input is due, where no read fails: for too long an input, one that asks of nothing, and one that asks
 pub record IsReplyDue (Asks : List ℕ → Type 0) (IsFirst : List ℕ → Refusal → Type 0) (status : Status) (input : List ℕ) (unwritten : Type 0) : Type 0 where
   pub too_long : 16777216 < length input → IsLengthRefusal status
   pub fault : IsShort input → (Asks input → ⊥) → NamesFault IsFirst status input
   pub done : IsShort input → Asks input → ¬ unwritten → status ≡ Done
+
+-- what an answer tells; and where no read fails it is the one that the input is due, or memory was wanting
+pub record ReplyAnswer (Tells : List ℕ → List ℕ → Type 0) (Asks : List ℕ → Type 0) (IsFirst : List ℕ → Refusal → Type 0) (status : Status) (io : Io) : Type 0 where
+  pub told : Replied Tells IsFirst status io
+  pub due : ¬ io.unread → IfSome io.left (λ input. IsReplyDue Asks IsFirst status input io.unwritten ⊎ (status ≡ NoMemory))

@@ -1,9 +1,8 @@
 //! The command that reads what is asked of through bands and writes the greatest.
 
-ghost use Rattle.std.specs.Prelude.{◌≡◌, ◌≤◌, ◌⊎◌, IfSome};
-ghost use Rattle.io_edge.specs.Edge.{Rises};
 ghost use Rattle.band_report.specs.Told.{AsksOfBands, TellsBands, IsFirstBandFault};
-ghost use Rattle.station.specs.Replied.{Replied, IsReplyDue};
+ghost use Rattle.station.specs.Io.{io_of, Counts};
+ghost use Rattle.station.specs.Replied.{ReplyAnswer};
 
 use crate::input::{Unread, whole_input};
 use crate::status::Status;
@@ -15,11 +14,10 @@ use std::alloc::Global;
 
 /// Reads what is asked of the bands of a street, and writes the greatest.
 pub fn band<S: Source, K: Sink>(alloc: Global, source: &mut S, sink: &mut K) -> Status
-    ensures replied { Replied TellsBands IsFirstBandFault result (S.left source.old) (S.left source.new) (Rises (S.faults source.old) (S.faults source.new))
-        (K.written sink.old) (K.written sink.new) (Rises (K.faults sink.old) (K.faults sink.new)) }
-    ensures due { ¬ Rises (S.faults source.old) (S.faults source.new)
-        → IfSome (S.left source.old) (λ input. IsReplyDue AsksOfBands IsFirstBandFault result input (Rises (K.faults sink.old) (K.faults sink.new)) ⊎ (result ≡ Status.NoMemory)) }
-    ensures kept { (S.faults source.old ≤ S.faults source.new) × (K.faults sink.old ≤ K.faults sink.new) }
+    ensures answered { ReplyAnswer TellsBands AsksOfBands IsFirstBandFault result
+        (io_of S.left S.faults K.written K.faults source.old source.new sink.old sink.new) }
+    ensures reads { Counts result S.counts_exactly (S.faults source.old) (S.faults source.new) }
+    ensures writes { Counts result K.counts_exactly (K.faults sink.old) (K.faults sink.new) }
 {
     bytes_have_one_answer();
     limits_have_names();

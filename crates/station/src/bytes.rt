@@ -1,7 +1,7 @@
 //! All bytes of a source, up to a limit.
 
 ghost use Rattle.std.specs.Prelude.{◌≡◌, ◌<◌, ◌≤◌, ◌+◌, Some, Err, take, drop, length, IfOk, IfSome, OnOk, OnErr};
-ghost use Rattle.io_edge.specs.Edge.{Rises, Reads};
+ghost use Rattle.io_edge.specs.Edge.{Rises, Stays, Reads};
 ghost use Rattle.station.specs.Bytes.{nothing_left};
 
 use io_edge::{Failed, Source};
@@ -26,6 +26,7 @@ fn read_most<S: Source>(source: &mut S, buf: &mut [u8], most: usize) -> Result<u
     ensures most { IfOk result (λ n. n ≤ most) }
     ensures ok { IfOk result (λ n. Reads (S.left source.old) (S.left source.new) (take n buf.new)) }
     ensures fault { OnErr result (Rises (S.faults source.old) (S.faults source.new)) }
+    ensures exact { OnOk result (Stays S.counts_exactly (S.faults source.old) (S.faults source.new)) }
     ensures kept { S.faults source.old ≤ S.faults source.new }
     ensures len { length buf.new ≡ length buf.old }
 {
@@ -42,6 +43,7 @@ pub fn read_all<S: Source>(alloc: Global, source: &mut S, limit: usize) -> Resul
     ensures fault { result ≡ Err ReadEnd.Fault → Rises (S.faults source.old) (S.faults source.new) }
     ensures long { result ≡ Err ReadEnd.TooLong → IfSome (S.left source.old) (λ bytes. limit < length bytes) }
     ensures stopped { result ≡ Err ReadEnd.TooLong → IfSome (S.left source.old) (λ bytes. S.left source.new ≡ Some (drop (limit + 1) bytes)) }
+    ensures exact { OnOk result (Stays S.counts_exactly (S.faults source.old) (S.faults source.new)) }
     ensures kept { S.faults source.old ≤ S.faults source.new }
 {
     let mut bytes = Vec::new(alloc);

@@ -1,7 +1,7 @@
 //! The whole input of a command that reads an object: all bytes of the source, as many as a scenario may have.
 
 ghost use Rattle.std.specs.Prelude.{◌≡◌, ◌≤◌, ◌<◌, Err, IfOk, OnOk};
-ghost use Rattle.io_edge.specs.Edge.{Rises};
+ghost use Rattle.io_edge.specs.Edge.{Rises, Stays};
 ghost use Rattle.scenario_data.specs.declared.refusal.Refusal.{Refusal};
 ghost use Rattle.station.specs.Bytes.{AreInput, nothing_left};
 ghost use Rattle.station.specs.Answers.{IsShort, IsLengthLimit, IsTooLong};
@@ -39,6 +39,7 @@ pub fn whole_input<S: Source>(alloc: Global, source: &mut S) -> Result<Vec<u8>, 
     ensures ended { OnOk result (S.left source.new ≡ nothing_left (S.left source.old)) }
     ensures fault { result ≡ Err Unread.Fault → Rises (S.faults source.old) (S.faults source.new) }
     ensures refused { (r : Refusal) → result ≡ Err (Unread.Refused r) → IsLengthLimit r × IsTooLong (S.left source.old) (S.left source.new) }
+    ensures exact { OnOk result (Stays S.counts_exactly (S.faults source.old) (S.faults source.new)) }
     ensures kept { S.faults source.old ≤ S.faults source.new }
 {
     match read_all(alloc, source, SCENARIO_LIMIT) {

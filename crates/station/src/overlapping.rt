@@ -1,8 +1,9 @@
 //! What `overlaps` does: a trace is checked, and the overlap at one of its cabinets is told or refused.
 
-ghost use Rattle.std.specs.Prelude.{◌≡◌, ◌≤◌, ◌⊎◌, IfSome};
+ghost use Rattle.std.specs.Prelude.{◌≡◌, ◌⊎◌, IfSome};
 ghost use Rattle.io_edge.specs.Edge.{Rises};
 ghost use Rattle.station.specs.Overlapped.{asked_by, Overlapped, IsOverlapDue};
+ghost use Rattle.station.specs.Io.{io_of, Counts};
 
 use crate::bytes::{ReadEnd, read_all};
 use crate::checking::TRACE_LIMIT;
@@ -42,11 +43,12 @@ pub fn overlaps<S: Source, K: Sink>(
     source: &mut S,
     sink: &mut K,
 ) -> Status
-    ensures overlapped { Overlapped (asked_by overlap) result (S.left source.old) (S.left source.new) (Rises (S.faults source.old) (S.faults source.new))
-        (K.written sink.old) (K.written sink.new) (Rises (K.faults sink.old) (K.faults sink.new)) }
+    ensures overlapped { Overlapped (asked_by overlap) result
+        (io_of S.left S.faults K.written K.faults source.old source.new sink.old sink.new) }
     ensures due { ¬ Rises (S.faults source.old) (S.faults source.new)
         → IfSome (S.left source.old) (λ input. IsOverlapDue (asked_by overlap) result input (Rises (K.faults sink.old) (K.faults sink.new)) ⊎ (result ≡ Status.NoMemory)) }
-    ensures kept { (S.faults source.old ≤ S.faults source.new) × (K.faults sink.old ≤ K.faults sink.new) }
+    ensures reads { Counts result S.counts_exactly (S.faults source.old) (S.faults source.new) }
+    ensures writes { Counts result K.counts_exactly (K.faults sink.old) (K.faults sink.new) }
 {
     traces_have_no_fault();
     faults_are_determined();

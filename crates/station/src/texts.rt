@@ -1,9 +1,9 @@
 //! The commands that read nothing: texts that the program makes, and those that it says of itself.
 
-ghost use Rattle.std.specs.Prelude.{◌≤◌};
 ghost use Rattle.io_edge.specs.Edge.{Rises};
 ghost use Rattle.gen_arterial.specs.Written.{CanMake, generated, generated_text};
 ghost use Rattle.whole_run.specs.Counting.{surveyed_text};
+ghost use Rattle.station.specs.Io.{Counts};
 ghost use Rattle.station.specs.Answers.{WritesText};
 ghost use Rattle.station.specs.Commands.{MakesText};
 
@@ -19,7 +19,7 @@ use whole_run::{put_all, survey_text};
 /// Writes a text.
 pub fn tell<K: Sink>(sink: &mut K, text: &[u8]) -> Status
     ensures tells { WritesText result text.now (Rises (K.faults sink.old) (K.faults sink.new)) (K.written sink.old) (K.written sink.new) }
-    ensures kept { K.faults sink.old ≤ K.faults sink.new }
+    ensures writes { Counts result K.counts_exactly (K.faults sink.old) (K.faults sink.new) }
 {
     match put_all(sink, text) {
         Ok(()) => Status::Done,
@@ -32,7 +32,7 @@ pub fn generate<K: Sink>(alloc: Global, from: Seeding, sink: &mut K) -> Status
     requires { CanMake from.cabinets from.rounds }
     ensures makes { MakesText result (generated_text from.seed from.cabinets from.rounds) (Rises (K.faults sink.old) (K.faults sink.new))
         (K.written sink.old) (K.written sink.new) }
-    ensures kept { K.faults sink.old ≤ K.faults sink.new }
+    ensures writes { Counts result K.counts_exactly (K.faults sink.old) (K.faults sink.new) }
 {
     match text_of(alloc, from.seed, from.cabinets, from.rounds) {
         Ok(text) => tell(sink, text.as_slice()),
@@ -45,7 +45,7 @@ pub fn survey<K: Sink>(alloc: Global, from: Seeding, sink: &mut K) -> Status
     requires { CanMake from.cabinets from.rounds }
     ensures makes { MakesText result (surveyed_text (generated from.seed from.cabinets from.rounds)) (Rises (K.faults sink.old) (K.faults sink.new))
         (K.written sink.old) (K.written sink.new) }
-    ensures kept { K.faults sink.old ≤ K.faults sink.new }
+    ensures writes { Counts result K.counts_exactly (K.faults sink.old) (K.faults sink.new) }
 {
     scenarios_run();
     let scenario = match make(alloc, from.seed, from.cabinets, from.rounds) {

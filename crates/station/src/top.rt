@@ -1,28 +1,16 @@
 //! All that the program does.
 
-ghost use Rattle.std.specs.Prelude.{◌≡◌, ◌≤◌, ◌⊎◌, ◌↔◌, ◌∷◌, ℕ, List, [], Err, IfOk, IfSome, OnOk, IsTrue, map, string_bytes};
-ghost use Rattle.io_edge.specs.Edge.{Rises};
+ghost use Rattle.std.specs.Prelude.{◌≡◌, ◌≤◌, ◌↔◌, List, ℕ, Err, IfOk, OnOk, map, string_bytes};
+ghost use Rattle.io_edge.specs.Edge.{Rises, Stays};
 ghost use Rattle.scenario_data.specs.Content.{scenario_content};
 ghost use Rattle.scenario_data.specs.declared.refusal.Refusal.{Refusal};
 ghost use Rattle.runnable.specs.Runnable.{Runnable};
-ghost use Rattle.station.specs.Bytes.{nothing_left};
-ghost use Rattle.command_words.specs.Words.{IsRun, IsCheck, IsGenerate, IsSurvey, IsBand, IsRespond, IsOverlaps, IsHelp, IsVersion, IsCommand, AskFor};
-ghost use Rattle.command_words.specs.declared.command.Seeding.{Seeding as SeedingRow};
-ghost use Rattle.command_words.specs.declared.command.Command.{Command as CommandRow};
-ghost use Rattle.command_words.specs.declared.command.Overlap.{Overlap as OverlapRow};
-ghost use Rattle.overlap_run.specs.declared.faults.OverlapFault.{OverlapFault as OverlapFaultRow};
-ghost use Rattle.gen_arterial.specs.Written.{generated, generated_text};
-ghost use Rattle.whole_run.specs.Counting.{surveyed_text};
+ghost use Rattle.command_words.specs.Words.{IsCheck, IsCommand, AskFor};
 ghost use Rattle.scenario_read.specs.Answers.{IsFirstFault};
-ghost use Rattle.band_report.specs.Told.{AsksOfBands, TellsBands, IsFirstBandFault};
-ghost use Rattle.field_file.specs.Told.{HasResult, TellsResult, IsFirstResultFault};
-ghost use Rattle.station.specs.Answers.{WritesText, IsRead, IsRefused};
-ghost use Rattle.station.specs.Replied.{Replied, IsReplyDue};
-ghost use Rattle.station.specs.Answers.{RunsWhole, StopsShort, Ran, IsDue};
-ghost use Rattle.station.specs.Checked.{Checked, IsCheckDue};
-ghost use Rattle.station.specs.Overlapped.{asked_by, Overlapped, IsOverlapDue};
-ghost use Rattle.station.specs.Commands.{MakesText, Answered, ReadsNothing, IsRefusedFor};
-ghost use Rattle.trace_check.specs.declared.faults.TraceFault.{TraceFault};
+ghost use Rattle.station.specs.Bytes.{nothing_left};
+ghost use Rattle.station.specs.Io.{io_of, Counts};
+ghost use Rattle.station.specs.Answers.{IsRead, IsRefused, RunAnswer};
+ghost use Rattle.station.specs.Commands.{Answered, ReadsNothing, NeedsNoInput, Answers};
 
 use crate::asking::band;
 use crate::checking::check_input;
@@ -48,6 +36,7 @@ fn read_scenario<S: Source>(alloc: Global, source: &mut S) -> Result<Scenario, U
     ensures ended { OnOk result (S.left source.new ≡ nothing_left (S.left source.old)) }
     ensures fault { result ≡ Err Unread.Fault → Rises (S.faults source.old) (S.faults source.new) }
     ensures refused { (r : Refusal) → result ≡ Err (Unread.Refused r) → IsRefused IsFirstFault r (S.left source.old) (S.left source.new) }
+    ensures exact { OnOk result (Stays S.counts_exactly (S.faults source.old) (S.faults source.new)) }
     ensures kept { S.faults source.old ≤ S.faults source.new }
 {
     let input = match whole_input(alloc, source) {
@@ -68,9 +57,10 @@ fn run<R: Threads + Sync, S: Source, K: Sink, G: Gate + Sync>(
     source: &mut S,
     sink: &mut K,
 ) -> Status
-    ensures ran { Ran crew.now.workers result (S.left source.old) (S.left source.new) (Rises (S.faults source.old) (S.faults source.new))
-        (K.written sink.old) (K.written sink.new) (Rises (K.faults sink.old) (K.faults sink.new)) }
-    ensures kept { (S.faults source.old ≤ S.faults source.new) × (K.faults sink.old ≤ K.faults sink.new) }
+    ensures answered { RunAnswer crew.now.workers result
+        (io_of S.left S.faults K.written K.faults source.old source.new sink.old sink.new) }
+    ensures reads { Counts result S.counts_exactly (S.faults source.old) (S.faults source.new) }
+    ensures writes { Counts result K.counts_exactly (K.faults sink.old) (K.faults sink.new) }
 {
     let scenario = match read_scenario(alloc, source) {
         Ok(scenario) => scenario,
@@ -96,19 +86,12 @@ fn answer<R: Threads + Sync, S: Source, K: Sink, G: Gate + Sync>(
     gate: &G,
 ) -> Status
     requires asked { (words : List (List ℕ)) × AskFor words command }
-    ensures kept { (S.faults source.old ≤ S.faults source.new) × (K.faults sink.old ≤ K.faults sink.new) }
-    ensures answered { Answered command result (S.left source.old) (S.left source.new) (Rises (S.faults source.old) (S.faults source.new))
-        (K.written sink.old) (K.written sink.new) (Rises (K.faults sink.old) (K.faults sink.new)) }
+    ensures answered { Answered command result
+        (io_of S.left S.faults K.written K.faults source.old source.new sink.old sink.new) }
+    ensures reads { Counts result S.counts_exactly (S.faults source.old) (S.faults source.new) }
+    ensures writes { Counts result K.counts_exactly (K.faults sink.old) (K.faults sink.new) }
     ensures unread { ReadsNothing command → source.new ≡ source.old }
     ensures unwritten { command ≡ Command.Check → sink.new ≡ sink.old }
-    ensures check_due { command ≡ Command.Check → ¬ Rises (S.faults source.old) (S.faults source.new)
-        → IfSome (S.left source.old) (λ input. IsCheckDue result input ⊎ (result ≡ Status.NoMemory)) }
-    ensures overlaps_due { (o : OverlapRow) → command ≡ Command.Overlaps o → ¬ Rises (S.faults source.old) (S.faults source.new)
-        → IfSome (S.left source.old) (λ input. IsOverlapDue (asked_by o) result input (Rises (K.faults sink.old) (K.faults sink.new)) ⊎ (result ≡ Status.NoMemory)) }
-    ensures band_due { command ≡ Command.Band → ¬ Rises (S.faults source.old) (S.faults source.new)
-        → IfSome (S.left source.old) (λ input. IsReplyDue AsksOfBands IsFirstBandFault result input (Rises (K.faults sink.old) (K.faults sink.new)) ⊎ (result ≡ Status.NoMemory)) }
-    ensures respond_due { command ≡ Command.Respond → ¬ Rises (S.faults source.old) (S.faults source.new)
-        → IfSome (S.left source.old) (λ input. IsReplyDue HasResult IsFirstResultFault result input (Rises (K.faults sink.old) (K.faults sink.new)) ⊎ (result ≡ Status.NoMemory)) }
 {
     match command {
         Command::Run(workers) => run(&Crew { rt, workers, gate }, alloc, source, sink),
@@ -139,91 +122,21 @@ pub fn station<R: Threads + Sync, S: Source, K: Sink, G: Gate + Sync>(
     sink: &mut K,
     gate: &G,
 ) -> Status
-    // No count of faults falls.
-    ensures kept { (S.faults source.old ≤ S.faults source.new) × (K.faults sink.old ≤ K.faults sink.new) }
-
     // Usage comes exactly where the words are no command; nothing is read or written then.
     ensures usage { result ≡ Status.Usage ↔ ¬ IsCommand (map string_bytes words.now.items) }
     ensures untouched { result ≡ Status.Usage → (source.new ≡ source.old) × (sink.new ≡ sink.old) }
 
-    // Help and version: the whole text was written, or a write failed and a front of it was; nothing is read.
-    ensures help { IsHelp (map string_bytes words.now.items) → (source.new ≡ source.old)
-        × WritesText result HELP.now (Rises (K.faults sink.old) (K.faults sink.new)) (K.written sink.old) (K.written sink.new) }
-    ensures version { IsVersion (map string_bytes words.now.items) → (source.new ≡ source.old)
-        × WritesText result VERSION.now (Rises (K.faults sink.old) (K.faults sink.new)) (K.written sink.old) (K.written sink.new) }
+    // Help, version, generate and survey read nothing; check writes nothing.
+    ensures unread { NeedsNoInput (map string_bytes words.now.items) → source.new ≡ source.old }
+    ensures unwritten { IsCheck (map string_bytes words.now.items) → sink.new ≡ sink.old }
 
-    // Generate: the text of the scenario that these numbers give was written whole, or a write failed and a front of it was; or there was not
-    // memory enough to make it. Nothing is read.
-    ensures generate { (from : SeedingRow) → IsGenerate (map string_bytes words.now.items) from → (source.new ≡ source.old)
-        × MakesText result (generated_text from.seed from.cabinets from.rounds) (Rises (K.faults sink.old) (K.faults sink.new))
-        (K.written sink.old) (K.written sink.new) }
+    // What the answer tells of what was read and written, by the words: a record for each command, and the causes of an answer.
+    ensures answers { Answers (map string_bytes words.now.items) result
+        (io_of S.left S.faults K.written K.faults source.old source.new sink.old sink.new) }
 
-    // Survey: the text of what a run of that scenario comes to, counted in the lines of its trace in the serial order, was written in the same way.
-    ensures survey { (from : SeedingRow) → IsSurvey (map string_bytes words.now.items) from → (source.new ≡ source.old)
-        × MakesText result (surveyed_text (generated from.seed from.cabinets from.rounds)) (Rises (K.faults sink.old) (K.faults sink.new))
-        (K.written sink.old) (K.written sink.new) }
-
-    // Done after a run by so many workers: the source was read to its end, its bytes are a scenario, and the whole trace was appended to the
-    // sink: the text of the run in the order in which the items came to its cabinets, which with no worker is the serial one. By the lines
-    // of this text every street is safe at every tick, with the tables of each version; versions are whole; these tables are those of
-    // whole accepted downloads; and each cabinet's history meets what coordination promises.
-    ensures done { (workers : ℕ) → IsRun (map string_bytes words.now.items) workers → result ≡ Status.Done
-        → RunsWhole workers (S.left source.old) (S.left source.new) (K.written sink.old) (K.written sink.new) }
-
-    // Where writing stops short, the bytes written are a front of such a trace, and not all of it.
-    ensures write_fault { (workers : ℕ) → IsRun (map string_bytes words.now.items) workers → result ≡ Status.WriteFault
-        → Rises (K.faults sink.old) (K.faults sink.new)
-        × StopsShort workers (S.left source.old) (S.left source.new) (K.written sink.old) (K.written sink.new) }
-    ensures no_memory { result ≡ Status.NoMemory → (K.written sink.new ≡ K.written sink.old)
-        ⊎ ((workers : ℕ) × IsRun (map string_bytes words.now.items) workers
-        × StopsShort workers (S.left source.old) (S.left source.new) (K.written sink.old) (K.written sink.new)) }
-
-    // Why a failed read and each refusal come, and that nothing was written then. A refusal names the first fault of the input that `run`,
-    // `band` or `respond` read; the path `.` with `Limit` is the input's length alone: no other fault has it.
-    ensures read_fault { result ≡ Status.ReadFault → Rises (S.faults source.old) (S.faults source.new) × (K.written sink.new ≡ K.written sink.old) }
-    ensures refused { (r : Refusal) → result ≡ Status.Scenario r
-        → IsRefusedFor (map string_bytes words.now.items) r (S.left source.old) (S.left source.new) × (K.written sink.new ≡ K.written sink.old) }
-
-    // Which answer comes where no read fails: for too long an input, one that is no scenario, and any scenario.
-    ensures due { (workers : ℕ) → IsRun (map string_bytes words.now.items) workers → ¬ Rises (S.faults source.old) (S.faults source.new)
-        → IfSome (S.left source.old) (λ input. IsDue result input (Rises (K.faults sink.old) (K.faults sink.new)) ⊎ (result ≡ Status.NoMemory)) }
-
-    // `check` writes nothing. Done: the source was read to its end, its bytes are a trace, and what a trace tells holds: every street is
-    // safe, versions are whole, and coordination is met. NotATrace: the input is too long, or this is its first fault.
-    ensures checked { IsCheck (map string_bytes words.now.items) → (sink.new ≡ sink.old)
-        × Checked result (S.left source.old) (S.left source.new) (Rises (S.faults source.old) (S.faults source.new)) }
-    ensures not_a_trace { (fault : TraceFault) → result ≡ Status.NotATrace fault
-        → IsCheck (map string_bytes words.now.items) ⊎ ((o : OverlapRow) × IsOverlaps (map string_bytes words.now.items) o) }
-
-    // Which answer comes where no read fails: for a trace that is not too long, and for every other text.
-    ensures check_due { IsCheck (map string_bytes words.now.items) → ¬ Rises (S.faults source.old) (S.faults source.new)
-        → IfSome (S.left source.old) (λ input. IsCheckDue result input ⊎ (result ≡ Status.NoMemory)) }
-
-    // Overlaps: the source was read to its end, its bytes are a trace, and the text of the overlap at its cabinet, by the lines of the trace, was
-    // written whole; by these lines the overlap is never green, yellow or clearing unless one of its parents is. Or a write failed, and a front
-    // of the text was written; or the input is no trace, or the overlap breaks a rule there. And which answer comes where no read fails.
-    ensures overlaps { (o : OverlapRow) → IsOverlaps (map string_bytes words.now.items) o → Overlapped (asked_by o) result
-        (S.left source.old) (S.left source.new) (Rises (S.faults source.old) (S.faults source.new)) (K.written sink.old) (K.written sink.new)
-        (Rises (K.faults sink.old) (K.faults sink.new)) }
-    ensures overlaps_due { (o : OverlapRow) → IsOverlaps (map string_bytes words.now.items) o → ¬ Rises (S.faults source.old) (S.faults source.new)
-        → IfSome (S.left source.old) (λ input. IsOverlapDue (asked_by o) result input (Rises (K.faults sink.old) (K.faults sink.new)) ⊎ (result ≡ Status.NoMemory)) }
-    ensures broken_overlap { (fault : OverlapFaultRow) → result ≡ Status.Overlap fault
-        → (o : OverlapRow) × IsOverlaps (map string_bytes words.now.items) o }
-
-    // Band: the source was read to its end, its bytes ask of the bands of a street, and the two lines of its greatest bands were written
-    // whole; or a write failed, and a front of them was; or the refusal names the first fault. And which answer comes where no read fails.
-    ensures band { IsBand (map string_bytes words.now.items) → Replied TellsBands IsFirstBandFault result (S.left source.old) (S.left source.new)
-        (Rises (S.faults source.old) (S.faults source.new)) (K.written sink.old) (K.written sink.new) (Rises (K.faults sink.old) (K.faults sink.new)) }
-    ensures band_due { IsBand (map string_bytes words.now.items) → ¬ Rises (S.faults source.old) (S.faults source.new)
-        → IfSome (S.left source.old) (λ input. IsReplyDue AsksOfBands IsFirstBandFault result input (Rises (K.faults sink.old) (K.faults sink.new)) ⊎ (result ≡ Status.NoMemory)) }
-
-    // Respond: the source was read to its end, its bytes are a field file that has a result, and the compact text of this scenario was written
-    // whole, with a newline; the reader of scenarios refuses nothing of it. Or a write failed, and a front of it was written; or the refusal
-    // names the first fault. And which answer comes where no read fails.
-    ensures respond { IsRespond (map string_bytes words.now.items) → Replied TellsResult IsFirstResultFault result (S.left source.old) (S.left source.new)
-        (Rises (S.faults source.old) (S.faults source.new)) (K.written sink.old) (K.written sink.new) (Rises (K.faults sink.old) (K.faults sink.new)) }
-    ensures respond_due { IsRespond (map string_bytes words.now.items) → ¬ Rises (S.faults source.old) (S.faults source.new)
-        → IfSome (S.left source.old) (λ input. IsReplyDue HasResult IsFirstResultFault result input (Rises (K.faults sink.old) (K.faults sink.new)) ⊎ (result ≡ Status.NoMemory)) }
+    // No count of faults falls. Done: where a count is exact, it is as it was, so that no fault was passed over.
+    ensures reads { Counts result S.counts_exactly (S.faults source.old) (S.faults source.new) }
+    ensures writes { Counts result K.counts_exactly (K.faults sink.old) (K.faults sink.new) }
 {
     match command_of(words) {
         Some(command) => answer(rt, alloc, command, source, sink, gate),

@@ -1,7 +1,10 @@
 -- What ticks that are passed over change of a frame.
-use Rattle.std.specs.Prelude.{ℕ, ◌+◌, ◌-◌, ◌%◌, Bool, true, false}
+use Rattle.std.specs.Prelude.{ℕ, ◌≡◌, ◌+◌, ◌-◌, ◌%◌, Bool, true, false}
 use Rattle.sig_types.specs.declared.frame.Frame.{Frame}
 use Rattle.sig_tables.specs.declared.plan.Plan.{Plan}
+use Rattle.tick_context.specs.declared.context.TickContext.{TickContext}
+use Rattle.tick_context.specs.declared.unit_commands.UnitCommands.{UnitCommands}
+use Rattle.tick_context.specs.Modes.{is_coord}
 
 -- the frame with this counter and this target, where it is in step with a pattern
 abbrev pub timed : Bool → ℕ → ℕ → Frame → Frame
@@ -11,3 +14,14 @@ timed false counter target f = f
 -- where the target of a plan stands at this time of the day
 abbrev pub planned_target : Plan → ℕ → ℕ
 planned_target plan clock = (clock + plan.shift + (plan.cycle - plan.offset % plan.cycle)) % plan.cycle
+
+-- the context with these commands, and in step with a pattern with this counter and the target of its clock
+abbrev pub gone_on : ℕ → TickContext → UnitCommands → TickContext
+gone_on counter c o = record c {
+  frame = timed (is_coord c.frame.mode) counter (planned_target c.active_pattern.plan o.clock) c.frame;
+  unit_commands = o;
+}
+
+-- new is old after ticks that are passed over, with the commands that it has
+abbrev pub HasGoneOn : ℕ → TickContext → TickContext → Type 0
+HasGoneOn counter old new = new ≡ gone_on counter old new.unit_commands

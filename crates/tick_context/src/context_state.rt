@@ -1,7 +1,7 @@
 //! What a tick is about, from what both engines keep: the pattern in command, what the mode brings to green, the counter and
 //! its target, and the priority request that is active.
 
-ghost use Rattle.std.specs.Prelude.{◌≡◌, ◌<◌, ◌+◌, ℕ};
+ghost use Rattle.std.specs.Prelude.{◌≡◌, ◌<◌, ◌≤◌, ◌+◌, ℕ};
 
 use crate::context::TickContext;
 use crate::modes::{has_pattern, is_coord};
@@ -27,6 +27,8 @@ impl TickContext {
     ghost use Rattle.tick_context.specs.Binds.{ActivePatternIs, IsBound};
     ghost use Rattle.tick_context.specs.Context.{ContextStands, CountStandsFor, told_ticks};
     ghost use Rattle.tick_context.specs.TickState.{TickStateIs};
+    ghost use Rattle.tick_context.specs.Even.{IsEven, UnitCommandsPassed};
+    ghost use Rattle.tick_context.specs.Passed.{HasGoneOn};
 
     /// The pattern in command at this tick.
     pub fn command_now(&self) -> u8
@@ -43,6 +45,23 @@ impl TickContext {
         ensures installs { self.new.version ≡ self.old.version }
     {
         self.active_pattern.follow(&self.tables, mode);
+    }
+
+    /// Passes over so many ticks at which the command and the clock go on evenly; in step with a pattern this is the counter of
+    /// the last of them.
+    pub fn pass(&mut self, ticks: u32, counter: u32)
+        requires few { told_ticks self.old + ticks ≤ 4294967295 }
+        requires even { IsEven self.old.unit_commands self.old.tables ticks }
+        ensures passed { HasGoneOn counter self.old self.new }
+        ensures unit_commands { UnitCommandsPassed ticks self.old.unit_commands self.new.unit_commands }
+        ensures ticks { told_ticks self.new ≡ told_ticks self.old + ticks }
+        ensures installs { self.new.version ≡ self.old.version }
+    {
+        self.unit_commands.pass(ticks, &self.tables);
+        if is_coord(self.frame.mode) {
+            self.frame.counter = counter;
+            self.frame.target = self.active_pattern.target(self.unit_commands.clock());
+        }
     }
 
     /// The phases that a mode brings to green; none where it has no goal.

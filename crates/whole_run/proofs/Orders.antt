@@ -5,7 +5,7 @@ use Rattle.scenario_data.specs.Content.{ScenarioContent}
 use Rattle.run_definition.specs.CabinetState.{CabinetState, opened_cabinet_states, each_cabinet_state, cabinet_states_after}
 use Rattle.run_definition.specs.Orders.{EachMerges, AreMerges, AreJournals, serial_round, serial_rounds, serial_journals}
 use Rattle.run_definition.proofs.Orders.{serial-merges, serial-all}
-use Rattle.whole_run.specs.Orders.{come_to, AreBroughtBy}
+use Rattle.whole_run.specs.Orders.{come_to, AreBroughtBy, GoesOnSerially}
 
 after-more : (s : ScenarioContent) (ts : List CabinetState) (js : List (List (List ℕ))) (j : List (List ℕ))
     → cabinet_states_after s ts (js ++ j ∷ []) ≡ each_cabinet_state s 1 (cabinet_states_after s ts js) j
@@ -82,6 +82,19 @@ all-brought workers s done js so whole = record {
   any = record { all = so.all ∙ whole; merges = so.merges };
   serial = λ none. so.serial none ∙ ap (λ (k : ℕ). serial_rounds s (opened_cabinet_states s s.cabinets) k) whole;
 }
+
+-- the rounds that were closed, and how many are left
+abbrev pub closed-then : (workers : ℕ) (s : ScenarioContent) (done n : ℕ) (js : List (List (List ℕ))) → AreSoFar workers s done js → done + n ≡ s.rounds
+    → GoesOnSerially s js (finished s js n)
+closed-then workers s done n js so whole = record { left = n; rounds = ap (λ (k : ℕ). k + n) so.all ∙ whole; rest = refl }
+
+abbrev pub all-closed : (workers : ℕ) (s : ScenarioContent) (done : ℕ) (js : List (List (List ℕ))) → AreSoFar workers s done js → done ≡ s.rounds
+    → GoesOnSerially s js js
+all-closed workers s done js so whole = record { left = 0; rounds = omega (arith, so.all, whole); rest = sym (append-nil js) }
+
+-- none was closed
+abbrev pub none-closed : (s : ScenarioContent) → GoesOnSerially s [] (serial_journals s)
+none-closed s = record { left = s.rounds; rounds = omega arith; rest = refl }
 
 -- the serial journals are some that any workers may bring about
 pub serial-brought : (workers : ℕ) (s : ScenarioContent) → AreBroughtBy workers s (serial_journals s)

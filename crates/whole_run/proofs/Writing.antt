@@ -7,7 +7,7 @@ use Rattle.io_edge.proofs.Appending.{appended-appended, appended-nil}
 use Rattle.trace_text.specs.declared.lines.Line.{Line}
 use Rattle.trace_text.specs.Line.{line_text}
 use Rattle.trace_text.proofs.Ends.{some_text}
-use Rattle.whole_run.specs.Bytes.{AppendsSome, AppendsFront, Puts, PutsFront}
+use Rattle.whole_run.specs.Bytes.{AppendsSome, AppendsFront, AppendsUpTo, Puts, PutsFront, PutsUpTo}
 
 -- a list with something in front of it or behind it isn't empty
 pub some_before : {A : Type 0} (rest more : List A) → rest ≢ [] → rest ++ more ≢ []
@@ -118,3 +118,18 @@ pub flush_front : (old mid new : Option (List ℕ)) (held holds text : List ℕ)
 flush_front old mid new held holds text none (f, e, a) (rest, some, (g, d, b)) =
     let split : text ≡ f ++ holds = rw none at e in
     (rest, some, (f ++ g, split ∙ ap (λ x. f ++ x) d ∙ sym (append_assoc f g rest), b ∙ ap (λ o. appended o g) a ∙ appended-appended old f g))
+
+-- what a front of a piece is, is up to its end
+pub front_up_to : (old new : Option (List ℕ)) (piece : List ℕ) → AppendsFront old new piece → AppendsUpTo old new piece
+front_up_to old new piece (rest, some, so) = (rest, so)
+
+pub none_up_to : (old : Option (List ℕ)) (piece : List ℕ) → AppendsUpTo old old piece
+none_up_to old piece = (piece, none_yet old piece)
+
+-- all of one piece, and then the next up to its end
+pub puts_up_to : (old mid new : Option (List ℕ)) (held holds p q : List ℕ) → Puts old mid held holds p → PutsUpTo mid new holds q
+    → PutsUpTo old new held (p ++ q)
+puts_up_to old mid new held holds p q one (rest, two) = (rest, puts_then old mid new held holds rest p q one two)
+
+pub empty_up_to : (old new : Option (List ℕ)) (held text : List ℕ) → held ≡ [] → PutsUpTo old new held text → AppendsUpTo old new text
+empty_up_to old new held text none up_to = rw none at up_to

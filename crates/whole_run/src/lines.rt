@@ -26,7 +26,7 @@ pub fn put_frame<K: Sink>(
     tick: u32,
     frame: &Frame,
 ) -> Result<(), Stop>
-    ensures { HandsOver K.written K.faults result writer.old writer.new sink.old sink.new (line_text (shown_line cab tick frame.now)) }
+    ensures { HandsOver K.written K.faults K.counts_exactly result writer.old writer.new sink.old sink.new (line_text (shown_line cab tick frame.now)) }
 {
     let line = Line::F {
         cab,
@@ -48,7 +48,7 @@ fn put_shown<K: Sink>(
     cab: u32,
     shown: &(u32, Frame),
 ) -> Result<(), Stop>
-    ensures { HandsOver K.written K.faults result writer.old writer.new sink.old sink.new (line_text (shown_line cab shown.now.0 shown.now.1)) }
+    ensures { HandsOver K.written K.faults K.counts_exactly result writer.old writer.new sink.old sink.new (line_text (shown_line cab shown.now.0 shown.now.1)) }
 {
     put_frame(writer, sink, cab, shown.0, &shown.1)
 }
@@ -60,7 +60,7 @@ fn put_frames<K: Sink>(
     cab: u32,
     frames: &[(u32, Frame)],
 ) -> Result<(), Stop>
-    ensures { HandsOver K.written K.faults result writer.old writer.new sink.old sink.new (lines_text (frame_lines cab frames.now)) }
+    ensures { HandsOver K.written K.faults K.counts_exactly result writer.old writer.new sink.old sink.new (lines_text (frame_lines cab frames.now)) }
 {
     for shown in frames {
         match put_shown(writer, sink, cab, shown) {
@@ -78,7 +78,7 @@ fn put_load<K: Sink>(
     cab: u32,
     load: &Option<Load>,
 ) -> Result<(), Stop>
-    ensures { HandsOver K.written K.faults result writer.old writer.new sink.old sink.new (lines_text (load_lines cab load.now)) }
+    ensures { HandsOver K.written K.faults K.counts_exactly result writer.old writer.new sink.old sink.new (lines_text (load_lines cab load.now)) }
 {
     match load {
         None => Ok(()),
@@ -100,7 +100,7 @@ fn put_reply<K: Sink>(
     cab: u32,
     reply: &Reply,
 ) -> Result<(), Stop>
-    ensures { HandsOver K.written K.faults result writer.old writer.new sink.old sink.new (lines_text (answer_lines cab reply.now)) }
+    ensures { HandsOver K.written K.faults K.counts_exactly result writer.old writer.new sink.old sink.new (lines_text (answer_lines cab reply.now)) }
 {
     match put_load(writer, sink, cab, &reply.load) {
         Ok(()) => {}
@@ -135,7 +135,7 @@ fn put_told<K: Sink>(
     replies: &[Answered],
 ) -> Result<(), Stop>
     requires { AreInOrder 0 replies.now (length frames.now) }
-    ensures { HandsOver K.written K.faults result writer.old writer.new sink.old sink.new (lines_text (told_lines cab 0 frames.now replies.now)) }
+    ensures { HandsOver K.written K.faults K.counts_exactly result writer.old writer.new sink.old sink.new (lines_text (told_lines cab 0 frames.now replies.now)) }
 {
     let mut next = 0;
     for answered in replies {
@@ -161,7 +161,7 @@ pub fn put_book<K: Sink>(
     book: &Book,
 ) -> Result<(), Stop>
     requires { AreInOrder 0 (answered_in book.now) (length (written_in book.now)) }
-    ensures { HandsOver K.written K.faults result writer.old writer.new sink.old sink.new (lines_text (book_lines cab book.now)) }
+    ensures { HandsOver K.written K.faults K.counts_exactly result writer.old writer.new sink.old sink.new (lines_text (book_lines cab book.now)) }
 {
     match writer.put_journal(sink, cab, book.runs()) {
         Ok(()) => {}
@@ -172,7 +172,7 @@ pub fn put_book<K: Sink>(
 
 /// Hands over the line of a note of the master.
 fn put_note<K: Sink>(writer: &mut Writer, sink: &mut K, note: &MasterNote) -> Result<(), Stop>
-    ensures { HandsOver K.written K.faults result writer.old writer.new sink.old sink.new (line_text (LineRow.M note.now)) }
+    ensures { HandsOver K.written K.faults K.counts_exactly result writer.old writer.new sink.old sink.new (line_text (LineRow.M note.now)) }
 {
     writer.put_line(sink, &Line::M { note: *note })
 }
@@ -183,7 +183,7 @@ pub fn put_notes<K: Sink>(
     sink: &mut K,
     notes: &[MasterNote],
 ) -> Result<(), Stop>
-    ensures { HandsOver K.written K.faults result writer.old writer.new sink.old sink.new (lines_text (map LineRow.M notes.now)) }
+    ensures { HandsOver K.written K.faults K.counts_exactly result writer.old writer.new sink.old sink.new (lines_text (map LineRow.M notes.now)) }
 {
     for note in notes {
         match put_note(writer, sink, note) {

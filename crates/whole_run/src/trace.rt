@@ -3,14 +3,14 @@
 ghost use Rattle.std.specs.Prelude.{◌≡◌, ◌≤◌, ℕ, List, [], length, map};
 ghost use Rattle.trace_text.specs.declared.lines.Line.{Line as LineRow};
 ghost use Rattle.safety_laws.specs.TraceText.{lines_text};
-ghost use Rattle.whole_run.specs.Handing.{HandsOver, Writes, held_by};
+ghost use Rattle.whole_run.specs.Handing.{HandsOver, HandsWithin, Writes, WritesWithin, held_by};
 ghost use Rattle.scenario_data.specs.Content.{ScenarioContent, scenario_content};
 ghost use Rattle.runnable.specs.Runnable.{Runnable};
 ghost use Rattle.run_definition.specs.CabinetState.{CabinetState};
 ghost use Rattle.run_definition.specs.Lines.{opening_lines, notes_lines, each_lines, round_lines, front_lines, rest_lines, run_text};
 ghost use Rattle.round_run.specs.CabinetStates.{AreAt, HaveRun};
 ghost use Rattle.round_run.specs.ClosedLoop.{Between};
-ghost use Rattle.whole_run.specs.Orders.{come_to, InSomeOrder};
+ghost use Rattle.whole_run.specs.Orders.{come_to, closed_text, InSomeOrder};
 
 use crate::crew::Crew;
 use crate::lines::{put_book, put_frame, put_notes};
@@ -29,7 +29,7 @@ use trace_text::Line;
 fn put_openings<K: Sink>(writer: &mut Writer, sink: &mut K, books: &Vec<Book>) -> Result<(), Stop>
     requires few { length books.now.items ≤ 64 }
     ensures { (ts : List CabinetState) → AreAt books.now.items ts
-        → HandsOver K.written K.faults result writer.old writer.new sink.old sink.new (lines_text (opening_lines 1 ts)) }
+        → HandsOver K.written K.faults K.counts_exactly result writer.old writer.new sink.old sink.new (lines_text (opening_lines 1 ts)) }
 {
     for i in 0..books.len() {
         let frame = books[i].frame();
@@ -46,7 +46,7 @@ fn put_books<K: Sink>(writer: &mut Writer, sink: &mut K, books: &Vec<Book>) -> R
     requires few { length books.now.items ≤ 64 }
     requires run { (s : ScenarioContent) × (ts : List CabinetState) × (journals : List (List ℕ)) × HaveRun s ts journals books.now.items }
     ensures { (s : ScenarioContent) (ts : List CabinetState) (journals : List (List ℕ)) → HaveRun s ts journals books.now.items
-        → HandsOver K.written K.faults result writer.old writer.new sink.old sink.new (lines_text (each_lines s 1 ts journals)) }
+        → HandsOver K.written K.faults K.counts_exactly result writer.old writer.new sink.old sink.new (lines_text (each_lines s 1 ts journals)) }
 {
     books_follow_runs();
     for i in 0..books.len() {
@@ -70,7 +70,7 @@ fn put_round<K: Sink>(
     requires run { (s : ScenarioContent) × (ts : List CabinetState) × (journals : List (List ℕ)) × HaveRun s ts journals books.now.items }
     ensures { (s : ScenarioContent) (ts : List CabinetState) (journals : List (List ℕ)) → map LineRow.M notes.now ≡ notes_lines s 1 ts
         → HaveRun s ts journals books.now.items
-        → HandsOver K.written K.faults result writer.old writer.new sink.old sink.new (lines_text (round_lines s round ts journals)) }
+        → HandsOver K.written K.faults K.counts_exactly result writer.old writer.new sink.old sink.new (lines_text (round_lines s round ts journals)) }
 {
     match writer.put_line(sink, &Line::R { round }) {
         Ok(()) => {}
@@ -95,7 +95,8 @@ fn put_front<R: Threads + Sync, K: Sink, G: Gate + Sync>(
     requires runnable { Runnable (scenario_content s.now) }
     requires ready { Between (scenario_content s.now) 0 (come_to (scenario_content s.now) []) closed_loop.old }
     ensures { InSomeOrder crew.now.workers (scenario_content s.now) (λ journals.
-        HandsOver K.written K.faults result writer.old writer.new sink.old sink.new (lines_text (front_lines (scenario_content s.now) journals))) }
+        HandsOver K.written K.faults K.counts_exactly result writer.old writer.new sink.old sink.new (lines_text (front_lines (scenario_content s.now) journals)))
+        (λ closed left. HandsWithin K.written result writer.old sink.old sink.new left (lines_text (front_lines (scenario_content s.now) closed))) }
 {
     match put_openings(writer, sink, &closed_loop.books) {
         Ok(()) => {}
@@ -124,7 +125,8 @@ fn put_rest<R: Threads + Sync, K: Sink, G: Gate + Sync>(
 ) -> Result<(), Stop>
     requires { Runnable (scenario_content s.now) }
     ensures { InSomeOrder crew.now.workers (scenario_content s.now) (λ journals.
-        HandsOver K.written K.faults result writer.old writer.new sink.old sink.new (lines_text (rest_lines (scenario_content s.now) journals))) }
+        HandsOver K.written K.faults K.counts_exactly result writer.old writer.new sink.old sink.new (lines_text (rest_lines (scenario_content s.now) journals)))
+        (λ closed left. HandsWithin K.written result writer.old sink.old sink.new left (lines_text (front_lines (scenario_content s.now) closed))) }
 {
     let mut closed_loop = match ClosedLoop::open(alloc, Way::Registers, s) {
         Ok(closed_loop) => closed_loop,
@@ -147,7 +149,8 @@ fn put_trace<R: Threads + Sync, K: Sink, G: Gate + Sync>(
 ) -> Result<(), Stop>
     requires { Runnable (scenario_content s.now) }
     ensures { InSomeOrder crew.now.workers (scenario_content s.now) (λ journals.
-        HandsOver K.written K.faults result writer.old writer.new sink.old sink.new (run_text (scenario_content s.now) journals)) }
+        HandsOver K.written K.faults K.counts_exactly result writer.old writer.new sink.old sink.new (run_text (scenario_content s.now) journals))
+        (λ closed left. HandsWithin K.written result writer.old sink.old sink.new left (closed_text (scenario_content s.now) closed)) }
 {
     match writer.put_scenario(sink, s.compact.as_slice()) {
         Ok(()) => {}
@@ -157,7 +160,8 @@ fn put_trace<R: Threads + Sync, K: Sink, G: Gate + Sync>(
 }
 
 /// Writes the whole trace of a scenario, with the journals of some order in which its items come to the cabinets; where it stops short,
-/// a front of such a trace, and not all of it. With no worker the order is the serial one; else the workers' threads settle it.
+/// a front of such a trace, and not all of it: by the actual journals of the rounds that were closed, beyond whose lines nothing was written
+/// where rounds are left. With no worker the order is the serial one; else the workers' threads settle it.
 pub fn write_trace<R: Threads + Sync, K: Sink, G: Gate + Sync>(
     crew: &Crew<R, G>,
     alloc: Global,
@@ -166,7 +170,8 @@ pub fn write_trace<R: Threads + Sync, K: Sink, G: Gate + Sync>(
 ) -> Result<(), Stop>
     requires { Runnable (scenario_content s.now) }
     ensures { InSomeOrder crew.now.workers (scenario_content s.now) (λ journals.
-        Writes K.written K.faults result sink.old sink.new (run_text (scenario_content s.now) journals)) }
+        Writes K.written K.faults K.counts_exactly result sink.old sink.new (run_text (scenario_content s.now) journals))
+        (λ closed left. WritesWithin K.written result sink.old sink.new left (closed_text (scenario_content s.now) closed)) }
 {
     let mut writer = match Writer::new(alloc) {
         Ok(writer) => writer,

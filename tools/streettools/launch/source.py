@@ -31,5 +31,6 @@ def version(top: pathlib.Path) -> str | None:
 
 
 def usage(top: pathlib.Path) -> str | None:
-    """Returns the line for words that are no command."""
-    return text(top, "arterial/src/main.rt", "USAGE")
+    """Returns the line for words that are no command, without its end."""
+    line = text(top, "arterial/src/reporting.rt", "USAGE")
+    return line and line.removesuffix("\n")

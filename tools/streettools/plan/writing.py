@@ -108,14 +108,13 @@ def say_split(row: dict, usual: Tables, tables: Tables, number: int, partners: C
 def say_patterns(sheet: dict, usual: Tables, tables: Tables, partners: Collection[int]) -> None:
     """Says the patterns and splits that differ. A split of one defined pattern alone stands with it."""
     cells = differing(usual, tables)
-    changed = {cell[1] for cell in cells if cell[0] == "split"}
+    changed, touched = ({cell[1] for cell in cells if cell[0] == table} for table in ("split", "pattern"))
     runs = {it: value(tables, ("pattern", it, 4)) for it in tables.patterns()}
     users = {split: [it for it, run in runs.items() if run == split] for split in SPLITS}
     for number in PATTERNS:
         split = value(tables, ("pattern", number, 4))
         own = split in changed and users[split] == [number]
-        columns = [cell[2] for cell in cells if cell[:2] == ("pattern", number)]
-        if columns or own:
+        if number in touched or own:
             row = say(sheet, "pattern", str(number))
             say_pattern(row, usual, tables, number)
             if own:

@@ -84,6 +84,6 @@ class Tables:
 
     def side(self, phase):
         """Returns the phases of a phase's side of the barrier: those concurrent with it, and those that share one with it."""
-        near = set(self.phase(phase, 23))
-        enabled = self.enabled()
+        enabled = set(self.enabled())
+        near = enabled & set(self.phase(phase, 23))
         return {it for it in enabled if it == phase or it in near or near & set(self.phase(it, 23))}

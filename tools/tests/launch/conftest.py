@@ -21,7 +21,7 @@ CRATES = {
 """Crates and what they stand on; the program does not stand on the laws."""
 
 PROVED = ["sig_types", "io_edge", "station", "arterial"]
-SECONDS = 30
+SECONDS = 60
 
 BUILT = (7, "words run --workers 2\none\ntwo\n")
 """The status and the output of the program that the stand-in builds."""
@@ -43,7 +43,8 @@ class Tried:
             (self.top / f"crates/{name}/src").mkdir(parents=True)
             (self.top / f"crates/{name}/src/lib.rt").write_text("// nothing\n")
         (self.top / "crates/arterial/stdin").write_text("")
-        (self.top / "crates/arterial/src/main.rt").write_text('const USAGE: &str = "usage: arterial run | check";\n')
+        (self.top / "crates/arterial/src/main.rt").write_text("fn main() {}\n")
+        (self.top / "crates/arterial/src/reporting.rt").write_text('const USAGE: &str = "usage: arterial run | check\\n";\n')
         (self.top / "crates/station/src/help.rt").write_text(
             'pub const HELP: &str = "\\\nthe help\n\n  arterial run [--workers N]\n      Runs.\n  arterial check\n      Checks.\n\nThe end.\n";\n'
             'pub const VERSION: &str = "arterial 0\\n";\n'

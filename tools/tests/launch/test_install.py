@@ -17,7 +17,8 @@ def whole(proved):
     """A copy in which the program is proved, with all that is installed beside it."""
     for name in ("docs", "mibs", "scenarios"):
         shutil.copytree(TOP / name, proved.top / name, ignore=shutil.ignore_patterns("tests", "__pycache__"))
-    shutil.copy(TOP / "README.md", proved.top)
+    for name in ("README.md", "CHANGELOG.md"):
+        shutil.copy(TOP / name, proved.top)
     return proved
 
 
@@ -38,6 +39,8 @@ def test_all_stands_where_a_unix_user_looks_for_it(whole, tmp_path):
         "doc/arterial/README.md",
     ):
         assert (to / "share" / name).is_file()
+    for file in (it for it in (TOP / "scenarios").rglob("*") if it.is_file()):
+        assert (to / "share/doc/arterial/examples" / file.relative_to(TOP / "scenarios")).read_bytes() == file.read_bytes()
     assert not list(to.rglob("__pycache__")) and not list(to.rglob("tests"))
 
 

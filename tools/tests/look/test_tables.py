@@ -40,3 +40,9 @@ def test_a_scenario_keeps_no_inputs_in_memory_twice():
     with VECTORS[1].open("rb") as stream:
         course = Course(stream)
     assert "inputs" not in course.scenario and sum(map(len, course.inputs.values())) == 301
+
+
+def test_a_disabled_phase_in_two_lists_does_not_join_their_sides():
+    """Disabled phases in a list of concurrent phases are passed over (docs/SCENARIO.md, the rules of tables)."""
+    cells = [["phase", 7, 21, 0], ["phase", 1, 23, "050607"], ["phase", 3, 23, "0708"]]
+    assert Tables("std8", cells).side(1) == {1, 2, 5, 6}

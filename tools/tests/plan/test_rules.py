@@ -184,7 +184,7 @@ def test_accepted_scenarios_have_no_error():
 
 def test_the_program_agrees_on_random_tables_with_wrong_cells(program):
     """What it says of nearly consistent tables is the first rule that is found, and it takes those without any."""
-    for seed in range(40):
+    for seed in range(25):
         dice = random.Random(7_000_000 + seed)
         cells = cells_of(dice) + [wrong_cell(dice) for _ in range(dice.randint(0, 3))]
         text = json.dumps({"version": 1, "rounds": 1, "ticks": 1, "cabinets": [{"cells": cells}]}).encode()
@@ -225,11 +225,11 @@ def test_damaged_texts_have_the_fault_that_another_reader_finds():
     ]
     texts = [it for it in texts if len(it) < 20_000]
     dice, count = random.Random(5), 0
-    for number in range(400):
+    for number in range(250):
         text = texts[number % len(texts)]
         text = damaged(dice, text) if number % 2 else other_value(dice, text)
         due, _ = first_fault(text)
         if due is not None:
             count += 1
             assert first_line(text) == f"scenario: {due}"
-    assert count > 200
+    assert count > 125

@@ -18,7 +18,7 @@ from .random_tables import cells_of
 SCENARIOS = sorted(it for it in (TOP / "scenarios").glob("*.json"))
 TABLES = 2_000
 AT_ONCE = 50
-BOOKS = 20
+BOOKS = 12
 DEFAULTS = {"base": "std8", "pattern": 0, "clock": 0, "section": 1, "gain": 0, "lose": 0}
 
 

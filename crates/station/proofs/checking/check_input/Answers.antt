@@ -17,4 +17,9 @@ pub returns-in-Ok-check-clause-due : goal.returns-in-Ok-check-clause-due
 returns-in-Ok-check-clause-due g c = λ sound.
     check-due c.traces_have_no_fault.ensures c.faults_are_determined.ensures Done _ _ _
     (trace_read _ _ c.in-Ok.text.items c.as_slice.result.now c.in-Ok.ensures.whole c.as_slice.ensures.value c.in-Ok-check.ensures.tells.1
-    c.in-Ok-check.ensures.kept c.in-Ok.ensures.ended) sound
+    c.in-Ok-check.ensures.kept (c.bands_are_green.ensures.bands c.as_slice.result.now c.in-Ok-check.ensures.kept) c.in-Ok.ensures.ended) sound
+
+pub returns-in-Ok-check-clause-checked : goal.returns-in-Ok-check-clause-checked
+returns-in-Ok-check-clause-checked g c =
+    trace_read _ _ c.in-Ok.text.items c.as_slice.result.now c.in-Ok.ensures.whole c.as_slice.ensures.value c.in-Ok-check.ensures.tells.1
+    c.in-Ok-check.ensures.kept (c.bands_are_green.ensures.bands c.as_slice.result.now c.in-Ok-check.ensures.kept) c.in-Ok.ensures.ended

@@ -15,8 +15,8 @@ use Rattle.whole_run.proofs.lines.put_book.Goals as goal
 pub returns-in-Err : goal.returns-in-Err
 returns-in-Err g c =
     let b = c.args.book.now in
-    hands-first g.K.Sink.written g.K.Sink.faults _ _ _ _ (line_text (J c.args.cab (runs_of (journal_of b)))) (lines_text (told_lines c.args.cab 0 (written_in b) (answered_in b)))
-    (subst (λ (runs : List (ℕ × ℕ)). HandsOver g.K.Sink.written g.K.Sink.faults (Err c.in-Err.stop) c.args.writer.now c.put_journal.new.self c.args.sink.now c.put_journal.new.sink
+    hands-first g.K.Sink.written g.K.Sink.faults g.K.Sink.counts_exactly _ _ _ _ (line_text (J c.args.cab (runs_of (journal_of b)))) (lines_text (told_lines c.args.cab 0 (written_in b) (answered_in b)))
+    (subst (λ (runs : List (ℕ × ℕ)). HandsOver g.K.Sink.written g.K.Sink.faults g.K.Sink.counts_exactly (Err c.in-Err.stop) c.args.writer.now c.put_journal.new.self c.args.sink.now c.put_journal.new.sink
     (line_text (J c.args.cab runs))) c.runs.ensures c.in-Err.ensures)
 
 pub put_told-requires : goal.put_told-requires
@@ -27,10 +27,10 @@ put_told-requires g c =
 pub returns : goal.returns
 returns g c =
     let b = c.args.book.now in
-    hands-then g.K.Sink.written g.K.Sink.faults _ _ _ _ _ _ _ (line_text (J c.args.cab (runs_of (journal_of b)))) (lines_text (told_lines c.args.cab 0 (written_in b) (answered_in b)))
-    (subst (λ (runs : List (ℕ × ℕ)). HandsOver g.K.Sink.written g.K.Sink.faults (Ok c.in-Ok.field-0) c.args.writer.now c.put_journal.new.self c.args.sink.now c.put_journal.new.sink
+    hands-then g.K.Sink.written g.K.Sink.faults g.K.Sink.counts_exactly _ _ _ _ _ _ _ (line_text (J c.args.cab (runs_of (journal_of b)))) (lines_text (told_lines c.args.cab 0 (written_in b) (answered_in b)))
+    (subst (λ (runs : List (ℕ × ℕ)). HandsOver g.K.Sink.written g.K.Sink.faults g.K.Sink.counts_exactly (Ok c.in-Ok.field-0) c.args.writer.now c.put_journal.new.self c.args.sink.now c.put_journal.new.sink
     (line_text (J c.args.cab runs))) c.runs.ensures c.in-Ok.ensures)
-    (subst (λ (replies : List Answered). HandsOver g.K.Sink.written g.K.Sink.faults c.put_told.result c.put_journal.new.self c.put_told.new.writer c.put_journal.new.sink
+    (subst (λ (replies : List Answered). HandsOver g.K.Sink.written g.K.Sink.faults g.K.Sink.counts_exactly c.put_told.result c.put_journal.new.self c.put_told.new.writer c.put_journal.new.sink
     c.put_told.new.sink (lines_text (told_lines c.args.cab 0 (written_in b) replies))) c.replies.ensures
-    (subst (λ (frames : List (ℕ × Frame)). HandsOver g.K.Sink.written g.K.Sink.faults c.put_told.result c.put_journal.new.self c.put_told.new.writer c.put_journal.new.sink
+    (subst (λ (frames : List (ℕ × Frame)). HandsOver g.K.Sink.written g.K.Sink.faults g.K.Sink.counts_exactly c.put_told.result c.put_journal.new.self c.put_told.new.writer c.put_journal.new.sink
     c.put_told.new.sink (lines_text (told_lines c.args.cab 0 frames c.replies.result.now))) c.written.ensures c.put_told.ensures))

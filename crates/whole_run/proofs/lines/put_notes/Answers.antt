@@ -9,17 +9,17 @@ use Rattle.whole_run.proofs.RoundLines.{next_note}
 use Rattle.whole_run.proofs.lines.put_notes.Goals as goal
 
 pub loop-note-init : goal.loop-note-init
-loop-note-init g c = left-all g.K.Sink.written g.K.Sink.faults _ _ _
+loop-note-init g c = left-all g.K.Sink.written g.K.Sink.faults g.K.Sink.counts_exactly _ _ _
 
 pub loop-note-preserved : goal.loop-note-preserved
-loop-note-preserved g c = left-next g.K.Sink.written g.K.Sink.faults _ _ _ _ _ _ _ _ _ _
+loop-note-preserved g c = left-next g.K.Sink.written g.K.Sink.faults g.K.Sink.counts_exactly _ _ _ _ _ _ _ _ _ _
     (next_note c.args.notes.now c.loop-note.note-index (Fail 0) (omega arith)) c.loop-note.invariant c.in-Ok.ensures
 
 pub returns-in-Err : goal.returns-in-Err
-returns-in-Err g c = left-stops g.K.Sink.written g.K.Sink.faults _ _ _ _ _ _ _ _ _ _
+returns-in-Err g c = left-stops g.K.Sink.written g.K.Sink.faults g.K.Sink.counts_exactly _ _ _ _ _ _ _ _ _ _
     (next_note c.args.notes.now c.loop-note.note-index (Fail 0) (omega arith)) c.loop-note.invariant c.in-Err.ensures
 
 pub returns : goal.returns
-returns g c = left-none g.K.Sink.written g.K.Sink.faults _ _ _ _ _ _
+returns g c = left-none g.K.Sink.written g.K.Sink.faults g.K.Sink.counts_exactly _ _ _ _ _ _
     (ap (λ (notes : List MasterNote). lines_text (map M notes)) (drop_all c.loop-note.note-index c.args.notes.now (omega arith)))
     c.loop-note.invariant

@@ -6,5 +6,5 @@ use Rattle.whole_run.proofs.lines.put_notes.Given as goal
 
 -- the lines of the notes before this place were handed over
 abbrev pub invariant-loop-note : goal.invariant-loop-note
-invariant-loop-note g l = Left g.K.Sink.written g.K.Sink.faults l.fn.writer l.writer l.fn.sink l.sink (lines_text (map M l.notes))
+invariant-loop-note g l = Left g.K.Sink.written g.K.Sink.faults g.K.Sink.counts_exactly l.fn.writer l.writer l.fn.sink l.sink (lines_text (map M l.notes))
     (lines_text (map M (drop l.note-index l.notes)))

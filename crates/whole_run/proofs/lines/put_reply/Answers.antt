@@ -9,10 +9,10 @@ use Rattle.whole_run.proofs.lines.put_reply.Goals as goal
 pub returns-in-Err : goal.returns-in-Err
 returns-in-Err g c =
     let r = c.args.reply.now in
-    subst (λ (x : List ℕ). HandsOver g.K.Sink.written g.K.Sink.faults (Err c.in-Err.stop) c.args.writer.now c.put_load.new.writer c.args.sink.now c.put_load.new.sink x)
-    (sym (reply_text c.args.cab r)) (hands-first g.K.Sink.written g.K.Sink.faults _ _ _ _ _ (line_text (A c.args.cab r.pass r.text)) c.in-Err.ensures)
+    subst (λ (x : List ℕ). HandsOver g.K.Sink.written g.K.Sink.faults g.K.Sink.counts_exactly (Err c.in-Err.stop) c.args.writer.now c.put_load.new.writer c.args.sink.now c.put_load.new.sink x)
+    (sym (reply_text c.args.cab r)) (hands-first g.K.Sink.written g.K.Sink.faults g.K.Sink.counts_exactly _ _ _ _ _ (line_text (A c.args.cab r.pass r.text)) c.in-Err.ensures)
 
 pub returns : goal.returns
 returns g c =
-    subst (λ (x : List ℕ). HandsOver g.K.Sink.written g.K.Sink.faults c.put_answer.result c.args.writer.now c.put_answer.new.self c.args.sink.now c.put_answer.new.sink x)
-    (sym (reply_text c.args.cab c.args.reply.now)) (hands-then g.K.Sink.written g.K.Sink.faults _ _ _ _ _ _ _ _ _ c.in-Ok.ensures c.put_answer.ensures)
+    subst (λ (x : List ℕ). HandsOver g.K.Sink.written g.K.Sink.faults g.K.Sink.counts_exactly c.put_answer.result c.args.writer.now c.put_answer.new.self c.args.sink.now c.put_answer.new.sink x)
+    (sym (reply_text c.args.cab c.args.reply.now)) (hands-then g.K.Sink.written g.K.Sink.faults g.K.Sink.counts_exactly _ _ _ _ _ _ _ _ _ c.in-Ok.ensures c.put_answer.ensures)

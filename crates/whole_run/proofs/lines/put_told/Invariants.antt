@@ -9,6 +9,6 @@ use Rattle.whole_run.proofs.lines.put_told.Given as goal
 abbrev pub invariant-loop-answered : goal.invariant-loop-answered
 invariant-loop-answered g l = record {
   order : AreInOrder l.next (drop l.answered-index l.replies) (length l.frames);
-  left : Left g.K.Sink.written g.K.Sink.faults l.fn.writer l.writer l.fn.sink l.sink (lines_text (told_lines l.cab 0 l.frames l.replies))
+  left : Left g.K.Sink.written g.K.Sink.faults g.K.Sink.counts_exactly l.fn.writer l.writer l.fn.sink l.sink (lines_text (told_lines l.cab 0 l.frames l.replies))
       (lines_text (told_lines l.cab l.next l.frames (drop l.answered-index l.replies)));
 }

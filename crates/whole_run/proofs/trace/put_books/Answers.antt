@@ -13,19 +13,19 @@ put_book-requires g c =
     book_order s c.args.books.now.items c.loop-i.i _ ts journals (omega arith) c.index.ensures run (c.books_follow_runs.ensures.order s)
 
 pub loop-i-init : goal.loop-i-init
-loop-i-init g c = λ s ts journals run. left-all g.K.Sink.written g.K.Sink.faults _ _ _
+loop-i-init g c = λ s ts journals run. left-all g.K.Sink.written g.K.Sink.faults g.K.Sink.counts_exactly _ _ _
 
 pub loop-i-preserved : goal.loop-i-preserved
-loop-i-preserved g c = λ s ts journals run. left-next g.K.Sink.written g.K.Sink.faults _ _ _ _ _ _ _ _ _ _
+loop-i-preserved g c = λ s ts journals run. left-next g.K.Sink.written g.K.Sink.faults g.K.Sink.counts_exactly _ _ _ _ _ _ _ _ _ _
     (next_book s c.args.books.now.items c.loop-i.i _ ts journals (omega arith) c.index.ensures run (c.books_follow_runs.ensures.lines s)) (c.loop-i.invariant s ts journals run)
     c.in-Ok.ensures
 
 pub returns-in-Err : goal.returns-in-Err
-returns-in-Err g c = λ s ts journals run. left-stops g.K.Sink.written g.K.Sink.faults _ _ _ _ _ _ _ _ _ _
+returns-in-Err g c = λ s ts journals run. left-stops g.K.Sink.written g.K.Sink.faults g.K.Sink.counts_exactly _ _ _ _ _ _ _ _ _ _
     (next_book s c.args.books.now.items c.loop-i.i _ ts journals (omega arith) c.index.ensures run (c.books_follow_runs.ensures.lines s)) (c.loop-i.invariant s ts journals run)
     c.in-Err.ensures
 
 pub returns : goal.returns
-returns g c = λ s ts journals run. left-none g.K.Sink.written g.K.Sink.faults _ _ _ _ _ _
+returns g c = λ s ts journals run. left-none g.K.Sink.written g.K.Sink.faults g.K.Sink.counts_exactly _ _ _ _ _ _
     (ap (λ (us : List CabinetState). lines_text (each_lines s (c.loop-i.i + 1) us (drop c.loop-i.i journals))) (drop_all c.loop-i.i ts (omega (arith, run.many))))
     (c.loop-i.invariant s ts journals run)

@@ -14,12 +14,12 @@ put_openings-requires g c = record { few = few_books (scenario_content c.args.s.
 pub returns-in-Err : goal.returns-in-Err
 returns-in-Err g c =
     let s = scenario_content c.args.s.now in
-    stops-first g.K.Sink.written g.K.Sink.faults c.args.crew.now.workers s _ _ _ _ (c.in-Err.ensures (come_to s []) c.requires.ready.books)
+    stops-first g.K.Sink.written g.K.Sink.faults g.K.Sink.counts_exactly c.args.crew.now.workers s _ _ _ _ (c.in-Err.ensures (come_to s []) c.requires.ready.books)
 
 pub loop-done-init : goal.loop-done-init
 loop-done-init g c =
     let s = scenario_content c.args.s.now in
-    goes-first g.K.Sink.written g.K.Sink.faults c.args.crew.now.workers s _ _ _ _ _ c.requires.ready (c.in-Ok.ensures (come_to s []) c.requires.ready.books)
+    goes-first g.K.Sink.written g.K.Sink.faults g.K.Sink.counts_exactly c.args.crew.now.workers s _ _ _ _ _ c.requires.ready (c.in-Ok.ensures (come_to s []) c.requires.ready.books)
 
 pub run_round-requires-clause-between : goal.run_round-requires-clause-between
 run_round-requires-clause-between g c = λ _ _. (come_to (scenario_content c.args.s.now) c.loop-done.invariant.journals, c.loop-done.invariant.between)
@@ -27,7 +27,7 @@ run_round-requires-clause-between g c = λ _ _. (come_to (scenario_content c.arg
 pub returns-in-Err-run_round : goal.returns-in-Err-run_round
 returns-in-Err-run_round g c =
     let s = scenario_content c.args.s.now in
-    stops-between g.K.Sink.written g.K.Sink.faults c.args.crew.now.workers s c.loop-done.done (s.rounds - c.loop-done.done - 1) _ _ _ _ _ c.loop-done.invariant (omega arith)
+    stops-between g.K.Sink.written g.K.Sink.faults g.K.Sink.counts_exactly c.args.crew.now.workers s c.loop-done.done (s.rounds - c.loop-done.done - 1) _ _ _ _ _ c.loop-done.invariant (omega arith)
 
 pub put_round-requires-clause-few : goal.put_round-requires-clause-few
 put_round-requires-clause-few g c =
@@ -46,7 +46,7 @@ loop-done-preserved g c =
     let s = scenario_content c.args.s.now in
     let so = c.loop-done.invariant in
     let run = c.in-Ok-run_round.ensures (come_to s so.journals) so.between in
-    goes-on g.K.Sink.written g.K.Sink.faults c.args.crew.now.workers s c.loop-done.done _ _ _ _ _ _ _ _ _ so run
+    goes-on g.K.Sink.written g.K.Sink.faults g.K.Sink.counts_exactly c.args.crew.now.workers s c.loop-done.done _ _ _ _ _ _ _ _ _ so run
     (c.in-Ok-put_round.ensures s (come_to s so.journals) _ (ap (λ (notes : List MasterNote). map M notes) c.as_slice.ensures.value ∙ run.noted) run.merged.run)
 
 pub returns-in-Err-put_round : goal.returns-in-Err-put_round
@@ -54,10 +54,10 @@ returns-in-Err-put_round g c =
     let s = scenario_content c.args.s.now in
     let so = c.loop-done.invariant in
     let run = c.in-Ok-run_round.ensures (come_to s so.journals) so.between in
-    stops-later g.K.Sink.written g.K.Sink.faults c.args.crew.now.workers s c.loop-done.done (s.rounds - c.loop-done.done - 1) _ _ _ _ _ _ _ _ _ so run (omega arith)
+    stops-later g.K.Sink.written g.K.Sink.faults g.K.Sink.counts_exactly c.args.crew.now.workers s c.loop-done.done (s.rounds - c.loop-done.done - 1) _ _ _ _ _ _ _ _ _ so run (omega arith)
     (c.in-Err-put_round.ensures s (come_to s so.journals) _ (ap (λ (notes : List MasterNote). map M notes) c.as_slice.ensures.value ∙ run.noted) run.merged.run)
 
 pub returns : goal.returns
 returns g c =
     let s = scenario_content c.args.s.now in
-    goes-whole g.K.Sink.written g.K.Sink.faults c.args.crew.now.workers s c.loop-done.done _ _ _ _ _ c.loop-done.invariant (omega arith)
+    goes-whole g.K.Sink.written g.K.Sink.faults g.K.Sink.counts_exactly c.args.crew.now.workers s c.loop-done.done _ _ _ _ _ c.loop-done.invariant (omega arith)

@@ -1,4 +1,4 @@
-use Rattle.std.proofs.Common.{List, ℕ, Err, subst, sym}
+use Rattle.std.proofs.Common.{List, [], ℕ, Err, subst, sym}
 use Rattle.trace_text.specs.Line.{line_text}
 use Rattle.trace_text.specs.declared.lines.Line.TheVariants.{Z}
 use Rattle.safety_laws.specs.TraceText.{lines_text}
@@ -6,8 +6,8 @@ use Rattle.scenario_data.specs.Content.{scenario_content}
 use Rattle.run_definition.specs.Orders.{serial_journals}
 use Rattle.run_definition.specs.Lines.{front_lines}
 use Rattle.whole_run.specs.Handing.{HandsOver}
-use Rattle.whole_run.proofs.Handed.{hands-first, hands-then, hands-none}
-use Rattle.whole_run.proofs.Orders.{serial-brought}
+use Rattle.whole_run.proofs.Handed.{hands-first, hands-then, hands-none, within-none, within-all}
+use Rattle.whole_run.proofs.Orders.{serial-brought, none-closed}
 use Rattle.whole_run.proofs.WholeText.{rest_spelled, rest_some}
 use Rattle.whole_run.proofs.trace.put_rest.Goals as goal
 
@@ -17,7 +17,10 @@ returns-in-Err g c =
     record {
       journals = serial_journals s;
       brought = serial-brought c.args.crew.now.workers s;
-      holds = hands-none g.K.Sink.written g.K.Sink.faults _ _ _ (rest_some s (serial_journals s));
+      closed = [];
+      goes_on = none-closed s;
+      of_closed = within-none g.K.Sink.written g.K.Sink.faults g.K.Sink.counts_exactly c.args.writer.now c.args.sink.now s.rounds (lines_text (front_lines s []));
+      holds = hands-none g.K.Sink.written g.K.Sink.faults g.K.Sink.counts_exactly _ _ _ (rest_some s (serial_journals s));
     }
 
 pub returns-in-Err-put_front : goal.returns-in-Err-put_front
@@ -27,9 +30,12 @@ returns-in-Err-put_front g c =
     record {
       journals = so.journals;
       brought = so.brought;
-      holds = subst (λ (x : List ℕ). HandsOver g.K.Sink.written g.K.Sink.faults (Err c.in-Err-put_front.stop) c.args.writer.now c.put_front.new.writer c.args.sink.now c.put_front.new.sink x)
+      closed = so.closed;
+      goes_on = so.goes_on;
+      of_closed = so.of_closed;
+      holds = subst (λ (x : List ℕ). HandsOver g.K.Sink.written g.K.Sink.faults g.K.Sink.counts_exactly (Err c.in-Err-put_front.stop) c.args.writer.now c.put_front.new.writer c.args.sink.now c.put_front.new.sink x)
           (sym (rest_spelled s so.journals))
-          (hands-first g.K.Sink.written g.K.Sink.faults _ _ _ _ (lines_text (front_lines s so.journals)) (line_text (Z s.rounds)) so.holds);
+          (hands-first g.K.Sink.written g.K.Sink.faults g.K.Sink.counts_exactly _ _ _ _ (lines_text (front_lines s so.journals)) (line_text (Z s.rounds)) so.holds);
     }
 
 pub returns : goal.returns
@@ -39,7 +45,10 @@ returns g c =
     record {
       journals = so.journals;
       brought = so.brought;
-      holds = subst (λ (x : List ℕ). HandsOver g.K.Sink.written g.K.Sink.faults c.put_line.result c.args.writer.now c.put_line.new.self c.args.sink.now c.put_line.new.sink x)
+      closed = so.closed;
+      goes_on = so.goes_on;
+      of_closed = within-all g.K.Sink.written g.K.Sink.faults g.K.Sink.counts_exactly c.put_line.result c.args.writer.now c.args.sink.now c.put_line.new.sink so.goes_on.left (lines_text (front_lines s so.closed)) so.of_closed.none;
+      holds = subst (λ (x : List ℕ). HandsOver g.K.Sink.written g.K.Sink.faults g.K.Sink.counts_exactly c.put_line.result c.args.writer.now c.put_line.new.self c.args.sink.now c.put_line.new.sink x)
           (sym (rest_spelled s so.journals))
-          (hands-then g.K.Sink.written g.K.Sink.faults _ _ _ _ _ _ _ (lines_text (front_lines s so.journals)) (line_text (Z s.rounds)) so.holds c.put_line.ensures);
+          (hands-then g.K.Sink.written g.K.Sink.faults g.K.Sink.counts_exactly _ _ _ _ _ _ _ (lines_text (front_lines s so.journals)) (line_text (Z s.rounds)) so.holds c.put_line.ensures);
     }

@@ -1,4 +1,4 @@
-use Rattle.std.proofs.Common.{List, ℕ, subst, sym, arith}
+use Rattle.std.proofs.Common.{List, ℕ, subst, sym, ◌∙◌, arith}
 use Rattle.whole_run.specs.Bytes.{Puts}
 use Rattle.whole_run.specs.Handing.{held_by}
 use Rattle.whole_run.proofs.Writing.{front_held, held_front, held_all}
@@ -10,6 +10,7 @@ returns-in-Err g c = record {
   whole = tt;
   front = front_held _ _ (held_by c.args.self.now) c.args.bytes.now c.in-Err.ensures.writes.front;
   fault = c.in-Err.ensures.writes.fault;
+  counts = tt;
   kept = c.in-Err.ensures.writes.kept;
 }
 
@@ -20,6 +21,7 @@ returns-in-Ok-put_all g c = record {
       (held_all _ _ _ _ _ c.in-Ok.ensures.writes.whole c.in-Ok-put_all.ensures.ok);
   front = tt;
   fault = λ e. absurd (cc);
+  counts = λ is. c.in-Ok-put_all.ensures.exact is ∙ c.in-Ok.ensures.writes.counts is;
   kept = omega (arith, c.in-Ok.ensures.writes.kept, c.in-Ok-put_all.ensures.kept);
 }
 
@@ -28,5 +30,6 @@ returns-in-Err-put_all g c = record {
   whole = tt;
   front = held_front _ _ _ _ _ c.in-Ok.ensures.writes.whole c.in-Err-put_all.ensures.err;
   fault = λ e. rises_later _ _ _ c.in-Ok.ensures.writes.kept c.in-Err-put_all.ensures.fault;
+  counts = tt;
   kept = omega (arith, c.in-Ok.ensures.writes.kept, c.in-Err-put_all.ensures.kept);
 }

@@ -1,0 +1,19 @@
+use Rattle.std.proofs.Common.{ℕ, List, [], ◌∷◌, ◌++◌, codes, decimal, subst}
+use Rattle.arterial.specs.Prints.{Prints}
+use Rattle.arterial.specs.Report.{number_then}
+use Rattle.arterial.proofs.Printing.{prints-first, prints-then}
+use Rattle.arterial.proofs.reporting.print_broken.Goals as goal
+
+-- what comes behind the cabinet
+abbrev behind : ℕ → ℕ → List ℕ
+behind rule row = number_then (codes " breaks rule ") rule (number_then (codes " at row ") row (10 ∷ []))
+
+pub returns-in-Err : goal.returns-in-Err
+returns-in-Err g c =
+    prints-first g.K.Sink.written _ _ (codes "scenario: cabinet " ++ decimal c.args.cab) (behind c.args.rule c.args.row) c.in-Err.ensures
+
+pub returns : goal.returns
+returns g c =
+    let rule = subst (λ (n : ℕ). Prints g.K.Sink.written c.print_two.result c.print_number.new.sink c.print_two.new.sink (behind n c.from-2.result)) c.from.ensures c.print_two.ensures in
+    let row = subst (λ (n : ℕ). Prints g.K.Sink.written c.print_two.result c.print_number.new.sink c.print_two.new.sink (behind c.args.rule n)) c.from-2.ensures rule in
+    prints-then g.K.Sink.written c.print_two.result _ _ _ (codes "scenario: cabinet " ++ decimal c.args.cab) (behind c.args.rule c.args.row) c.in-Ok.ensures row
