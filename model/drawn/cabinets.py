@@ -83,7 +83,7 @@ def kept_cells(
     draw: Random, base: str, made: Structure, patterns: list[int], preempts: list[int]
 ) -> tuple[list[Plan], list[CellList]]:
     """Draws cells until they keep the rules, or a few times."""
-    for _ in range(TRIES):
+    for _ in range(draw.choice([1, *4 * [TRIES]])):
         plans, cells = draw_cells(draw, base, made, patterns, preempts)
         tables = tables_of(base, cells)
         if first_broken(tables, tables, False) is None:
@@ -100,11 +100,12 @@ def simple(draw: Random, base: str) -> Drawn:
 
 
 def clock(draw: Random, plans: list[Plan]) -> int:
-    """Draws the opening clock: mostly one by which a pattern is picked up a little off its offset, else any."""
+    """Draws the opening clock: mostly one by which a pattern is picked up near its offset or anywhere in its cycle."""
     if plans and draw.random() < 0.7:
         plan = draw.choice(plans)
         cycles = draw.choice([0, 1, 400, 864_000 // (10 * plan.cycle)])
-        return (10 * plan.offset - 60 + draw.randint(-60, 60) + 10 * plan.cycle * cycles) % 864_000
+        early = draw.choice([draw.randint(-60, 60), draw.randrange(10 * plan.cycle)])
+        return (10 * plan.offset - 60 + early + 10 * plan.cycle * cycles) % 864_000
     return draw.choice([0, 1, 863_999, 863_900, 863_000, draw.randrange(864_000), draw.randrange(2000)])
 
 

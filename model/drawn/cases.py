@@ -24,6 +24,10 @@ TRIES = 4
 """How often a scenario is drawn anew that is refused, where a trace is asked for."""
 
 
+MOST_TICKS = 60_000
+"""How many ticks of all cabinets a text that is damaged or hostile may ask for."""
+
+
 class CaseKind(Enum):
     """The kinds of cases."""
 
@@ -50,14 +54,30 @@ def run_case(draw: Random) -> Case:
     return Case(["run"], text_of(draw, scenario(draw)))
 
 
+def is_long(data: bytes) -> bool:
+    """Tells whether a text is a scenario of so many ticks that a run of it takes long."""
+    try:
+        value = json.loads(data)
+        return len(value["cabinets"]) * value["rounds"] * value["ticks"] > MOST_TICKS
+    except (ValueError, TypeError, KeyError, RecursionError):
+        return False
+
+
+def short(one: Callable[[], bytes]) -> Case:
+    """Draws a text that is run, until it is no long scenario."""
+    while is_long(data := one()):
+        pass
+    return Case(["run"], data)
+
+
 def hostile_case(draw: Random) -> Case:
     """Draws a scenario that has hostile values."""
-    return Case(["run"], text_of(draw, hostile(draw, scenario(draw, most_ticks=300))))
+    return short(lambda: text_of(draw, hostile(draw, scenario(draw, most_ticks=300))))
 
 
 def damaged_case(draw: Random) -> Case:
     """Draws a damaged text of a scenario."""
-    return Case(["run"], damaged(draw, text_of(draw, scenario(draw, most_ticks=200))))
+    return short(lambda: damaged(draw, text_of(draw, scenario(draw, most_ticks=200))))
 
 
 def drawn_trace(draw: Random) -> bytes:

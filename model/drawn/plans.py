@@ -63,14 +63,15 @@ def pattern_cells(draw: Random, made: Structure, number: int, needs: dict[int, i
 
 def unit_cells(draw: Random, window: int, least: int) -> list[CellList]:
     """Draws correction, backup time, extension, force mode and offset reference; the limits of correction up to what a
-    window and the least service of the coordinated phases leave."""
+    window and the least service of the coordinated phases leave, now and then a tick more."""
     widest = max(1, window)
     skip = max(1, min(widest // 2, window - least))
+    more = draw.choice([0] * 15 + [1])
     columns = {
         1: draw.choice([2, 3, 3, 4]),
         2: draw.choice([1, 3, 20, 100, 2550]),
-        3: draw.choice([1, 2, widest // 3 or 1, widest, widest]),
-        4: draw.choice([1, 2, skip // 2 or 1, skip, skip]),
+        3: draw.choice([1, 2, widest // 3 or 1, widest, widest]) + more,
+        4: draw.choice([1, 2, skip // 2 or 1, skip, skip]) + more,
         5: draw.choice([0, 0, 0, 0, 9, 25, 40, 65535]),
         6: draw.choice([0, 10, 60, 2550]),
         7: draw.choice([1, 2]),
@@ -90,8 +91,8 @@ def preempt_cells(draw: Random, made: Structure, number: int) -> list[CellList]:
     """Draws a preempt."""
     cells: list[CellList] = [["preempt", number, column, set_of(draw, made)] for column in (12, 13, 14, 15)]
     for column, values in {
-        4: [0, 0, 1, 2],
-        5: [0, 1, 5],
+        4: [0, 0, 0, 1],
+        5: [0, 1, 5, 5, 8],
         6: [0, 1, 2],
         7: [0, 1, 2],
         8: [0, 1, 3],

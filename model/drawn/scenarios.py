@@ -152,7 +152,7 @@ def scenario(draw: Random, most_ticks: int = 1 << 20) -> dict[str, Any]:
         "inputs": street.some(street.input, many) + street.pulses(),
         "loads": street.some(street.load, 3),
         "priority": street.some(street.priority, 8),
-        "frames": street.some(street.frame, 16),
+        "frames": street.some(street.frame, draw.choice([4, 16, 40])),
         "faults": street.some(street.fault, 12),
     }
     return told | {name: items for name, items in lists.items() if items}

@@ -122,7 +122,7 @@ def time_cells(draw: Random, made: Structure) -> list[CellList]:
             6: near([0, 1, 2, 4, 8], [255]),
             8: near(usual.yellow, [29, 255]),
             9: near(usual.red_clear, [255]),
-            10: near([0, 1, 10, 20, 30, 30], [60, 255]),
+            10: near([0, 1, 10, 20, 30, 30] * 8 + [31], [60, 255]),
             20: starts[p],
             21: options(draw),
         }

@@ -102,7 +102,7 @@ def test_field_files_give_the_scenarios_worked_out():
 def test_overlaps_are_those_worked_out():
     for name, worked in listed("worked_overlaps.jsonl"):
         trace = (
-            (VECTORS / worked["of"]).read_bytes()
+            (VECTORS / f"{worked['of']}.trace").read_bytes()
             if "of" in worked
             else answer(["run"], json.dumps(worked["scenario"]).encode()).output
         )
