@@ -73,6 +73,16 @@ def without_eight():
         yield red(line, 8) if line.startswith("F") else line
 
 
+def coordinated():
+    """Returns the lines of a pair in step, whose second cabinet begins with phase 2 alone: phase 6, which start-up doesn't
+    turn on, is green a tick later, and then the cabinet is in step, with a target that is a tick on."""
+    for line in PAIR.splitlines()[1:]:
+        if line.startswith("F 2 60 "):
+            yield red(line, 6).replace("C1", "K1")
+            line = line.replace("F 2 60 ", "F 2 61 ").replace("C1 0 800", "C1 0 801")
+        yield line
+
+
 def red(line, phase):
     """Returns an F line in which a phase is red."""
     words = line.split(" ")
@@ -105,7 +115,7 @@ def test_the_report_names_phases_and_leaves_the_partner_out(planned, look, capsy
 
 def test_a_partner_that_is_coordinated_is_left_out(planned, drawn, look, capsys):
     """The second intersection's phase 6 is green all the time, as phase 2 is; its bars and its events are left out."""
-    trace, names = planned(COORDINATED, PAIR.splitlines()[1:])
+    trace, names = planned(COORDINATED, coordinated())
     capsys.readouterr()
     found = drawn("rings", "--cabinet", "2", given=trace)
     assert [found.groups[f"ring-{ring}-green"] for ring in (1, 2)] == [1, 1]
@@ -120,7 +130,7 @@ def test_a_partner_that_is_coordinated_is_left_out(planned, drawn, look, capsys)
 
 
 def test_the_event_log_has_no_row_of_a_partner(planned, capsys):
-    trace, names = planned(COORDINATED, PAIR.splitlines()[1:])
+    trace, names = planned(COORDINATED, coordinated())
     words = ("events", "--start", "2026-11-27T06:00:00")
     whole = run(*words, given=trace).stdout.splitlines()
     ran = run(*words, "--names", names, given=trace)
