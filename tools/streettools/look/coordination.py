@@ -36,8 +36,8 @@ class View:
 
 
 class Corner:
-    """A cabinet of the street: `spans` has for each way (0 outbound, 1 inbound) and colour the ticks at which it is shown,
-    whole and as far as `margin` ticks around what is looked at, since bands come from there."""
+    """A cabinet of the street: `spans` has for each way (0 outbound, 1 inbound) and colour the ticks at which it is
+    shown, whole and as far as `margin` ticks around what is looked at, since bands come from there."""
 
     def __init__(self, scenario, number, view):
         self.cabinet, self.names = opened(scenario, number), view.names

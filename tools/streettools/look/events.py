@@ -187,8 +187,8 @@ class Times:
 
 
 def write(course, start: datetime, out, names):
-    """Reads the trace and writes its event log, without partner phases that a names file has; a round's events are put in
-    the order of time before they are written."""
+    """Reads the trace and writes its event log, without partner phases that a names file has; a round's events are put
+    in the order of time before they are written."""
     times = Times(start)
     logs = [Log(course.scenario, number, names.partners(number)) for number in range(1, course.cabinets + 1)]
     out.write(HEADER)

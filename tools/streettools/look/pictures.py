@@ -59,8 +59,8 @@ def day_axis(axes, start, end, step, began):
 
 
 def time_axis(axes, start, end, began=None):
-    """Gives an axis the time from one tick to another, in seconds, written as minutes and seconds since the run began; as
-    the time of day where the run began so many seconds from midnight."""
+    """Gives an axis the time from one tick to another, in seconds, written as minutes and seconds since the run began;
+    as the time of day where the run began so many seconds from midnight."""
     axes.set_xlim(start / 10, end / 10)
     step = next((it for it in STEPS if (end - start) / 10 <= 12 * it), None)
     step = step or STEPS[-1] * -(-(end - start) // (120 * STEPS[-1]))
@@ -98,8 +98,8 @@ def escaped(text):
 
 
 def figure(height, title, rows=1, ratios=None, under="", labels=()):
-    """Returns a figure 11 inches wide with so many axes one above the other. Room is left around them for the title above,
-    for what stands under the title, for what stands below the axes, and for the labels of the rows."""
+    """Returns a figure 11 inches wide with so many axes one above the other. Room is left around them for the title
+    above, for what stands under the title, for what stands below the axes, and for the labels of the rows."""
     plt.rcParams.update(STYLE)
     warnings.filterwarnings("ignore", "Glyph .* missing from current font")
     under = textwrap.wrap(under, 155)

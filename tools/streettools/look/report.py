@@ -50,8 +50,8 @@ class Service:
 
 
 class Offsets:
-    """How often a pattern was picked up, and after how many cycles it came onto its offset; `bounds` has for each pickup
-    how many cycles it needs at most while nothing disturbs it, and `beyond` counts those that took more."""
+    """How often a pattern was picked up, and after how many cycles it came onto its offset; `bounds` has for each
+    pickup how many cycles it needs at most while nothing disturbs it, and `beyond` counts those that took more."""
 
     def __init__(self):
         self.pickups, self.zeros, self.met, self.cycles, self.waiting = 0, 0, 0, [], None
@@ -197,7 +197,7 @@ class Tally:
 
 
 def set_value(refused, times, first, last):
-    """Returns the row of a Set that was refused: what it asked for, the error, and when it was refused first and last."""
+    """Returns the row of a Set that was refused: what it asked for, the error, when it was refused first and last."""
     row = {"object": refused.object, "value": refused.value, "error": refused.error, "times": times}
     row |= {"first": seconds(first), "last": seconds(last)}
     return row if refused.download is None else row | {"download": refused.download}
@@ -221,8 +221,9 @@ def collect(course, names):
         if not isinstance(happening, RoundEnd):
             tallies[happening.cabinet - 1].take(happening)
     ticks = course.rounds * course.ticks
-    title = {"title": names.title()} if names.is_given else {}
-    return {**title, "rounds": course.rounds, "seconds": seconds(ticks), "cabinets": [it.value(ticks) for it in tallies]}
+    head = {"title": names.title()} if names.is_given else {}
+    head |= {"rounds": course.rounds, "seconds": seconds(ticks)}
+    return head | {"cabinets": [it.value(ticks) for it in tallies]}
 
 
 def text(value, as_json, names):

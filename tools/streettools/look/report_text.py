@@ -38,7 +38,8 @@ def set_rows(refused):
     for it in refused:
         number = f" of download {it['download']}" if "download" in it else ""
         asked = f"{it['object']} = {it['value']}{number}"
-        yield {"refused Set": asked, "error": it["error"], "times": it["times"], "first (s)": it["first"], "last (s)": it["last"]}
+        times = {"times": it["times"], "first (s)": it["first"], "last (s)": it["last"]}
+        yield {"refused Set": asked, "error": it["error"], **times}
 
 
 def load_rows(loads):

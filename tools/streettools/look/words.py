@@ -77,8 +77,8 @@ def add_command(commands, name, text, drawn=True):
     """Returns a command's reader, with the words that all share, or those that pictures share where it draws one."""
     found = commands.add_parser(name, help=text, description=text)
     found.add_argument("trace", nargs="?", help="the trace's file; standard input where it isn't named")
-    found.add_argument("--names", metavar="FILE", help="names of cabinets and phases, as `arterial plan scenario` writes them; "
-                       "partner phases are left out")  # fmt: skip
+    found.add_argument("--names", metavar="FILE", help="names of cabinets and phases, as `arterial plan scenario` "
+                       "writes them; partner phases are left out")  # fmt: skip
     found.add_argument("--no-check", action="store_true", help="don't let `arterial check` read the text first")
     if drawn:
         found.add_argument("-o", "--out", type=picture, required=True, help="the picture: .svg, .png or .pdf")

@@ -1,5 +1,5 @@
-"""What a cabinet's reply tells of the orders in it: a clock that was set, a priority request that was given or cancelled;
-and a Set that was refused.
+"""What a cabinet's reply tells of the orders in it: a clock that was set, a priority request that was given or
+cancelled; and a Set that was refused.
 
 A reply repeats the bindings of a Set (RFC 1157), so an order that was taken stands in a reply of status 0. A reply to a
 Get names the clock too, with the clock's own value; only who knows the clock can tell the two apart. A Get that was
@@ -12,11 +12,12 @@ OWN = "2b0601040181fd5901"
 CLOCK, REQUEST, CANCEL = OWN + "020100", OWN + "040100", OWN + "040200"
 PATTERN = "2b06010401893604020104" + "0e00"
 OBJECTS = {
-    CLOCK: "cabinetClock.0", REQUEST: "priorityRequest.0", CANCEL: "priorityCancel.0", PATTERN: "systemPatternControl.0",
+    CLOCK: "cabinetClock.0", PATTERN: "systemPatternControl.0",
+    REQUEST: "priorityRequest.0", CANCEL: "priorityCancel.0",
     OWN + "010200": "downloadBegin.0", OWN + "010300": "downloadId.0", OWN + "010400": "downloadPart.0",
     OWN + "010500": "downloadTotal.0", OWN + "010600": "downloadFinish.0",
 }  # fmt: skip
-"""The objects of which a Set may speak beside the columns of the tables, by their names in `mibs/ARTERIAL-PROFILE-MIB`."""
+"""The objects that a Set may have beside the columns of the tables, by their names in `mibs/ARTERIAL-PROFILE-MIB`."""
 
 ERRORS = {1: "tooBig", 2: "noSuchName", 3: "badValue", 4: "readOnly", 5: "genErr"}
 """The error statuses of RFC 1157."""

@@ -18,8 +18,8 @@ def blamed(path, *names):
 
 @contextlib.contextmanager
 def whole(path):
-    """Gives the name of a file beside `path`, which takes its place at the end; where that isn't reached nothing is left
-    of it and what stood at `path` still stands. What is no file, as a pipe, is written as it goes."""
+    """Gives the name of a file beside `path`, which takes its place at the end; where that isn't reached nothing is
+    left of it and what stood at `path` still stands. What is no file, as a pipe, is written as it goes."""
     if os.path.exists(path) and not os.path.isfile(path):
         with blamed(path):
             yield str(path)
@@ -47,8 +47,8 @@ def whole(path):
 
 @contextlib.contextmanager
 def output(path):
-    """Gives a text to write to: a file that is written whole, or standard output where none is named. A fault in writing
-    tells which."""
+    """Gives a text to write to: a file that is written whole, or standard output where none is named. A fault in
+    writing tells which."""
     if path is None:
         with blamed("standard output"):
             yield sys.stdout

@@ -30,8 +30,8 @@ def test_a_text_that_is_a_trace_is_said_to_be_one(stand_in, tmp_path):
     file = tmp_path / "trace"
     file.write_text(SMALL)
     env, plain = stand_in(0), run("report", "--json", given=SMALL).stdout
-    for words, given, name in ((["report", "--json", file], None, str(file)), (["report", "--json"], SMALL, "standard input")):
-        ran = run(*words, given=given, env=env)
+    for words, given, name in (([file], None, str(file)), ([], SMALL, "standard input")):
+        ran = run("report", "--json", *words, given=given, env=env)
         assert (ran.returncode, ran.stdout, ran.stderr) == (0, plain, f"look: checked: {name} is a trace\n")
         assert int((tmp_path / "bytes").read_text()) == len(SMALL)
 
@@ -39,8 +39,9 @@ def test_a_text_that_is_a_trace_is_said_to_be_one(stand_in, tmp_path):
 def test_a_text_that_is_no_trace_is_refused_and_shown_without_the_check(stand_in, tmp_path):
     env = stand_in(5, "trace: line 10 breaks rule 6")
     ran = run("rings", "-o", tmp_path / "x.svg", given=SMALL, env=env)
-    words = "checked: standard input is no trace (trace: line 10 breaks rule 6); --no-check shows it as far as its lines go"
-    assert (ran.returncode, ran.stderr, (tmp_path / "x.svg").exists()) == (2, f"look: {words}\n", False)
+    words = "look: checked: standard input is no trace (trace: line 10 breaks rule 6); "
+    words += "--no-check shows it as far as its lines go\n"
+    assert (ran.returncode, ran.stderr, (tmp_path / "x.svg").exists()) == (2, words, False)
     ran = run("report", "--json", "--no-check", given=SMALL, env=env)
     assert (ran.returncode, ran.stderr) == (0, "")
 

@@ -1,4 +1,4 @@
-"""Names and partner phases: from a timing sheet to pictures, a report and an event log of its intersections as they are."""
+"""Names and partner phases: from a timing sheet to pictures, a report and a log of its intersections as they are."""
 
 import json
 
@@ -74,8 +74,8 @@ def without_eight():
 
 
 def coordinated():
-    """Returns the lines of a pair in step, whose second cabinet begins with phase 2 alone: phase 6, which start-up doesn't
-    turn on, is green a tick later, and then the cabinet is in step, with a target that is a tick on."""
+    """Returns the lines of a pair in step, whose second cabinet begins with phase 2 alone: phase 6, which start-up
+    doesn't turn on, is green a tick later, and then the cabinet is in step, with a target that is a tick on."""
     for line in PAIR.splitlines()[1:]:
         if line.startswith("F 2 60 "):
             yield red(line, 6).replace("C1", "K1")

@@ -29,7 +29,7 @@ def test_rings_show_preempts_walks_and_downloads(drawn):
 
 
 def test_a_start_gives_the_axis_the_time_of_day(drawn):
-    """42 s from 23:59:30 on pass midnight; marks stand at whole five seconds of the day, also where the start doesn't."""
+    """42 s from 23:59:30 on pass midnight; marks stand at whole five seconds of the day, wherever the start is."""
     found = drawn("rings", "--start", "23:59:30", given=SMALL)
     assert [found.texts[it] for it in ("23:59:30", "23:59:55", "00:00:00", "00:00:10", "00:00:15")] == [1, 1, 1, 1, 0]
     assert found.texts["time of day (hours:minutes:seconds)"] == 1

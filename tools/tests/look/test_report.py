@@ -116,7 +116,8 @@ def test_a_part_of_a_download_that_was_refused_names_the_download():
     bindings = f"3011060c{own}030002010{2}3011060c{own}0500020101"
     digits = f"303e02010004067075626c6963a231020103020105020102{'3026'}{bindings}"
     assert refused(digits) == ("genErr", "downloadTotal.0", 1, 2)
-    cells = digits.replace(f"{own}0500", "2b06010401893604020101").replace("3011060c2b06010401893604020101", "3010060b2b06010401893604020101")
+    other = "2b06010401893604020101"
+    cells = digits.replace(f"3011060c{own}0500", f"3010060b{other}")
     cells = cells.replace("3026", "3025").replace("a231", "a230").replace("303e", "303d")
     assert refused(cells) == ("genErr", "1.3.6.1.4.1.1206.4.2.1.1", 1, 2)
     assert refused(digits.replace("020105020102", "020100020100")) is None
@@ -130,7 +131,8 @@ def test_the_bound_stands_beside_the_cycles_to_the_offset(look):
 
 
 def test_the_bound_is_that_of_the_correction_mode_and_twice_that_with_drift():
-    """A cycle of 900 ticks, the target 200 at local zero: 700 on with the clock, or 200 back. Limits: dwell 100, add 50, skip 30."""
+    """A cycle of 900 ticks and the target 200 at local zero: 700 on with the clock, or 200 back. The limits are 100 for
+    dwell, 50 for add, 30 for skip."""
     begins = Cycle(0, 1, True, 200, None, None)
     for mode, due in ((2, 7), (3, 7), (4, 14)):
         cells = [["unit", 1, mode]]
