@@ -4,6 +4,8 @@ Outbound goes with ring 1's coordinated phases from the first cabinet to the las
 greens that were shown; beside them those of a plan can be drawn.
 """
 
+import textwrap
+from dataclasses import dataclass
 from itertools import accumulate
 
 from matplotlib.patches import Patch, Polygon
@@ -14,26 +16,46 @@ from streettools.shared.lines import Frame
 from streettools.shared.plans import coordinated
 
 from . import pictures, planned
+from .called import Called
 
 OUTBOUND, INBOUND = "#1c7ed6", "#e8590c"
 STOP = "#f1b0b7"
 COLOURS = {"G": pictures.GREEN, "Y": pictures.YELLOW}
 
 
-class Corner:
-    """A cabinet of the street: `spans` has for each way (0 outbound, 1 inbound) and colour the ticks at which it is shown, whole
-    and as far as `margin` ticks around what is looked at, since bands come from there."""
+@dataclass
+class View:
+    """What is looked at: the first and the last tick, how many ticks around them bands come from, the phases that are
+    shown instead of the coordinated ones, and what things are called."""
 
-    def __init__(self, scenario, number, phases, start, end, margin):
-        self.cabinet, self.start, self.end, self.margin = opened(scenario, number), start, end, margin
-        self.fixed = phases
+    start: int
+    end: int
+    margin: int
+    phases: tuple[int, int] | None
+    names: Called
+
+
+class Corner:
+    """A cabinet of the street: `spans` has for each way (0 outbound, 1 inbound) and colour the ticks at which it is
+    shown, whole and as far as `margin` ticks around what is looked at, since bands come from there."""
+
+    def __init__(self, scenario, number, view):
+        self.cabinet, self.names = opened(scenario, number), view.names
+        self.start, self.end, self.margin = view.start, view.end, view.margin
+        self.fixed = view.phases
         tables = self.cabinet.tables
         chosen = [self.cabinet.opening, *tables.patterns()]
         pairs = (coordinated(tables, it) for it in chosen if it in tables.patterns())
-        self.pair = phases or next((it for it in pairs if it), None) or (2, 6)
+        self.pair = self.fixed or self.real(next((it for it in pairs if it), None) or (2, 6))
         self.used, self.beat = [self.pair], None
         self.now = [("R", 0), ("R", 0)]
         self.spans = [{"G": [], "Y": []}, {"G": [], "Y": []}]
+
+    def real(self, pair):
+        """Returns the phases to show for coordinated ones: for a partner the other one, which it is green with."""
+        partners = self.names.partners(self.cabinet.number)
+        one, other = pair
+        return (other if one in partners else one, one if other in partners else other)
 
     def take(self, happening):
         """Takes over a frame or a download."""
@@ -50,8 +72,8 @@ class Corner:
         plan = self.cabinet.plan(mode.number) if mode.letter in "CK" else None
         if plan and frame.tick <= self.end:
             self.beat = planned.beat(plan, frame)
-        if plan and not self.fixed and plan.coordinated != self.pair:
-            self.pair = plan.coordinated
+        if plan and not self.fixed and self.real(plan.coordinated) != self.pair:
+            self.pair = self.real(plan.coordinated)
             if frame.tick >= self.start:
                 self.used.append(self.pair)
             else:
@@ -77,13 +99,15 @@ class Corner:
 
     def name(self):
         """Returns the cabinet with its coordinated phases."""
-        pairs = dict.fromkeys(self.used)
-        return f"cabinet {self.cabinet.number}\nphases " + " then ".join(f"{one}, {other}" for one, other in pairs)
+        number, pairs = self.cabinet.number, dict.fromkeys(self.used)
+        street = "\n".join(textwrap.wrap(self.names.street(number), 28)) or f"cabinet {number}"
+        called = dict.fromkeys(f"{one}, {other}" if one != other else f"{one}" for one, other in pairs)
+        return f"{street}\nphase{'s' * any(one != other for one, other in pairs)} " + " then ".join(called)
 
 
-def collect(course, numbers, phases, start, end, margin):
-    """Reads the trace and returns each cabinet's coordinated greens, as far as `margin` ticks around what is looked at."""
-    corners = {number: Corner(course.scenario, number, phases, start, end, margin) for number in numbers}
+def collect(course, numbers, view):
+    """Reads the trace and returns each cabinet's coordinated greens, as far as a margin around what is looked at."""
+    corners = {number: Corner(course.scenario, number, view) for number in numbers}
     last = 0
     for happening in course.happenings():
         if isinstance(happening, RoundEnd):
@@ -142,7 +166,8 @@ def draw_corner(axes, corner, height, tall):
 
 
 def draw_bands(axes, found, heights, start, end):
-    """Draws the bands of both ways, with their widths in seconds where they have room."""
+    """Draws the bands of both ways, with their widths in seconds where they have room: between two cabinets alone one
+    higher than the other."""
     for (spans, delays), colour, name in zip(found, (OUTBOUND, INBOUND), ("outbound", "inbound")):
         for low, high in spans:
             if low >= end or high + max(delays) <= start:
@@ -153,9 +178,11 @@ def draw_bands(axes, found, heights, start, end):
                                    gid=f"{name}-band-{low}"))  # fmt: skip
             text = f"{(high - low) / 10:g} s"
             place = 0 if name == "outbound" else -2
+            share = 0.5 if len(heights) > 2 else 0.6 if name == "outbound" else 0.4
             x = (low + high + delays[place] + delays[place + 1]) / 20
             if pictures.room(axes, low, high) > pictures.width_of(text, 8) and start <= 10 * x <= end:
-                axes.text(x, (heights[place] + heights[place + 1]) / 2, text, ha="center", va="center", fontsize=8, color=pictures.INK)
+                y = (1 - share) * heights[place] + share * heights[place + 1]
+                axes.text(x, y, text, ha="center", va="center", fontsize=8, color=pictures.INK)
 
 
 def draw_planned(axes, found, delays, heights, corner):
@@ -176,22 +203,29 @@ def draw_planned(axes, found, delays, heights, corner):
     return keys
 
 
-def draw(corners, travel, path, plan=None):
-    """Draws the time-space diagram and writes it; `travel` has the ticks from each cabinet to the next, or is None, and `plan` a plan's greatest
-    bands, outbound and inbound."""
+def left_out(corners):
+    """Returns the words that tell which partner phases are left out, empty where none is."""
+    told = [(it.cabinet.number, it.names.left_out(it.cabinet.number)) for it in corners if not it.fixed]
+    return "; ".join(f"cabinet {number} {words}" for number, words in told if words)
+
+
+def draw(corners, travel, path, plan=None, began=None):
+    """Draws the time-space diagram and writes it; `travel` has the ticks from each cabinet to the next, or is None, and
+    `plan` a plan's greatest bands, outbound and inbound."""
     start, end = corners[0].start, corners[0].end
     tall = 1.5 + 0.85 * len(corners)
     title = f"Coordinated greens, ticks {start} to {end}: above each line outbound (ring 1), below it inbound (ring 2)"
-    drawn, (axes,) = pictures.figure(tall, title)
-    pictures.frame(drawn, tall)
-    pictures.time_axis(axes, start, end)
+    if corners[0].names.title():
+        title = f"{corners[0].names.title()}: {title[0].lower()}{title[1:]}"
+    aways = list(accumulate(travel or [0] * (len(corners) - 1), initial=0))
+    labels = [it.name() + (f"\n{away / 10:g} s away" if away else "") for it, away in zip(corners, aways)]
+    drawn, (axes,) = pictures.figure(tall, title, under=left_out(corners), labels=labels)
+    pictures.time_axis(axes, start, end, began)
     even = not travel or not sum(travel) or min(travel) * len(travel) < 0.6 * sum(travel)
     heights = list(range(len(corners))) if even else list(accumulate(travel, initial=0))
     spacing = 1 if even else min(travel)
-    names = {}
-    for corner, height, away in zip(corners, heights, accumulate(travel or [0] * len(heights), initial=0)):
+    for corner, height in zip(corners, heights):
         draw_corner(axes, corner, height, 0.16 * spacing)
-        names[height] = corner.name() + (f"\n{away / 10:g} s away" if away else "")
     keys = [Patch(color=pictures.GREEN, label="green"), Patch(color=pictures.YELLOW, label="yellow"), Patch(color=STOP, label="red")]
     if travel:
         found = ways(corners, travel)
@@ -201,7 +235,7 @@ def draw(corners, travel, path, plan=None):
         if plan:
             keys += draw_planned(axes, plan, [delays for _, delays in found], heights, corners[0])
     axes.set_ylim(heights[0] - 0.35 * spacing, heights[-1] + 0.35 * spacing)
-    axes.set_yticks(list(names), list(names.values()))
+    axes.set_yticks(heights, [pictures.escaped(it) for it in labels])
     axes.tick_params(axis="y", length=0)
     axes.spines["left"].set_visible(False)
     pictures.legend(drawn, keys)

@@ -33,17 +33,26 @@ SIGNALS = {"W": BEGIN_WALK, "F": BEGIN_PEDESTRIAN_CLEARANCE, "D": BEGIN_DONT_WAL
 REASONS = {"gap": GAP_OUT, "maximum": MAX_OUT, "force-off": FORCE_OFF, "yield": FORCE_OFF}
 STAGES = {"entry": PREEMPT_ENTRY, "track": PREEMPT_TRACK, "dwell": PREEMPT_DWELL, "exit": PREEMPT_EXIT}
 
+OF_PHASES = {*range(PHASE_ON, PHASE_INACTIVE + 1), BEGIN_WALK, BEGIN_PEDESTRIAN_CLEARANCE, BEGIN_DONT_WALK,
+             DETECTOR_OFF, DETECTOR_ON, PEDESTRIAN_DETECTOR_ON}  # fmt: skip
+"""The codes whose parameter is a phase."""
+
 
 class Log:
-    """A cabinet's events: `found` has the tick, the code and the parameter of each since it was last emptied."""
+    """A cabinet's events: `found` has the tick, the code and the parameter of each since it was last emptied. Phases
+    that are left out have none."""
 
-    def __init__(self, scenario, number):
+    def __init__(self, scenario, number, left_out=frozenset()):
         self.cabinet, self.found = opened(scenario, number), []
+        self.left_out = left_out
         self.pattern, self.lengths, self.side = None, {}, None
         self.requests = {}
 
     def add(self, tick, code, parameter):
         """Keeps an event."""
+        phase = parameter if code in OF_PHASES else code - SPLIT_CHANGE
+        if phase in self.left_out:
+            return
         self.found.append((tick, code, parameter))
 
     def take(self, happening):
@@ -177,9 +186,11 @@ class Times:
         return self.text
 
 
-def write(course, start: datetime, out):
-    """Reads the trace and writes its event log; a round's events are put in the order of time before they are written."""
-    times, logs = Times(start), [Log(course.scenario, number) for number in range(1, course.cabinets + 1)]
+def write(course, start: datetime, out, names):
+    """Reads the trace and writes its event log, without partner phases that a names file has; a round's events are put
+    in the order of time before they are written."""
+    times = Times(start)
+    logs = [Log(course.scenario, number, names.partners(number)) for number in range(1, course.cabinets + 1)]
     out.write(HEADER)
     touched = {}
     for happening in course.happenings():

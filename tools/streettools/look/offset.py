@@ -163,13 +163,12 @@ def draw_disturbances(rows, seen):
                              fontsize=7, color=TROUBLE, annotation_clip=False)  # fmt: skip
 
 
-def draw(seen, path):
+def draw(seen, path, names, began=None):
     """Draws the picture of the offset and writes it."""
-    title = f"Cabinet {seen.cabinet.number}: the offset, ticks {seen.start} to {seen.end}"
+    title = f"{names.cabinet(seen.cabinet.number)}: the offset, ticks {seen.start} to {seen.end}"
     drawn, rows = pictures.figure(5.6, title, 3, [2.6, 1.5, 0.32])
-    pictures.frame(drawn, 5.6)
     drawn.subplots_adjust(hspace=0.14, top=0.87)
-    pictures.time_axis(rows[2], seen.start, seen.end)
+    pictures.time_axis(rows[2], seen.start, seen.end, began)
     draw_errors(rows[0], seen)
     draw_lengths(rows[1], seen)
     strips.draw(rows[2], seen.modes.spans, 0, 1)

@@ -1,6 +1,9 @@
 """What all pictures share: colours, an axis of time, room for rows, a legend."""
 
+import math
 import pathlib
+import textwrap
+import warnings
 
 import matplotlib
 
@@ -39,10 +42,31 @@ def clock_text(seconds, _=None):
     return f"{minutes // 60}:{minutes % 60:02d}:{rest}" if minutes >= 60 else f"{minutes}:{rest}"
 
 
-def time_axis(axes, start, end):
-    """Gives an axis the time from one tick to another, in seconds, written as minutes and seconds since the run began."""
+def day_text(seconds):
+    """Returns a time of day by its seconds from midnight, of whatever day, as hours, minutes and seconds."""
+    tenths = round(10 * seconds) % 864_000
+    whole, rest = divmod(tenths, 10)
+    return f"{whole // 3600:02d}:{whole // 60 % 60:02d}:{whole % 60:02d}" + (f".{rest}" if rest else "")
+
+
+def day_axis(axes, start, end, step, began):
+    """Marks an axis with the time of day, whose tick 0 is so many seconds from midnight."""
+    least = math.ceil((start / 10 + began) / step - 1e-9)
+    most = math.floor((end / 10 + began) / step + 1e-9)
+    marks = [it * step for it in range(least, most + 1)]
+    axes.set_xticks([it - began for it in marks], [day_text(it) for it in marks])
+    axes.set_xlabel("time of day (hours:minutes:seconds)")
+
+
+def time_axis(axes, start, end, began=None):
+    """Gives an axis the time from one tick to another, in seconds, written as minutes and seconds since the run began;
+    as the time of day where the run began so many seconds from midnight."""
     axes.set_xlim(start / 10, end / 10)
-    step = next((it for it in STEPS if (end - start) / 10 <= 12 * it), STEPS[-1] * -(-(end - start) // (120 * STEPS[-1])))
+    step = next((it for it in STEPS if (end - start) / 10 <= 12 * it), None)
+    step = step or STEPS[-1] * -(-(end - start) // (120 * STEPS[-1]))
+    if began is not None:
+        day_axis(axes, start, end, step, began)
+        return
     axes.xaxis.set_major_locator(MultipleLocator(step))
     axes.xaxis.set_major_formatter(FuncFormatter(clock_text))
     form = "minutes:seconds" if end < 36_000 else "hours:minutes:seconds"
@@ -68,17 +92,29 @@ def room(axes, start, end):
     return 72 * inches * (end - start) / 10 / (high - low)
 
 
-def figure(height, title, rows=1, ratios=None):
-    """Returns a figure 11 inches wide with so many axes one above the other."""
+def escaped(text):
+    """Returns a text in which a dollar sign begins no formula."""
+    return text.replace("$", r"\$")
+
+
+def figure(height, title, rows=1, ratios=None, under="", labels=()):
+    """Returns a figure 11 inches wide with so many axes one above the other. Room is left around them for the title
+    above, for what stands under the title, for what stands below the axes, and for the labels of the rows."""
     plt.rcParams.update(STYLE)
-    drawn, axes = plt.subplots(rows, 1, figsize=(11, height), sharex=True, squeeze=False, gridspec_kw={"height_ratios": ratios})
-    drawn.suptitle(title, x=0.01, ha="left", fontsize=11, fontweight="bold", color=INK)
+    warnings.filterwarnings("ignore", "Glyph .* missing from current font")
+    under = textwrap.wrap(under, 155)
+    above, height = 0.34 + 0.16 * len(under), height + 0.16 * len(under)
+    drawn, axes = plt.subplots(
+        rows, 1, figsize=(11, height), sharex=True, squeeze=False, gridspec_kw={"height_ratios": ratios}
+    )
+    drawn.suptitle(escaped(title), x=0.01, ha="left", fontsize=11, fontweight="bold", color=INK)
+    if under:
+        text = escaped("\n".join(under))
+        drawn.text(0.01, 1 - 0.3 / height, text, ha="left", va="top", fontsize=8, color=INK, linespacing=1.2)
+    widest = max((width_of(line) for text in labels for line in text.split("\n")), default=0)
+    left = min(0.3, max(0.105, (widest + 14) / (72 * 11)))
+    drawn.subplots_adjust(left=left, right=0.975, top=1 - above / height, bottom=0.8 / height)
     return drawn, [row[0] for row in axes]
-
-
-def frame(drawn, height):
-    """Leaves room around the axes for the title above, for what stands below, and for the names of the rows."""
-    drawn.subplots_adjust(left=0.105, right=0.975, top=1 - 0.34 / height, bottom=0.8 / height)
 
 
 def legend(drawn, keys):

@@ -1,6 +1,7 @@
 """A timing report of a trace: what each phase was given, how its greens ended, modes, offsets, replies and notes.
 
-The numbers are collected as the trace is read; times are given in seconds.
+The numbers are collected as the trace is read; times are given in seconds. With a names file cabinets and phases have
+their names, and partner phases are left out.
 """
 
 import json
@@ -13,8 +14,9 @@ from streettools.shared.course import Answered, Ended, Input, Noted, RoundEnd
 from streettools.shared.lines import Frame
 from streettools.shared.tables import ALL
 
+from .endings import ENDINGS
+
 WAYS = {1: "polls", 2: "downloads", 3: "priority"}
-ENDINGS = ("gap", "maximum", "force-off", "yield", "split filled", "priority", "seek", "preempt", "ending", "not told")
 
 
 class Service:
@@ -32,13 +34,15 @@ class Service:
         self.greatest = max(self.greatest, length)
         self.endings[ending] += 1
 
-    def value(self, phase):
-        """Returns the phase's row of the report."""
+    def value(self, phase, name):
+        """Returns the phase's row of the report; `name` is None where there are no names."""
         mean = round(self.total / self.ended / 10, 2) if self.ended else None
+        greatest = seconds(self.greatest if self.ended else None)
         return {
             "phase": phase,
+            **({} if name is None else {"name": name}),
             "services": self.begun,
-            "green": {"least": seconds(self.least), "mean": mean, "greatest": seconds(self.greatest if self.ended else None)},
+            "green": {"least": seconds(self.least), "mean": mean, "greatest": greatest},
             "ended": {word: self.endings[word] for word in ENDINGS if self.endings[word]},
             "still_green": self.begun - self.ended,
             "walks": self.walks,
@@ -46,20 +50,24 @@ class Service:
 
 
 class Offsets:
-    """How often a pattern was picked up, and after how many cycles it came onto its offset."""
+    """How often a pattern was picked up, and after how many cycles it came onto its offset; `bounds` has for each
+    pickup how many cycles it needs at most while nothing disturbs it, and `beyond` counts those that took more."""
 
     def __init__(self):
         self.pickups, self.zeros, self.met, self.cycles, self.waiting = 0, 0, 0, [], None
+        self.bounds, self.beyond = [], 0
 
-    def take(self, cycle, met):
+    def take(self, cycle, met, needed):
         """Counts a cycle that begins; one that begins on the offset ends the count since the pickup."""
         self.zeros += 1
         self.met += met
         if cycle.pickup:
             self.pickups += 1
             self.waiting = 0
+            self.bounds += [] if needed is None else [needed]
         elif self.waiting is not None:
             self.waiting += 1
+            self.beyond += bool(self.bounds) and self.waiting == self.bounds[-1] + 1
         if met and self.waiting is not None:
             self.cycles.append(self.waiting)
             self.waiting = None
@@ -73,7 +81,13 @@ class Offsets:
             "pickups": self.pickups,
             "local_zeros": self.zeros,
             "on_the_offset": self.met,
-            "cycles_to_the_offset": {"least": min(self.cycles, default=None), "mean": mean, "greatest": max(self.cycles, default=None)},
+            "cycles_to_the_offset": {
+                "least": min(self.cycles, default=None),
+                "mean": mean,
+                "greatest": max(self.cycles, default=None),
+                "bound": max(self.bounds, default=None),
+            },
+            "beyond_the_bound": self.beyond,
             "offset_not_reached": self.pickups - count,
         }
 
@@ -81,14 +95,14 @@ class Offsets:
 class Tally:
     """What the report says of one cabinet."""
 
-    def __init__(self, scenario, number):
-        self.cabinet = opened(scenario, number)
+    def __init__(self, scenario, number, names):
+        self.cabinet, self.names = opened(scenario, number), names
         self.services = {phase: Service() for phase in ALL}
         self.modes, self.mode, self.since = Counter(), None, 0
         self.patterns = {}
         self.replies = {way: Counter() for way in WAYS}
         self.orders, self.loads = Counter(), []
-        self.notes = {}
+        self.refused, self.notes = {}, {}
 
     def take(self, happening):
         """Counts what happened."""
@@ -99,14 +113,23 @@ class Tally:
                 self.cabinet.sensed(happening)
             case Answered(way=way, digits=digits):
                 self.replies.setdefault(way, Counter())["silent" if digits is None else "answered"] += 1
-                for order in answers.orders(digits) if digits else ():
-                    self.ordered(order, happening.tick)
+                if digits:
+                    self.answered(digits, happening.tick)
             case Ended(tick=tick, load=load):
                 self.cabinet.ended(load)
                 self.loads.append((tick, load))
             case Noted(round=number, words=words):
                 count, first, _ = self.notes.get(words, (0, number, number))
                 self.notes[words] = (count + 1, first, number)
+
+    def answered(self, digits, tick):
+        """Counts the orders that a reply takes, or the Set that it refuses."""
+        for order in answers.orders(digits):
+            self.ordered(order, tick)
+        it = answers.refused(digits)
+        if it is not None:
+            count, first, _ = self.refused.get(it, (0, tick, tick))
+            self.refused[it] = (count + 1, first, tick)
 
     def ordered(self, order, tick):
         """Counts an order that was taken."""
@@ -124,7 +147,8 @@ class Tally:
         if before is not None:
             cycle = cabinet.cycle(frame)
             if cycle:
-                self.patterns.setdefault(cycle.pattern, Offsets()).take(cycle, cabinet.is_met(cycle))
+                known = self.patterns.setdefault(cycle.pattern, Offsets())
+                known.take(cycle, cabinet.is_met(cycle), cabinet.needed(cycle) if cycle.pickup else None)
             self.coloured(before, frame)
             for phase, _, shows in changes(before.pedestrians, frame.pedestrians):
                 self.services[phase].walks += shows == "W"
@@ -146,21 +170,37 @@ class Tally:
         """Counts the time of the mode that ends."""
         if self.mode is not None:
             mode = mode_of(self.mode)
-            self.modes[f"{mode.words} {mode.number or ''} {mode.stage}".replace("  ", " ").strip()] += tick - self.since
+            words = f"{mode.words} {mode.number or ''} {mode.stage}".replace("  ", " ").strip()
+            self.modes[words] += tick - self.since
 
     def value(self, ticks):
         """Returns the cabinet's part of the report, at the end of the trace."""
         self.timed(ticks)
+        number, names = self.cabinet.number, self.names
+        partners = names.partners(number)
+        shown = [(phase, it) for phase, it in self.services.items() if it.begun and phase not in partners]
         return {
-            "cabinet": self.cabinet.number,
-            "phases": [it.value(phase) for phase, it in self.services.items() if it.begun],
+            "cabinet": number,
+            **({"name": names.street(number), "left_out": sorted(partners)} if names.is_given else {}),
+            "phases": [it.value(phase, names.phase(number, phase) if names.is_given else None) for phase, it in shown],
             "modes": {words: seconds(length) for words, length in self.modes.most_common()},
             "patterns": [it.value(pattern) for pattern, it in sorted(self.patterns.items())],
             "replies": {WAYS.get(way, str(way)): dict(count) for way, count in self.replies.items() if count},
             "orders": {word: count for word, count in self.orders.items() if count},
+            "refused_sets": [set_value(it, *times) for it, times in self.refused.items()],
             "downloads": [load_value(tick, load) for tick, load in self.loads],
-            "notes": [{"note": words, "times": n, "first": one, "last": end} for words, (n, one, end) in sorted(self.notes.items())],
+            "notes": [
+                {"note": words, "times": times, "first": first, "last": last}
+                for words, (times, first, last) in sorted(self.notes.items())
+            ],
         }
+
+
+def set_value(refused, times, first, last):
+    """Returns the row of a Set that was refused: what it asked for, the error, when it was refused first and last."""
+    row = {"object": refused.object, "value": refused.value, "error": refused.error, "times": times}
+    row |= {"first": seconds(first), "last": seconds(last)}
+    return row if refused.download is None else row | {"download": refused.download}
 
 
 def load_value(tick, load):
@@ -174,70 +214,22 @@ def seconds(ticks):
     return None if ticks is None else ticks / 10
 
 
-def collect(course):
+def collect(course, names):
     """Reads the trace and returns its report as one value."""
-    tallies = [Tally(course.scenario, number) for number in range(1, course.cabinets + 1)]
+    tallies = [Tally(course.scenario, number, names) for number in range(1, course.cabinets + 1)]
     for happening in course.happenings():
         if not isinstance(happening, RoundEnd):
             tallies[happening.cabinet - 1].take(happening)
     ticks = course.rounds * course.ticks
-    return {"rounds": course.rounds, "seconds": seconds(ticks), "cabinets": [it.value(ticks) for it in tallies]}
+    head = {"title": names.title()} if names.is_given else {}
+    head |= {"rounds": course.rounds, "seconds": seconds(ticks)}
+    return head | {"cabinets": [it.value(ticks) for it in tallies]}
 
 
-def table(rows):
-    """Returns rows of a table as text, with a blank where there is no value."""
-    import pandas
-
-    if not rows:
-        return ""
-    frame = pandas.DataFrame(rows).astype(object)
-    return frame.where(frame.notna(), "").to_string(index=False) + "\n"
-
-
-def phase_rows(phases):
-    """Returns the table of phases; each way in which some green ended has a column."""
-    words = [word for word in ENDINGS if any(word in it["ended"] for it in phases)]
-    for it in phases:
-        row = {"phase": it["phase"], "services": it["services"]}
-        row |= {f"{name} green (s)": it["green"][name] for name in ("least", "mean", "greatest")}
-        row |= {word: it["ended"].get(word, 0) for word in words}
-        yield row | {"still green": it["still_green"], "walks": it["walks"]}
-
-
-def pattern_rows(patterns):
-    """Returns the table of patterns."""
-    for it in patterns:
-        row = {"pattern": it["pattern"], "pickups": it["pickups"], "local zeros": it["local_zeros"], "on offset": it["on_the_offset"]}
-        row |= {f"{name} cycles to it": it["cycles_to_the_offset"][name] for name in ("least", "mean", "greatest")}
-        yield row | {"never": it["offset_not_reached"]}
-
-
-def load_rows(loads):
-    """Returns the table of downloads."""
-    for it in loads:
-        end = f"in force as version {it['version']}" if "version" in it else f"refused by rule {it['rule']} in row {it['row']}"
-        yield {"download": it["download"], "seconds": it["seconds"], "end": end}
-
-
-def cabinet_text(value, whole):
-    """Returns a cabinet's part of the report as text."""
-    parts = [f"Cabinet {value['cabinet']}\n", table(list(phase_rows(value["phases"])))]
-    modes = value["modes"].items()
-    parts.append(table([{"mode": it, "seconds": time, "share": f"{100 * time / whole:.1f} %"} for it, time in modes if time]))
-    parts.append(table(list(pattern_rows(value["patterns"]))))
-    said = [f"{way}: {n.get('answered', 0)} answered, {n.get('silent', 0)} silent" for way, n in value["replies"].items()]
-    parts.append("replies to " + "; ".join(said) + "\n" if said else "")
-    parts.append("orders: " + ", ".join(f"{word} {count}" for word, count in value["orders"].items()) + "\n" if value["orders"] else "")
-    parts.append(table(list(load_rows(value["downloads"]))))
-    notes = [{"note of the master": it["note"], "times": it["times"], "first round": it["first"], "last round": it["last"]}
-             for it in value["notes"]]  # fmt: skip
-    parts.append(table(notes))
-    return "\n".join(part for part in parts if part)
-
-
-def text(value, as_json):
+def text(value, as_json, names):
     """Returns the report as text for a terminal, or as JSON."""
     if as_json:
         return json.dumps(value, indent=2) + "\n"
-    head = f"{value['rounds']} rounds, {value['seconds']:g} seconds, cabinets: {len(value['cabinets'])}\n"
-    return "\n".join([head, *(cabinet_text(it, value["seconds"]) for it in value["cabinets"])])
+    from . import report_text
+
+    return report_text.text(value, names)

@@ -30,8 +30,9 @@ class Span(NamedTuple):
 class Seen:
     """What a ring diagram shows of a cabinet from one tick to another, collected as the trace is read."""
 
-    def __init__(self, scenario, number, start, end):
+    def __init__(self, scenario, number, start, end, left_out):
         self.cabinet, self.start, self.end = opened(scenario, number), start, end
+        self.left_out = left_out
         self.modes = strips.Modes(start, end)
         self.last, self.side = 0, None
         self.spans, self.barriers, self.zeros, self.downloads, self.inputs = [], [], [], [], []
@@ -93,7 +94,7 @@ class Seen:
         if before == shows:
             return
         self.since[kind, phase] = (shows, tick)
-        if before not in "RD" and since < self.end and tick > self.start:
+        if before not in "RD" and since < self.end and tick > self.start and phase not in self.left_out:
             ring = self.cabinet.tables.phase(phase, 22)
             self.spans.append(Span(ring, phase, before, max(since, self.start), min(tick, self.end)))
 
@@ -109,17 +110,17 @@ class Seen:
         return self
 
 
-def collect(course, number, start, end):
-    """Reads the trace and returns what is seen of a cabinet."""
-    seen = Seen(course.scenario, number, start, end)
+def collect(course, number, start, end, left_out):
+    """Reads the trace and returns what is seen of a cabinet, but for the phases that are left out."""
+    seen = Seen(course.scenario, number, start, end, left_out)
     for happening in course.happenings():
         if isinstance(happening, RoundEnd) or happening.cabinet == number:
             seen.take(happening)
     return seen.close()
 
 
-def draw_ring(axes, seen, ring, low):
-    """Draws a ring's bars in the unit of height above `low`: colours, inside the green the pedestrian signals, the phases."""
+def draw_ring(axes, seen, ring, low, names):
+    """Draws a ring's bars in the unit of height above `low`: colours, in the green pedestrian signals and the phase."""
     spans = [it for it in seen.spans if it.ring == ring]
     by_letter = {letter: [(it.start, it.end) for it in spans if it.shows == letter] for letter in NAMES}
     pictures.bars(axes, [(seen.start, seen.end)], low, 0.8, f"ring-{ring}-red", color=pictures.RED)
@@ -131,10 +132,13 @@ def draw_ring(axes, seen, ring, low):
         else:
             pictures.bars(axes, by_letter[letter], low + 0.07, 0.2, group, **(FLASHING if letter == "F" else {"facecolor": "white"}))
     for it in spans:
-        if it.shows == "G" and pictures.room(axes, it.start, it.end) > pictures.width_of(str(it.phase), 10):
+        space = pictures.room(axes, it.start, it.end)
+        words = (f"{it.phase} {names.phase(seen.cabinet.number, it.phase)}".strip(), str(it.phase))
+        label = next((text for text in words if pictures.width_of(text, 10) < space), None)
+        if it.shows == "G" and label:
             height = low + (0.52 if by_letter["W"] or by_letter["F"] else 0.4)
-            axes.text((it.start + it.end) / 20, height, str(it.phase), color="white", ha="center", va="center_baseline",
-                      fontsize=10, fontweight="bold")  # fmt: skip
+            axes.text((it.start + it.end) / 20, height, pictures.escaped(label), color="white", ha="center",
+                      va="center_baseline", fontsize=10, fontweight="bold")  # fmt: skip
 
 
 def draw_marks(axes, seen, top):
@@ -169,16 +173,18 @@ def legend(drawn, seen):
     pictures.legend(drawn, keys)
 
 
-def draw(seen, path):
+def draw(seen, path, names, began=None):
     """Draws the ring diagram and writes it; a row for each preempt whose input went on."""
+    cabinet = seen.cabinet.number
     numbers = sorted({number for number, _, _ in seen.inputs})
     tall = 3.2 + 0.22 * len(numbers) + 0.25 * bool(seen.downloads)
-    title = f"Cabinet {seen.cabinet.number}: rings, ticks {seen.start} to {seen.end}"
-    drawn, (axes,) = pictures.figure(tall, title)
-    pictures.frame(drawn, tall)
-    pictures.time_axis(axes, seen.start, seen.end)
-    draw_ring(axes, seen, 1, 2.0)
-    draw_ring(axes, seen, 2, 1.0)
+    title = f"{names.cabinet(cabinet)}: rings, ticks {seen.start} to {seen.end}"
+    shown = {it.phase for it in seen.spans}
+    inputs = [f"{names.preempt(cabinet, number)} input" for number in numbers]
+    drawn, (axes,) = pictures.figure(tall, title, under=names.key(cabinet, shown), labels=inputs)
+    pictures.time_axis(axes, seen.start, seen.end, began)
+    draw_ring(axes, seen, 1, 2.0, names)
+    draw_ring(axes, seen, 2, 1.0, names)
     strips.draw(axes, seen.modes.spans, 0.45, 0.36)
     rows = {number: 0.2 - 0.28 * place for place, number in enumerate(numbers)}
     for number, low in rows.items():
@@ -187,8 +193,9 @@ def draw(seen, path):
     top = 3.0
     draw_marks(axes, seen, top)
     axes.set_ylim(min(rows.values(), default=0.42) - 0.12, top + (0.85 if seen.downloads else 0.3))
-    names = {2.4: "ring 1", 1.4: "ring 2", 0.63: "mode", **{low + 0.08: f"preempt {number} input" for number, low in rows.items()}}
-    axes.set_yticks(list(names), list(names.values()))
+    labels = {2.4: "ring 1", 1.4: "ring 2", 0.63: "mode"}
+    labels |= {low + 0.08: pictures.escaped(text) for low, text in zip(rows.values(), inputs)}
+    axes.set_yticks(list(labels), list(labels.values()))
     axes.tick_params(axis="y", length=0)
     axes.spines["left"].set_visible(False)
     legend(drawn, seen)

@@ -155,6 +155,19 @@ class Cabinet:
         late = self.tables.unit(1) == 3 and -(-(known.cycle - target) // add) > -(-target // skip)
         return target if late or target == 0 else target - known.cycle
 
+    def needed(self, cycle):
+        """Returns in how many cycles at most an undisturbed cabinet comes onto its offset, from a cycle that begins: as
+        often as the limit of the correction mode goes into the way to the target, twice that with a clock that drifts.
+        None where the pattern's cycle isn't told."""
+        known = self.plan(cycle.pattern)
+        if known is None:
+            return None
+        (dwell, add, skip), length = (self.tables.unit(column) for column in (2, 3, 4)), known.cycle
+        ahead = (length - cycle.target) % length
+        mode = self.tables.unit(1)
+        ways = {2: [(ahead, dwell)], 4: [(ahead, add)]}.get(mode, [(ahead, add), (cycle.target, skip)])
+        return min(-(-way // limit) for way, limit in ways) * (2 if self.clock.gain or self.clock.lose else 1)
+
     def is_met(self, cycle):
         """Returns whether a cycle begins on the offset: to within a tick where the clock drifts."""
         if cycle.error is None:

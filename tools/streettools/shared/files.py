@@ -2,31 +2,44 @@
 
 import contextlib
 import os
-import pathlib
 import sys
-import tempfile
+
+
+@contextlib.contextmanager
+def blamed(path, *names):
+    """Lets a fault in writing, which tells no file or one of these names, tell `path`."""
+    try:
+        yield
+    except OSError as fault:
+        if fault.errno is None or fault.filename not in (None, *names):
+            raise
+        raise OSError(fault.errno, fault.strerror, str(path)) from None
 
 
 @contextlib.contextmanager
 def whole(path):
-    """Gives the name of a file beside `path`, which takes its place at the end; where that isn't reached nothing is left of it
-    and what stood at `path` still stands. What is no file, as a pipe, is written as it goes."""
-    path = pathlib.Path(path)
-    if path.exists() and not path.is_file():
-        yield str(path)
+    """Gives the name of a file beside `path`, which takes its place at the end; where that isn't reached nothing is
+    left of it and what stood at `path` still stands. What is no file, as a pipe, is written as it goes."""
+    if os.path.exists(path) and not os.path.isfile(path):
+        with blamed(path):
+            yield str(path)
         return
-    path = path.resolve()
+    import tempfile
+
+    aim = os.path.realpath(path)
+    folder, last = os.path.split(aim)
     try:
-        handle, name = tempfile.mkstemp(dir=path.parent, prefix=f".{path.name}.", suffix=path.suffix)
+        handle, name = tempfile.mkstemp(dir=folder, prefix=f".{last}.", suffix=os.path.splitext(last)[1])
     except OSError as fault:
-        raise OSError(fault.errno, fault.strerror, str(path)) from None
+        raise OSError(fault.errno, fault.strerror, aim) from None
     os.close(handle)
     try:
-        yield name
-        mask = os.umask(0)
-        os.umask(mask)
-        os.chmod(name, 0o666 & ~mask)
-        os.replace(name, path)
+        with blamed(path, name):
+            yield name
+            mask = os.umask(0)
+            os.umask(mask)
+            os.chmod(name, 0o666 & ~mask)
+            os.replace(name, aim)
     except BaseException:
         os.unlink(name)
         raise
@@ -34,10 +47,12 @@ def whole(path):
 
 @contextlib.contextmanager
 def output(path):
-    """Gives a text to write to: a file that is written whole, or standard output where none is named."""
+    """Gives a text to write to: a file that is written whole, or standard output where none is named. A fault in
+    writing tells which."""
     if path is None:
-        yield sys.stdout
-        sys.stdout.flush()
+        with blamed("standard output"):
+            yield sys.stdout
+            sys.stdout.flush()
     else:
         with whole(path) as name, open(name, "w", encoding="utf-8") as out:
             yield out

@@ -1,13 +1,17 @@
 """What the tests share: the command, a small trace, and traces of another program."""
 
+import os
 import pathlib
 import subprocess
 import sys
+from collections import Counter
+from xml.etree import ElementTree
 
 import pytest
 
 HERE = pathlib.Path(__file__).resolve().parent
 TOP = HERE.parents[2]
+SVG = "{http://www.w3.org/2000/svg}"
 sys.dont_write_bytecode = True
 
 VECTORS = [HERE / "traces" / f"{name}.trace" for name in ("coord-003", "preempt-002", "link-003", "mixed")]
@@ -72,15 +76,34 @@ Z 4
 """Two cabinets in step with pattern 1 and no traffic, the second with an offset of 10 s, which it brings about in its first cycle."""
 
 
-def run(*words, given=None):
+NO_PROGRAM = {**os.environ, "ARTERIAL_PROGRAM": "/nowhere"}
+"""An environment in which no program checks a trace."""
+
+
+def run(*words, given=None, env=NO_PROGRAM):
     """Runs ./look and returns what it answered."""
-    return subprocess.run([TOP / "look", *map(str, words)], input=given, capture_output=True, text=True)
+    return subprocess.run([TOP / "look", *map(str, words)], input=given, capture_output=True, text=True, env=env)
+
+
+class Drawn:
+    """An SVG: how many shapes each named group has, and its texts."""
+
+    def __init__(self, path):
+        root = ElementTree.parse(path).getroot()
+        self.groups = Counter()
+        for group in root.iter(f"{SVG}g"):
+            shapes = [it for it in group.iter() if it.tag in (f"{SVG}path", f"{SVG}use")]
+            defined = [it for defs in group.iter(f"{SVG}defs") for it in defs.iter(f"{SVG}path")]
+            self.groups[group.get("id")] = len(shapes) - len(defined)
+        self.texts = Counter("".join(it.itertext()).strip() for it in root.iter(f"{SVG}text"))
 
 
 @pytest.fixture
-def look(capsys, tmp_path):
+def look(capsys, monkeypatch, tmp_path):
     """The command within this process, which must answer with status 0; a trace that is given stands in a file."""
     from streettools.look.command import main
+
+    monkeypatch.setenv("ARTERIAL_PROGRAM", "/nowhere")
 
     def done(*words, given=None):
         if given is not None:
@@ -91,5 +114,17 @@ def look(capsys, tmp_path):
         answer = capsys.readouterr()
         assert (status, answer.err) == (0, "")
         return answer.out
+
+    return done
+
+
+@pytest.fixture
+def drawn(look, tmp_path):
+    """Draws a picture and reads it."""
+
+    def done(*words, given=None):
+        path = tmp_path / "picture.svg"
+        look(*words, "-o", path, given=given)
+        return Drawn(path)
 
     return done

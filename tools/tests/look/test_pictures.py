@@ -1,38 +1,8 @@
 """Pictures by what their SVG holds, and that each form is written."""
 
-from collections import Counter
-from xml.etree import ElementTree
-
 import pytest
 
 from .conftest import PAIR, SMALL, STREET, VECTORS, run
-
-SVG = "{http://www.w3.org/2000/svg}"
-
-
-class Drawn:
-    """An SVG: how many shapes each named group has, and its texts."""
-
-    def __init__(self, path):
-        root = ElementTree.parse(path).getroot()
-        self.groups = Counter()
-        for group in root.iter(f"{SVG}g"):
-            shapes = [it for it in group.iter() if it.tag in (f"{SVG}path", f"{SVG}use")]
-            defined = [it for defs in group.iter(f"{SVG}defs") for it in defs.iter(f"{SVG}path")]
-            self.groups[group.get("id")] = len(shapes) - len(defined)
-        self.texts = Counter("".join(it.itertext()).strip() for it in root.iter(f"{SVG}text"))
-
-
-@pytest.fixture
-def drawn(look, tmp_path):
-    """Draws a picture and reads it."""
-
-    def done(*words, given=None):
-        path = tmp_path / "picture.svg"
-        look(*words, "-o", path, given=given)
-        return Drawn(path)
-
-    return done
 
 
 def test_rings_of_a_car_on_the_side_street(drawn):
@@ -56,6 +26,15 @@ def test_rings_show_preempts_walks_and_downloads(drawn):
     assert found.groups["mode-preempt"] >= 1 and found.texts["preempt 2 input"] == 1
     found = drawn("rings", "--cabinet", "1", VECTORS[2])
     assert found.texts["download version 1"] == 1 and found.groups["mode-flash"] >= 1
+
+
+def test_a_start_gives_the_axis_the_time_of_day(drawn):
+    """42 s from 23:59:30 on pass midnight; marks stand at whole five seconds of the day, wherever the start is."""
+    found = drawn("rings", "--start", "23:59:30", given=SMALL)
+    assert [found.texts[it] for it in ("23:59:30", "23:59:55", "00:00:00", "00:00:10", "00:00:15")] == [1, 1, 1, 1, 0]
+    assert found.texts["time of day (hours:minutes:seconds)"] == 1
+    found = drawn("offset", "--start", "2026-11-27T06:00:02.5", given=SMALL)
+    assert [found.texts[it] for it in ("06:00:02.5", "06:00:05", "06:00:40", "06:00:45")] == [0, 1, 1, 0]
 
 
 def test_bands_through_a_street(drawn):

@@ -4,6 +4,8 @@ import json
 from collections import Counter
 
 import pytest
+from streettools.shared.answers import refused
+from streettools.shared.cabinet import Cabinet, Cycle
 
 from .conftest import SMALL, STREET, VECTORS, run
 
@@ -83,3 +85,57 @@ def test_the_table_names_each_cabinet(look, path):
     text = look("report", path)
     scenario = json.loads(path.read_text().split("\n", 1)[0][2:])
     assert text.count("Cabinet ") == len(scenario["cabinets"]) and "mean green (s)" in text
+
+
+REPLY = "302c02010004067075626c6963a21f02010%d02010%d02010%d30143012060d2b060104018936040201040e0002010%d"
+"""A Response of RFC 1157 to the request of a number, with status, index, and systemPatternControl.0 with a value."""
+
+
+def asked(*replies):
+    """Returns a trace of one round in which a cabinet gave these replies on the stream of polls."""
+    first = 'S {"cabinets":[{}],"rounds":1,"ticks":10,"version":1}'
+    opening = "F 1 0 RRRRRRRRRRRRRRRR DDDDDDDDDDDDDDDD S 0 0 0"
+    lines = [first, opening, "R 1", f"J 1 4*3 1*{len(replies)} 4*7", *(f"A 1 1 {it}" for it in replies), "Z 1"]
+    return "".join(f"{line}\n" for line in lines)
+
+
+def test_sets_that_were_refused_are_counted_and_named(look):
+    """Pattern 5, which isn't defined, is refused twice (badValue is 3); pattern 1 is taken; a refused Get is no Set."""
+    get = (REPLY % (4, 2, 1, 0)).replace("301430", "301330", 1).replace("302c", "302b").replace("a21f", "a21e")
+    get = get.replace("3012060d", "3011060d").removesuffix("020100") + "0500"
+    text = asked(REPLY % (1, 3, 1, 5), REPLY % (2, 0, 0, 1), REPLY % (3, 3, 1, 5), get)
+    (cabinet,) = reported(look, given=text)["cabinets"]
+    due = {"object": "systemPatternControl.0", "value": 5, "error": "badValue", "times": 2, "first": 0.3, "last": 0.3}
+    assert cabinet["refused_sets"] == [due]
+    assert "systemPatternControl.0 = 5 badValue     2" in look("report", given=text)
+
+
+def test_a_part_of_a_download_that_was_refused_names_the_download():
+    """RFC 1157's genErr (5) at index 2: downloadId.0 is 2, downloadTotal.0 is 1; and a name that isn't one of ours."""
+    own = "2b0601040181fd590101"
+    bindings = f"3011060c{own}030002010{2}3011060c{own}0500020101"
+    digits = f"303e02010004067075626c6963a231020103020105020102{'3026'}{bindings}"
+    assert refused(digits) == ("genErr", "downloadTotal.0", 1, 2)
+    other = "2b06010401893604020101"
+    cells = digits.replace(f"3011060c{own}0500", f"3010060b{other}")
+    cells = cells.replace("3026", "3025").replace("a231", "a230").replace("303e", "303d")
+    assert refused(cells) == ("genErr", "1.3.6.1.4.1.1206.4.2.1.1", 1, 2)
+    assert refused(digits.replace("020105020102", "020100020100")) is None
+
+
+def test_the_bound_stands_beside_the_cycles_to_the_offset(look):
+    """By dwell of at most 100 ticks a cycle the offsets are 0, 200, 400 and 600 ticks away: 0, 2, 4 and 6 cycles."""
+    rows = [it["patterns"][0] for it in reported(look, STREET)["cabinets"]]
+    assert [it["cycles_to_the_offset"]["bound"] for it in rows] == [0, 2, 4, 6]
+    assert [it["beyond_the_bound"] for it in rows] == [0, 0, 0, 0]
+
+
+def test_the_bound_is_that_of_the_correction_mode_and_twice_that_with_drift():
+    """A cycle of 900 ticks and the target 200 at local zero: 700 on with the clock, or 200 back. The limits are 100 for
+    dwell, 50 for add, 30 for skip."""
+    begins = Cycle(0, 1, True, 200, None, None)
+    for mode, due in ((2, 7), (3, 7), (4, 14)):
+        cells = [["unit", 1, mode]]
+        assert Cabinet({"cabinets": [{"cells": cells}]}, 1).needed(begins) == due
+        assert Cabinet({"cabinets": [{"cells": cells, "lose": 12000}]}, 1).needed(begins) == 2 * due
+    assert Cabinet({"cabinets": [{"cells": [["pattern", 1, 2, 0]]}]}, 1).needed(begins) is None

@@ -1,0 +1,67 @@
+"""What the things of a street are called, by the names file that `arterial plan` writes; without one they have numbers.
+
+The file also tells the partners: phases that were entered only because the rings need them. They are left out.
+"""
+
+from collections.abc import Collection
+
+
+def plain(name: str) -> str:
+    """Returns a name in one line."""
+    return " ".join(name.split())
+
+
+class Called:
+    """The names of cabinets, phases and preempts; `is_given` tells whether there is a names file."""
+
+    def __init__(self, names=None):
+        self.names, self.is_given = names, names is not None
+
+    def title(self) -> str:
+        """Returns the name of the whole street, empty where it has none."""
+        return plain(self.names.title) if self.is_given else ""
+
+    def street(self, number: int) -> str:
+        """Returns the name of a cabinet's intersection, empty where it has none."""
+        return plain(self.names.intersection(number).name) if self.is_given else ""
+
+    def cabinet(self, number: int) -> str:
+        """Returns the title of a cabinet."""
+        name = self.street(number)
+        return f"{name} (cabinet {number})" if name else f"Cabinet {number}"
+
+    def phase(self, number: int, phase: int) -> str:
+        """Returns the name of a cabinet's phase, empty where it has none."""
+        return plain(self.names.intersection(number).phase(phase).name) if self.is_given else ""
+
+    def preempt(self, number: int, preempt: int) -> str:
+        """Returns the words for a cabinet's preempt."""
+        name = plain(self.names.intersection(number).preempts.get(preempt, "")) if self.is_given else ""
+        return f"{name} (preempt {preempt})" if name else f"preempt {preempt}"
+
+    def partners(self, number: int) -> frozenset[int]:
+        """Returns the phases of a cabinet that are left out."""
+        return frozenset(range(1, 17)).intersection(self.names.intersection(number).partners if self.is_given else ())
+
+    def left_out(self, number: int) -> str:
+        """Returns the words that tell which phases of a cabinet are left out, empty where none is."""
+        phases = sorted(self.partners(number))
+        if not phases:
+            return ""
+        if len(phases) == 1:
+            return f"left out: phase {phases[0]}, a partner that the rings alone need"
+        listed = ", ".join(map(str, phases[:-1]))
+        return f"left out: phases {listed} and {phases[-1]}, partners that the rings alone need"
+
+    def key(self, number: int, phases: Collection[int]) -> str:
+        """Returns the names of those of the phases that have one, and what is left out."""
+        named = [f"{phase} {self.phase(number, phase)}" for phase in sorted(phases) if self.phase(number, phase)]
+        return "; ".join(it for it in (", ".join(named), self.left_out(number)) if it)
+
+
+def read(path: str) -> Called:
+    """Returns the names that a file has."""
+    from ..plan import names
+
+    with open(path, encoding="utf-8") as file:
+        return Called(names.read(file.read()))

@@ -1,0 +1,133 @@
+"""The words of the command `./look`."""
+
+import argparse
+import datetime
+import os
+
+EPILOG = """examples:
+  ./look report trace                                      each phase's greens and how they ended, replies, downloads
+  ./look rings --from 900 --to 2100 -o rings.svg trace     both rings of cabinet 1 over two minutes
+  ./look rings --names street.names.json -o rings.svg trace        with names, and without partner phases
+  ./look coordination --start 06:30:00 --travel 20,20,20 -o street.svg trace
+  ./look events --start 2026-11-27T06:00:00 -o log.csv trace
+
+Where a proved program is there, `arterial check` reads the text first, and one that isn't a trace is refused.
+Exit status: 0 done, 1 a file can't be read or written, or a package is missing, 2 the words or the text can't be
+taken, 130 Ctrl-C.
+"""
+STARTED = "the time of tick 0, as 06:30:00 or 2026-11-27T06:30:00: the time axis then has the time of day"
+
+
+def numbers(text):
+    """Reads cabinets, as `1,2,3`."""
+    return [int(it) for it in text.split(",")]
+
+
+def phases(text):
+    """Reads a phase of ring 1 and one of ring 2, as `2,6`."""
+    pair = tuple(numbers(text))
+    if len(pair) != 2 or not all(1 <= it <= 16 for it in pair):
+        raise ValueError
+    return pair
+
+
+def travel(text):
+    """Reads times of travel in seconds, as `20,17.5`, and returns ticks."""
+    ticks = [round(10 * float(it)) for it in text.split(",")]
+    if any(not 0 <= it <= 864_000 for it in ticks):
+        raise ValueError
+    return ticks
+
+
+def tick(text):
+    """Reads the number of a tick."""
+    value = int(text)
+    if value < 0:
+        raise ValueError
+    return value
+
+
+def moment(text):
+    """Reads a time of day with its date, in no zone."""
+    value = datetime.datetime.fromisoformat(text)
+    if value.tzinfo or value.year > 9990:
+        raise ValueError
+    return value
+
+
+def daytime(text):
+    """Reads a time of day, with a date or without one, in no zone; returns it as seconds from midnight."""
+    try:
+        value = datetime.time.fromisoformat(text)
+    except ValueError:
+        value = moment(text).time()
+    if value.tzinfo:
+        raise ValueError
+    return value.hour * 3600 + value.minute * 60 + value.second + value.microsecond / 1_000_000
+
+
+def picture(text):
+    """Reads the name of a picture, which tells its form."""
+    if os.path.splitext(text)[1] not in (".svg", ".png", ".pdf"):
+        raise argparse.ArgumentTypeError("the picture's name must end in .svg, .png or .pdf")
+    return text
+
+
+def add_command(commands, name, text, drawn=True):
+    """Returns a command's reader, with the words that all share, or those that pictures share where it draws one."""
+    found = commands.add_parser(name, help=text, description=text)
+    found.add_argument("trace", nargs="?", help="the trace's file; standard input where it isn't named")
+    found.add_argument("--names", metavar="FILE", help="names of cabinets and phases, as `arterial plan scenario` "
+                       "writes them; partner phases are left out")  # fmt: skip
+    found.add_argument("--no-check", action="store_true", help="don't let `arterial check` read the text first")
+    if drawn:
+        found.add_argument("-o", "--out", type=picture, required=True, help="the picture: .svg, .png or .pdf")
+        found.add_argument("--from", dest="first", type=tick, default=0, metavar="TICK", help="first tick (0)")
+        found.add_argument("--to", dest="last", type=tick, metavar="TICK", help="last tick")
+        found.add_argument("--start", type=daytime, metavar="TIME", help=STARTED)
+    else:
+        found.add_argument("-o", "--out", help="the file to write; standard output where it isn't named")
+    return found
+
+
+def add_pictures(commands):
+    """Adds the commands that draw."""
+    rings = add_command(
+        commands, "rings", "both rings of a cabinet: greens, clearances, walks, barriers, modes (to: 1800 ticks on)"
+    )
+    rings.add_argument("--cabinet", type=int, default=1, metavar="N", help="the cabinet (1)")
+    street = add_command(
+        commands, "coordination",
+        "the coordinated greens of several cabinets over time, with through bands (to: 3000 ticks on)",
+    )  # fmt: skip
+    street.add_argument("--cabinets", type=numbers, metavar="N,N,..", help="the cabinets in the street's order (all)")
+    street.add_argument("--travel", type=travel, metavar="S,S,..",
+                        help="seconds from each cabinet to the next, for the bands")  # fmt: skip
+    street.add_argument("--planned", metavar="FILE",
+                        help="what `arterial band` wrote: the plan's greatest bands, as dashed outlines")  # fmt: skip
+    street.add_argument("--phases", type=phases, metavar="P,P", help="the phases to show, not the coordinated ones")
+    offset = add_command(
+        commands, "offset", "how a cabinet brings its offset about, and what disturbs it (to: the end)"
+    )
+    offset.add_argument("--cabinet", type=int, default=1, metavar="N", help="the cabinet (1)")
+
+
+def parser():
+    """Returns the reader of the command's words."""
+    words = argparse.ArgumentParser(
+        prog="look", description="Shows a trace that `arterial run` wrote. Ticks are 0.1 s.",
+        epilog=EPILOG, formatter_class=argparse.RawDescriptionHelpFormatter,
+    )  # fmt: skip
+    commands = words.add_subparsers(dest="command", required=True, metavar="COMMAND")
+    add_pictures(commands)
+    report = add_command(
+        commands, "report",
+        "services, greens and how they ended, walks, modes, offsets, replies, refused Sets, downloads, notes", False,
+    )  # fmt: skip
+    report.add_argument("--json", action="store_true", help="JSON in place of tables")
+    events = add_command(
+        commands, "events", "the event log in the Indiana hi-resolution codes, as CSV (docs/EVENTS.md)", False
+    )
+    events.add_argument("--start", type=moment, required=True, metavar="TIME",
+                        help="the time of tick 0, as 2026-11-27T06:00:00")  # fmt: skip
+    return words
