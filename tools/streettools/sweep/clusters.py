@@ -40,8 +40,7 @@ def processors() -> int:
 
 def quiet() -> None:
     """Keeps Dask's own lines off the terminal: what goes wrong is told by the sweep."""
-    for name in ("distributed", "tornado", "bokeh", "asyncio"):
-        logging.getLogger(name).setLevel(logging.CRITICAL)
+    logging.disable(logging.CRITICAL)
 
 
 @contextlib.contextmanager

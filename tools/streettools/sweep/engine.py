@@ -2,6 +2,7 @@
 
 import hashlib
 import itertools
+import math
 import queue
 import secrets
 import time
@@ -20,8 +21,8 @@ from .prepared import Keys
 
 AIM, MOST = 0.5, 64
 """A batch is to take so many seconds, and has at most so many runs."""
-PATIENCE = 5.0
-"""So many seconds pass before it is looked whether anybody still works."""
+PATIENCE, PATIENCE_ALONE = 5.0, 30.0
+"""So many seconds pass before it is looked whether anybody still works, and before it is told that nobody does."""
 
 
 @dataclass
@@ -41,7 +42,8 @@ class Engine:
         self.name = f"arterial_sweep_{secrets.token_hex(6)}"
         self.jobs: dict[Any, Job] = {}
         self.over: queue.Queue[Any] = queue.Queue()
-        self.size, self.threads, self.looked, self.told = 1, 1, 0.0, False
+        self.size, self.threads, self.looked = 1, 1, 0.0
+        self.alone: float | None = None
 
     def carry(self, task: dict[str, Any], modules: dict[str, str], program: Path) -> None:
         """Brings the tools, the study and the program to the workers, also to those that come later."""
@@ -125,11 +127,13 @@ class Engine:
             self.threads = sum(self.client.nthreads().values())
         except (OSError, TimeoutError, ValueError):
             raise self.gone() from None
-        if self.threads == 0 and not self.told:
-            self.told = True
-            say("sweep", f"{self.cluster.address} has no workers now: waiting for some (Ctrl-C ends)")
-        elif self.threads:
-            self.told = False
+        if self.threads:
+            self.alone = None
+        elif self.alone is None:
+            self.alone = now
+        elif now - self.alone > PATIENCE_ALONE:
+            self.alone = math.inf
+            say("sweep", f"{self.cluster.address} has no workers: waiting for some (Ctrl-C ends)")
 
     def end(self) -> None:
         """Gives back what the workers were given."""

@@ -4,6 +4,7 @@
 # account, the partition and the time of a site goes by --template.
 #SBATCH --job-name=arterial-sweep
 #SBATCH --cpus-per-task=1
+#SBATCH --mem-per-cpu=1G
 #SBATCH --time=12:00:00
 dask-scheduler --scheduler-file "$SWEEP_FILE" --no-dashboard --port 0 &
 scheduler=$!
