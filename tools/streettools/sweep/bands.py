@@ -19,7 +19,8 @@ ASKED = ("version", "rounds", "ticks", "cabinets")
 
 @functools.lru_cache(maxsize=1024)
 def asked(program: Path, question: str, seconds: float) -> tuple[int | None, int | None]:
-    """Returns the widths of the greatest bands of a plan, outbound and inbound: 0 where there is none, None where none can be asked for."""
+    """Returns the widths of the greatest bands of a plan, outbound and inbound: 0 where there is none, None where
+    none can be asked for."""
     ran = subprocess.run([program, "band"], input=question.encode(), capture_output=True, timeout=seconds)
     found = LINES.fullmatch(ran.stdout) if ran.returncode == 0 else None
     return (int(found[1] or 0), int(found[2] or 0)) if found else (None, None)
@@ -47,7 +48,8 @@ def common(one: Spans, other: Spans) -> Spans:
 
 
 class Greens:
-    """The greens of the two coordinated phases of a cabinet, those with which the pattern opens: outbound and inbound."""
+    """The greens of the two coordinated phases of a cabinet, those with which the pattern opens: outbound and
+    inbound."""
 
     def __init__(self, cabinet: Cabinet, pattern: int) -> None:
         plan = cabinet.plan(pattern)
@@ -85,7 +87,8 @@ class StreetTally:
             self.greens[frame.cabinet].shown(frame)
 
     def close(self, last: int) -> StreetCounts:
-        """Returns the bands that came out: the spans of time at which a vehicle may start so as to meet green in each cabinet."""
+        """Returns the bands that came out: the spans of time at which a vehicle may start so as to meet green in
+        each cabinet."""
         reached = list(accumulate(self.street.travel, initial=0))
         if len(reached) != len(self.greens) or not all(it.pair for it in self.greens.values()):
             return StreetCounts()

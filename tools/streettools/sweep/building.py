@@ -61,7 +61,9 @@ class Builder:
         other = next((it.scenario for it in variant.values if isinstance(it, Option) and it.scenario), None)
         seeded = variant.seed if self.study.base.kind is BaseKind.GENERATE else None
         base = self.base(other, None if other else seeded)
-        scenario = {name: it if name in SHARED and name not in self.deep else copy.deepcopy(it) for name, it in base.items()}
+        scenario = {
+            name: it if name in SHARED and name not in self.deep else copy.deepcopy(it) for name, it in base.items()
+        }
         document = {"scenario": scenario} | copy.deepcopy(self.study.tables)
         for parameter, value in zip(self.study.parameters, variant.values):
             puts = value.puts if isinstance(value, Option) else [(it, value) for it in parameter.puts]
@@ -75,7 +77,9 @@ class Builder:
         scenario = document["scenario"]
         drawing = self.inputs(document, variant.seed)
         if "line" in document:
-            faults = drawn.faults_of(json.dumps(document["line"]), variant.seed or 1, scenario["rounds"], len(scenario["cabinets"]))
+            faults = drawn.faults_of(
+                json.dumps(document["line"]), variant.seed or 1, scenario["rounds"], len(scenario["cabinets"])
+            )
             scenario["faults"] = [*scenario.get("faults", ()), *faults]
         street = street_of(document["street"]) if "street" in document else None
         if drawing is None:
@@ -86,11 +90,14 @@ class Builder:
         return Built(f'{short[:-1]},"inputs":[{words}]}}'.encode(), scenario, street)
 
     def inputs(self, document: dict, seed: int | None) -> tuple[str, tuple[dict, ...]] | None:
-        """Returns the inputs in place of the scenario's: those that are drawn, behind the scenario's own where these are kept."""
+        """Returns the inputs in place of the scenario's: those that are drawn, behind the scenario's own where these
+        are kept."""
         traffic, scenario = document.get("traffic", {}), document["scenario"]
         if not traffic.get("flow"):
             return None
-        words, values = drawn.inputs_of(json.dumps(traffic), 1 if seed is None else seed, scenario["rounds"], scenario["ticks"])
+        words, values = drawn.inputs_of(
+            json.dumps(traffic), 1 if seed is None else seed, scenario["rounds"], scenario["ticks"]
+        )
         own = scenario.get("inputs") if traffic.get("keep") else None
         if not own:
             return words, values

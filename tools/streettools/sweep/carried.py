@@ -11,7 +11,8 @@ from distributed import WorkerPlugin, get_worker
 
 
 class Parcel(WorkerPlugin):
-    """The tools, the study and the program. A worker that has the program at the same path with the same hash takes that."""
+    """The tools, the study and the program. A worker that has the program at the same path with the same hash takes
+    that."""
 
     def __init__(self, name, modules, task, program_path, program_hash, program):
         self.name, self.modules, self.task = name, modules, task
@@ -34,7 +35,8 @@ class Parcel(WorkerPlugin):
             raise RuntimeError(f"{type(fault).__name__}: {fault}") from None
 
     def program_here(self):
-        """Returns the program's path on this machine, written here where it isn't there; its hash has to be the one that is told."""
+        """Returns the program's path on this machine, written here where it isn't there; its hash has to be the one
+        that is told."""
         path = pathlib.Path(self.program_path)
         if path.is_file() and hashlib.sha256(path.read_bytes()).hexdigest() == self.program_hash:
             return path

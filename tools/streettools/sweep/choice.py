@@ -50,7 +50,10 @@ def column_of(words: Any) -> Column:
     measure = measures.ALL.get(name)
     if measure is None:
         near = next(iter(difflib.get_close_matches(name, measures.ALL, 1)), None)
-        raise Fault(f"study: measures: there is no {name}" + (f": is {near} meant?" if near else "; ./arterial sweep measures lists them"))
+        raise Fault(
+            f"study: measures: there is no {name}"
+            + (f": is {near} meant?" if near else "; ./arterial sweep measures lists them")
+        )
     is_phase, is_street = measure.scope is Scope.PHASE, measure.scope is Scope.STREET
     if (phase or each == "phase") and not is_phase:
         raise Fault(f"study: measures: {name} is not one of a phase")
@@ -84,7 +87,9 @@ def spread_out(columns: Iterable[Column], phases: dict[int, list[int]]) -> tuple
         if it.each == "cabinet":
             found.extend(Column(it.measure, cabinet, it.phase) for cabinet in cabinets)
         elif it.each == "phase":
-            found.extend(Column(it.measure, cabinet, phase) for cabinet in cabinets for phase in phases.get(cabinet, ()))
+            found.extend(
+                Column(it.measure, cabinet, phase) for cabinet in cabinets for phase in phases.get(cabinet, ())
+            )
         else:
             found.append(it)
     return tuple(found)

@@ -65,8 +65,16 @@ def embedded(workers: int | None, memory: int | None) -> Iterator[Cluster]:
         stack.enter_context(dask.config.set(SETTINGS))
         folder = stack.enter_context(tempfile.TemporaryDirectory(prefix="arterial-sweep-", ignore_cleanup_errors=True))
         with without_interrupts():
-            cluster = LocalCluster(n_workers=count, threads_per_worker=1, processes=True, memory_limit=limit, host="127.0.0.1",
-                                   dashboard_address=None, silence_logs=logging.CRITICAL, local_directory=folder)  # fmt: skip
+            cluster = LocalCluster(
+                n_workers=count,
+                threads_per_worker=1,
+                processes=True,
+                memory_limit=limit,
+                host="127.0.0.1",
+                dashboard_address=None,
+                silence_logs=logging.CRITICAL,
+                local_directory=folder,
+            )
             stack.enter_context(cluster)
             client = stack.enter_context(Client(cluster))
         quiet()
@@ -84,6 +92,8 @@ def at(address: str | None = None, file: str | None = None) -> Iterator[Cluster]
         try:
             client = Client(address, scheduler_file=file, timeout=ANSWER)
         except (OSError, TimeoutError, ValueError) as fault:
-            raise Fault(f"no scheduler of Dask answers at {address or file}: {type(fault).__name__}", Status.FILE) from None
+            raise Fault(
+                f"no scheduler of Dask answers at {address or file}: {type(fault).__name__}", Status.FILE
+            ) from None
         with client:
             yield Cluster(client, address or client.scheduler.address, True)

@@ -41,7 +41,9 @@ class Sweep:
 
     def done(self, journal: Journal) -> int:
         """Returns how many runs are done."""
-        return sum(self.keys.of(self.ready.variants.at(index)) in journal for index in range(self.ready.variants.count()))
+        return sum(
+            self.keys.of(self.ready.variants.at(index)) in journal for index in range(self.ready.variants.count())
+        )
 
 
 def opened(words: argparse.Namespace) -> Sweep:
@@ -111,7 +113,10 @@ def sweep_over(words: argparse.Namespace) -> int:
         try:
             before = run(words, sweep, journal)
         except KeyboardInterrupt:
-            say("sweep", f"interrupted: {sweep.done(journal):,} of {sweep.ready.variants.count():,} runs are kept in {path}; --resume goes on")
+            say(
+                "sweep",
+                f"interrupted: {sweep.done(journal):,} of {sweep.ready.variants.count():,} runs are kept in {path}; --resume goes on",
+            )
             return Status.INTERRUPTED
         outcomes, first = Counter(), {}
         table.write(out, sweep.ready.names(), lines(sweep, journal, outcomes, first))
@@ -132,8 +137,10 @@ def tell(outcomes: Counter, first: dict[str, str], before: int, seconds: float, 
 def count(words: argparse.Namespace) -> int:
     """Says how many runs a study makes, and of what."""
     ready = opened(words).ready
-    parts = [f"{it.name} {it.values.count() if it.values.steps is None or it.values.kind.value == 'range' else 'random'}"
-             for it in ready.study.parameters]  # fmt: skip
+    parts = [
+        f"{it.name} {it.values.count() if it.values.steps is None or it.values.kind.value == 'range' else 'random'}"
+        for it in ready.study.parameters
+    ]
     parts += [f"samples {ready.study.samples}"] if ready.study.samples > 1 else []
     parts += [f"seeds {len(ready.study.seeds)}"] if ready.study.seeds else []
     print(f"{ready.variants.count():,} runs: {', '.join(parts)}")
@@ -186,5 +193,8 @@ def main(given: list[str]) -> int:
     except BrokenPipeError:
         return Status.FILE
     except ModuleNotFoundError as fault:
-        say("sweep", f"Python's package {fault.name} is missing: apt-get install {clusters.PACKAGES} python3-matplotlib python3-pandas")
+        say(
+            "sweep",
+            f"Python's package {fault.name} is missing: apt-get install {clusters.PACKAGES} python3-matplotlib python3-pandas",
+        )
         return Status.FILE

@@ -49,7 +49,9 @@ def parser() -> argparse.ArgumentParser:
     heat.add_argument("--y", required=True, metavar="COLUMN", help="the parameter up the picture")
     frontier = kind("frontier", "two measures, and the variants that no other is better than in both")
     for word in ("least", "greatest"):
-        frontier.add_argument(f"--{word}", action=Wanted, dest="wanted", metavar="COLUMN", help=f"a measure of which the {word} is best")
+        frontier.add_argument(
+            f"--{word}", action=Wanted, dest="wanted", metavar="COLUMN", help=f"a measure of which the {word} is best"
+        )
     return words
 
 

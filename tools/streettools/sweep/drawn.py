@@ -1,4 +1,5 @@
-"""What a seed draws: vehicles and people that come, and messages that are lost. The same seed gives the same on every machine."""
+"""What a seed draws: vehicles and people that come, and messages that are lost. The same seed gives the same on
+every machine."""
 
 import functools
 import json
@@ -41,7 +42,8 @@ def each(value: Any) -> list:
 
 
 def arrivals(draw: random.Random, per_hour: float, seconds: float) -> Iterator[float]:
-    """Yields the seconds at which something comes that comes by chance, so many times an hour on average (a Poisson process)."""
+    """Yields the seconds at which something comes that comes by chance, so many times an hour on average (a Poisson
+    process)."""
     if per_hour <= 0:
         return
     at = 0.0
@@ -52,7 +54,9 @@ def arrivals(draw: random.Random, per_hour: float, seconds: float) -> Iterator[f
         yield at
 
 
-def vehicles(draw: random.Random, per_hour: float, occupied: int, rounds: int, seconds: float) -> Iterator[tuple[int, bool]]:
+def vehicles(
+    draw: random.Random, per_hour: float, occupied: int, rounds: int, seconds: float
+) -> Iterator[tuple[int, bool]]:
     """Yields the rounds at which a detector goes on and off. Vehicles that come while it is on keep it on."""
     off = None
     for at in arrivals(draw, per_hour, rounds * seconds):
@@ -90,7 +94,11 @@ def in_order(inputs: list[dict]) -> list[dict]:
 def inputs_of(traffic: str, seed: int, rounds: int, ticks: int) -> tuple[str, tuple[dict, ...]]:
     """Returns the inputs that the traffic gives by a seed: as JSON without its brackets, and as values."""
     table = json.loads(traffic)
-    found = [it for place, row in enumerate(table.get("flow", ())) for it in flow(row, seed, place, table, rounds, ticks / 10)]
+    found = [
+        it
+        for place, row in enumerate(table.get("flow", ()))
+        for it in flow(row, seed, place, table, rounds, ticks / 10)
+    ]
     ordered = in_order(found)
     return json.dumps(ordered, separators=(",", ":"))[1:-1], tuple(ordered)
 

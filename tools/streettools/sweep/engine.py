@@ -1,4 +1,5 @@
-"""Drives the runs: batches of variants to the workers, never more than they can do soon, and each result to the disk as it comes."""
+"""Drives the runs: batches of variants to the workers, never more than they can do soon, and each result to the disk
+as it comes."""
 
 import hashlib
 import itertools
@@ -38,7 +39,13 @@ class Engine:
     """Sends out the variants that are not done."""
 
     def __init__(self, cluster: Cluster, keys: Keys, journal: Journal, advance: Callable[[int], None]) -> None:
-        self.cluster, self.client, self.keys, self.journal, self.advance = cluster, cluster.client, keys, journal, advance
+        self.cluster, self.client, self.keys, self.journal, self.advance = (
+            cluster,
+            cluster.client,
+            keys,
+            journal,
+            advance,
+        )
         self.name = f"arterial_sweep_{secrets.token_hex(6)}"
         self.jobs: dict[Any, Job] = {}
         self.over: queue.Queue[Any] = queue.Queue()
@@ -54,7 +61,14 @@ class Engine:
         cloudpickle.register_pickle_by_value(carried)
         octets = program.read_bytes()
         self.task = carried.rows
-        parcel = carried.Parcel(self.name, modules, task, str(program), hashlib.sha256(octets).hexdigest(), octets if self.cluster.is_far else None)
+        parcel = carried.Parcel(
+            self.name,
+            modules,
+            task,
+            str(program),
+            hashlib.sha256(octets).hexdigest(),
+            octets if self.cluster.is_far else None,
+        )
         try:
             self.client.register_worker_plugin(parcel, name=self.name)
         except Exception as fault:
@@ -83,12 +97,15 @@ class Engine:
     def send(self, batch: list[tuple[int, str]]) -> None:
         """Sends variants to some worker."""
         indexes, keys = [index for index, _ in batch], [key for _, key in batch]
-        future = self.client.submit(self.task, self.name, indexes, pure=False, key=f"{self.name}-{indexes[0]}-{secrets.token_hex(4)}")
+        future = self.client.submit(
+            self.task, self.name, indexes, pure=False, key=f"{self.name}-{indexes[0]}-{secrets.token_hex(4)}"
+        )
         self.jobs[future] = Job(indexes, keys, time.monotonic())
         future.add_done_callback(self.over.put)
 
     def take(self, future: Any, job: Job) -> None:
-        """Takes what came of a batch. One that killed its worker over and over is taken apart, to find the run that does it."""
+        """Takes what came of a batch. One that killed its worker over and over is taken apart, to find the run that
+        does it."""
         from distributed.scheduler import KilledWorker
 
         if future.status == "finished":
@@ -110,10 +127,13 @@ class Engine:
 
     def gone(self) -> Fault:
         """Returns what is said where the scheduler answers no more."""
-        return Fault(f"the scheduler at {self.cluster.address} is gone; what was done is kept, and --resume goes on", Status.FILE)
+        return Fault(
+            f"the scheduler at {self.cluster.address} is gone; what was done is kept, and --resume goes on", Status.FILE
+        )
 
     def paced(self, job: Job) -> None:
-        """Makes batches larger while they are done fast. Two wait for each worker that has one, so a third of the time is a batch's own."""
+        """Makes batches larger while they are done fast. Two wait for each worker that has one, so a third of the
+        time is a batch's own."""
         each = (time.monotonic() - job.sent) / 3 / len(job.indexes)
         self.size = max(1, min(MOST, 2 * self.size, int(AIM / max(each, 1e-6))))
 
@@ -141,4 +161,3 @@ class Engine:
             future.cancel()
         if self.cluster.is_far and self.client.status == "running":
             self.client.unregister_worker_plugin(self.name)
-

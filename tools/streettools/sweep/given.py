@@ -7,7 +7,14 @@ from typing import Any
 from .faults import Fault
 
 NUMBER = (int, float)
-KINDS = {int: "a whole number", NUMBER: "a number", str: "a text", list: "a list", dict: "a table", bool: "true or false"}
+KINDS = {
+    int: "a whole number",
+    NUMBER: "a number",
+    str: "a text",
+    list: "a list",
+    dict: "a table",
+    bool: "true or false",
+}
 
 
 def is_of(value: Any, kind: Any) -> bool:
@@ -58,7 +65,10 @@ class Given:
         self.known.extend(names)
         there = [it for it in names if it in self.table]
         if len(there) != 1:
-            raise Fault(f"study: {self.place or 'the study'} needs one of {', '.join(names)}" + (", and has several" if there else ""))
+            raise Fault(
+                f"study: {self.place or 'the study'} needs one of {', '.join(names)}"
+                + (", and has several" if there else "")
+            )
         return there[0]
 
     def each(self, name: str, read: Callable[["Given"], Any]) -> list[Any]:

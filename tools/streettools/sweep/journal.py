@@ -1,4 +1,5 @@
-"""The file of the runs that are done, beside the table: a line for each, written as it comes. A sweep that died goes on from it."""
+"""The file of the runs that are done, beside the table: a line for each, written as it comes. A sweep that died goes
+on from it."""
 
 import fcntl
 import json
@@ -60,7 +61,9 @@ class Journal:
 
     def add(self, rows: Iterable[tuple[str, list[Any]]]) -> None:
         """Writes runs that are done; a line that can't be written whole is taken back."""
-        lines = [(key, json.dumps({"key": key, "row": row}, separators=(",", ":")).encode() + b"\n") for key, row in rows]
+        lines = [
+            (key, json.dumps({"key": key, "row": row}, separators=(",", ":")).encode() + b"\n") for key, row in rows
+        ]
         text = b"".join(line for _, line in lines)
         try:
             place = self.end
@@ -70,7 +73,9 @@ class Journal:
         except OSError as fault:
             os.ftruncate(self.file.fileno(), place)
             self.end = place
-            raise Fault(f"{self.path}: {fault.strerror}; the runs before it are kept, and --resume goes on", Status.FILE) from None
+            raise Fault(
+                f"{self.path}: {fault.strerror}; the runs before it are kept, and --resume goes on", Status.FILE
+            ) from None
         for key, line in lines:
             self.places[key] = place
             place += len(line)

@@ -4,6 +4,7 @@ import enum
 import hashlib
 import io
 import subprocess
+import time
 from dataclasses import dataclass
 from pathlib import Path
 from typing import Any
@@ -19,6 +20,10 @@ from .measures import Scope
 from .own import Own
 from .tally import CabinetTally
 from .variants import Variant
+
+
+PAUSES = (0, 1, 5)
+"""So many seconds before each try of a run."""
 
 
 class Outcome(enum.StrEnum):
@@ -37,7 +42,8 @@ class Run:
     trace: bytes
 
     def course(self) -> Course:
-        """Returns the trace's reader: `course().happenings()` yields what happened (tools/streettools/shared/course.py)."""
+        """Returns the trace's reader: `course().happenings()` yields what happened
+        (tools/streettools/shared/course.py)."""
         return Course(io.BytesIO(self.trace))
 
 
@@ -48,7 +54,15 @@ class Failed(Exception):
 class Runner:
     """Runs variants and measures them."""
 
-    def __init__(self, builder: Builder, program: Path, columns: tuple[Column, ...], own: tuple[Own, ...], check: bool, seconds: float):
+    def __init__(
+        self,
+        builder: Builder,
+        program: Path,
+        columns: tuple[Column, ...],
+        own: tuple[Own, ...],
+        check: bool,
+        seconds: float,
+    ):
         self.builder, self.program, self.columns = builder, program, columns
         self.own = [it.compiled() for it in own]
         self.check, self.seconds = check, seconds
@@ -93,11 +107,22 @@ class Runner:
         return ran.stdout, None
 
     def ran(self, words: list[str], given: bytes) -> subprocess.CompletedProcess:
-        """Runs the program."""
-        try:
-            return subprocess.run([self.program, *words], input=given, capture_output=True, timeout=self.seconds)
-        except subprocess.TimeoutExpired:
-            raise Failed(f"{words[0]} was not done in {self.seconds:g} s") from None
+        """Runs the program. Where it can't be started or is killed, as on a machine without memory, it is tried
+        again."""
+        fault = ""
+        for pause in PAUSES:
+            time.sleep(pause)
+            try:
+                ran = subprocess.run([self.program, *words], input=given, capture_output=True, timeout=self.seconds)
+            except subprocess.TimeoutExpired:
+                raise Failed(f"{words[0]} was not done in {self.seconds:g} s") from None
+            except OSError as why:
+                fault = f"the program can't be started: {why.strerror}"
+                continue
+            if ran.returncode >= 0:
+                return ran
+            fault = f"the program was ended by signal {-ran.returncode}"
+        raise Failed(fault)
 
     def measured(self, built: Built, trace: bytes) -> list[Any]:
         """Returns the measures of a run."""
@@ -109,7 +134,9 @@ class Runner:
             except Exception as fault:
                 raise Failed(f"{function.__name__}: {type(fault).__name__}: {fault}") from None
             if value is not None and not isinstance(value, (int, float, str)):
-                raise Failed(f"{function.__name__} returned a {type(value).__name__}, and has to return a number, a text or None")
+                raise Failed(
+                    f"{function.__name__} returned a {type(value).__name__}, and has to return a number, a text or None"
+                )
             found.append(value)
         return found
 
@@ -117,11 +144,15 @@ class Runner:
         """Counts what happened in a run."""
         scenario = built.scenario
         last = scenario["rounds"] * scenario["ticks"]
-        tallies = {number: CabinetTally(scenario, number, self.start) for number in range(1, len(scenario["cabinets"]) + 1)}
+        tallies = {
+            number: CabinetTally(scenario, number, self.start) for number in range(1, len(scenario["cabinets"]) + 1)
+        }
         enabled = {number: it.cabinet.tables.enabled() for number, it in tallies.items()}
         street = None
         if self.street:
-            street = bands.StreetTally(built.street, {number: it.cabinet for number, it in tallies.items()}, scenario, self.start)
+            street = bands.StreetTally(
+                built.street, {number: it.cabinet for number, it in tallies.items()}, scenario, self.start
+            )
         try:
             for happening in sights.happenings(trace, scenario):
                 tallies[happening.cabinet].take(happening)
@@ -133,5 +164,7 @@ class Runner:
         if self.planned:
             seen.planned = bands.planned(self.program, scenario, built.street, self.seconds)
         cabinets = {number: it.close(last) for number, it in tallies.items()}
-        phases = {(number, phase): it.phases[phase].close(last) for number, it in tallies.items() for phase in enabled[number]}
+        phases = {
+            (number, phase): it.phases[phase].close(last) for number, it in tallies.items() for phase in enabled[number]
+        }
         return RunCounts(phases, cabinets, seen)

@@ -33,6 +33,12 @@ class Own:
 def own_of(given: Given, fetch: Callable[[str], bytes]) -> Own:
     """Reads a measure of one's own."""
     name, file = given.need("name", str), given.need("file", str)
-    found = Own(name, given.take("unit", str, ""), file, given.take("function", str, name), fetch(file).decode("utf-8", "replace"))
+    found = Own(
+        name,
+        given.take("unit", str, ""),
+        file,
+        given.take("function", str, name),
+        fetch(file).decode("utf-8", "replace"),
+    )
     given.end()
     return found

@@ -48,7 +48,11 @@ def save(drawn: Any, path: str) -> None:
 
 def others(results: Results, shown: list[str]) -> str:
     """Returns what a mean is taken over, in words."""
-    rest = [it for it in (*results.parameters, "seed") if it in results.frame.columns and it not in shown and results.frame[it].nunique() > 1]
+    rest = [
+        it
+        for it in (*results.parameters, "seed")
+        if it in results.frame.columns and it not in shown and results.frame[it].nunique() > 1
+    ]
     return f" (mean over {', '.join(rest)})" if rest else ""
 
 
@@ -64,8 +68,12 @@ def lines(results: Results, x: str, of: str, by: str | None, path: str) -> None:
         there = [it for it in places if ((it, name) if by else (it,)) in found]
         spots = [found[(it, name) if by else (it,)] for it in there]
         label = f"{by} {name}" if by else of
-        axes.plot(there, [it.mean for it in spots], color=colour, marker="o", markersize=3.5, label=label, gid=f"line-{label}")
-        axes.fill_between(there, [it.least for it in spots], [it.greatest for it in spots], color=colour, alpha=0.15, linewidth=0)
+        axes.plot(
+            there, [it.mean for it in spots], color=colour, marker="o", markersize=3.5, label=label, gid=f"line-{label}"
+        )
+        axes.fill_between(
+            there, [it.least for it in spots], [it.greatest for it in spots], color=colour, alpha=0.15, linewidth=0
+        )
     axes.set_xlabel(x)
     axes.set_ylabel(results.unit(of))
     axes.grid(axis="y", color="#e9ecef", linewidth=0.8, zorder=0)
@@ -78,7 +86,9 @@ def heat(results: Results, x: str, y: str, of: str, path: str) -> None:
     """Draws a measure over two parameters as a map of colours; a place without a run that was done stays white."""
     found = results.grouped([x, y], of)
     columns, rows = in_order(key[0] for key in found), in_order(key[1] for key in found)
-    values = [[found[column, row].mean if (column, row) in found else float("nan") for column in columns] for row in rows]
+    values = [
+        [found[column, row].mean if (column, row) in found else float("nan") for column in columns] for row in rows
+    ]
     drawn, axes = figure(f"{of} over {x} and {y}{others(results, [x, y])}")
     shown = axes.imshow(values, origin="lower", aspect="auto", cmap="viridis", interpolation="nearest")
     drawn.colorbar(shown, ax=axes, label=results.unit(of))
@@ -91,7 +101,15 @@ def heat(results: Results, x: str, y: str, of: str, path: str) -> None:
         for row, line in enumerate(values):
             for column, value in enumerate(line):
                 if value == value:
-                    axes.text(column, row, f"{value:.3g}", ha="center", va="center", fontsize=7, color="white" if value < middle else INK)
+                    axes.text(
+                        column,
+                        row,
+                        f"{value:.3g}",
+                        ha="center",
+                        va="center",
+                        fontsize=7,
+                        color="white" if value < middle else INK,
+                    )
     save(drawn, path)
 
 
@@ -110,9 +128,13 @@ def frontier(results: Results, wanted: list[tuple[str, int]], path: str) -> list
             least = turn * spot[2]
     drawn, axes = figure(f"{one} and {other}, one point a variant{others(results, results.parameters)}")
     axes.scatter([it[1] for it in spots], [it[2] for it in spots], s=14, color=FAINT, zorder=3, gid="variants")
-    axes.plot([it[1] for it in best], [it[2] for it in best], color=COLOURS[1], marker="o", markersize=5, gid="frontier")
+    axes.plot(
+        [it[1] for it in best], [it[2] for it in best], color=COLOURS[1], marker="o", markersize=5, gid="frontier"
+    )
     for key, x, y in best[:12]:
-        axes.annotate(", ".join(str(it) for it in key), (x, y), xytext=(5, 5), textcoords="offset points", fontsize=7, color=INK)
+        axes.annotate(
+            ", ".join(str(it) for it in key), (x, y), xytext=(5, 5), textcoords="offset points", fontsize=7, color=INK
+        )
     axes.set_xlabel(f"{results.unit(one)}, {'least' if sign > 0 else 'greatest'} is best")
     axes.set_ylabel(f"{results.unit(other)}, {'least' if turn > 0 else 'greatest'} is best")
     axes.grid(color="#e9ecef", linewidth=0.8, zorder=0)

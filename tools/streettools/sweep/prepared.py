@@ -27,7 +27,9 @@ def modules() -> dict[str, str]:
 
 def hash_of(value: Any) -> str:
     """Returns the hash of a value that JSON can write, or of bytes."""
-    return hashlib.sha256(value if isinstance(value, bytes) else json.dumps(value, sort_keys=True, default=str).encode()).hexdigest()
+    return hashlib.sha256(
+        value if isinstance(value, bytes) else json.dumps(value, sort_keys=True, default=str).encode()
+    ).hexdigest()
 
 
 @dataclass(frozen=True)
@@ -62,7 +64,9 @@ class Prepared:
         file = hash_of(self.fetch(study.base.file)) if study.base.file else study.base.words
         puts = [[it.name, [repr(put) for put in it.puts]] for it in study.parameters]
         measured = [[it.name() for it in self.columns], [repr(it) for it in study.own]]
-        return Keys(self, hash_of([tools, program, check, study.base.kind, file, study.tables, study.start, puts, measured]))
+        return Keys(
+            self, hash_of([tools, program, check, study.base.kind, file, study.tables, study.start, puts, measured])
+        )
 
 
 @dataclass(frozen=True)

@@ -1,6 +1,7 @@
 """Reads the trace of a run fast: frames, ends of downloads and notes, each cabinet's inputs before what comes after them.
 
-It reads what the program itself has written just now: in a round all inputs come before its ticks. Other traces are read by
+It reads what the program itself has written just now: in a round all inputs come before its ticks. Other traces are
+read by
 `shared.course`.
 """
 
@@ -48,7 +49,9 @@ def inputs_of(inputs: Iterable[dict], ticks: int) -> dict[int, list[Sensed]]:
     found = defaultdict(list)
     for it in inputs:
         kind = "veh" if "veh" in it else "ped" if "ped" in it else "preempt"
-        found[it["cabinet"]].append(Sensed(it["cabinet"], (it["round"] - 1) * ticks, kind, it[kind], it.get("on", True)))
+        found[it["cabinet"]].append(
+            Sensed(it["cabinet"], (it["round"] - 1) * ticks, kind, it[kind], it.get("on", True))
+        )
     for rows in found.values():
         rows.sort(key=lambda it: it.tick)
     return found

@@ -31,7 +31,10 @@ def waited(job: str, file: Path) -> None:
     while not file.is_file():
         state = asked(["squeue", "--noheader", "--states=all", "--format=%T", f"--jobs={job}"])
         if state in STATES_OF_THE_END or not state:
-            raise Fault(f"Slurm's job {job} ended before the scheduler was there ({state or 'gone'}): its output stands in {file.parent}", Status.FILE)
+            raise Fault(
+                f"Slurm's job {job} ended before the scheduler was there ({state or 'gone'}): its output stands in {file.parent}",
+                Status.FILE,
+            )
         if time.monotonic() > told:
             say("sweep", f"Slurm's job {job} is {state.lower()}: waiting for it (Ctrl-C ends)")
             told += 300
@@ -40,7 +43,8 @@ def waited(job: str, file: Path) -> None:
 
 @contextlib.contextmanager
 def started(workers: int, template: str | None) -> Iterator[clusters.Cluster]:
-    """Gives a cluster that Slurm runs. Its scheduler tells its address by a file in this folder, which all nodes have to share."""
+    """Gives a cluster that Slurm runs. Its scheduler tells its address by a file in this folder, which all nodes
+    have to share."""
     if shutil.which("sbatch") is None:
         raise Fault("there is no sbatch here: --slurm needs Slurm's commands", Status.FILE)
     try:
@@ -50,7 +54,16 @@ def started(workers: int, template: str | None) -> Iterator[clusters.Cluster]:
     folder = Path(tempfile.mkdtemp(prefix="sweep-slurm-", dir=".")).resolve()
     file, job = folder / "scheduler.json", None
     try:
-        job = asked(["sbatch", "--parsable", f"--ntasks={workers + 1}", f"--output={folder}/job.out", f"--export=ALL,SWEEP_FILE={file}"], text).split(";")[0]
+        job = asked(
+            [
+                "sbatch",
+                "--parsable",
+                f"--ntasks={workers + 1}",
+                f"--output={folder}/job.out",
+                f"--export=ALL,SWEEP_FILE={file}",
+            ],
+            text,
+        ).split(";")[0]
         say("sweep", f"Slurm's job {job} starts a scheduler and {workers} workers")
         waited(job, file)
         with clusters.at(file=str(file)) as cluster:

@@ -133,7 +133,11 @@ def street_of(table: dict) -> Street:
     travel = given.need("travel", list)
     if not all(isinstance(it, NUMBER) and 0 <= it <= 86_400 for it in travel):
         raise given.refuse("travel", "has to be a list of seconds")
-    found = Street(given.within("section", int, 1, 8, 1), given.within("pattern", int, 1, 48, 1), tuple(round(10 * it) for it in travel))
+    found = Street(
+        given.within("section", int, 1, 8, 1),
+        given.within("pattern", int, 1, 48, 1),
+        tuple(round(10 * it) for it in travel),
+    )
     given.end()
     return found
 
@@ -178,7 +182,9 @@ def check(study: Study) -> None:
         raise Fault(f"study: two columns of the table would be called {twice}")
     if study.samples > 1 and not study.is_drawn():
         raise Fault("study: samples goes with a parameter that is random, and there is none")
-    drawing = "flow" in study.tables.get("traffic", {}) or "line" in study.tables or study.base.kind is BaseKind.GENERATE
+    drawing = (
+        "flow" in study.tables.get("traffic", {}) or "line" in study.tables or study.base.kind is BaseKind.GENERATE
+    )
     if study.seeds and not drawing:
         raise Fault("study: seeds go with traffic.flow, with line, or with generate: nothing here is drawn")
     if "street" not in study.tables and (needs := choice.needing_street(study.columns)):

@@ -1,4 +1,5 @@
-"""Writes the table of a sweep: CSV, or Parquet where Python's pyarrow is there. Line by line, so any number of runs fits into memory."""
+"""Writes the table of a sweep: CSV, or Parquet where Python's pyarrow is there. Line by line, so any number of runs
+fits into memory."""
 
 import csv
 import json
@@ -23,7 +24,10 @@ def check(path: Path) -> None:
         try:
             import pyarrow.parquet  # noqa: F401
         except ModuleNotFoundError:
-            raise Fault(f"{path}: Python's pyarrow is missing, which Debian does not package; a name in .csv needs nothing", Status.FILE) from None
+            raise Fault(
+                f"{path}: Python's pyarrow is missing, which Debian does not package; a name in .csv needs nothing",
+                Status.FILE,
+            ) from None
 
 
 def cell(value: Any) -> Any:
@@ -45,7 +49,9 @@ def write(path: Path, names: list[str], lines: Iterable[list[Any]]) -> None:
                     writer.writerow(names)
                     writer.writerows([cell(it) for it in line] for line in lines)
     except OSError as fault:
-        raise Fault(f"{path}: {fault.strerror}; the runs are kept, and --resume writes the table", Status.FILE) from None
+        raise Fault(
+            f"{path}: {fault.strerror}; the runs are kept, and --resume writes the table", Status.FILE
+        ) from None
 
 
 def chunks(lines: Iterable[list[Any]]) -> Iterator[list[list[Any]]]:
@@ -72,6 +78,9 @@ def write_parquet(name: str, names: list[str], lines: Iterable[list[Any]]) -> No
                        and any(it is not None for it in column) for column in columns]  # fmt: skip
             kinds = [pyarrow.float64() if it else pyarrow.string() for it in numeric]
             writer = pyarrow.parquet.ParquetWriter(name, pyarrow.schema(list(zip(names, kinds))))
-        values = [[it if is_number or it is None else str(cell(it)) for it in column] for is_number, column in zip(numeric, columns)]
+        values = [
+            [it if is_number or it is None else str(cell(it)) for it in column]
+            for is_number, column in zip(numeric, columns)
+        ]
         writer.write_table(pyarrow.table(values, schema=writer.schema))
     writer.close()

@@ -1,4 +1,5 @@
-"""Where a value is put: a path of the scenario, a cell of some cabinets' tables, a number of the traffic, the line or the street."""
+"""Where a value is put: a path of the scenario, a cell of some cabinets' tables, a number of the traffic, the line
+or the street."""
 
 import re
 from dataclasses import dataclass
@@ -92,7 +93,9 @@ def followed(there: Any, step: str | int, path: str) -> Any:
 
 def absent(path: str) -> Fault:
     """Returns the refusal of a path that isn't there."""
-    return Fault(f"study: there is no {path} in the scenario (places in lists are counted from 0, as in cabinets[0].clock)")
+    return Fault(
+        f"study: there is no {path} in the scenario (places in lists are counted from 0, as in cabinets[0].clock)"
+    )
 
 
 def cabinets_of(given: Given) -> tuple[int, ...] | None:

@@ -50,7 +50,8 @@ class Option:
 
 @dataclass(frozen=True)
 class Values:
-    """The values of a parameter. Random ones are drawn by their place in the sample, in whatever order they are asked for."""
+    """The values of a parameter. Random ones are drawn by their place in the sample, in whatever order they are
+    asked for."""
 
     kind: Kind
     name: str

@@ -1,4 +1,5 @@
-"""The variants of a study, each by its number: every value of each parameter with every value of the others, each sample, each seed."""
+"""The variants of a study, each by its number: every value of each parameter with every value of the others, each
+sample, each seed."""
 
 import math
 from dataclasses import dataclass

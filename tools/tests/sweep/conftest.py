@@ -37,12 +37,17 @@ vehicles = 400
 [street]
 travel = [10]
 """
-"""4 offsets, 3 modes, 5 seeds: 60 variants. The offset of 95 s is beyond the cycle of 90 s, so 15 of them are refused."""
+"""4 offsets, 3 modes, 5 seeds: 60 variants. The offset of 95 s is beyond the cycle of 90 s, so 15 of them are
+refused."""
 
 
 def environment() -> dict[str, str]:
     """Returns the environment in which the command runs."""
-    return os.environ | {"PYTHONPATH": str(TOP / "tools"), "ARTERIAL_PROGRAM": str(PROGRAM), "PYTHONDONTWRITEBYTECODE": "1"}
+    return os.environ | {
+        "PYTHONPATH": str(TOP / "tools"),
+        "ARTERIAL_PROGRAM": str(PROGRAM),
+        "PYTHONDONTWRITEBYTECODE": "1",
+    }
 
 
 def begun(folder: pathlib.Path, *words: object) -> subprocess.Popen:

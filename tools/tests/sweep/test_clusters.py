@@ -43,7 +43,17 @@ def cluster(tmp_path_factory, program):
     processes = [subprocess.Popen(["/usr/bin/dask-scheduler", *words, "--host", "127.0.0.1", "--port", "0"], **common)]
     try:
         wait_for(file.is_file, 60)
-        worker = ["/usr/bin/dask-worker", *words, "--nthreads", "1", "--no-nanny", "--host", "127.0.0.1", "--local-directory", folder]
+        worker = [
+            "/usr/bin/dask-worker",
+            *words,
+            "--nthreads",
+            "1",
+            "--no-nanny",
+            "--host",
+            "127.0.0.1",
+            "--local-directory",
+            folder,
+        ]
         processes += [subprocess.Popen(worker, **common) for _ in range(2)]
         address = re.search(r'"address": "([^"]+)"', file.read_text())[1]
         wait_for(lambda: (folder / "log").read_bytes().count(b"Registered to") == 2, 60)
@@ -70,7 +80,11 @@ def test_a_killed_worker_of_this_machine_changes_nothing(folder, reference):
     command = begun(folder, "study.toml", "-o", "out.csv", "--workers", 2)
     wait_for(lambda: rows_done(folder / "out.csv") or command.poll() is not None)
     done = rows_done(folder / "out.csv")
-    workers = [it for it in children(command.pid) if b"multiprocessing.spawn" in pathlib.Path(f"/proc/{it}/cmdline").read_bytes()]
+    workers = [
+        it
+        for it in children(command.pid)
+        if b"multiprocessing.spawn" in pathlib.Path(f"/proc/{it}/cmdline").read_bytes()
+    ]
     os.kill(workers[0], signal.SIGKILL)
     status, _, said = ended(command)
     assert 0 < done < 60 and status == 0, said
@@ -87,8 +101,9 @@ def test_an_interrupted_sweep_goes_on(folder, reference):
     assert not (folder / "out.csv").exists()
     status, _, said = sweep(folder, "study.toml", "-o", "out.csv", "--workers", 1)
     assert status == 2 and "--resume goes on with it" in said
+    kept = (folder / "out.csv.runs").read_text()
     status, _, said = sweep(folder, "study.toml", "-o", "out.csv", "--workers", 1, "--resume")
-    assert status == 0 and f"{done} of them before" in said
+    assert status == 0 and f"{done} of them before" in said, (said, kept)
     assert (folder / "out.csv").read_text() == reference
     assert not (folder / "out.csv.runs").exists()
 

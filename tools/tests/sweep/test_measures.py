@@ -51,7 +51,8 @@ def measured(trace: str, words: str, **more):
     "local_zeros": 0, "on_offset_share": None,
 }.items())  # fmt: skip
 def test_a_car_on_the_side_street_by_hand(words, value):
-    """The car comes after tick 60. 2 and 6 are green from 60 to 159 and again from 370 to 420, 4 and 8 from 215 to 314."""
+    """The car comes after tick 60. 2 and 6 are green from 60 to 159 and again from 370 to 420, 4 and 8 from 215 to
+    314."""
     assert measured(SMALL, words) == value
 
 
@@ -74,7 +75,8 @@ def test_what_comes_before_the_beginning_is_not_counted():
 
 
 def test_bands_of_the_trace_by_hand():
-    """Both cabinets are green from 60 to the end at 2400. 10 s of travel leave the starts 60 to 2300 outbound of 2300."""
+    """Both cabinets are green from 60 to the end at 2400. 10 s of travel leave the starts 60 to 2300 outbound of
+    2300."""
     counts = counted(PAIR, street=Street(1, 1, (100,)))
     assert column_of("band_seen_outbound").value(counts) == 224.0
     assert column_of("through_outbound").value(counts) == 0.9739
@@ -90,10 +92,14 @@ def test_counts_are_those_of_the_report(trace):
         for it in cabinet["phases"]:
             mine = counts.phases[number, it["phase"]]
             assert (mine.services, mine.walks, dict(mine.endings)) == (it["services"], it["walks"], it["ended"])
-            assert column_of(f"green_mean cabinet {number} phase {it['phase']}").value(counts) == pytest.approx(it["green"]["mean"], abs=0.006)
+            assert column_of(f"green_mean cabinet {number} phase {it['phase']}").value(counts) == pytest.approx(
+                it["green"]["mean"], abs=0.006
+            )
         mine = counts.cabinets[number]
         rows = cabinet["patterns"]
-        assert (mine.zeros, mine.met, mine.pickups) == tuple(sum(it[name] for it in rows) for name in ("local_zeros", "on_the_offset", "pickups"))
+        assert (mine.zeros, mine.met, mine.pickups) == tuple(
+            sum(it[name] for it in rows) for name in ("local_zeros", "on_the_offset", "pickups")
+        )
         assert mine.accepted == sum("version" in it for it in cabinet["downloads"])
         assert mine.notes == sum(it["times"] for it in cabinet["notes"])
 
@@ -123,7 +129,10 @@ def test_a_measure_of_ones_own_gets_the_run(program):
     one = prepared({"scenario": "a", "own": [{"name": "greens", "file": "mine.py"}]}, files.__getitem__, program)
     assert one.runner(False, 60).row(one.variants.at(0))[3:] == [1]
     other = prepared({"scenario": "a", "own": [{"name": "broken", "file": "mine.py"}]}, files.__getitem__, program)
-    assert other.runner(False, 60).row(other.variants.at(0))[:2] == ["failed", "broken: ZeroDivisionError: division by zero"]
+    assert other.runner(False, 60).row(other.variants.at(0))[:2] == [
+        "failed",
+        "broken: ZeroDivisionError: division by zero",
+    ]
 
 
 def test_each_measure_of_the_program_is_in_the_document_with_unit_and_definition():

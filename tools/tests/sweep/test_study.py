@@ -1,10 +1,12 @@
 """Studies that can't be taken: one line each, and a status of its own; what varies, and in which order."""
 
 import json
+import resource
 
 import pytest
 from streettools.sweep.command import main
 from streettools.sweep.faults import Fault
+from streettools.sweep.journal import Journal
 from streettools.sweep.study import study_of
 from streettools.sweep.targets import Put
 from streettools.sweep.variants import Variants
@@ -70,7 +72,9 @@ def test_a_scheduler_that_is_not_there_is_told(folder, monkeypatch, capsys):
 
 def test_a_study_of_a_milliard_runs_is_not_begun_unasked(folder, monkeypatch, capsys):
     monkeypatch.chdir(folder)
-    text = STUDY.replace("values = [0, 10, 20, 95]", "range = {from = 1, to = 100000}").replace("values = [2, 3, 4]", "range = {from = 1, to = 2000}")
+    text = STUDY.replace("values = [0, 10, 20, 95]", "range = {from = 1, to = 100000}").replace(
+        "values = [2, 3, 4]", "range = {from = 1, to = 2000}"
+    )
     (folder / "study.toml").write_text(text)
     assert main(["study.toml", "-o", "out.csv"]) == 2
     assert capsys.readouterr().err == "sweep: the study makes 1,000,000,000 runs: --yes makes more than 100,000\n"
@@ -93,7 +97,11 @@ def test_the_first_parameter_changes_slowest_and_the_seed_fastest():
 
 
 def test_random_samples_lie_in_their_range_and_are_the_same_again():
-    rows = [parameter("a", random={"from": 0, "to": 80, "step": 5}), parameter("b", random={"from": 1, "to": 2}), parameter("c", values=[1, 2])]
+    rows = [
+        parameter("a", random={"from": 0, "to": 80, "step": 5}),
+        parameter("b", random={"from": 1, "to": 2}),
+        parameter("c", values=[1, 2]),
+    ]
     one, other = (Variants(study(vary=rows, samples=200, sample_seed=3)) for _ in range(2))
     drawn = [one.at(it).values for it in range(one.count())]
     assert one.count() == 400 and drawn == [other.at(it).values for it in reversed(range(400))][::-1]
@@ -113,5 +121,28 @@ def test_a_value_is_put_as_plus_and_times():
     Put("traffic.flow[0].vehicles", None, None, 2, 0).put(document, 90)
     Put("master.poll_every", None, None, 1, 0).put(document, 5)
     Put(None, ("unit", 1), None, 1, 0).put(document, 4)
-    assert document["scenario"]["cabinets"] == [{"cells": [["unit", 1, 3], ["unit", 1, 4]]}, {"cells": [["split", 1, 4, 3, 35], ["unit", 1, 4]]}]
+    assert document["scenario"]["cabinets"] == [
+        {"cells": [["unit", 1, 3], ["unit", 1, 4]]},
+        {"cells": [["split", 1, 4, 3, 35], ["unit", 1, 4]]},
+    ]
     assert document["traffic"]["flow"][0]["vehicles"] == 180 and document["scenario"]["master"] == {"poll_every": 5}
+
+
+def test_a_disk_that_is_full_is_told_and_what_was_done_is_kept(tmp_path):
+    path, row = tmp_path / "t.csv.runs", ["done", None, "0" * 16, 1.5]
+    before = resource.getrlimit(resource.RLIMIT_FSIZE)
+    with Journal(path, False) as journal:
+        journal.add([("a", row)])
+        try:
+            resource.setrlimit(resource.RLIMIT_FSIZE, (path.stat().st_size + 20, before[1]))
+            with pytest.raises(Fault, match="File too large; the runs before it are kept, and --resume goes on"):
+                journal.add([("b", row), ("c", row)])
+        finally:
+            resource.setrlimit(resource.RLIMIT_FSIZE, before)
+    with Journal(path, False) as journal:
+        assert journal.row("a") == row and "b" not in journal and "c" not in journal
+        journal.add([("b", row), ("f", ["failed", "why", None, None])])
+        with pytest.raises(Fault, match="another sweep is writing this table"):
+            Journal(path, False)
+    with Journal(path, False) as journal:
+        assert "b" in journal and "f" not in journal
