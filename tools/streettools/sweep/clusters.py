@@ -7,6 +7,7 @@ import signal
 import tempfile
 from collections.abc import Iterator
 from dataclasses import dataclass
+from multiprocessing import resource_tracker
 from typing import Any
 
 from ..shared.status import Status
@@ -45,12 +46,13 @@ def quiet() -> None:
 
 @contextlib.contextmanager
 def without_interrupts() -> Iterator[None]:
-    """Lets processes start that take no Ctrl-C: the sweep alone does, and ends them."""
-    before = signal.signal(signal.SIGINT, signal.SIG_IGN)
+    """Lets threads and processes start that take no Ctrl-C: the sweep alone does, once they have started, and ends them."""
+    resource_tracker.ensure_running()
+    signal.pthread_sigmask(signal.SIG_BLOCK, [signal.SIGINT])
     try:
         yield
     finally:
-        signal.signal(signal.SIGINT, before)
+        signal.pthread_sigmask(signal.SIG_UNBLOCK, [signal.SIGINT])
 
 
 @contextlib.contextmanager

@@ -1,8 +1,7 @@
 """Reads the trace of a run fast: frames, ends of downloads and notes, each cabinet's inputs before what comes after them.
 
 It reads what the program itself has written just now: in a round all inputs come before its ticks. Other traces are
-read by
-`shared.course`.
+read by `shared.course`.
 """
 
 from collections import defaultdict
