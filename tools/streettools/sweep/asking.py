@@ -1,0 +1,18 @@
+"""Asks before a study that makes very many runs."""
+
+import sys
+
+from .faults import Fault
+
+MANY = 100_000
+
+
+def sure(count: int, yes: bool) -> None:
+    """Returns where so many runs are wanted; on a terminal it asks, elsewhere `--yes` has to say so."""
+    if count <= MANY or yes:
+        return
+    if not (sys.stdin and sys.stdin.isatty()):
+        raise Fault(f"the study makes {count:,} runs: --yes makes more than {MANY:,}")
+    print(f"sweep: the study makes {count:,} runs. Go on? [y/N] ", end="", file=sys.stderr, flush=True)
+    if sys.stdin.readline().strip().lower() not in ("y", "yes"):
+        raise Fault("nothing was run")

@@ -1,0 +1,104 @@
+"""Through bands of a street: those of the plan, as the program tells, and those that came out in the trace."""
+
+import functools
+import json
+import re
+import subprocess
+from itertools import accumulate
+from pathlib import Path
+
+from ..shared.cabinet import Cabinet
+from ..shared.lines import Frame
+from .counts import Spread, StreetCounts
+from .study import Street
+
+Spans = list[tuple[int, int]]
+LINES = re.compile(rb"outbound (?:none|\d+ (\d+) \d+ \d+)\ninbound (?:none|\d+ (\d+) \d+ \d+)\n")
+ASKED = ("version", "rounds", "ticks", "cabinets")
+
+
+@functools.lru_cache(maxsize=1024)
+def asked(program: Path, question: str, seconds: float) -> tuple[int | None, int | None]:
+    """Returns the widths of the greatest bands of a plan, outbound and inbound: 0 where there is none, None where
+    none can be asked for."""
+    ran = subprocess.run([program, "band"], input=question.encode(), capture_output=True, timeout=seconds)
+    found = LINES.fullmatch(ran.stdout) if ran.returncode == 0 else None
+    return (int(found[1] or 0), int(found[2] or 0)) if found else (None, None)
+
+
+def planned(program: Path, scenario: dict, street: Street, seconds: float) -> tuple[int | None, int | None]:
+    """Returns the widths of the bands of a variant's plan, in ticks."""
+    short = {name: scenario[name] for name in ASKED if name in scenario}
+    question = {"scenario": short, "section": street.section, "pattern": street.pattern, "travel": street.travel}
+    return asked(program, json.dumps(question), seconds)
+
+
+def common(one: Spans, other: Spans) -> Spans:
+    """Returns the spans that two rising lists of spans have in common."""
+    found, i, j = [], 0, 0
+    while i < len(one) and j < len(other):
+        low, high = max(one[i][0], other[j][0]), min(one[i][1], other[j][1])
+        if low < high:
+            found.append((low, high))
+        if one[i][1] < other[j][1]:
+            i += 1
+        else:
+            j += 1
+    return found
+
+
+class Greens:
+    """The greens of the two coordinated phases of a cabinet, those with which the pattern opens: outbound and
+    inbound."""
+
+    def __init__(self, cabinet: Cabinet, pattern: int) -> None:
+        plan = cabinet.plan(pattern)
+        self.pair = plan.coordinated if plan else ()
+        self.since: list[int | None] = [None, None]
+        self.spans: tuple[Spans, Spans] = ([], [])
+
+    def shown(self, frame: Frame) -> None:
+        """Takes a frame."""
+        for way, phase in enumerate(self.pair):
+            self.show(way, frame.vehicles[phase - 1] == "G", frame.tick)
+
+    def show(self, way: int, is_green: bool, tick: int) -> None:
+        """Begins or ends a green."""
+        since = self.since[way]
+        if is_green and since is None:
+            self.since[way] = tick
+        elif not is_green and since is not None:
+            self.spans[way].append((since, tick))
+            self.since[way] = None
+
+
+class StreetTally:
+    """A street of a run."""
+
+    def __init__(self, street: Street, cabinets: dict[int, Cabinet], scenario: dict, start: int) -> None:
+        rows = enumerate(scenario["cabinets"], 1)
+        numbers = [number for number, it in rows if it.get("section", 1) == street.section]
+        self.start, self.street = start, street
+        self.greens = {number: Greens(cabinets[number], street.pattern) for number in numbers}
+
+    def shown(self, frame: Frame) -> None:
+        """Takes a frame."""
+        if frame.cabinet in self.greens:
+            self.greens[frame.cabinet].shown(frame)
+
+    def close(self, last: int) -> StreetCounts:
+        """Returns the bands that came out: the spans of time at which a vehicle may start so as to meet green in
+        each cabinet."""
+        reached = list(accumulate(self.street.travel, initial=0))
+        if len(reached) != len(self.greens) or not all(it.pair for it in self.greens.values()):
+            return StreetCounts()
+        end = max(self.start, last - reached[-1])
+        seen = (Spread(), Spread())
+        for way, delays in enumerate((reached, [reached[-1] - it for it in reached])):
+            spans = [(self.start, end)]
+            for green, delay in zip(self.greens.values(), delays):
+                green.show(way, False, last)
+                spans = common(spans, [(low - delay, high - delay) for low, high in green.spans[way]])
+            for low, high in spans:
+                seen[way].add(high - low)
+        return StreetCounts((None, None), seen, end - self.start)

@@ -1,0 +1,116 @@
+"""Makes a variant's scenario: the base, with what the variant puts, and with what its seed draws."""
+
+import copy
+import functools
+import json
+import subprocess
+from dataclasses import dataclass
+from pathlib import Path
+
+from . import drawn
+from .faults import Fault
+from .study import Base, BaseKind, Fetch, Street, Study, street_of
+from .values import Option
+from .variants import Variant
+
+SHARED = ("inputs", "loads", "priority", "frames", "faults")
+"""Lists of a scenario that are long, and are copied only where a path leads into them."""
+
+
+@dataclass(frozen=True)
+class Built:
+    """A variant that was made: its scenario as text and as a value, and the street of its bands."""
+
+    text: bytes
+    scenario: dict
+    street: Street | None
+
+
+class Builder:
+    """Makes the scenarios of a study's variants."""
+
+    def __init__(self, study: Study, fetch: Fetch, program: Path) -> None:
+        self.study, self.fetch, self.program = study, fetch, program
+        self.base = functools.lru_cache(maxsize=8)(self.read)
+        puts = [put for it in study.parameters for put in it.puts]
+        puts += [put for it in study.parameters for option in it.values.options for put, _ in option.puts]
+        self.deep = {name for name in SHARED if any(it.path and it.path.startswith(name) for it in puts)}
+
+    def read(self, base: str | None, seed: int | None) -> dict:
+        """Returns a scenario to begin with: that of a file, or of the study's base with this seed for `generate`."""
+        if base is not None:
+            return parsed(self.fetch(base), base)
+        found: Base = self.study.base
+        if found.kind is BaseKind.SCENARIO:
+            return parsed(self.fetch(found.file), found.file)
+        if found.kind is BaseKind.FIELD:
+            return parsed(self.asked(["respond"], self.fetch(found.file)), found.file)
+        words = found.words | ({} if seed is None else {"seed": seed})
+        given = [word for name in ("seed", "cabinets", "rounds") for word in (f"--{name}", str(words[name]))]
+        return parsed(self.asked(["generate", *given], b""), "generate")
+
+    def asked(self, words: list[str], text: bytes) -> bytes:
+        """Returns what the program answers to a base that it has to make first."""
+        ran = subprocess.run([self.program, *words], input=text, capture_output=True)
+        if ran.returncode:
+            raise Fault(f"{' '.join(words)}: {ran.stderr.decode(errors='replace').strip()}")
+        return ran.stdout
+
+    def document(self, variant: Variant) -> dict:
+        """Returns the scenario with what the variant puts, and the study's tables beside it."""
+        other = next((it.scenario for it in variant.values if isinstance(it, Option) and it.scenario), None)
+        seeded = variant.seed if self.study.base.kind is BaseKind.GENERATE else None
+        base = self.base(other, None if other else seeded)
+        scenario = {
+            name: it if name in SHARED and name not in self.deep else copy.deepcopy(it) for name, it in base.items()
+        }
+        document = {"scenario": scenario} | copy.deepcopy(self.study.tables)
+        for parameter, value in zip(self.study.parameters, variant.values):
+            puts = value.puts if isinstance(value, Option) else [(it, value) for it in parameter.puts]
+            for put, what in puts:
+                put.put(document, what)
+        return document
+
+    def built(self, variant: Variant) -> Built:
+        """Returns a variant's scenario."""
+        document = self.document(variant)
+        scenario = document["scenario"]
+        drawing = self.inputs(document, variant.seed)
+        if "line" in document:
+            faults = drawn.faults_of(
+                json.dumps(document["line"]), variant.seed or 1, scenario["rounds"], len(scenario["cabinets"])
+            )
+            scenario["faults"] = [*scenario.get("faults", ()), *faults]
+        street = street_of(document["street"]) if "street" in document else None
+        if drawing is None:
+            return Built(json.dumps(scenario, separators=(",", ":")).encode(), scenario, street)
+        words, values = drawing
+        short = json.dumps({name: it for name, it in scenario.items() if name != "inputs"}, separators=(",", ":"))
+        scenario["inputs"] = values
+        return Built(f'{short[:-1]},"inputs":[{words}]}}'.encode(), scenario, street)
+
+    def inputs(self, document: dict, seed: int | None) -> tuple[str, tuple[dict, ...]] | None:
+        """Returns the inputs in place of the scenario's: those that are drawn, behind the scenario's own where these
+        are kept."""
+        traffic, scenario = document.get("traffic", {}), document["scenario"]
+        if not traffic.get("flow"):
+            return None
+        words, values = drawn.inputs_of(
+            json.dumps(traffic), 1 if seed is None else seed, scenario["rounds"], scenario["ticks"]
+        )
+        own = scenario.get("inputs") if traffic.get("keep") else None
+        if not own:
+            return words, values
+        return ",".join(filter(None, (json.dumps(own, separators=(",", ":"))[1:-1], words))), (*own, *values)
+
+
+def parsed(text: bytes, name: str) -> dict:
+    """Returns a scenario's value, which has to have what variants are made from."""
+    try:
+        scenario = json.loads(text)
+        if not isinstance(scenario, dict) or not isinstance(scenario["cabinets"], list):
+            raise ValueError
+        scenario["rounds"] * scenario["ticks"] * 1
+    except (ValueError, KeyError, TypeError, RecursionError):
+        raise Fault(f"{name} is no scenario (./arterial run tells why)") from None
+    return scenario

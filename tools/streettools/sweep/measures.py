@@ -1,0 +1,234 @@
+"""The measures that are built in: each with its unit, its definition, and how it comes from what was counted."""
+
+import enum
+from collections.abc import Callable
+from dataclasses import dataclass
+from typing import Any
+
+from .counts import Spread
+
+Value = int | float | None
+
+
+class Scope(enum.Enum):
+    """Of what a measure is taken."""
+
+    PHASE = "phase"
+    CABINET = "cabinet"
+    STREET = "street"
+
+
+@dataclass(frozen=True)
+class Measure:
+    """A measure: `value` takes the counts of all phases, cabinets or streets that are asked for."""
+
+    name: str
+    scope: Scope
+    unit: str
+    what: str
+    value: Callable[[list[Any]], Value]
+
+
+def count(name: str) -> Callable[[list[Any]], Value]:
+    """Returns the sum of a count."""
+    return lambda parts: sum(getattr(it, name) for it in parts)
+
+
+def ended(word: str) -> Callable[[list[Any]], Value]:
+    """Returns how many greens ended in a way."""
+    return lambda parts: sum(it.endings[word] for it in parts)
+
+
+def share(part: str, whole: str) -> Callable[[list[Any]], Value]:
+    """Returns one count as a share of another."""
+
+    def value(parts: list[Any]) -> Value:
+        of = sum(getattr(it, whole) for it in parts)
+        return round(sum(getattr(it, part) for it in parts) / of, 4) if of else None
+
+    return value
+
+
+def spread(name: str, which: str, scale: int = 10) -> Callable[[list[Any]], Value]:
+    """Returns the least, the mean or the greatest of lengths; the scale makes seconds of ticks."""
+
+    def value(parts: list[Any]) -> Value:
+        found = Spread.of(getattr(it, name) for it in parts)
+        if not found.count:
+            return None
+        if which == "mean":
+            return round(found.total / found.count / scale, 3)
+        length = getattr(found, which)
+        return length if scale == 1 else length / scale
+
+    return value
+
+
+def planned(way: int) -> Callable[[list[Any]], Value]:
+    """Returns the width of the greatest band of the plan."""
+    return lambda parts: None if parts[0].planned[way] is None else parts[0].planned[way] / 10
+
+
+def seen(way: int) -> Callable[[list[Any]], Value]:
+    """Returns the mean width of the bands in the trace."""
+    return (
+        lambda parts: round(parts[0].seen[way].total / parts[0].seen[way].count / 10, 3)
+        if parts[0].seen[way].count
+        else 0
+    )
+
+
+def through(way: int) -> Callable[[list[Any]], Value]:
+    """Returns the share of the time that lies in bands of the trace."""
+    return lambda parts: round(parts[0].seen[way].total / parts[0].starts, 4) if parts[0].starts else None
+
+
+ENDINGS = {
+    "gap": "no vehicle came within the passage time",
+    "maximum": "the maximum green was over, and another phase was called",
+    "force-off": "the force point of the phase was reached in a pattern",
+    "yield": "a coordinated phase gave way to a call",
+    "split filled": "floating force-offs: the phase had filled its split",
+    "priority": "in a pattern, for a priority request",
+    "seek": "on the way to the coordinated phases",
+    "preempt": "for a preempt",
+    "ending": "on the way to flash",
+    "not told": "the tables in force aren't known from the trace",
+}
+
+
+def spreads(name: str, of: str, what: str, scope: Scope, unit: str = "s", scale: int = 10) -> list[Measure]:
+    """Returns the least, the mean and the greatest of lengths as measures."""
+    return [
+        Measure(f"{name}_{it}", scope, unit, f"{it} {what}", spread(of, it, scale))
+        for it in ("least", "mean", "greatest")
+    ]
+
+
+PHASE = [
+    Measure("services", Scope.PHASE, "greens", "greens that began", count("services")),
+    *spreads("green", "green", "green time, of greens that began and ended", Scope.PHASE),
+    Measure(
+        "green_share",
+        Scope.PHASE,
+        "share",
+        "share of the time in which the phase is green",
+        share("green_ticks", "ticks"),
+    ),
+    *(
+        Measure(
+            f"ended_{it.replace(' ', '_').replace('-', '_')}",
+            Scope.PHASE,
+            "greens",
+            f"greens that ended so: {what}",
+            ended(it),
+        )
+        for it, what in ENDINGS.items()
+    ),
+    *spreads("wait", "wait", "time from a vehicle's call to the green that serves it", Scope.PHASE),
+    Measure(
+        "waiting",
+        Scope.PHASE,
+        "phases",
+        "phases with a call that was not served by the end of the run",
+        count("waiting"),
+    ),
+    Measure("walks", Scope.PHASE, "walks", "walks that began", count("walks")),
+    *spreads("walk_wait", "walk_wait", "time from the first press of a button to the walk that serves it", Scope.PHASE),
+    Measure(
+        "walk_waiting",
+        Scope.PHASE,
+        "phases",
+        "phases with a press that was not served by the end of the run",
+        count("walk_waiting"),
+    ),
+]
+CABINET = [
+    Measure("local_zeros", Scope.CABINET, "zeros", "local zeros", count("zeros")),
+    Measure(
+        "on_offset_share", Scope.CABINET, "share", "share of local zeros that are on the offset", share("met", "zeros")
+    ),
+    Measure("pickups", Scope.CABINET, "pickups", "how often a pattern was picked up", count("pickups")),
+    *spreads(
+        "cycles_to_offset",
+        "cycles",
+        "number of cycles from a pickup to the first local zero on the offset",
+        Scope.CABINET,
+        "cycles",
+        1,
+    ),
+    *spreads("seconds_to_offset", "seconds", "time from a pickup to the first local zero on the offset", Scope.CABINET),
+    Measure(
+        "offset_missed",
+        Scope.CABINET,
+        "pickups",
+        "pickups after which no local zero was on the offset",
+        lambda parts: sum(it.pickups - it.cycles.count for it in parts),
+    ),
+    Measure(
+        "coordinated_share",
+        Scope.CABINET,
+        "share",
+        "share of the time in which a pattern runs in step (mode C)",
+        share("coordinated", "ticks"),
+    ),
+    Measure("downloads_accepted", Scope.CABINET, "downloads", "downloads that came into force", count("accepted")),
+    Measure(
+        "downloads_refused",
+        Scope.CABINET,
+        "downloads",
+        "downloads that the cabinet refused for a rule",
+        count("refused"),
+    ),
+    Measure(
+        "fails",
+        Scope.CABINET,
+        "notes",
+        "how often the master noted that a cabinet fails: a command was sent in vain up to the last try",
+        count("fails"),
+    ),
+    *spreads(
+        "failed_rounds",
+        "failed_rounds",
+        "number of rounds from that note to the note that the cabinet is good again",
+        Scope.CABINET,
+        "rounds",
+        1,
+    ),
+    Measure(
+        "still_failed",
+        Scope.CABINET,
+        "cabinets",
+        "cabinets that were not good again by the end of the run",
+        count("still_failed"),
+    ),
+    Measure("notes", Scope.CABINET, "notes", "notes of the master, of all kinds", count("notes")),
+]
+STREET = [
+    measure
+    for way, name in enumerate(("outbound", "inbound"))
+    for measure in (
+        Measure(
+            f"band_{name}",
+            Scope.STREET,
+            "s",
+            f"width of the plan's greatest band {name}, as `arterial band` tells; 0 where there is none",
+            planned(way),
+        ),
+        Measure(
+            f"band_seen_{name}",
+            Scope.STREET,
+            "s",
+            f"mean width of the bands {name} in the trace: spans of starts that meet green in each cabinet",
+            seen(way),
+        ),
+        Measure(
+            f"through_{name}",
+            Scope.STREET,
+            "share",
+            f"share of the starts {name} that meet green in each cabinet",
+            through(way),
+        ),
+    )
+]
+ALL = {it.name: it for it in (*PHASE, *CABINET, *STREET)}

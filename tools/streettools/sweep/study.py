@@ -1,0 +1,193 @@
+"""A study, as its TOML file says it: the scenario at the base, what varies, what is drawn, what is measured."""
+
+import enum
+from collections.abc import Callable
+from dataclasses import dataclass, field
+from typing import Any
+
+from . import choice, drawn
+from .choice import Column
+from .faults import Fault
+from .given import NUMBER, Given
+from .own import Own, own_of
+from .targets import Put, put_of
+from .values import Kind, Option, Values, values_of
+
+Fetch = Callable[[str], bytes]
+"""Gives the content of a file that a study names."""
+
+
+class BaseKind(enum.StrEnum):
+    """Where the scenario at the base comes from."""
+
+    SCENARIO = "scenario"
+    FIELD = "field"
+    GENERATE = "generate"
+
+
+@dataclass(frozen=True)
+class Base:
+    """The scenario at the base: a file's name, or the words of `generate`."""
+
+    kind: BaseKind
+    file: str | None = None
+    words: dict = field(default_factory=dict)
+
+
+@dataclass(frozen=True)
+class Parameter:
+    """What varies: its name, its values, and where they are put."""
+
+    name: str
+    values: Values
+    puts: tuple[Put, ...]
+
+
+@dataclass(frozen=True)
+class Street:
+    """The way along which bands are asked for: a section, a pattern, and the ticks from each cabinet to the next."""
+
+    section: int
+    pattern: int
+    travel: tuple[int, ...]
+
+
+@dataclass(frozen=True)
+class Study:
+    """A whole study."""
+
+    title: str
+    base: Base
+    parameters: tuple[Parameter, ...]
+    seeds: tuple[int, ...]
+    samples: int
+    sample_seed: int
+    start: int
+    columns: tuple[Column, ...]
+    own: tuple[Own, ...]
+    tables: dict[str, dict]
+    """The tables `traffic`, `line` and `street`, as far as they are there."""
+
+    def is_drawn(self) -> bool:
+        """Tells whether random samples are drawn."""
+        return any(it.values.kind is Kind.RANDOM for it in self.parameters)
+
+
+def base_of(given: Given, fetch: Fetch) -> Base:
+    """Reads the base."""
+    kind = BaseKind(given.only(tuple(it.value for it in BaseKind)))
+    if kind is not BaseKind.GENERATE:
+        name = given.need(kind.value, str)
+        fetch(name)
+        return Base(kind, name)
+    words = Given(given.need("generate", dict), "generate")
+    found = {name: words.need(name, int) for name in ("cabinets", "rounds")} | {"seed": words.take("seed", int, 1)}
+    words.end()
+    return Base(kind, words=found)
+
+
+def option_of(given: Given, fetch: Fetch) -> Option:
+    """Reads a named alternative."""
+    puts = given.each("put", lambda it: (put_of(it), it.need("value", object), it.end())[:2])
+    scenario = given.take("scenario", str)
+    if scenario is not None:
+        fetch(scenario)
+    found = Option(given.need("name", str), tuple(puts), scenario)
+    given.end()
+    return found
+
+
+def parameter_of(given: Given, fetch: Fetch) -> Parameter:
+    """Reads a parameter."""
+    name = given.need("name", str)
+    kind = Kind(given.only(tuple(it.value for it in Kind)))
+    options = tuple(given.each("option", lambda it: option_of(it, fetch)))
+    if len({it.name for it in options}) < len(options):
+        raise given.refuse("option", "has two of one name")
+    values = values_of(given, name, kind, options)
+    if kind is Kind.OPTION:
+        puts = ()
+    elif "put" in given.table:
+        puts = tuple(given.each("put", lambda it: (put_of(it), it.end())[0]))
+    else:
+        puts = (put_of(given),)
+    given.end()
+    return Parameter(name, values, puts)
+
+
+def seeds_of(given: Given) -> tuple[int, ...]:
+    """Reads the seeds: how many, from 1 on, or a list of them."""
+    seeds = given.take("seeds", (int, list), [])
+    if isinstance(seeds, int):
+        if not 1 <= seeds <= 10**6:
+            raise given.refuse("seeds", f"is {seeds}, and has to be 1 to 1,000,000")
+        return tuple(range(1, seeds + 1))
+    if not all(isinstance(it, int) and 0 <= it < 2**32 for it in seeds):
+        raise given.refuse("seeds", "has to be a number, or a list of numbers from 0 to 4,294,967,295")
+    return tuple(seeds)
+
+
+def street_of(table: dict) -> Street:
+    """Reads the table `street`; times of travel are in seconds."""
+    given = Given(table, "street")
+    travel = given.need("travel", list)
+    if not all(isinstance(it, NUMBER) and 0 <= it <= 86_400 for it in travel):
+        raise given.refuse("travel", "has to be a list of seconds")
+    found = Street(
+        given.within("section", int, 1, 8, 1),
+        given.within("pattern", int, 1, 48, 1),
+        tuple(round(10 * it) for it in travel),
+    )
+    given.end()
+    return found
+
+
+def tables_of(given: Given) -> dict[str, dict]:
+    """Reads the tables beside the scenario, as they are."""
+    found = {name: table for name in ("traffic", "line", "street") if (table := given.take(name, dict)) is not None}
+    drawn.check_traffic(Given(found.get("traffic", {}), "traffic"))
+    drawn.check_line(Given(found.get("line", {}), "line"))
+    if "street" in found:
+        street_of(found["street"])
+    return found
+
+
+def study_of(document: dict[str, Any], fetch: Fetch) -> Study:
+    """Reads a study; `fetch` gives the files that it names."""
+    given = Given(document, "")
+    tables = tables_of(given)
+    own = tuple(given.each("own", lambda it: own_of(it, fetch)))
+    found = Study(
+        title=given.take("title", str, ""),
+        base=base_of(given, fetch),
+        parameters=tuple(given.each("vary", lambda it: parameter_of(it, fetch))),
+        seeds=seeds_of(given),
+        samples=given.within("samples", int, 1, 10**9, 1),
+        sample_seed=given.take("sample_seed", int, 1),
+        start=round(10 * given.within("from", NUMBER, 0, 5_184_000, 0)),
+        columns=choice.columns_of(given.take("measures", list, [])),
+        own=own,
+        tables=tables,
+    )
+    given.end()
+    check(found)
+    return found
+
+
+def check(study: Study) -> None:
+    """Refuses what doesn't go together."""
+    names = [it.name for it in study.parameters] + [it.name for it in study.own] + choice.names(study.columns)
+    twice = next((it for it in names if names.count(it) > 1), None)
+    if twice:
+        raise Fault(f"study: two columns of the table would be called {twice}")
+    if study.samples > 1 and not study.is_drawn():
+        raise Fault("study: samples goes with a parameter that is random, and there is none")
+    drawing = (
+        "flow" in study.tables.get("traffic", {}) or "line" in study.tables or study.base.kind is BaseKind.GENERATE
+    )
+    if study.seeds and not drawing:
+        raise Fault("study: seeds go with traffic.flow, with line, or with generate: nothing here is drawn")
+    if "street" not in study.tables and (needs := choice.needing_street(study.columns)):
+        raise Fault(f"study: {needs} needs the table street, which tells the times of travel")
+    if not study.columns and not study.own:
+        raise Fault("study: measures is missing (./arterial sweep measures lists them)")

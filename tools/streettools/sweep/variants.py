@@ -1,0 +1,51 @@
+"""The variants of a study, each by its number: every value of each parameter with every value of the others, each
+sample, each seed."""
+
+import math
+from dataclasses import dataclass
+from typing import Any
+
+from .study import Study
+from .values import Kind, Option
+
+
+@dataclass(frozen=True)
+class Variant:
+    """A variant: its place from 0 on, the value of each parameter in the study's order, and the seed."""
+
+    index: int
+    values: tuple
+    seed: int | None
+
+    def shown(self) -> list[Any]:
+        """Returns the values as the table shows them."""
+        return [it.name if isinstance(it, Option) else it for it in self.values]
+
+
+class Variants:
+    """All variants of a study. None is kept: each is made from its place."""
+
+    def __init__(self, study: Study) -> None:
+        self.study = study
+        self.grid = [it.values.count() for it in study.parameters if it.values.kind is not Kind.RANDOM]
+        self.seeds = study.seeds or (None,)
+
+    def count(self) -> int:
+        """Returns how many variants there are."""
+        return math.prod(self.grid) * self.study.samples * len(self.seeds)
+
+    def at(self, index: int) -> Variant:
+        """Returns a variant by its place: the first parameter changes slowest, then the sample, then the seed."""
+        rest, seed = divmod(index, len(self.seeds))
+        rest, sample = divmod(rest, self.study.samples)
+        places = []
+        for count in reversed(self.grid):
+            rest, place = divmod(rest, count)
+            places.append(place)
+        values = []
+        for it in self.study.parameters:
+            if it.values.kind is Kind.RANDOM:
+                values.append(it.values.drawn(self.study.sample_seed, sample))
+            else:
+                values.append(it.values.at(places.pop()))
+        return Variant(index, tuple(values), self.seeds[seed])
