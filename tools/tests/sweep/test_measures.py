@@ -4,7 +4,7 @@ import io
 import json
 
 import pytest
-from streettools.look import report
+from streettools.look import called, report
 from streettools.shared.course import Course
 from streettools.sweep import measures
 from streettools.sweep.bands import StreetTally
@@ -86,7 +86,7 @@ def test_bands_of_the_trace_by_hand():
 @pytest.mark.parametrize("trace", [it for it in VECTORS if it.stem != "mixed"], ids=lambda it: it.stem)
 def test_counts_are_those_of_the_report(trace):
     text = trace.read_text()
-    counts, told = counted(text), report.collect(Course(io.BytesIO(trace.read_bytes())))
+    counts, told = counted(text), report.collect(Course(io.BytesIO(trace.read_bytes())), called.Called())
     for cabinet in told["cabinets"]:
         number = cabinet["cabinet"]
         for it in cabinet["phases"]:
