@@ -22,7 +22,7 @@ words_of [] = [] ∷ []
 words_of (byte ∷ bytes) = if byte == 32 then [] ∷ words_of bytes else before_words byte (words_of bytes)
 
 -- of so many numbers from a first one on, the one that the word is in decimal digits: no sign, and no zero before the first
-abbrev pub number_among : ℕ → ℕ → List ℕ → Option ℕ
+unfoldable pub number_among : ℕ → ℕ → List ℕ → Option ℕ
 number_among first zero word = None
 number_among first (suc many) word = if bytes_eq word (decimal first) then Some first else number_among (first + 1) many word
 

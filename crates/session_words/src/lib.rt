@@ -1,6 +1,11 @@
-//! The lines of a session: what each asks, and why it can't be taken.
+//! The lines of a session: what each asks, and why it can't be taken; and the reader of lines.
 #![tactic(auto)]
 
+mod line_reader;
+mod places;
+mod reading;
 mod request;
 
+pub use line_reader::{FirstStop, LineReader, LineStop, Next};
+pub use reading::{read_request, word_of};
 pub use request::{Request, Untaken};
