@@ -1,9 +1,9 @@
 -- What a reader holds, and then what its source has left.
-use Rattle.std.proofs.Common.{◌≡◌, ◌<◌, ◌≤◌, ◌+◌, ◌∙◌, ℕ, List, [], ◌∷◌, ◌++◌, length, Option, Some, None, IfSome, IfOk, Result, refl, sym, ap, subst, arith, append_assoc, append-nil, length-append}
+use Rattle.std.proofs.Common.{Bool, true, false, take, drop, ◌≡◌, ◌<◌, ◌≤◌, ◌+◌, ◌∙◌, ℕ, List, [], ◌∷◌, ◌++◌, length, Option, Some, None, IfSome, IfOk, Result, refl, sym, ap, subst, arith, append_assoc, append-nil, length-append}
 use Rattle.io_edge.specs.Edge.{Reads, told_as}
 use Rattle.session_words.specs.declared.line_reader.Next.{Next}
 use Rattle.session_words.specs.declared.line_reader.Next.TheVariants.{Line, Long, End}
-use Rattle.session_words.specs.Lines.{first_line, behind_first, Lacks, IsCut}
+use Rattle.session_words.specs.Lines.{first_line, behind_first, Lacks, IsCut, StandsFirst}
 use Rattle.session_words.specs.Unread.{ahead_of, behind_told, Leaves, GivesLine, PassesLong, PassesOver, HasNoLine, Gives, GivesHeld}
 use Rattle.session_words.proofs.Cuts.{lacks-both, lacks-none, first_line-cut, behind_first-cut, first_line-none, behind_first-none, first_line-on}
 
@@ -180,3 +180,38 @@ read-little (Some bytes) None held line limit leaves short few = tt
 read-little (Some bytes) (Some left) held line limit (rest, so, whole) short few =
     let same : rest ≡ held ++ left = cc in
     omega (arith, ap (λ (ys : List ℕ). length ys) whole, length-append line rest, ap (λ (ys : List ℕ). length ys) same, length-append held left)
+
+-- what is held is cut where its first newline stands
+pub cut-held : (held rest bytes : List ℕ) (place : ℕ) → StandsFirst 10 bytes place → bytes ≡ held → rest ≡ drop (place + 1) held → IsCut 10 held (take place held) rest
+cut-held held rest bytes place stands same is =
+    subst (λ (ys : List ℕ). IsCut 10 held (take place held) ys) (sym is)
+    (subst (λ (ys : List ℕ). IsCut 10 ys (take place ys) (drop (place + 1) ys)) same stands.cut)
+
+-- a first line that ends in what is held
+pub first-ends : (old left : Option (List ℕ)) (held rest line longer : List ℕ) → Leaves old (ahead_of held left) line → Lacks 10 line
+    → (piece : List ℕ) × (longer ≡ line ++ piece) × IsCut 10 held piece rest → GivesLine old (ahead_of rest left) longer
+first-ends old left held rest line longer leaves lacks (piece, is, cut) =
+    subst (GivesLine old (ahead_of rest left)) (sym is) (leaves-line old left held line piece rest leaves lacks cut)
+
+-- one that goes on with all that is held
+pub first-goes : (old left : Option (List ℕ)) (held line longer : List ℕ) → Leaves old (ahead_of held left) line → longer ≡ line ++ held → Leaves old left longer
+first-goes old left held line longer leaves is = subst (Leaves old left) (sym is) (leaves-on old left held line leaves)
+
+pub first-lacks : (held line longer : List ℕ) → Lacks 10 line → Lacks 10 held → longer ≡ line ++ held → Lacks 10 longer
+first-lacks held line longer lacks none is = subst (Lacks 10) (sym is) (lacks-both 10 line held lacks none)
+
+-- one that is too long, whether or not it ends there
+pub first-long : (old left : Option (List ℕ)) (held rest line longer : List ℕ) (limit : ℕ) (ended : Bool) → Leaves old (ahead_of held left) line → Lacks 10 line
+    → (ended ≡ true → (piece : List ℕ) × (longer ≡ line ++ piece) × IsCut 10 held piece rest)
+    → (ended ≡ false → (longer ≡ line ++ held) × Lacks 10 held × (rest ≡ []))
+    → limit < length longer → IfSome old (λ bytes. limit < length (first_line bytes))
+first-long old left held rest line longer limit true leaves lacks cut on long =
+    long-line old (ahead_of rest left) longer limit (first-ends old left held rest line longer leaves lacks (cut refl)) long
+first-long old left held rest line longer limit false leaves lacks cut on long =
+    long-front old left longer limit (first-goes old left held line longer leaves (on refl).0) (first-lacks held line longer lacks (on refl).1 (on refl).0) long
+
+-- where a read gave nothing, nothing is left
+pub ended-told : (held more : List ℕ) (left new : Option (List ℕ)) → ahead_of held new ≡ ahead_of more left → held ≡ more → more ≡ [] → new ≡ told_as [] left
+    → left ≡ told_as [] left
+ended-told held more left new same kept none ended =
+    sym (ahead-none left) ∙ ap (λ (h : List ℕ). ahead_of h left) (sym none) ∙ sym same ∙ ap (λ (h : List ℕ). ahead_of h new) (kept ∙ none) ∙ ahead-none new ∙ ended

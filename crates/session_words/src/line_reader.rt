@@ -2,9 +2,6 @@
 //! is given as soon as its newline has come: it reads only where it holds no newline.
 
 ghost use Rattle.std.specs.Prelude.{◌≡◌, ◌<◌, ◌≤◌, ◌+◌, ◌⊎◌, ◌++◌, [], ℕ, List, true, false, None, Some, Ok, Err, take, drop, length, vec_len, vec_capacity, IfOk, IfSome, OnOk, OnErr};
-ghost use Rattle.io_edge.specs.Edge.{Rises, Stays, told_as};
-ghost use Rattle.session_words.specs.Lines.{Lacks, IsCut, first_line};
-ghost use Rattle.session_words.specs.Unread.{held_of, given_line, unread, behind_told, Gives, GivesHeld};
 
 use crate::places::place_of;
 use io_edge::{Failed, Source};
@@ -62,6 +59,10 @@ pub struct LineReader {
 }
 
 impl LineReader {
+    ghost use Rattle.io_edge.specs.Edge.{Rises, Stays, told_as};
+    ghost use Rattle.session_words.specs.Lines.{Lacks, IsCut, first_line};
+    ghost use Rattle.session_words.specs.Unread.{held_of, given_line, unread, behind_told, Gives, GivesHeld};
+
     /// A reader that holds nothing.
     pub fn new(alloc: Global) -> Result<LineReader, NoMemory>
         ensures { IfOk result (λ reader. held_of reader ≡ []) }
@@ -295,10 +296,12 @@ impl LineReader {
             if ended {
                 return Ok(line);
             }
-            match self.fill(source) {
-                Ok(0) => return Ok(line),
-                Ok(_) => {}
+            let count = match self.fill(source) {
+                Ok(count) => count,
                 Err(Failed) => return Err(FirstStop::Fault),
+            };
+            if count == 0 {
+                return Ok(line);
             }
         }
     }

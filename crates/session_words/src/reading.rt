@@ -1,6 +1,6 @@
 //! What a line of a session asks, word by word. No memory is taken.
 
-ghost use Rattle.std.specs.Prelude.{◌≡◌, ◌≤◌, ◌∷◌, [], ℕ, List, Some, None, IfSome, MatchOption, bytes_eq};
+ghost use Rattle.std.specs.Prelude.{◌≡◌, ◌≤◌, ◌∷◌, [], ℕ, List, Some, None, IfSome, MatchOption, bytes_eq, decimal};
 ghost use Rattle.session_words.specs.Requests.{words_of, number_to, switch_of, stream_of, octets_of, tick_of, veh_of, ped_of, preempt_of, frame_of, is_form, request_of_words, request_of, untaken_word};
 ghost use Rattle.session_words.specs.Words.{HasWords};
 
@@ -73,6 +73,13 @@ fn words_in(line: &[u8]) -> Words<'_>
     words
 }
 
+/// Whether a text is that of a number: no sign, and no zero before the first digit.
+fn is_number(text: &str, n: u32) -> bool
+    ensures { result ≡ bytes_eq text.now (decimal n) }
+{
+    text == Buffer::new().format(n)
+}
+
 /// The number from 1 to a last one that a word is, in decimal digits: no sign, and no zero before the first.
 fn number_up_to(last: u32, word: &[u8]) -> Option<u32>
     ensures value { result ≡ number_to last word.now }
@@ -84,7 +91,7 @@ fn number_up_to(last: u32, word: &[u8]) -> Option<u32>
     };
     match text.parse::<u32>() {
         Ok(n) => {
-            if 1 <= n && n <= last && Buffer::new().format(n) == text {
+            if 1 <= n && n <= last && is_number(text, n) {
                 Some(n)
             } else {
                 None

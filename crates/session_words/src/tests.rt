@@ -23,7 +23,11 @@ const REFUSED: [(&str, &str, &str); 22] = [
     ("a sign", "tick +5", "ticks"),
     ("cabinet 0", "veh 0 4 on", "cabinet"),
     ("a cabinet that isn't there", "ped 3 4", "cabinet"),
-    ("no cabinet stands before no phase", "veh x 17 on", "cabinet"),
+    (
+        "no cabinet stands before no phase",
+        "veh x 17 on",
+        "cabinet",
+    ),
     ("phase 17", "veh 1 17 on", "phase"),
     ("no phase", "ped 1 ", "phase"),
     ("preempt 9", "preempt 1 9 on", "number"),
@@ -56,16 +60,49 @@ fn octets(bytes: &[u8]) -> Octets {
 fn each_form_is_read(rt: HostRuntime) -> Result<(), Fail> {
     let forms = [
         ("tick 100", Request::Tick(100)),
-        ("veh 1 4 on", Request::Input(1, Field::Veh { phase: 4, on: true })),
-        ("veh 2 16 off", Request::Input(2, Field::Veh { phase: 16, on: false })),
+        (
+            "veh 1 4 on",
+            Request::Input(1, Field::Veh { phase: 4, on: true }),
+        ),
+        (
+            "veh 2 16 off",
+            Request::Input(
+                2,
+                Field::Veh {
+                    phase: 16,
+                    on: false,
+                },
+            ),
+        ),
         ("ped 1 8", Request::Input(1, Field::Ped { phase: 8 })),
-        ("preempt 2 8 on", Request::Input(2, Field::Preempt { number: 8, on: true })),
-        ("frame 1 poll 30aF", Request::Frame(1, Way::Poll, octets(&[0x30, 0xaf]))),
-        ("frame 2 load 00", Request::Frame(2, Way::Load, octets(&[0]))),
-        ("frame 1 priority ", Request::Frame(1, Way::Prio, octets(&[]))),
+        (
+            "preempt 2 8 on",
+            Request::Input(
+                2,
+                Field::Preempt {
+                    number: 8,
+                    on: true,
+                },
+            ),
+        ),
+        (
+            "frame 1 poll 30aF",
+            Request::Frame(1, Way::Poll, octets(&[0x30, 0xaf])),
+        ),
+        (
+            "frame 2 load 00",
+            Request::Frame(2, Way::Load, octets(&[0])),
+        ),
+        (
+            "frame 1 priority ",
+            Request::Frame(1, Way::Prio, octets(&[])),
+        ),
     ];
     for (line, request) in forms {
-        assert!(rt; read_request(line.as_bytes(), 2, 100) == Ok(request), "{line}");
+        assert!(rt;
+            read_request(line.as_bytes(), 2, 100) == Ok(request),
+            "{line}"
+        );
     }
     Ok(())
 }
