@@ -2,7 +2,6 @@
 use Rattle.std.specs.Prelude.{◌≡◌, ℕ, ◌+◌, nat_lt, if◌then◌else◌, List, [], ◌∷◌, ◌++◌, codes, decimal, Option, Some, None}
 use Rattle.safety_laws.specs.TraceText.{lines_text}
 use Rattle.scenario_data.specs.Content.{ScenarioContent}
-use Rattle.session_words.specs.declared.request.Untaken.{Untaken}
 use Rattle.session_words.specs.Requests.{untaken_word}
 pub use Rattle.session_words.specs.Lines.{first_line, behind_first, before_lines, whole_lines}
 use Rattle.session_laws.specs.Told.{Answer, Lines, Refuses, answers}

@@ -1,11 +1,9 @@
 -- What a session is worth: it is a run, by its own journals, of the scenario that results; and no answer waits for a later request.
-use Rattle.std.specs.Prelude.{◌≡◌, ◌≤◌, ℕ, List, ◌∷◌, ◌++◌, length}
-use Rattle.trace_text.specs.declared.lines.Line.TheVariants.{S}
+use Rattle.std.specs.Prelude.{◌≡◌, ℕ, List, ◌++◌, length}
 use Rattle.scenario_data.specs.Content.{ScenarioContent}
 use Rattle.run_definition.specs.Lines.{rest_lines, run_lines}
 use Rattle.run_definition.specs.Orders.{AreJournals}
 use Rattle.run_definition.specs.Safe.{AllKept}
-use Rattle.session_laws.specs.Session.{Step}
 use Rattle.session_laws.specs.Told.{Answer, answers, answers_so_far, rounds_by}
 use Rattle.session_laws.specs.Record.{resulting, session_journals, lines_in, in_trace_order}
 

@@ -1,15 +1,15 @@
 -- What a session is as a run: the scenario that results, the journals, and the lines of its answers in the order of a trace.
 use Rattle.std.specs.Prelude.{ℕ, zero, suc, ◌+◌, ◌==◌, nat_le, Bool, true, false, if◌then◌else◌, List, [], ◌∷◌, ◌++◌, length}
 use Rattle.std.specs.List.{filter}
-use Rattle.sig_types.specs.Items.{Item, Told, Came, Ticked}
+use Rattle.sig_types.specs.Items.{Told, Came}
 use Rattle.sig_types.specs.declared.notes.Way.{Way}
 use Rattle.sig_types.specs.declared.notes.Way.TheVariants.{Poll, Load, Prio}
 use Rattle.trace_text.specs.declared.lines.Line.{Line}
-use Rattle.trace_text.specs.declared.lines.Line.TheVariants.{S, F, R, M, J, L, A, Z}
+use Rattle.trace_text.specs.declared.lines.Line.TheVariants.{F, R, M, J, L, A, Z}
 use Rattle.scenario_data.specs.declared.scenario.Input.{Input}
 use Rattle.scenario_data.specs.Content.{ScenarioContent, FrameContent}
 use Rattle.run_definition.specs.CabinetState.{CabinetState}
-use Rattle.session_laws.specs.Session.{Step, Ticks, Brings, states_after}
+use Rattle.session_laws.specs.Session.{Step, Brings, states_after}
 use Rattle.session_laws.specs.Told.{Answer, Lines, Refuses, journal_by}
 
 -- the input that a step brings to the scenario in a round

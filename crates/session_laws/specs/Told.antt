@@ -1,6 +1,6 @@
 -- What a session answers: lines of a trace, or why a request can't be taken. The lines are those that a run has: what an item gives, the
 -- journals at the end of a round, the head of the next one.
-use Rattle.std.specs.Prelude.{ℕ, ◌+◌, ◌==◌, nat_le, if◌then◌else◌, List, [], ◌∷◌, ◌++◌, length, map, Result, Ok, Err}
+use Rattle.std.specs.Prelude.{ℕ, ◌+◌, ◌==◌, nat_le, if◌then◌else◌, List, [], ◌∷◌, ◌++◌, length, Result, Ok, Err}
 use Rattle.trace_text.specs.declared.lines.Line.{Line}
 use Rattle.trace_text.specs.declared.lines.Line.TheVariants.{J, Z}
 use Rattle.scenario_data.specs.Content.{ScenarioContent}
@@ -8,11 +8,11 @@ use Rattle.cabinet_history.specs.Journals.{Act, runs_of}
 use Rattle.run_definition.specs.CabinetState.{CabinetState, opened_cabinet_states}
 use Rattle.run_definition.specs.Lines.{acts_lines, head_lines, opening_lines}
 use Rattle.session_words.specs.declared.request.Request.{Request}
-use Rattle.session_words.specs.declared.request.Request.TheVariants.{Tick, Input, Frame}
+use Rattle.session_words.specs.declared.request.Request.TheVariants.{Tick}
 use Rattle.session_words.specs.declared.request.Untaken.{Untaken}
 use Rattle.session_words.specs.declared.request.Untaken.TheVariants.{Full}
 use Rattle.session_words.specs.Requests.{request_of}
-use Rattle.session_laws.specs.Session.{SessionHistory, Step, Ticks, opened_session, step_of, step_acts, begin_acts, session_acts, history_by, states_after, states_behind, ticks_left, items_brought, steps_with, is_last, with_step, steps_to_end, is_over}
+use Rattle.session_laws.specs.Session.{SessionHistory, Step, Ticks, opened_session, step_of, step_acts, begin_acts, session_acts, history_by, states_after, ticks_left, items_brought, steps_with, is_last, with_step, steps_to_end, is_over}
 
 -- the passes of these acts, which are the journal that tells them
 abbrev pub passes_in : List Act → List ℕ
