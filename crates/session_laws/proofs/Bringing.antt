@@ -35,7 +35,7 @@ round-within all steps before is =
 
 -- ---- of what all rounds bring, a round's
 
--- items that rounds bring: what each round brings, one after another, and of each round nothing that is kept but of this one
+-- items that rounds bring: what each round brings, one after another; of every other round nothing is kept
 record IsByRound {A : Type 0} (keep : A → Bool) (round : ℕ) (by : ℕ → List Step → List A) (brought : List (List Step) → List A) : Type 0 where
   none : brought [] ≡ []
   more : (steps : List Step) (before : List (List Step)) → brought (steps ∷ before) ≡ brought before ++ by (length before + 1) steps
