@@ -85,7 +85,8 @@ later-frame rounds round cab way within f late =
     let other : (f.round == round) ≡ false = ne_eqb f.round round (λ e. absurd (omega (arith, e, behind, within))) in
     rw other refl
 
--- the frames of a round in the scenario that results are those of the scenario, and then those that the round's steps bring
+-- the frames of a round in the scenario that results are those of the scenario, and then those that the round's steps
+-- bring
 pub frames-kept : (all : List (List Step)) (steps : List Step) (before : List (List Step)) (frames : List FrameContent) (round cab : ℕ) (way : Way)
     → IsRoundOf all steps before → round ≡ length before + 1
     → frames_of (of_rounds (λ (f : FrameContent). f.round) (length all) frames ++ frames_brought all) round cab way

@@ -95,7 +95,8 @@ notes-each s first (t ∷ ts) = ap (λ (r : List Line). notes_of s first t ++ r)
 
 -- ---- what the lines of a round are
 
--- some lines as a part has them: those of the street, those of a cabinet's journal, and what else is told of the cabinet
+-- some lines as a part has them: those of the street, those of a cabinet's journal, and what else is told of the
+-- cabinet
 pub record Seen (lines street journal told : List Line) (cab : ℕ) : Type 0 where
   pub of_street : filter is_of_street lines ≡ street
   pub of_journal : filter (is_journal_of cab) lines ≡ journal

@@ -1,5 +1,5 @@
--- The rounds of a session are rounds of the scenario that results: its journals take all items, and its cabinets come to the
--- same.
+-- The rounds of a session are rounds of the scenario that results: its journals take all items, and its cabinets come
+-- to the same.
 use Rattle.std.proofs.Common.{◌≡◌, ◌∙◌, ◌+◌, ◌≤◌, ℕ, suc, List, [], ◌∷◌, ◌++◌, length, map, refl, sym, ap, subst, arith, append_assoc, append-nil}
 use Rattle.std.proofs.lemmas.List.{length-append}
 use Rattle.std.specs.List.{AllByRecursion}
