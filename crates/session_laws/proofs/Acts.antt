@@ -1,4 +1,5 @@
--- What the passes of some acts bring again: where each stream is what its pass brings in the acts, its items in order, these are the acts.
+-- What the passes of some acts bring again: where each stream is what its pass brings in the acts, its items in
+-- order, these are the acts.
 use Rattle.std.proofs.Common.{◌≡◌, ◌∙◌, ◌⊎◌, inl, inr, ◌+◌, ◌==◌, if◌then◌else◌, ℕ, Bool, true, false, List, [], ◌∷◌, ◌++◌, length, get_or, drop, refl, sym, ap, arith, eq-eqb, ne_eqb}
 use Rattle.std.proofs.lemmas.Bool.{cases_eq}
 use Rattle.std.proofs.lemmas.List.{nil_from_length}

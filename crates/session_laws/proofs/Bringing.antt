@@ -35,7 +35,7 @@ round-within all steps before is =
 
 -- ---- of what all rounds bring, a round's
 
--- items that rounds bring: what each round brings, one after another, and of each round nothing that is kept but of this one
+-- items that rounds bring: what each round brings, one after another; of every other round nothing is kept
 record IsByRound {A : Type 0} (keep : A → Bool) (round : ℕ) (by : ℕ → List Step → List A) (brought : List (List Step) → List A) : Type 0 where
   none : brought [] ≡ []
   more : (steps : List Step) (before : List (List Step)) → brought (steps ∷ before) ≡ brought before ++ by (length before + 1) steps
@@ -85,7 +85,8 @@ later-frame rounds round cab way within f late =
     let other : (f.round == round) ≡ false = ne_eqb f.round round (λ e. absurd (omega (arith, e, behind, within))) in
     rw other refl
 
--- the frames of a round in the scenario that results are those of the scenario, and then those that the round's steps bring
+-- the frames of a round in the scenario that results are those of the scenario, and then those that the round's steps
+-- bring
 pub frames-kept : (all : List (List Step)) (steps : List Step) (before : List (List Step)) (frames : List FrameContent) (round cab : ℕ) (way : Way)
     → IsRoundOf all steps before → round ≡ length before + 1
     → frames_of (of_rounds (λ (f : FrameContent). f.round) (length all) frames ++ frames_brought all) round cab way

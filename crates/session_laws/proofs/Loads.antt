@@ -1,5 +1,5 @@
--- The downloads that the master begins in the first rounds are the same where later ones are left out: these stand last, and none of them
--- is begun in these rounds.
+-- The downloads that the master begins in the first rounds are the same where later ones are left out: these stand
+-- last, and none of them is begun in these rounds.
 use Rattle.std.proofs.Common.{◌≡◌, ◌∙◌, ◌+◌, ◌-◌, ◌<◌, ◌≤◌, ◌==◌, cond, nat_le, if◌then◌else◌, ℕ, zero, suc, ℤ, Bool, true, false, List, [], ◌∷◌, length, Option, Some, None, slice_get, option_map, refl, sym, ap, subst, arith, leb-false, leb-true, le-leb}
 use Rattle.std.proofs.lemmas.Bool.{lt-leb}
 use Rattle.std.proofs.lemmas.Option.{none-some}

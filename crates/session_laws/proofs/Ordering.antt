@@ -3,13 +3,13 @@ use Rattle.std.proofs.Common.{◌≡◌, ◌≢◌, ◌∙◌, ◌+◌, ◌==◌
 use Rattle.std.specs.List.{AllByRecursion}
 use Rattle.sig_tables.specs.Decide.{last_frame_of}
 use Rattle.sig_types.specs.declared.notes.MasterNote.{MasterNote}
-use Rattle.sig_types.specs.Items.{Item}
 use Rattle.trace_text.specs.declared.lines.Line.{Line}
 use Rattle.trace_text.specs.declared.lines.Line.TheVariants.{R, M, J}
 use Rattle.scenario_data.specs.Content.{ScenarioContent}
 use Rattle.cabinet_history.specs.CabinetHistory.{CabinetHistory, with_item, after}
 use Rattle.cabinet_history.specs.Coming.{history_of}
 use Rattle.cabinet_history.specs.Journals.{Act, items_in, runs_of}
+use Rattle.cabinet_history.proofs.Growing.{items-more, after-more}
 use Rattle.master_rounds.specs.Rounds.{noted}
 use Rattle.run_definition.specs.CabinetState.{CabinetState, HasComeTo}
 use Rattle.run_definition.specs.Lines.{shown_line, item_lines, acts_lines, notes_lines, head_lines, opening_lines}
@@ -22,14 +22,6 @@ use Rattle.session_laws.proofs.Rounds.{each_told, round_told}
 use Rattle.session_laws.proofs.Cabinets.{IsToldOf, AreToldOf, all-append, all-map, acts-told, told-street, told-journal, told-own, told-other, each, each-all, each-none, each-found, HasOf, cabinets-ordered}
 
 -- ---- acts one after another
-
-after-append : (h : CabinetHistory) (items more : List Item) → after h (items ++ more) ≡ after (after h items) more
-after-append h [] more = refl
-after-append h (item ∷ items) more = after-append (with_item h item) items more
-
-items-append : (acts more : List Act) → items_in (acts ++ more) ≡ items_in acts ++ items_in more
-items-append [] more = refl
-items-append (act ∷ acts) more = ap (λ (r : List Item). act.item ∷ r) (items-append acts more)
 
 lines-append : (cab : ℕ) (h : CabinetHistory) (acts more : List Act)
     → acts_lines cab h (acts ++ more) ≡ acts_lines cab h acts ++ acts_lines cab (after h (items_in acts)) more
@@ -68,8 +60,8 @@ history-more s cab t done step =
     let begun : List Act = begin_acts s cab t in
     ap (λ (r : List Act). after t.cabinet_history (items_in (begun ++ r))) (steps-acts-more cab done step)
     ∙ ap (λ (r : List Act). after t.cabinet_history (items_in r)) (sym (append_assoc begun (steps_acts cab done) (step_acts cab step)))
-    ∙ ap (after t.cabinet_history) (items-append (session_acts s cab t done) (step_acts cab step))
-    ∙ after-append t.cabinet_history (items_in (session_acts s cab t done)) (items_in (step_acts cab step))
+    ∙ ap (after t.cabinet_history) (items-more (session_acts s cab t done) (step_acts cab step))
+    ∙ after-more t.cabinet_history (items_in (session_acts s cab t done)) (items_in (step_acts cab step))
 
 -- ---- lines of each cabinet
 
@@ -103,7 +95,8 @@ notes-each s first (t ∷ ts) = ap (λ (r : List Line). notes_of s first t ++ r)
 
 -- ---- what the lines of a round are
 
--- some lines as a part has them: those of the street, those of a cabinet's journal, and what else is told of the cabinet
+-- some lines as a part has them: those of the street, those of a cabinet's journal, and what else is told of the
+-- cabinet
 pub record Seen (lines street journal told : List Line) (cab : ℕ) : Type 0 where
   pub of_street : filter is_of_street lines ≡ street
   pub of_journal : filter (is_journal_of cab) lines ≡ journal

@@ -1,4 +1,5 @@
--- The rounds of a session are rounds of the scenario that results: its journals take all items, and its cabinets come to the same.
+-- The rounds of a session are rounds of the scenario that results: its journals take all items, and its cabinets come
+-- to the same.
 use Rattle.std.proofs.Common.{◌≡◌, ◌∙◌, ◌+◌, ◌≤◌, ℕ, suc, List, [], ◌∷◌, ◌++◌, length, map, refl, sym, ap, subst, arith, append_assoc, append-nil}
 use Rattle.std.proofs.lemmas.List.{length-append}
 use Rattle.std.specs.List.{AllByRecursion}
@@ -11,8 +12,9 @@ use Rattle.cabinet_history.specs.Journals.{Act, IsMerge, items_in, runs_of}
 use Rattle.cabinet_history.specs.Told.{acts_replies}
 use Rattle.master_rounds.specs.Rounds.{noted}
 use Rattle.run_definition.specs.CabinetState.{CabinetState, answers_in, coming_streams, round_acts, next_cabinet_state, opened_cabinet_states, each_cabinet_state, cabinet_states_after}
-use Rattle.run_definition.specs.Lines.{acts_lines, each_lines, notes_lines, head_lines, round_lines, rounds_lines, opening_lines, rest_lines}
+use Rattle.run_definition.specs.Lines.{acts_lines, each_lines, notes_lines, head_lines, round_lines, opening_lines, front_lines, rest_lines}
 use Rattle.run_definition.specs.Orders.{EachMerges, AreMerges, AreJournals}
+use Rattle.run_definition.proofs.More.{fronts-more}
 use Rattle.session_laws.specs.Session.{Step, session_acts, state_behind, states_behind, states_after}
 use Rattle.session_laws.specs.Told.{journal_by}
 use Rattle.session_laws.specs.Record.{resulting, round_journals, session_journals}
@@ -147,18 +149,6 @@ merges-more : (s : ScenarioContent) (ts : List CabinetState) (js : List (List (L
 merges-more s ts [] one are last = (last, tt)
 merges-more s ts (j ∷ js) one are last = (are.0, merges-more s (each_cabinet_state s 1 ts j) js one are.1 last)
 
-lines-more : (s : ScenarioContent) (round : ℕ) (ts : List CabinetState) (js : List (List (List ℕ))) (one : List (List ℕ))
-    → rounds_lines s round ts (js ++ one ∷ []) ≡ rounds_lines s round ts js ++ round_lines s (round + length js) (cabinet_states_after s ts js) one
-lines-more s round ts [] one =
-    let same : round ≡ round + 0 = omega arith in
-    append-nil (round_lines s round ts one) ∙ ap (λ (n : ℕ). round_lines s n ts one) same
-lines-more s round ts (j ∷ js) one =
-    let next : List CabinetState = each_cabinet_state s 1 ts j in
-    let same : round + 1 + length js ≡ round + length (j ∷ js) = omega arith in
-    ap (λ (x : List Line). round_lines s round ts j ++ x) (lines-more s (round + 1) next js one)
-    ∙ sym (append_assoc (round_lines s round ts j) (rounds_lines s (round + 1) next js) (round_lines s (round + 1 + length js) (cabinet_states_after s next js) one))
-    ∙ ap (λ (n : ℕ). rounds_lines s round ts (j ∷ js) ++ round_lines s n (cabinet_states_after s next js) one) same
-
 pub journals-counted : (s : ScenarioContent) (rounds : List (List Step)) → length (session_journals s rounds) ≡ length rounds
 journals-counted s [] = refl
 journals-counted s (steps ∷ before) =
@@ -171,7 +161,7 @@ journals-counted s (steps ∷ before) =
 pub record RoundsKept (s : ScenarioContent) (all : List (List Step)) (compact : List ℕ) (rounds : List (List Step)) : Type 0 where
   pub states : cabinet_states_after (resulting s all compact) (opened_cabinet_states s s.cabinets) (session_journals s rounds) ≡ states_after s rounds
   pub merges : AreMerges (resulting s all compact) (opened_cabinet_states s s.cabinets) (session_journals s rounds)
-  pub lines : rounds_lines (resulting s all compact) 1 (opened_cabinet_states s s.cabinets) (session_journals s rounds) ≡ rounds_told s rounds
+  pub lines : front_lines (resulting s all compact) (session_journals s rounds) ≡ opening_lines 1 (opened_cabinet_states s s.cabinets) ++ rounds_told s rounds
 
 round-more : (s : ScenarioContent) (all : List (List Step)) (compact : List ℕ) (steps : List Step) (before : List (List Step)) → Context s all steps before
     → RoundsKept s all compact before → RoundsKept s all compact (steps ∷ before)
@@ -181,18 +171,22 @@ round-more s all compact steps before context kept =
     let js : List (List (List ℕ)) = session_journals s before in
     let one : List (List ℕ) = round_journals s 1 ts steps in
     let have : HaveAnswered (length before) ts = after-answered s before in
-    let same : 1 + length js ≡ length before + 1 = omega (arith, journals-counted s before) in
+    let front : List Line = opening_lines 1 start in
+    let round : ℕ = length before + 1 in
+    let same : length js + 1 ≡ round = omega (arith, journals-counted s before) in
+    let next : List CabinetState → ℕ → List Line = λ x n. round_lines (resulting s all compact) n x one in
     record {
       states = states-more (resulting s all compact) start js one
           ∙ ap (λ (x : List CabinetState). each_cabinet_state (resulting s all compact) 1 x one) kept.states
           ∙ each-state s all compact steps before 1 ts context have;
       merges = merges-more (resulting s all compact) start js one kept.merges
           (subst (λ (x : List CabinetState). EachMerges (resulting s all compact) 1 x one) (sym kept.states) (each-merge s all compact steps before 1 ts context have));
-      lines = lines-more (resulting s all compact) 1 start js one
-          ∙ ap (λ (x : List Line). x ++ round_lines (resulting s all compact) (1 + length js) (cabinet_states_after (resulting s all compact) start js) one) kept.lines
-          ∙ ap (λ (x : List CabinetState). rounds_told s before ++ round_lines (resulting s all compact) (1 + length js) x one) kept.states
-          ∙ ap (λ (n : ℕ). rounds_told s before ++ round_lines (resulting s all compact) n ts one) same
-          ∙ ap (λ (x : List Line). rounds_told s before ++ x) (round-kept s all compact steps before (length before + 1) ts context have);
+      lines = fronts-more (resulting s all compact) js (one ∷ [])
+          ∙ ap (λ (x : List Line). x ++ (next (cabinet_states_after (resulting s all compact) start js) (length js + 1) ++ [])) kept.lines
+          ∙ ap (λ (x : List CabinetState). (front ++ rounds_told s before) ++ (next x (length js + 1) ++ [])) kept.states
+          ∙ ap (λ (n : ℕ). (front ++ rounds_told s before) ++ (next ts n ++ [])) same
+          ∙ ap (λ (x : List Line). (front ++ rounds_told s before) ++ x) (append-nil (next ts round) ∙ round-kept s all compact steps before round ts context have)
+          ∙ append_assoc front (rounds_told s before) (round_told s round ts steps);
     }
 
 rounds-kept : (s : ScenarioContent) (all : List (List Step)) (compact : List ℕ) (later rounds : List (List Step)) → IsByRounds s → all ≡ later ++ rounds
@@ -219,5 +213,5 @@ pub rest-told : (s : ScenarioContent) (all : List (List Step)) (compact : List �
     → rest_lines (resulting s all compact) (session_journals s all) ≡ session_told s all
 rest-told s all compact early are =
     let start : List Line = opening_lines 1 (opened_cabinet_states s s.cabinets) in
-    ap (λ (x : List Line). (start ++ x) ++ Z (length all) ∷ []) (rounds-kept s all compact [] all early refl are).lines
+    ap (λ (x : List Line). x ++ Z (length all) ∷ []) (rounds-kept s all compact [] all early refl are).lines
     ∙ append_assoc start (rounds_told s all) (Z (length all) ∷ [])

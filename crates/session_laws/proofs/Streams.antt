@@ -12,6 +12,7 @@ use Rattle.link_sim.specs.Reaching.{frames_of, requested, sent_on, line_down, re
 use Rattle.link_sim.specs.Carried.{carried}
 use Rattle.cabinet_history.specs.Journals.{acts_of, serial}
 use Rattle.master_rounds.specs.Rounds.{polls_sent, loads_sent, delivered_on}
+use Rattle.master_rounds.proofs.Counts.{polls_counted, loads_counted}
 use Rattle.run_definition.specs.CabinetState.{CabinetState, coming_streams}
 use Rattle.run_definition.proofs.Merges.{serial-merge}
 use Rattle.session_laws.specs.Session.{Step, steps_acts, begin_acts, session_acts, ticks_in}
@@ -21,7 +22,7 @@ use Rattle.session_laws.proofs.Acts.{of_pass, of-pass-append, acts-given}
 use Rattle.session_laws.proofs.Bringing.{AreSteps, IsRoundOf, round-within, frames-kept, inputs-kept, fields-brought, octets-brought, ticks-brought, none-brought}
 use Rattle.session_laws.proofs.Carrying.{carried-kept}
 use Rattle.session_laws.proofs.Requesting.{requested-kept}
-use Rattle.session_laws.proofs.Turning.{polls-kept, loads-sent-kept, polls-counted, loads-counted}
+use Rattle.session_laws.proofs.Turning.{polls-kept, loads-sent-kept}
 
 -- ---- what is brought before any tick
 
@@ -75,13 +76,13 @@ octets-kept : (s : ScenarioContent) (all : List (List Step)) (compact : List ℕ
     → map Came (delivered_on (resulting s all compact) cab c answered way) ≡ map Came (delivered_on s cab c answered way) ++ of_pass (pass_of way) (steps_acts cab steps)
 octets-kept s all compact steps before cab c answered Poll early is are at =
     came-kept s all compact steps before cab Poll (polls_sent s cab c answered) (polls_sent (resulting s all compact) cab c answered) early is are
-    (omega (arith, at, polls-counted s cab c answered)) (polls-kept s all compact cab c answered early.loads (omega (arith, at, round-within all steps before is)))
+    (omega (arith, at, polls_counted s cab c answered)) (polls-kept s all compact cab c answered early.loads (omega (arith, at, round-within all steps before is)))
 octets-kept s all compact steps before cab c answered Load early is are at =
     came-kept s all compact steps before cab Load (loads_sent s cab c answered) (loads_sent (resulting s all compact) cab c answered) early is are
-    (omega (arith, at, loads-counted s cab c answered)) (loads-sent-kept s all compact cab c answered early.loads (omega (arith, at, round-within all steps before is)))
+    (omega (arith, at, loads_counted s cab c answered)) (loads-sent-kept s all compact cab c answered early.loads (omega (arith, at, round-within all steps before is)))
 octets-kept s all compact steps before cab c answered Prio early is are at =
     came-kept s all compact steps before cab Prio (polls_sent s cab c answered) (polls_sent (resulting s all compact) cab c answered) early is are
-    (omega (arith, at, polls-counted s cab c answered)) (polls-kept s all compact cab c answered early.loads (omega (arith, at, round-within all steps before is)))
+    (omega (arith, at, polls_counted s cab c answered)) (polls-kept s all compact cab c answered early.loads (omega (arith, at, round-within all steps before is)))
 
 fields-kept : (s : ScenarioContent) (all : List (List Step)) (compact : List ℕ) (steps : List Step) (before : List (List Step)) (round cab : ℕ)
     → IsRoundOf all steps before → AreSteps steps → round ≡ length before + 1

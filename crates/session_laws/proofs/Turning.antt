@@ -14,6 +14,7 @@ use Rattle.master_poll.specs.Commands.{Turn}
 use Rattle.master_poll.specs.Turns.{told, load_events}
 use Rattle.master_poll.specs.Sends.{Arrived, Frames, turn_after, turns, last_sending, last_notes, sending_of, notes_of, command_text}
 use Rattle.master_rounds.specs.Rounds.{arriving_on, arrived_of, arrivals, sendings, polls_sent, loads_sent, noted}
+use Rattle.master_rounds.proofs.Counts.{turns_counted}
 use Rattle.session_laws.specs.Session.{Step}
 use Rattle.session_laws.specs.Record.{resulting}
 use Rattle.session_laws.specs.Dialogue.{early_load}
@@ -39,10 +40,6 @@ arrivals-kept s all compact cab (replies ∷ before) within =
     ∙ ap (λ (x : List (List ℕ)). both (arriving_on s cab Poll (replies ∷ before)) x) (returning-kept s all compact cab Load (replies ∷ before) within) in
     ap (λ (a : Arrived). a ∷ arrivals (resulting s all compact) cab before) own
     ∙ ap (λ (r : List Arrived). arrived_of s cab (replies ∷ before) ∷ r) (arrivals-kept s all compact cab before fewer)
-
-pub arrivals-counted : (s : ScenarioContent) (cab : ℕ) (answered : List (List Reply)) → length (arrivals s cab answered) ≡ length answered + 1
-arrivals-counted s cab [] = refl
-arrivals-counted s cab (replies ∷ before) = omega (arith, arrivals-counted s cab before)
 
 -- ---- turns
 
@@ -129,7 +126,7 @@ all-kept : (s : ScenarioContent) (all : List (List Step)) (compact : List ℕ) (
     → sendings (resulting s all compact) cab c (arrivals (resulting s all compact) cab answered) ≡ sendings s cab c (arrivals s cab answered)
 all-kept s all compact cab c answered early within =
     ap (sendings (resulting s all compact) cab c) (arrivals-kept s all compact cab answered (omega (arith, within)))
-    ∙ sendings-kept s all compact cab c (arrivals s cab answered) early (omega (arith, within, arrivals-counted s cab answered))
+    ∙ sendings-kept s all compact cab c (arrivals s cab answered) early (omega (arith, within, turns_counted s cab answered))
 
 pub polls-kept : (s : ScenarioContent) (all : List (List Step)) (compact : List ℕ) (cab : ℕ) (c : CabinetContent) (answered : List (List Reply))
     → early_load s ≡ None → length answered + 1 ≤ length all → polls_sent (resulting s all compact) cab c answered ≡ polls_sent s cab c answered
@@ -146,23 +143,9 @@ pub noted-kept : (s : ScenarioContent) (all : List (List Step)) (compact : List 
 noted-kept s all compact cab c answered early within =
     ap (notes_of (resulting s all compact) cab c) (arrivals-kept s all compact cab answered (omega (arith, within)))
     ∙ ap (last_notes (resulting s all compact) cab c)
-    (turns-kept s all compact cab c (arrivals s cab answered) early (omega (arith, within, arrivals-counted s cab answered))).same
+    (turns-kept s all compact cab c (arrivals s cab answered) early (omega (arith, within, turns_counted s cab answered))).same
     ∙ same-notes (turns s cab c (arrivals s cab answered))
   where
     same-notes : (past : List Turn) → last_notes (resulting s all compact) cab c past ≡ last_notes s cab c past
     same-notes [] = refl
     same-notes (t ∷ past) = refl
-
-sendings-counted : (s : ScenarioContent) (cab : ℕ) (c : CabinetContent) (arrived : List Arrived) → length (sendings s cab c arrived) ≡ length arrived
-sendings-counted s cab c [] = refl
-sendings-counted s cab c (a ∷ before) = omega (arith, sendings-counted s cab c before)
-
-pub polls-counted : (s : ScenarioContent) (cab : ℕ) (c : CabinetContent) (answered : List (List Reply)) → length (polls_sent s cab c answered) ≡ length answered + 1
-polls-counted s cab c answered =
-    length-map (sendings s cab c (arrivals s cab answered)) (λ (f : Frames). option_to_list f.poll)
-    ∙ sendings-counted s cab c (arrivals s cab answered) ∙ arrivals-counted s cab answered
-
-pub loads-counted : (s : ScenarioContent) (cab : ℕ) (c : CabinetContent) (answered : List (List Reply)) → length (loads_sent s cab c answered) ≡ length answered + 1
-loads-counted s cab c answered =
-    length-map (sendings s cab c (arrivals s cab answered)) (λ (f : Frames). option_to_list f.load)
-    ∙ sendings-counted s cab c (arrivals s cab answered) ∙ arrivals-counted s cab answered
