@@ -3,7 +3,7 @@ use Rattle.std.proofs.Common.{◌≡◌, ◌≢◌, ◌<◌, ◌≤◌, ◌+◌,
 use Rattle.std.proofs.lemmas.Bool.{ne_eqb, eqb-true}
 use Rattle.memchr.specs.Find.{IsFirstByte, is_byte}
 use Rattle.std.proofs.lemmas.List.{take-append-drop, drop_more, get_or-take, length-take-le, take_rest}
-use Rattle.session_words.specs.Lines.{first_line, behind_first, before_lines, whole_lines, Lacks, IsCut, StandsFirst}
+use Rattle.session_words.specs.Lines.{first_line, behind_first, before_lines, whole_lines, Lacks, StandsFirst}
 use Rattle.session_words.specs.Requests.{before_words, words_of}
 
 pub lacks-tail : (byte x : ℕ) (xs : List ℕ) → Lacks byte (x ∷ xs) → Lacks byte xs

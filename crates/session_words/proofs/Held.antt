@@ -1,11 +1,11 @@
 -- What a reader holds, and then what its source has left.
-use Rattle.std.proofs.Common.{Bool, true, false, take, drop, ◌≡◌, ◌<◌, ◌≤◌, ◌+◌, ◌∙◌, ℕ, List, [], ◌∷◌, ◌++◌, length, Option, Some, None, IfSome, IfOk, Result, refl, sym, ap, subst, arith, append_assoc, append-nil, length-append}
+use Rattle.std.proofs.Common.{Bool, true, false, take, drop, ◌≡◌, ◌<◌, ◌≤◌, ◌+◌, ◌∙◌, ℕ, List, [], ◌∷◌, ◌++◌, length, Option, Some, None, IfSome, refl, sym, ap, subst, arith, append_assoc, append-nil, length-append}
 use Rattle.io_edge.specs.Edge.{Reads, told_as}
 use Rattle.session_words.specs.declared.line_reader.Next.{Next}
 use Rattle.session_words.specs.declared.line_reader.Next.TheVariants.{Line, Long, End}
 use Rattle.session_words.specs.Lines.{first_line, behind_first, Lacks, IsCut, StandsFirst}
 use Rattle.session_words.specs.Unread.{ahead_of, behind_told, Leaves, GivesLine, PassesLong, PassesOver, HasNoLine, Gives, GivesHeld}
-use Rattle.session_words.proofs.Cuts.{lacks-both, lacks-none, first_line-cut, behind_first-cut, first_line-none, behind_first-none, first_line-on}
+use Rattle.session_words.proofs.Cuts.{lacks-both, first_line-cut, behind_first-cut, first_line-none, behind_first-none, first_line-on}
 
 -- with nothing held it's what the source has left
 pub ahead-none : (left : Option (List ℕ)) → ahead_of [] left ≡ left

@@ -1,9 +1,9 @@
 -- What a reader of lines has not given yet, and what its calls take from that.
-use Rattle.std.specs.Prelude.{◌≡◌, ◌<◌, ◌≤◌, ◌+◌, ℕ, List, [], ◌∷◌, ◌++◌, take, drop, length, Option, Some, None, IfSome, map}
+use Rattle.std.specs.Prelude.{◌≡◌, ◌<◌, ◌≤◌, ℕ, List, ◌++◌, take, drop, length, Option, Some, None, IfSome}
 use Rattle.session_words.specs.declared.line_reader.LineReader.{LineReader}
 use Rattle.session_words.specs.declared.line_reader.Next.{Next}
 use Rattle.session_words.specs.declared.line_reader.Next.TheVariants.{Line, Long, End}
-use Rattle.session_words.specs.Lines.{first_line, behind_first, Lacks, IsCut}
+use Rattle.session_words.specs.Lines.{behind_first, Lacks, IsCut}
 
 -- the bytes that a reader holds and that no line was made of
 abbrev pub held_of : LineReader → List ℕ

@@ -137,7 +137,9 @@ fn lines_in_pieces_are_the_same_lines(rt: HostRuntime) -> Result<(), Fail> {
     for most in [1, 2, 7, 4095, 4096, 4097] {
         let bytes = Vec::from_slice(alloc, &text)?;
         let mut source = MemSource::in_pieces(bytes, Vec::new(alloc), most);
-        let mut lines = LineReader::new(alloc).ok().ok_or("memory")?;
+        let Ok(mut lines) = LineReader::new(alloc) else {
+            panic!(rt; "no memory")
+        };
         let first = lines.first(alloc, &mut source, 2).ok().ok_or("first")?;
         assert!(rt; first.as_slice() == b"{}".as_slice());
         assert!(rt; lines.next(&mut source) == Ok(Next::Line));

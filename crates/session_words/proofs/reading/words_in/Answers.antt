@@ -1,4 +1,4 @@
-use Rattle.std.proofs.Common.{◌≡◌, ◌≤◌, ◌∷◌, ◌∙◌, ℕ, List, [], get_or, length, min, refl, ap, arith}
+use Rattle.std.proofs.Common.{◌≡◌, ◌≤◌, ◌∷◌, ◌∙◌, ℕ, List, [], get_or, length, refl, ap, arith}
 use Rattle.session_words.specs.declared.reading.Words.{Words}
 use Rattle.session_words.specs.Requests.{words_of, word_at}
 use Rattle.session_words.specs.Words.{HasWords}

@@ -1,4 +1,4 @@
-use Rattle.std.proofs.Common.{◌≡◌, ◌<◌, ◌∙◌, List, ℕ, Ok, length, ap, arith}
+use Rattle.std.proofs.Common.{◌<◌, ◌∙◌, List, ℕ, Ok, length, ap, arith}
 use Rattle.session_words.specs.Unread.{held_of, unread, ahead_of}
 use Rattle.session_words.proofs.Held.{ahead-none, first-long, first-ends, first-goes, first-lacks, line-is, behind-is, last-is, last-behind, ended-told}
 use Rattle.session_words.proofs.line_reader.LineReader.first.Goals as goal

@@ -1,4 +1,4 @@
-use Rattle.std.proofs.Common.{◌≡◌, ◌≤◌, ◌+◌, ◌-◌, length, vec_len}
+use Rattle.std.proofs.Common.{◌≤◌, ◌+◌, ◌-◌, length}
 use Rattle.io_edge.specs.Edge.{Stays}
 use Rattle.session_words.specs.Lines.{Lacks}
 use Rattle.session_words.specs.Unread.{held_of, unread, Leaves}

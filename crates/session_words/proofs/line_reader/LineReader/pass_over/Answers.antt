@@ -1,4 +1,4 @@
-use Rattle.std.proofs.Common.{◌≡◌, ◌≤◌, ◌∙◌, List, ℕ, [], take, ap, subst, arith}
+use Rattle.std.proofs.Common.{◌∙◌, List, ℕ, take, ap, subst, arith}
 use Rattle.session_words.specs.Lines.{Lacks}
 use Rattle.session_words.specs.Unread.{held_of, unread, ahead_of}
 use Rattle.session_words.proofs.Held.{ahead-none, passes-line, passes-on, cut-held}
