@@ -1,5 +1,5 @@
 -- What has come to a book in a round: the state of its cabinet by it, its replies, and the lines of what came behind.
-use Rattle.std.proofs.Common.{◌≡◌, ◌+◌, ◌∙◌, ℕ, List, [], ◌∷◌, ◌++◌, All, length, map, drop, refl, sym, ap, append_assoc, append-nil}
+use Rattle.std.proofs.Common.{◌≡◌, ◌∙◌, ℕ, List, [], ◌∷◌, ◌++◌, length, drop, refl, sym, ap, append_assoc, append-nil}
 use Rattle.std.proofs.lemmas.List.{drop-map, length-map}
 use Rattle.std.proofs.lemmas.List.Elements.{All-head, All-tail}
 use Rattle.std.proofs.Math.Seq.{drop-append_seam}
@@ -17,7 +17,7 @@ use Rattle.run_definition.specs.Lines.{frame_lines, load_lines, reply_lines, ite
 use Rattle.cab_book.specs.declared.book.Book.{Book}
 use Rattle.cab_book.specs.declared.happened.Answered.{Answered}
 use Rattle.cab_book.specs.Happenings.{replies_in}
-use Rattle.cab_book.specs.Books.{IsBroughtAtEnd, acts_in, written_in, answered_in}
+use Rattle.cab_book.specs.Books.{IsBroughtAtEnd, written_in, answered_in}
 use Rattle.round_run.specs.CabinetStates.{IsAt, HasRun, HasCome, AreTicks, HaveNoTicks, state_by_acts}
 use Rattle.round_run.specs.Replied.{replied_in}
 use Rattle.round_run.specs.Lines.{new_frame_lines, new_reply_lines}

@@ -1,5 +1,4 @@
-use Rattle.std.proofs.Common.{refl, arith, subst, ℕ, ◌≡◌}
-use Rattle.cab_book.specs.Books.{left_of}
+use Rattle.std.proofs.Common.{refl, arith}
 use Rattle.round_run.proofs.InSerial.{BringsAll, brought-none, brought-more, brought-beginning, begun-more}
 use Rattle.round_run.proofs.serial.bring_beginning.Goals as goal
 
