@@ -45,6 +45,7 @@ among-if true first many o is = omega arith
 among-if false first many o is = among-more first many o is
 
 number-found : (first many : ℕ) (word : List ℕ) → IsAmong first many (number_among first many word)
+unfolding number_among
 number-found first zero word = tt
 number-found first (suc many) word =
     among-if (bytes_eq word (decimal first)) first many (number_among (first + 1) many word) (number-found (first + 1) many word)
