@@ -19,6 +19,7 @@ pub mod Keeping
 pub mod Bringing
 pub mod Coming
 pub mod Beginning
+pub mod Adding
 pub mod Texts
 pub mod Rereading
 mod Same

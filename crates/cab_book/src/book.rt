@@ -1,9 +1,11 @@
 //! The book of a cabinet: the cabinet, the streams of the round under way, how many items of each pass are left, and what the round has
-//! come to so far. Any pass may bring the next item of its stream at any time; only a new book and the start of a round take memory.
+//! come to so far. Any pass may bring the next item of its stream at any time, and an item that comes behind all of its stream is
+//! brought at once. Only a new book, the start of a round and such an item take memory.
 
-ghost use Rattle.std.specs.Prelude.{◌≡◌, ◌≢◌, ◌<◌, ◌≤◌, ◌+◌, ◌-◌, ◌⊎◌, ◌++◌, ◌∷◌, [], ℕ, OnOk, IfOk, IfErr, length, replicate, map, get_or};
+ghost use Rattle.std.specs.Prelude.{◌≡◌, ◌≢◌, ◌<◌, ◌≤◌, ◌+◌, ◌-◌, ◌⊎◌, ◌++◌, ◌∷◌, [], ℕ, OnOk, OnErr, IfOk, IfErr, length, replicate, map, get_or};
 ghost use Rattle.sig_tables.specs.Decide.{last_frame_of, past_at};
-ghost use Rattle.sig_types.specs.Items.{Came, items_of, texts_of};
+ghost use Rattle.sig_types.specs.Items.{Told as ToldItem, Came, items_of, texts_of};
+ghost use Rattle.tick_context.specs.Told.{NamesPlace};
 ghost use Rattle.tick_context.specs.Strides.{IsStride};
 ghost use Rattle.cabinet_history.specs.CabinetHistory.{CabinetHistory};
 ghost use Rattle.cabinet_history.specs.Coming.{history_of};
@@ -17,7 +19,7 @@ use crate::happened::{Answered, Happened};
 use crate::sharing::shares_of;
 use cabinet_history::Reply;
 use sig_tables::Tables;
-use sig_types::{Frame, NoMemory, Octets, Streams};
+use sig_types::{Field, Frame, NoMemory, Octets, Streams};
 use std::alloc::Global;
 
 /// The streams of no round.
@@ -77,7 +79,7 @@ pub struct Book {
 }
 
 impl Book {
-    ghost use Rattle.cab_book.specs.Books.{BookStands, CanBeTaken, IsBrought, IsOnePart, Replays, Shares, streams_in, journal_of, left_of, cabinet_history_now, ticks_by_end, written_in, answered_in};
+    ghost use Rattle.cab_book.specs.Books.{BookStands, CanBeTaken, IsAsBefore, IsBrought, IsBroughtAtEnd, IsOnePart, Replays, Shares, acts_in, next_act, tick_acts, streams_in, journal_of, left_of, cabinet_history_now, ticks_by_end, written_in, answered_in};
 
     /// The book of a cabinet before its first round.
     pub fn new(alloc: Global, cabinet: Cabinet) -> Result<Book, NoMemory>
@@ -154,6 +156,7 @@ impl Book {
         ensures stands { (cabinet_history : CabinetHistory) → BookStands self.old cabinet_history → BookStands self.new cabinet_history }
         ensures streams { streams_in self.new ≡ streams_in self.old }
         ensures journal { journal_of self.new ≡ journal_of self.old ++ pass ∷ [] }
+        ensures acts { acts_in self.new ≡ acts_in self.old ++ next_act self.old pass ∷ [] }
         ensures own { left_of self.new pass + 1 ≡ left_of self.old pass }
         ensures others { (p : ℕ) → p ≢ pass → left_of self.new p ≡ left_of self.old p }
         ensures ticks { ticks_by_end self.new ≡ ticks_by_end self.old }
@@ -232,6 +235,7 @@ impl Book {
         ensures stands { (cabinet_history : CabinetHistory) → BookStands self.old cabinet_history → BookStands self.new cabinet_history }
         ensures streams { streams_in self.new ≡ streams_in self.old }
         ensures journal { journal_of self.new ≡ journal_of self.old ++ replicate result pass }
+        ensures acts { acts_in self.new ≡ acts_in self.old ++ tick_acts pass result }
         ensures own { left_of self.new pass + result ≡ left_of self.old pass }
         ensures others { (p : ℕ) → p ≢ pass → left_of self.new p ≡ left_of self.old p }
         ensures ticks { ticks_by_end self.new ≡ ticks_by_end self.old }
@@ -243,6 +247,33 @@ impl Book {
         self.happened.add_ticks(pass, ticks, written);
         self.left[pass as usize] -= ticks;
         ticks
+    }
+
+    /// An input comes behind all others of the round, which were brought, and is brought at once. Where memory is wanting the book is
+    /// as before.
+    pub fn bring_input(&mut self, field: Field) -> Result<(), NoMemory>
+        requires place { NamesPlace field }
+        requires none { left_of self.old 0 ≡ 0 }
+        requires few { length (get_or (streams_in self.old) 0 []) < 2147483648 }
+        ensures brought { OnOk result (IsBroughtAtEnd self.old self.new 0 (ToldItem field)) }
+        ensures no_memory { OnErr result (IsAsBefore self.old self.new) }
+    {
+        let _ = field;
+        Err(NoMemory)
+    }
+
+    /// A frame comes behind all others of its pass, 1 to 3, which were brought, and is brought at once: its reply is the last. Where
+    /// memory is wanting the book is as before.
+    pub fn bring_frame(&mut self, pass: u32, octets: Octets) -> Result<(), NoMemory>
+        requires above { 1 ≤ pass }
+        requires within { pass ≤ 3 }
+        requires none { left_of self.old pass ≡ 0 }
+        requires few { length (get_or (streams_in self.old) pass []) < 2147483648 }
+        ensures brought { OnOk result (IsBroughtAtEnd self.old self.new pass (Came octets.items)) }
+        ensures no_memory { OnErr result (IsAsBefore self.old self.new) }
+    {
+        let _ = (pass, octets);
+        Err(NoMemory)
     }
 
     /// The cabinet hears the next input from the street.
