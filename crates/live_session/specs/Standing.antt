@@ -1,18 +1,18 @@
 -- That books, and a session as it is kept, stand for what a session has come to.
-use Rattle.std.specs.Prelude.{ℕ, ◌+◌, ◌*◌, ◌==◌, ◌≡◌, ◌<◌, ◌≤◌, ◌++◌, Bool, false, List, [], length, get_or, replicate}
-use Rattle.sig_types.specs.Items.{Ticked}
+use Rattle.std.specs.Prelude.{ℕ, ◌+◌, ◌*◌, ◌==◌, ◌≡◌, ◌<◌, ◌≤◌, ◌++◌, Bool, List, [], ◌∷◌, length, get_or}
+use Rattle.safety_laws.specs.TraceText.{lines_text}
 use Rattle.tick_context.specs.Told.{NamesPlace}
 use Rattle.scenario_data.specs.Content.{ScenarioContent, scenario_content}
-use Rattle.master_rounds.specs.Served.{CanBeServed}
-use Rattle.cabinet_history.specs.CabinetHistory.{CabinetHistory}
 use Rattle.cab_book.specs.declared.book.Book.{Book}
-use Rattle.cab_book.specs.Books.{BookStands, IsOnePart, acts_in, streams_in, left_of, ticks_by_end}
+use Rattle.cab_book.specs.Books.{streams_in, left_of, ticks_by_end}
 use Rattle.run_definition.specs.CabinetState.{CabinetState}
+use Rattle.run_definition.specs.Lines.{acts_lines}
 use Rattle.round_run.specs.CabinetStates.{HasCome, TicksWithin}
 use Rattle.round_run.specs.ClosedLoop.{Between, InRound}
 use Rattle.session_words.specs.declared.request.Request.{Request}
 use Rattle.session_words.specs.declared.request.Request.TheVariants.{Tick, Input, Frame}
-use Rattle.session_laws.specs.Session.{SessionHistory, Step, session_acts, states_after, ticks_behind, ticks_left, items_brought, is_over}
+use Rattle.session_laws.specs.Session.{SessionHistory, Step, step_acts, session_acts, history_by, states_after, ticks_behind, ticks_left, items_brought}
+use Rattle.session_laws.specs.Told.{each_step}
 use Rattle.live_session.specs.declared.session.Session.{Session}
 
 -- the book of the cabinet with this number has come to a round with these steps: all that master, line and scenario bring was brought, the
@@ -23,24 +23,27 @@ pub record HasComeBy (s : ScenarioContent) (cab : ℕ) (t : CabinetState) (steps
   pub ticks : left_of b 4 ≡ ticks_behind s steps
   pub short : (pass : ℕ) → pass < 4 → length (get_or (streams_in b) pass []) ≤ 1000000 + items_brought steps
 
--- the scenario of cabinets that have come to this is one that master and line can serve
-pub record AreServed (s : ScenarioContent) (ts : List CabinetState) : Type 0 where
-  pub served : CanBeServed s
-
 -- so have all books
 pub record HaveComeBy (s : ScenarioContent) (ts : List CabinetState) (steps : List Step) (books : List Book) : Type 0 where
   pub many : length books ≡ length ts
   pub each : (k : ℕ) (b : Book) (t : CabinetState) → k < length ts → HasComeBy s (k + 1) (get_or ts k t) steps (get_or books k b)
 
--- a pass of ticks has brought so many of them to a book
-pub record HasTicked (ticks : ℕ) (old new : Book) : Type 0 where
-  pub stands : (cabinet_history : CabinetHistory) → BookStands old cabinet_history → BookStands new cabinet_history
-  pub streams : streams_in new ≡ streams_in old
-  pub acts : acts_in new ≡ acts_in old ++ replicate ticks (record { pass = 4; item = Ticked })
-  pub one : IsOnePart old → IsOnePart new
-  pub own : left_of new 4 + ticks ≡ left_of old 4
-  pub others : (pass : ℕ) → pass < 4 → left_of new pass ≡ left_of old pass
+-- the book of the cabinet with this number has taken a step more
+pub record HasTaken (cab : ℕ) (step : Step) (old new : Book) : Type 0 where
+  pub come : (s : ScenarioContent) (t : CabinetState) (steps : List Step) → HasComeBy s cab t steps old → HasComeBy s cab t (steps ++ step ∷ []) new
   pub by_end : ticks_by_end new ≡ ticks_by_end old
+
+-- the lines of the step at this cabinet were appended to a text
+abbrev pub IsTold : ℕ → Step → Book → List ℕ → List ℕ → Type 0
+IsTold cab step old before text = (s : ScenarioContent) (t : CabinetState) (steps : List Step) → HasComeBy s cab t steps old
+    → text ≡ before ++ lines_text (acts_lines cab (history_by s cab t steps) (step_acts cab step))
+
+-- all books have taken a step more, and its lines were appended to a text
+pub record HaveTaken (step : Step) (old new : List Book) (before text : List ℕ) : Type 0 where
+  pub come : (s : ScenarioContent) (ts : List CabinetState) (steps : List Step) → HaveComeBy s ts steps old → HaveComeBy s ts (steps ++ step ∷ []) new
+  pub told : (s : ScenarioContent) (ts : List CabinetState) (steps : List Step) → HaveComeBy s ts steps old
+      → text ≡ before ++ lines_text (each_step s 1 ts steps step)
+  pub within : (most : ℕ) → TicksWithin most old → TicksWithin most new
 
 -- all rounds of the session are closed
 abbrev pub has_ended : Session → Bool

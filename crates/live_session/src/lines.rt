@@ -43,14 +43,14 @@ pub fn put_frame(
     alloc: Global,
     out: &mut Vec<u8>,
     cab: u32,
-    shown: &(u32, Frame),
+    tick: u32,
+    frame: &Frame,
 ) -> Result<(), NoMemory>
-    ensures { OnOk result (out.new.items ≡ out.old.items ++ line_text (shown_line cab shown.now.0 shown.now.1)) }
+    ensures { OnOk result (out.new.items ≡ out.old.items ++ line_text (shown_line cab tick frame.now)) }
 {
-    let frame = &shown.1;
     let line = Line::F {
         cab,
-        tick: shown.0,
+        tick,
         veh: frame.veh,
         ped: frame.ped,
         mode: frame.mode,
@@ -71,7 +71,7 @@ pub fn put_frames(
     ensures { OnOk result (out.new.items ≡ out.old.items ++ lines_text (frame_lines cab frames.now)) }
 {
     for shown in frames {
-        put_frame(alloc, out, cab, shown)?;
+        put_frame(alloc, out, cab, shown.0, &shown.1)?;
     }
     Ok(())
 }

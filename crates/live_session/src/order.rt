@@ -1,7 +1,7 @@
 //! Whether the loads and the priority requests of a scenario stand by rounds, as a session asks: then a session that ends early is a run of
 //! the front of each list.
 
-ghost use Rattle.std.specs.Prelude.{◌≡◌, ◌++◌, IfOk, OnOk, Err, codes, decimal, map, string_bytes};
+ghost use Rattle.std.specs.Prelude.{◌≡◌, OnOk, Err, String, map, string_bytes};
 ghost use Rattle.scenario_data.specs.Content.{scenario_content, load_content};
 ghost use Rattle.scenario_data.specs.declared.refusal.Refusal.{Refusal as RefusalRow};
 ghost use Rattle.session_laws.specs.Dialogue.{first_early, round_path, IsByRounds, IsOrderFault};

@@ -147,7 +147,7 @@ impl Session {
         match request {
             Request::Tick(ticks) => self.tick(alloc, ticks, out),
             Request::Input(cab, field) => {
-                hear(alloc, &mut self.closed_loop.books, cab, field)?;
+                hear(&mut self.closed_loop.books, cab, field)?;
                 self.brought += 1;
                 Ok(())
             }

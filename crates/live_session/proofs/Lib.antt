@@ -1,0 +1,9 @@
+mod Appended
+mod Steps
+mod Passes
+mod Beginning
+mod Taking
+mod Turns
+mod Books
+mod Requests
+mod Sessions
