@@ -34,9 +34,7 @@ module _ (session : Session) (s : ScenarioContent) (rounds : List (List Step)) (
   many-books = so.books.many ∙ many-of s (states_after s rounds) so.in_round.cabinets
 
   pub few-books : length session.closed_loop.books.items ≤ 64
-  few-books =
-      let runnable : Runnable s = subst Runnable so.scenario session.runnable in
-      omega (arith, many-books, runnable.few_cabinets)
+  few-books = omega (arith, many-books, so.runnable.few_cabinets)
 
 -- it has ended where all rounds are closed
 pub ended-is : (session : Session) (s : ScenarioContent) (rounds : List (List Step)) → scenario_content session.scenario ≡ s → session.closed ≡ length rounds
@@ -70,6 +68,7 @@ module _ (old new : Session) (s : ScenarioContent) (h : SessionHistory) (step : 
   pub step-in-round : IsInRound new s h.closed (steps_with h step)
   step-in-round = record {
     scenario = ap scenario_content scenario ∙ so.in_round.scenario;
+    runnable = so.in_round.runnable;
     closed = closed ∙ so.in_round.closed;
     more = so.in_round.more;
     in_round = same so.in_round.in_round;
@@ -117,6 +116,7 @@ module _ (old new : Session) (s : ScenarioContent) (rounds : List (List Step)) (
   begun-stands scenario closed in_round books within left some brought = record {
     in_round = record {
       scenario = ap scenario_content scenario ∙ so.scenario;
+      runnable = so.runnable;
       closed = closed ∙ so.closed;
       more = so.more;
       in_round =

@@ -1,6 +1,6 @@
 -- What a book has come to by one step more.
-use Rattle.std.proofs.Common.{◌≡◌, ◌≢◌, ◌<◌, ◌≤◌, ◌+◌, ◌-◌, ◌∙◌, ℕ, inl, inr, List, [], ◌∷◌, ◌++◌, length, map, drop, get_or, append-nil, sym, ap, subst, arith}
-use Rattle.std.proofs.lemmas.List.{get_or-set_same, get_or-set_other, length-append, length-map}
+use Rattle.std.proofs.Common.{◌≡◌, ◌≢◌, ◌<◌, ◌≤◌, ◌+◌, ◌-◌, ◌∙◌, ℕ, inl, inr, List, [], ◌∷◌, ◌++◌, length, map, drop, get_or, append_assoc, append-nil, replicate, refl, sym, ap, subst, arith}
+use Rattle.std.proofs.lemmas.List.{get_or-set_same, get_or-set_other, length-append, length-map, replicate-append-replicate}
 use Rattle.std.proofs.lemmas.Bool.Decides.{eqb_tells}
 use Rattle.sig_types.specs.declared.frame.Frame.{Frame}
 use Rattle.sig_types.specs.Items.{Item, Ticked}
@@ -11,13 +11,14 @@ use Rattle.cabinet_history.specs.Journals.{Act, items_in}
 use Rattle.cabinet_history.specs.Told.{item_written, acts_written, item_replies, acts_replies}
 use Rattle.cab_book.specs.declared.book.Book.{Book}
 use Rattle.cab_book.specs.declared.happened.Answered.{Answered}
-use Rattle.cab_book.specs.Books.{BookStands, IsOnePart, IsBroughtAtEnd, acts_in, streams_in, tick_acts, left_of, ticks_by_end, with_last, written_in, answered_in}
+use Rattle.cab_book.specs.Books.{BookStands, IsOnePart, IsBroughtAtEnd, acts_in, streams_in, journal_of, tick_acts, left_of, ticks_by_end, with_last, written_in, answered_in}
+use Rattle.cab_book.proofs.OnePart.{one-stays}
 use Rattle.run_definition.specs.CabinetState.{CabinetState}
 use Rattle.run_definition.specs.Lines.{acts_lines}
 use Rattle.round_run.specs.CabinetStates.{HasCome, AreTicks, HaveNoTicks}
 use Rattle.round_run.specs.Lines.{new_frame_lines, new_reply_lines}
 use Rattle.session_laws.specs.Session.{Step, Ticks, Brings, step_acts, session_acts, history_by, ticks_behind, items_brought}
-use Rattle.live_session.specs.Standing.{HasComeBy, HasTaken}
+use Rattle.live_session.specs.Standing.{HasComeBy, IsTicked, HasTaken}
 use Rattle.live_session.proofs.Steps.{acts-more, brings-here, brings-elsewhere, ticks-more, ticks-same, items-more, items-same, are-ticks, no-tick}
 
 -- with more acts there are no fewer frames and replies
@@ -66,15 +67,62 @@ longer-replies t acts more old new was is =
 
 -- ---- ticks
 
--- so many ticks were brought to a book, and nothing else
-pub record IsTicked (many : ℕ) (old new : Book) : Type 0 where
-  pub stands : (cabinet_history : CabinetHistory) → BookStands old cabinet_history → BookStands new cabinet_history
-  pub streams : streams_in new ≡ streams_in old
-  pub acts : acts_in new ≡ acts_in old ++ tick_acts 4 many
-  pub one : IsOnePart old → IsOnePart new
-  pub own : left_of new 4 + many ≡ left_of old 4
-  pub others : (pass : ℕ) → pass < 4 → left_of new pass ≡ left_of old pass
-  pub by_end : ticks_by_end new ≡ ticks_by_end old
+-- of so many ticks all but a rest were brought to a book
+pub record IsTickedTo (many rest : ℕ) (old now : Book) : Type 0 where
+  pub stands : (cabinet_history : CabinetHistory) → BookStands old cabinet_history → BookStands now cabinet_history
+  pub streams : streams_in now ≡ streams_in old
+  pub acts : acts_in now ++ tick_acts 4 rest ≡ acts_in old ++ tick_acts 4 many
+  pub one : IsOnePart old → IsOnePart now
+  pub own : left_of now 4 + many ≡ left_of old 4 + rest
+  pub within : rest ≤ left_of now 4
+  pub others : (pass : ℕ) → pass < 4 → left_of now pass ≡ left_of old pass
+  pub by_end : ticks_by_end now ≡ ticks_by_end old
+
+pub ticked-none : (many : ℕ) (b : Book) → many ≤ left_of b 4 → IsTickedTo many many b b
+ticked-none many b within = record {
+  stands = λ cabinet_history stood. stood;
+  streams = refl;
+  acts = refl;
+  one = λ one. one;
+  own = refl;
+  within = within;
+  others = λ pass low. refl;
+  by_end = refl;
+}
+
+-- some of the rest more
+pub ticked-more : (many rest some : ℕ) (old now new : Book) → some ≤ rest → ((cabinet_history : CabinetHistory) → BookStands now cabinet_history → BookStands new cabinet_history)
+    → streams_in new ≡ streams_in now → journal_of new ≡ journal_of now ++ replicate some 4 → acts_in new ≡ acts_in now ++ tick_acts 4 some
+    → left_of new 4 + some ≡ left_of now 4 → ((pass : ℕ) → pass ≢ 4 → left_of new pass ≡ left_of now pass) → ticks_by_end new ≡ ticks_by_end now
+    → IsTickedTo many rest old now → IsTickedTo many (rest - some) old new
+ticked-more many rest some old now new few stands streams journal acts own others by_end so =
+    let all : some + (rest - some) ≡ rest = omega (arith, few) in
+    record {
+      stands = λ cabinet_history stood. stands cabinet_history (so.stands cabinet_history stood);
+      streams = streams ∙ so.streams;
+      acts =
+          ap (λ (x : List Act). x ++ tick_acts 4 (rest - some)) acts
+          ∙ append_assoc (acts_in now) (tick_acts 4 some) (tick_acts 4 (rest - some))
+          ∙ ap (λ (x : List Act). acts_in now ++ x) (replicate-append-replicate some (rest - some) (record { pass = 4; item = Ticked }))
+          ∙ ap (λ (n : ℕ). acts_in now ++ tick_acts 4 n) all
+          ∙ so.acts;
+      one = λ one. one-stays now new 4 some (omega arith) journal others (so.one one);
+      own = omega (arith, own, so.own, few);
+      within = omega (arith, own, so.within, few);
+      others = λ pass low. others pass (λ e. omega (arith, e, low)) ∙ so.others pass low;
+      by_end = by_end ∙ so.by_end;
+    }
+
+pub ticked-whole : (many rest : ℕ) (old now : Book) → rest ≡ 0 → IsTickedTo many rest old now → IsTicked many old now
+ticked-whole many rest old now none so = record {
+  stands = so.stands;
+  streams = so.streams;
+  acts = sym (append-nil (acts_in now)) ∙ ap (λ (n : ℕ). acts_in now ++ tick_acts 4 n) (sym none) ∙ so.acts;
+  one = so.one;
+  own = omega (arith, so.own, none);
+  others = so.others;
+  by_end = so.by_end;
+}
 
 module _ (s : ScenarioContent) (cab : ℕ) (t : CabinetState) (steps : List Step) (many : ℕ) (old new : Book) (was : HasComeBy s cab t steps old)
     (is : IsTicked many old new) where

@@ -3,8 +3,10 @@ use Rattle.std.specs.Prelude.{ℕ, ◌+◌, ◌*◌, ◌==◌, ◌≡◌, ◌<�
 use Rattle.safety_laws.specs.TraceText.{lines_text}
 use Rattle.tick_context.specs.Told.{NamesPlace}
 use Rattle.scenario_data.specs.Content.{ScenarioContent, scenario_content}
+use Rattle.runnable.specs.Runnable.{Runnable}
+use Rattle.cabinet_history.specs.CabinetHistory.{CabinetHistory}
 use Rattle.cab_book.specs.declared.book.Book.{Book}
-use Rattle.cab_book.specs.Books.{streams_in, left_of, ticks_by_end}
+use Rattle.cab_book.specs.Books.{BookStands, IsOnePart, acts_in, streams_in, tick_acts, left_of, ticks_by_end}
 use Rattle.run_definition.specs.CabinetState.{CabinetState}
 use Rattle.run_definition.specs.Lines.{acts_lines}
 use Rattle.round_run.specs.CabinetStates.{HasCome, TicksWithin}
@@ -27,6 +29,16 @@ pub record HasComeBy (s : ScenarioContent) (cab : ℕ) (t : CabinetState) (steps
 pub record HaveComeBy (s : ScenarioContent) (ts : List CabinetState) (steps : List Step) (books : List Book) : Type 0 where
   pub many : length books ≡ length ts
   pub each : (k : ℕ) (b : Book) (t : CabinetState) → k < length ts → HasComeBy s (k + 1) (get_or ts k t) steps (get_or books k b)
+
+-- so many ticks were brought to a book, and nothing else
+pub record IsTicked (many : ℕ) (old new : Book) : Type 0 where
+  pub stands : (cabinet_history : CabinetHistory) → BookStands old cabinet_history → BookStands new cabinet_history
+  pub streams : streams_in new ≡ streams_in old
+  pub acts : acts_in new ≡ acts_in old ++ tick_acts 4 many
+  pub one : IsOnePart old → IsOnePart new
+  pub own : left_of new 4 + many ≡ left_of old 4
+  pub others : (pass : ℕ) → pass < 4 → left_of new pass ≡ left_of old pass
+  pub by_end : ticks_by_end new ≡ ticks_by_end old
 
 -- the book of the cabinet with this number has taken a step more
 pub record HasTaken (cab : ℕ) (step : Step) (old new : Book) : Type 0 where
@@ -52,6 +64,7 @@ has_ended session = session.closed == session.scenario.rounds
 -- a session between two rounds, of which the next can begin: the rounds that are closed are these
 pub record IsBetween (session : Session) (s : ScenarioContent) (rounds : List (List Step)) : Type 0 where
   pub scenario : scenario_content session.scenario ≡ s
+  pub runnable : Runnable s
   pub closed : session.closed ≡ length rounds
   pub more : length rounds < s.rounds
   pub between : Between s (length rounds) (states_after s rounds) session.closed_loop
@@ -59,6 +72,7 @@ pub record IsBetween (session : Session) (s : ScenarioContent) (rounds : List (L
 -- a session in the middle of a round with these steps, which is the one behind those that are closed
 pub record IsInRound (session : Session) (s : ScenarioContent) (rounds : List (List Step)) (steps : List Step) : Type 0 where
   pub scenario : scenario_content session.scenario ≡ s
+  pub runnable : Runnable s
   pub closed : session.closed ≡ length rounds
   pub more : length rounds < s.rounds
   pub in_round : InRound s (length rounds) (states_after s rounds) session.closed_loop

@@ -1,20 +1,19 @@
 //! What a session does with the books of its cabinets, one cabinet after another, and the lines that come of it.
 
-ghost use Rattle.std.specs.Prelude.{ℕ, ◌≡◌, ◌<◌, ◌≤◌, ◌+◌, ◌++◌, ◌∷◌, List, [], OnOk, drop, length, replicate};
+ghost use Rattle.std.specs.Prelude.{ℕ, ◌≡◌, ◌<◌, ◌≤◌, ◌+◌, ◌++◌, ◌∷◌, List, [], OnOk, drop, length};
 ghost use Rattle.safety_laws.specs.TraceText.{lines_text};
 ghost use Rattle.scenario_data.specs.Content.{ScenarioContent};
 ghost use Rattle.sig_types.specs.Items.{Told, Came};
 ghost use Rattle.sig_types.specs.Passes.{pass_of};
 ghost use Rattle.tick_context.specs.Told.{NamesPlace};
 ghost use Rattle.master_rounds.specs.Served.{CanBeServed};
-ghost use Rattle.cabinet_history.specs.CabinetHistory.{CabinetHistory};
 ghost use Rattle.run_definition.specs.CabinetState.{CabinetState};
 ghost use Rattle.run_definition.specs.Lines.{acts_lines, opening_lines};
-ghost use Rattle.cab_book.specs.Books.{BookStands, IsOnePart, acts_in, streams_in, tick_acts, left_of, ticks_by_end, written_in, answered_in};
+ghost use Rattle.cab_book.specs.Books.{left_of, ticks_by_end, written_in, answered_in};
 ghost use Rattle.round_run.specs.CabinetStates.{AreAt, HasRun, HaveRun, no_journals, TicksWithin};
 ghost use Rattle.session_laws.specs.Session.{Step, Ticks, Brings, begin_acts, ticks_behind, items_brought};
 ghost use Rattle.session_laws.specs.Told.{each_begin, each_journal};
-ghost use Rattle.live_session.specs.Standing.{HasComeBy, HaveComeBy, HasTaken, IsTold, HaveTaken};
+ghost use Rattle.live_session.specs.Standing.{HasComeBy, HaveComeBy, IsTicked, HasTaken, IsTold, HaveTaken};
 
 use crate::lines::{put_frame, put_frames, put_journal, put_replies};
 use cab_book::{Answered, Book};
@@ -72,13 +71,7 @@ pub fn begin_books(alloc: Global, out: &mut Vec<u8>, books: &mut Vec<Book>) -> R
 /// Brings so many ticks to a book, in strides.
 fn bring_ticks(book: &mut Book, ticks: u32)
     requires { ticks ≤ left_of book.old 4 }
-    ensures stands { (cabinet_history : CabinetHistory) → BookStands book.old cabinet_history → BookStands book.new cabinet_history }
-    ensures streams { streams_in book.new ≡ streams_in book.old }
-    ensures acts { acts_in book.new ≡ acts_in book.old ++ tick_acts 4 ticks }
-    ensures one { IsOnePart book.old → IsOnePart book.new }
-    ensures own { left_of book.new 4 + ticks ≡ left_of book.old 4 }
-    ensures others { (pass : ℕ) → pass < 4 → left_of book.new pass ≡ left_of book.old pass }
-    ensures ticks { ticks_by_end book.new ≡ ticks_by_end book.old }
+    ensures { IsTicked ticks book.old book.new }
 {
     let mut rest = ticks;
     while rest > 0 {

@@ -11,7 +11,7 @@ ghost use Rattle.session_laws.specs.Dialogue.{answer_text};
 use crate::books::{begin_books, hear, journal_books, open_books, receive, tick_books};
 use crate::lines::{put_dot, put_line, put_notes, put_refusal};
 use cab_book::Way as Engine;
-use round_run::ClosedLoop;
+use round_run::{ClosedLoop, books_follow_acts};
 use scenario_data::Scenario;
 use session_words::{Request, Untaken, read_request};
 use sig_types::NoMemory;
@@ -30,8 +30,6 @@ pub struct Session {
     closed: u32,
     ticks_left: u32,
     brought: u32,
-    ghost runnable: { Runnable (scenario_content scenario) },
-    ghost few: { ticks_left ≤ 600 },
 }
 
 impl Session {
@@ -113,6 +111,7 @@ impl Session {
 
     /// The request that a line asks, or why it can't be taken.
     fn judge(&self, line: &[u8]) -> Result<Request, Untaken>
+        requires { (s : ScenarioContent) × (h : SessionHistory) × SessionStands self.now s h }
         ensures { (s : ScenarioContent) (h : SessionHistory) → SessionStands self.now s h → result ≡ taken s h line.now }
     {
         let cabinets = self.scenario.cabinets.len() as u32;
@@ -193,6 +192,7 @@ impl Session {
         ensures text { OnOk result ((s : ScenarioContent) (h : SessionHistory) (steps : List Step) → IsInRound self.old s h.closed steps
             → out.new.items ≡ out.old.items ++ lines_text (end_lines s h steps)) }
     {
+        books_follow_acts();
         journal_books(alloc, out, &self.closed_loop.books)?;
         self.closed_loop
             .end_round(alloc, self.closed, &self.scenario)?;
