@@ -1,6 +1,9 @@
 -- What a step more is at a cabinet, and how many ticks and items the steps then have.
-use Rattle.std.proofs.Common.{◌≡◌, ◌≢◌, ◌+◌, ◌-◌, ◌∙◌, ℕ, zero, suc, List, [], ◌∷◌, ◌++◌, length, replicate, append_assoc, append-nil, eq-eqb, ne_eqb, refl, sym, ap, arith}
+use Rattle.std.proofs.Common.{◌≡◌, ◌≢◌, ◌<◌, ◌+◌, ◌-◌, ◌∙◌, ℕ, zero, suc, List, [], ◌∷◌, ◌++◌, length, replicate, append_assoc, append-nil, eq-eqb, ne_eqb, refl, sym, ap, arith}
 use Rattle.std.proofs.lemmas.List.Elements.{All-nil, All-replicate}
+use Rattle.sig_types.specs.declared.notes.Way.{Way}
+use Rattle.sig_types.specs.declared.notes.Way.TheVariants.{Poll, Load, Prio}
+use Rattle.sig_types.specs.Passes.{pass_of}
 use Rattle.sig_types.specs.Items.{Item, Told, Came, Ticked}
 use Rattle.scenario_data.specs.Content.{ScenarioContent}
 use Rattle.cabinet_history.specs.Journals.{Act}
@@ -60,3 +63,9 @@ are-ticks pass many = All-replicate (λ (act : Act). act.item ≡ Ticked) many (
 pub no-tick : (pass : ℕ) (item : Item) → (item ≡ Ticked → ⊥) → HaveNoTicks (record { pass = pass; item = item } ∷ [])
 no-tick pass item other zero d below = other
 no-tick pass item other (suc k) d below = absurd (omega (arith, below))
+
+-- the passes of the streams of messages are below 4
+pub way-low : (way : Way) → pass_of way < 4
+way-low Poll = omega arith
+way-low Load = omega arith
+way-low Prio = omega arith

@@ -1,0 +1,9 @@
+use Rattle.std.proofs.Common.{arith}
+use Rattle.live_session.proofs.Appended.{leaves-next}
+use Rattle.live_session.proofs.Cabinets.{next-journal}
+use Rattle.live_session.proofs.books.journal_books.Goals as goal
+
+pub loop-k-preserved : goal.loop-k-preserved
+loop-k-preserved c = λ s ts steps have.
+    leaves-next _ _ _ _ _ _ _ (next-journal s ts steps c.args.books.now.items c.loop-k.k c.index.result.now have (omega arith) c.index.ensures)
+    (c.loop-k.invariant s ts steps have) (c.in_ok-put_journal.ensures {u = tt})
