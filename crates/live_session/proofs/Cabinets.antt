@@ -17,7 +17,9 @@ use Rattle.cabinet_history.specs.Coming.{history_of}
 use Rattle.cabinet_history.specs.Journals.{Act, runs_of}
 use Rattle.cab_book.specs.declared.book.Book.{Book}
 use Rattle.cab_book.specs.Books.{BookStands, cabinet_history_now, journal_of, ticks_by_end}
-use Rattle.run_definition.specs.CabinetState.{CabinetState}
+use Rattle.sig_types.specs.Replies.{Reply}
+use Rattle.cabinet_history.specs.Told.{acts_replies}
+use Rattle.run_definition.specs.CabinetState.{CabinetState, answers_in}
 use Rattle.run_definition.specs.Lines.{shown_line, acts_lines, opening_lines}
 use Rattle.round_run.specs.CabinetStates.{IsAt, AreAt, HasCome, HasEnded, HaveEnded, HasRun, HaveRun, no_journals, state_by_acts, TicksWithin}
 use Rattle.round_run.specs.Replied.{replied_in}
@@ -241,7 +243,7 @@ behind-here s first (x ∷ ts) steps (suc k) cab t u below is = behind-here s (f
 -- books that have come to a round with these steps have ended it
 pub have-ended : (s : ScenarioContent) (ts : List CabinetState) (steps : List Step) (books : List Book)
     → ((t : CabinetState) (acts : List Act) (b : Book) → HasCome t acts b → IsAt b (state_by_acts t acts))
-    → ((t : CabinetState) (acts : List Act) (b : Book) → HasCome t acts b → (state_by_acts t acts).answered ≡ replied_in b ∷ t.answered)
+    → ((t : CabinetState) (acts : List Act) (b : Book) → HasCome t acts b → replied_in b ≡ answers_in (acts_replies t.cabinet_history acts))
     → HaveComeBy s ts steps books → HaveEnded ts (states_behind s 1 ts steps) books
 have-ended s ts steps books at replied have = record {
   many = have.many;
@@ -253,6 +255,8 @@ have-ended s ts steps books at replied have = record {
       (record {
         at = at (get_or ts k t) (session_acts s (k + 1) (get_or ts k t) steps) (get_or books k b) own.come;
         cabinet = refl;
-        answered = replied (get_or ts k t) (session_acts s (k + 1) (get_or ts k t) steps) (get_or books k b) own.come;
+        answered =
+            ap (λ (replies : List Reply). replies ∷ (get_or ts k t).answered)
+            (sym (replied (get_or ts k t) (session_acts s (k + 1) (get_or ts k t) steps) (get_or books k b) own.come));
       });
 }

@@ -1,5 +1,7 @@
 -- What a session has come to by a step, by the end of a round and by the beginning of the next; and the lines of each.
-use Rattle.std.proofs.Common.{◌≡◌, ◌<◌, ◌≤◌, ◌+◌, ◌-◌, ◌*◌, ◌==◌, ◌∙◌, ℕ, suc, Bool, true, false, if◌then◌else◌, List, [], ◌∷◌, ◌++◌, length, map, append_assoc, append-nil, true≢false, refl, sym, ap, subst, arith}
+use Rattle.std.proofs.Common.{◌≡◌, ◌<◌, ◌≤◌, ◌+◌, ◌-◌, ◌*◌, ◌==◌, ◌∙◌, ℕ, suc, Bool, true, false, if◌then◌else◌, List, [], ◌∷◌, ◌++◌, length, map, append_assoc, append-nil, ne_eqb, eq-eqb, inl, inr, refl, sym, ap, subst, arith}
+use Rattle.std.proofs.lemmas.Bool.{cases_lt}
+use Rattle.sig_types.specs.Items.{Item}
 use Rattle.sig_types.specs.declared.notes.MasterNote.{MasterNote}
 use Rattle.trace_text.specs.declared.lines.Line.{Line}
 use Rattle.trace_text.specs.declared.lines.Line.TheVariants.{R, M, Z}
@@ -8,17 +10,25 @@ use Rattle.safety_laws.specs.TraceText.{lines_text}
 use Rattle.scenario_data.specs.Content.{ScenarioContent, CabinetContent, scenario_content}
 use Rattle.runnable.specs.Runnable.{Runnable}
 use Rattle.cab_book.specs.declared.book.Book.{Book}
-use Rattle.run_definition.specs.CabinetState.{CabinetState, opened_cabinet_states}
+use Rattle.cabinet_history.specs.Journals.{Act}
+use Rattle.cabinet_history.specs.Told.{acts_replies}
+use Rattle.run_definition.specs.CabinetState.{CabinetState, answers_in, opened_cabinet_states}
 use Rattle.run_definition.specs.Lines.{head_lines, notes_lines, opening_lines}
 use Rattle.round_run.specs.declared.rounds.ClosedLoop.{ClosedLoop}
-use Rattle.round_run.specs.CabinetStates.{TicksWithin}
+use Rattle.round_run.specs.CabinetStates.{IsAt, HasCome, HaveEnded, TicksWithin, state_by_acts}
+use Rattle.round_run.specs.Replied.{replied_in}
 use Rattle.round_run.specs.ClosedLoop.{Between, InRound, cabinets_of}
-use Rattle.round_run.proofs.Streams.{many-of}
+use Rattle.master_rounds.specs.Served.{CanBeServed}
+use Rattle.round_run.proofs.Streams.{can-be-served, many-of}
 use Rattle.session_laws.specs.Session.{SessionHistory, Step, Ticks, Brings, opened_session, states_after, states_behind, ticks_behind, ticks_left, items_brought, steps_with, is_last, with_round, with_step, steps_to_end, is_over}
 use Rattle.session_laws.specs.Told.{begin_lines, each_begin, each_step, each_journal, next_lines, end_lines, step_lines, open_lines, leave_lines}
+use Rattle.session_laws.specs.Told.{Answer, Lines}
+use Rattle.session_laws.specs.Dialogue.{dot, answer_text}
 use Rattle.live_session.specs.declared.session.Session.{Session}
 use Rattle.live_session.specs.Standing.{HaveComeBy, HaveTaken, IsBetween, IsInRound, SessionStands, has_ended}
-use Rattle.live_session.proofs.Appended.{text-append, appends-both}
+use Rattle.live_session.proofs.Appended.{text-append, text-one, appends-both}
+use Rattle.live_session.proofs.Steps.{ticks-more, ticks-same}
+use Rattle.live_session.proofs.Cabinets.{have-ended}
 
 -- ---- what a session stands for
 
@@ -76,22 +86,41 @@ module _ (old new : Session) (s : ScenarioContent) (h : SessionHistory) (step : 
     within = taken.within (length h.closed * 600 + 600) so.in_round.within;
   }
 
-  pub step-told : text ≡ before ++ lines_text (each_step s 1 (states_after s h.closed) h.steps step)
-  step-told = taken.told s (states_after s h.closed) h.steps so.in_round.books
-
   pub step-stands : is_last s h step ≡ false → new.ticks_left ≡ ticks_behind s (steps_with h step) → 1 ≤ new.ticks_left
       → new.brought ≡ items_brought (steps_with h step) → SessionStands new s (with_step s h step)
   step-stands more left some brought =
       subst (λ (x : SessionHistory). SessionStands new s x) (sym (step-more s h step more))
       (record { in_round = step-in-round; ticks = left; some = some; brought = brought })
 
-  pub step-lines : is_last s h step ≡ false → text ≡ before ++ lines_text (step_lines s h step)
-  step-lines more = step-told ∙ ap (λ (lines : List Line). before ++ lines_text lines) (sym (lines-more s h step more))
-
-  pub step-over : is_last s h step ≡ false → has_ended new ≡ is_over s (with_step s h step)
+module _ (session : Session) (s : ScenarioContent) (h : SessionHistory) (step : Step) (so : SessionStands session s h) where
+  pub step-over : is_last s h step ≡ false → has_ended session ≡ is_over s (with_step s h step)
   step-over more =
-      ended-is new s h.closed (ap scenario_content scenario ∙ so.in_round.scenario) (closed ∙ so.in_round.closed)
-      ∙ ap (λ (x : SessionHistory). is_over s x) (sym (step-more s h step more))
+      ended-is session s h.closed so.in_round.scenario so.in_round.closed ∙ ap (λ (x : SessionHistory). is_over s x) (sym (step-more s h step more))
+
+  pub step-lines : (books : List Book) (before text : List ℕ) → HaveTaken step session.closed_loop.books.items books before text → is_last s h step ≡ false
+      → text ≡ before ++ lines_text (step_lines s h step)
+  step-lines books before text taken more =
+      taken.told s (states_after s h.closed) h.steps so.in_round.books ∙ ap (λ (lines : List Line). before ++ lines_text lines) (sym (lines-more s h step more))
+
+  -- the last step of a round, and the end of the round
+  pub step-ends : (books : List Book) (first second last : List ℕ) → HaveTaken step session.closed_loop.books.items books first second → is_last s h step ≡ true
+      → last ≡ second ++ lines_text (end_lines s h (steps_with h step)) → last ≡ first ++ lines_text (step_lines s h step)
+  step-ends books first second last taken is text =
+      let told : List Line = each_step s 1 (states_after s h.closed) h.steps step in
+      let end : List Line = end_lines s h (steps_with h step) in
+      appends-both first second last (lines_text told) (lines_text end) (taken.told s (states_after s h.closed) h.steps so.in_round.books) text
+      ∙ ap (λ (x : List ℕ). first ++ x) (sym (text-append told end))
+      ∙ ap (λ (lines : List Line). first ++ lines_text lines) (sym (lines-last s h step is))
+
+  -- there are at most 64 books behind it
+  pub step-few : (books : List Book) (before text : List ℕ) → HaveTaken step session.closed_loop.books.items books before text → length books ≤ 64
+  step-few books before text taken =
+      omega (
+        arith,
+        (taken.come s (states_after s h.closed) h.steps so.in_round.books).many,
+        many-of s (states_after s h.closed) so.in_round.in_round.cabinets,
+        so.in_round.runnable.few_cabinets,
+      )
 
 -- ---- the beginning of a round
 
@@ -107,6 +136,12 @@ module _ (old new : Session) (s : ScenarioContent) (rounds : List (List Step)) (
 
   pub between-more : old.closed < old.scenario.rounds
   between-more = omega (arith, so.closed, so.more, ap (λ (x : ScenarioContent). x.rounds) so.scenario)
+
+  pub begun-served : CanBeServed (scenario_content old.scenario)
+  begun-served = can-be-served (scenario_content old.scenario) (subst Runnable (sym so.scenario) so.runnable)
+
+  pub begun-some : 1 ≤ old.scenario.ticks
+  begun-some = omega (arith, so.runnable.some_ticks, ap (λ (x : ScenarioContent). x.ticks) so.scenario)
 
   pub begun-stands : new.scenario ≡ old.scenario → new.closed ≡ old.closed
       → InRound (scenario_content old.scenario) old.closed (states_after s rounds) new.closed_loop
@@ -183,3 +218,67 @@ end-more s h steps first second last closed count e one two =
     appends-both first second last (lines_text (each_journal s 1 (states_after s h.closed) steps)) (lines_text (begin_lines s (closed + 1) (states_after s (steps ∷ h.closed)))) one two
     ∙ ap (λ (lines : List Line). first ++ (lines_text (each_journal s 1 (states_after s h.closed) steps) ++ lines_text lines)) spelled
     ∙ ap (λ (x : List ℕ). first ++ x) (sym (end-spelled s h steps))
+
+less : (n rounds : ℕ) {m all : ℕ} → n ≤ rounds → (n ≡ rounds → ⊥) → n ≡ m → rounds ≡ all → m < all
+less n rounds few more count same = elim (cases_lt n rounds) [ | inl below ↦ omega (arith, below, count, same) | inr most ↦ absurd (more (omega (arith, few, most))) ]
+
+-- behind a round that was ended the next can begin, where it was not the last
+module _ (old new : Session) (s : ScenarioContent) (rounds : List (List Step)) (steps : List Step) (so : IsInRound old s rounds steps)
+    (at : (t : CabinetState) (acts : List Act) (b : Book) → HasCome t acts b → IsAt b (state_by_acts t acts))
+    (replied : (t : CabinetState) (acts : List Act) (b : Book) → HasCome t acts b → replied_in b ≡ answers_in (acts_replies t.cabinet_history acts))
+    (ends : (ts next : List CabinetState) → InRound (scenario_content old.scenario) old.closed ts old.closed_loop → HaveEnded ts next old.closed_loop.books.items
+      → TicksWithin (old.closed * 600 + 600) old.closed_loop.books.items → Between (scenario_content old.scenario) (old.closed + 1) next new.closed_loop) where
+  pub end-between : new.scenario ≡ old.scenario → new.closed ≡ old.closed + 1 → (old.closed + 1 ≡ old.scenario.rounds → ⊥) → IsBetween new s (steps ∷ rounds)
+  end-between scenario closed more =
+      let ts : List CabinetState = states_after s rounds in
+      let count : old.closed + 1 ≡ length (steps ∷ rounds) = omega (arith, so.closed) in
+      let all : old.scenario.rounds ≡ s.rounds = rounds-same old s rounds steps so in
+      let begun : InRound (scenario_content old.scenario) old.closed (states_after s rounds) old.closed_loop =
+      subst (λ (x : ScenarioContent). InRound x old.closed (states_after s rounds) old.closed_loop) (sym so.scenario)
+      (subst (λ (n : ℕ). InRound s n (states_after s rounds) old.closed_loop) (sym so.closed) so.in_round) in
+      let ended : Between (scenario_content old.scenario) (old.closed + 1) (states_after s (steps ∷ rounds)) new.closed_loop =
+      ends (states_after s rounds) (states_after s (steps ∷ rounds)) begun (have-ended s (states_after s rounds) steps old.closed_loop.books.items at replied so.books)
+      (subst (λ (n : ℕ). TicksWithin (n * 600 + 600) old.closed_loop.books.items) (sym so.closed) so.within) in
+      record {
+        scenario = ap scenario_content scenario ∙ so.scenario;
+        runnable = so.runnable;
+        closed = closed ∙ count;
+        more = less (old.closed + 1) old.scenario.rounds (omega (arith, so.more, so.closed, all)) more count all;
+        between =
+            subst (λ (x : ScenarioContent). Between x (length (steps ∷ rounds)) (states_after s (steps ∷ rounds)) new.closed_loop) so.scenario
+            (subst (λ (n : ℕ). Between (scenario_content old.scenario) n (states_after s (steps ∷ rounds)) new.closed_loop) count ended);
+      }
+
+-- ---- which step is the last of its round
+
+pub tick-more : (s : ScenarioContent) (h : SessionHistory) (many left : ℕ) → left ≡ ticks_left s h → 0 < left - many → is_last s h (Ticks many) ≡ false
+tick-more s h many left is some = ne_eqb (ticks_behind s (steps_with h (Ticks many))) 0 (λ e. omega (arith, e, is, some, ticks-more s h.steps many))
+
+pub tick-last : (s : ScenarioContent) (h : SessionHistory) (many left : ℕ) → left ≡ ticks_left s h → left - many ≡ 0 → is_last s h (Ticks many) ≡ true
+tick-last s h many left is none = eq-eqb (ticks_behind s (steps_with h (Ticks many))) 0 (omega (arith, is, none, ticks-more s h.steps many))
+
+pub brings-more : (s : ScenarioContent) (h : SessionHistory) (cab pass : ℕ) (item : Item) (left : ℕ) → left ≡ ticks_left s h → 1 ≤ left
+    → is_last s h (Brings cab pass item) ≡ false
+brings-more s h cab pass item left is some =
+    ne_eqb (ticks_behind s (steps_with h (Brings cab pass item))) 0 (λ e. omega (arith, e, is, some, ticks-same s h.steps cab pass item))
+
+-- ---- the end of the input
+
+pub leave-spelled : (s : ScenarioContent) (h : SessionHistory) (first second third last : List ℕ)
+    → second ≡ first ++ lines_text (each_step s 1 (states_after s h.closed) h.steps (Ticks (ticks_left s h)))
+    → third ≡ second ++ lines_text (each_journal s 1 (states_after s h.closed) (steps_to_end s h))
+    → last ≡ third ++ line_text (Z (length h.closed + 1)) → last ≡ first ++ lines_text (leave_lines s h)
+leave-spelled s h first second third last one two three =
+    let end : Line = Z (length h.closed + 1) in
+    let steps : List Line = each_step s 1 (states_after s h.closed) h.steps (Ticks (ticks_left s h)) in
+    let journals : List Line = each_journal s 1 (states_after s h.closed) (steps_to_end s h) in
+    appends-both first second last (lines_text steps) (lines_text journals ++ line_text end) one
+    (appends-both second third last (lines_text journals) (line_text end) two three)
+    ∙ ap (λ (x : List ℕ). first ++ (lines_text steps ++ (lines_text journals ++ x))) (sym (text-one end))
+    ∙ ap (λ (x : List ℕ). first ++ (lines_text steps ++ x)) (sym (text-append journals (end ∷ [])))
+    ∙ ap (λ (x : List ℕ). first ++ x) (sym (text-append steps (journals ++ end ∷ [])))
+
+-- the lines of an answer and its end
+pub answer-ends : (lines : List Line) (first second last : List ℕ) → second ≡ first ++ lines_text lines → last ≡ second ++ dot
+    → last ≡ first ++ answer_text (Lines lines)
+answer-ends lines first second last one two = appends-both first second last (lines_text lines) dot one two

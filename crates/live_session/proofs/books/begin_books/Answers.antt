@@ -1,5 +1,7 @@
 use Rattle.std.proofs.Common.{◌≡◌, ◌<◌, length, get_or, arith}
 use Rattle.round_run.proofs.Places.{pick}
+use Rattle.safety_laws.specs.TraceText.{lines_text}
+use Rattle.session_laws.specs.Told.{each_begin}
 use Rattle.live_session.proofs.Appended.{leaves-next}
 use Rattle.live_session.proofs.Turns.{turns-here, turns-more}
 use Rattle.live_session.proofs.Cabinets.{IsBegun, run-here, next-begin, begun-all, begun-within}
@@ -17,7 +19,7 @@ loop-k-preserved c =
           let place : c.loop-k.k < length ts = omega (arith, have.many) in
           let is : c.index_mut.result.now ≡ get_or c.args.books.now.items c.loop-k.k c.index_mut.result.now =
           turns-here IsBegun old c.loop-k.books.items c.loop-k.k was (omega arith) c.loop-k.invariant.turns c.index_mut.ensures.value was in
-          leaves-next _ _ _ _ _ _ _ (next-begin s ts c.loop-k.k place) (c.loop-k.invariant.told s ts have)
+          leaves-next c.args.out.now.items _ _ (lines_text (each_begin s 1 ts)) _ _ _ (next-begin s ts c.loop-k.k place) (c.loop-k.invariant.told s ts have)
           (begun.text s (pick ts c.loop-k.k place).item (run-here s ts old c.loop-k.k was have place is));
     }
 

@@ -6,11 +6,6 @@ use Rattle.live_session.proofs.Taking.{has-brought}
 use Rattle.live_session.proofs.Cabinets.{come-here, one-silent}
 use Rattle.live_session.proofs.books.hear.Goals as goal
 
-pub books_follow_acts-requires : goal.books_follow_acts-requires
-books_follow_acts-requires c =
-    let below : c.args.cab - 1 < length c.args.books.now.items = omega arith in
-    record { stub = (pick c.args.books.now.items (c.args.cab - 1) below).item.stub }
-
 pub bring_input-requires-clause-none : goal.bring_input-requires-clause-none
 bring_input-requires-clause-none c =
     let (s, ts, steps, come, few) = c.requires.come in

@@ -14,9 +14,6 @@ use Rattle.live_session.proofs.Steps.{way-low}
 use Rattle.live_session.proofs.Taking.{has-brought, brought-longer, brought-lines}
 use Rattle.live_session.proofs.books.receive_frame.Goals as goal
 
-pub books_follow_acts-requires : goal.books_follow_acts-requires
-books_follow_acts-requires c = record { stub = c.args.book.now.stub }
-
 pub replies_from-requires : goal.replies_from-requires
 replies_from-requires c =
     let (s, t, steps, was, few) = c.requires in

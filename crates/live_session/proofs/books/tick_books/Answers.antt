@@ -31,7 +31,7 @@ loop-k-preserved c =
           let place : c.loop-k.k < length ts = omega (arith, have.many) in
           let is : c.index_mut.result.now ≡ get_or c.args.books.now.items c.loop-k.k c.index_mut.result.now =
           turns-here (Takes (Ticks c.args.ticks)) old c.loop-k.books.items c.loop-k.k was (omega arith) c.loop-k.invariant.turns c.index_mut.ensures.value was in
-          leaves-next _ _ _ _ _ _ _ (next-step s ts steps (Ticks c.args.ticks) c.loop-k.k place) (c.loop-k.invariant.told s ts steps have)
+          leaves-next c.args.out.now.items _ _ (lines_text (each_step s 1 ts steps (Ticks c.args.ticks))) _ _ _ (next-step s ts steps (Ticks c.args.ticks) c.loop-k.k place) (c.loop-k.invariant.told s ts steps have)
           (done.told s (pick ts c.loop-k.k place).item steps (come-here s ts steps old c.loop-k.k was have place is));
     }
 
@@ -40,7 +40,7 @@ returns c = record {
   come = λ s ts steps have.
       taken-all (Ticks c.args.ticks) c.args.books.now.items c.loop-k.books.items c.loop-k.k (omega arith) c.loop-k.invariant.turns s ts steps have;
   told = λ s ts steps have.
-      leaves-none _ _ _ _
+      leaves-none c.args.out.now.items _ (lines_text (each_step s 1 ts steps (Ticks c.args.ticks))) _
       (ap (λ (us : List CabinetState). lines_text (each_step s (c.loop-k.k + 1) us steps (Ticks c.args.ticks))) (drop_all c.loop-k.k ts (omega (arith, have.many))))
       (c.loop-k.invariant.told s ts steps have);
   within = λ most few.
