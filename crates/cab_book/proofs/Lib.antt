@@ -20,7 +20,9 @@ pub mod Bringing
 pub mod Coming
 pub mod Beginning
 pub mod Adding
+pub mod Ignoring
 pub mod Texts
 pub mod Rereading
 mod Same
 pub mod OnePart
+pub mod Lengthening

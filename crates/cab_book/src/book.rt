@@ -11,7 +11,8 @@ ghost use Rattle.cabinet_history.specs.CabinetHistory.{CabinetHistory};
 ghost use Rattle.cabinet_history.specs.Coming.{history_of};
 ghost use Rattle.cabinet_history.specs.Journals.{runs_of};
 ghost use Rattle.cab_book.specs.Stands.{CabinetStands};
-ghost use Rattle.cab_book.specs.Rounds.{ArePlaced, AreShort, AreTallied, HasRoomFor, RoundStands};
+ghost use Rattle.cab_book.specs.Rounds.{ArePlaced, AreShort, AreTallied, HasRoomFor, RoundStands, frames_left, items_left, with_last};
+ghost use Rattle.cab_book.specs.Happened.{HasRoom};
 ghost use Rattle.cab_book.specs.Shares.{read_journal, ticks_left, shares};
 
 use crate::cabinet::{Cabinet, Told};
@@ -48,6 +49,38 @@ fn frames_of(streams: &Streams, pass: u32) -> &[Octets]
     }
 }
 
+/// An input more stands at the end of the others. Where memory is wanting all streams are as before.
+fn push_field(streams: &mut Streams, field: Field) -> Result<(), NoMemory>
+    ensures items { OnOk result (items_of streams.new ≡ with_last (items_of streams.old) 0 (ToldItem field)) }
+    ensures fields { OnOk result (streams.new.fields.items ≡ streams.old.fields.items ++ field ∷ []) }
+    ensures no_memory { OnErr result (items_of streams.new ≡ items_of streams.old) }
+    ensures as_before { OnErr result (streams.new.fields.items ≡ streams.old.fields.items) }
+{
+    match streams.fields.push(field) {
+        Ok(()) => Ok(()),
+        Err(_) => Err(NoMemory),
+    }
+}
+
+/// A frame more stands at the end of those of a pass, 1 to 3. Where memory is wanting all streams are as before.
+fn push_frame(streams: &mut Streams, pass: u32, octets: Octets) -> Result<(), NoMemory>
+    requires above { 1 ≤ pass }
+    requires within { pass ≤ 3 }
+    ensures items { OnOk result (items_of streams.new ≡ with_last (items_of streams.old) pass (Came octets.items)) }
+    ensures no_memory { OnErr result (items_of streams.new ≡ items_of streams.old) }
+    ensures fields { streams.new.fields ≡ streams.old.fields }
+{
+    let pushed = match pass {
+        1 => streams.polls.push(octets),
+        2 => streams.loads.push(octets),
+        _ => streams.prios.push(octets),
+    };
+    match pushed {
+        Ok(()) => Ok(()),
+        Err(_) => Err(NoMemory),
+    }
+}
+
 /// The octets of the next of these frames, where so many are left.
 #[tactic(auto, using(crate::proofs::Texts::text_at))]
 fn next_of(frames: &[Octets], left: u32) -> &[u8]
@@ -79,7 +112,7 @@ pub struct Book {
 }
 
 impl Book {
-    ghost use Rattle.cab_book.specs.Books.{BookStands, CanBeTaken, IsAsBefore, IsBrought, IsBroughtAtEnd, IsOnePart, Replays, Shares, acts_in, next_act, tick_acts, streams_in, journal_of, left_of, cabinet_history_now, ticks_by_end, written_in, answered_in};
+    ghost use Rattle.cab_book.specs.Books.{BookStands, CanBeTaken, HasOnlyRoom, IgnoresWhatAsksNothing, IsAsBefore, IsBrought, IsBroughtAtEnd, IsLengthened, IsOnePart, Replays, Shares, acts_in, next_act, tick_acts, streams_in, journal_of, left_of, cabinet_history_now, ticks_by_end, written_in, answered_in};
 
     /// The book of a cabinet before its first round.
     pub fn new(alloc: Global, cabinet: Cabinet) -> Result<Book, NoMemory>
@@ -150,7 +183,8 @@ impl Book {
         }
     }
 
-    /// A pass brings the next item of its stream. It takes no memory.
+    /// A pass brings the next item of its stream. A frame that asks nothing of the cabinet changes nothing in it, and is met with silence.
+    /// It takes no memory.
     pub fn apply(&mut self, pass: u32)
         requires { 0 < left_of self.old pass }
         ensures stands { (cabinet_history : CabinetHistory) → BookStands self.old cabinet_history → BookStands self.new cabinet_history }
@@ -160,6 +194,7 @@ impl Book {
         ensures own { left_of self.new pass + 1 ≡ left_of self.old pass }
         ensures others { (p : ℕ) → p ≢ pass → left_of self.new p ≡ left_of self.old p }
         ensures ticks { ticks_by_end self.new ≡ ticks_by_end self.old }
+        ensures ignored { IgnoresWhatAsksNothing self.old self.new pass (next_act self.old pass).item }
         ensures replays { (first : Book) → Replays first self.old → Replays first self.new }
     {
         match pass {
@@ -258,8 +293,12 @@ impl Book {
         ensures brought { OnOk result (IsBroughtAtEnd self.old self.new 0 (ToldItem field)) }
         ensures no_memory { OnErr result (IsAsBefore self.old self.new) }
     {
-        let _ = field;
-        Err(NoMemory)
+        match self.add_input(field) {
+            Ok(()) => {}
+            Err(NoMemory) => return Err(NoMemory),
+        }
+        self.hear();
+        Ok(())
     }
 
     /// A frame comes behind all others of its pass, 1 to 3, which were brought, and is brought at once: its reply is the last. Where
@@ -272,8 +311,64 @@ impl Book {
         ensures brought { OnOk result (IsBroughtAtEnd self.old self.new pass (Came octets.items)) }
         ensures no_memory { OnErr result (IsAsBefore self.old self.new) }
     {
-        let _ = (pass, octets);
-        Err(NoMemory)
+        match self.add_frame(pass, octets) {
+            Ok(()) => {}
+            Err(NoMemory) => return Err(NoMemory),
+        }
+        self.receive(pass);
+        Ok(())
+    }
+
+    /// Takes room for what one item more may give. Nothing else of the book changes, also where memory is wanting.
+    fn reserve_one(&mut self) -> Result<(), NoMemory>
+        ensures room { OnOk result (HasRoom self.new.happened (ticks_left self.old.left) (frames_left self.old.left + 1) (items_left self.old.left + 1)) }
+        ensures same { HasOnlyRoom self.old self.new }
+    {
+        let frames = self.left[1] as usize + self.left[2] as usize + self.left[3] as usize + 1;
+        let items = self.left[0] as usize + frames + self.ticks_left() as usize;
+        match self.happened.reserve(frames, items) {
+            Ok(()) => Ok(()),
+            Err(NoMemory) => Err(NoMemory),
+        }
+    }
+
+    /// An input comes behind all others of the round, and is left to be brought. Where memory is wanting the book is as before.
+    fn add_input(&mut self, field: Field) -> Result<(), NoMemory>
+        requires place { NamesPlace field }
+        requires few { length (get_or (streams_in self.old) 0 []) < 2147483648 }
+        ensures added { OnOk result (IsLengthened self.old self.new 0 (ToldItem field)) }
+        ensures no_memory { OnErr result (IsAsBefore self.old self.new) }
+    {
+        match self.reserve_one() {
+            Ok(()) => {}
+            Err(NoMemory) => return Err(NoMemory),
+        }
+        match push_field(&mut self.streams, field) {
+            Ok(()) => {}
+            Err(NoMemory) => return Err(NoMemory),
+        }
+        self.left[0] += 1;
+        Ok(())
+    }
+
+    /// A frame comes behind all others of its pass, 1 to 3, and is left to be brought. Where memory is wanting the book is as before.
+    fn add_frame(&mut self, pass: u32, octets: Octets) -> Result<(), NoMemory>
+        requires above { 1 ≤ pass }
+        requires within { pass ≤ 3 }
+        requires few { length (get_or (streams_in self.old) pass []) < 2147483648 }
+        ensures added { OnOk result (IsLengthened self.old self.new pass (Came octets.items)) }
+        ensures no_memory { OnErr result (IsAsBefore self.old self.new) }
+    {
+        match self.reserve_one() {
+            Ok(()) => {}
+            Err(NoMemory) => return Err(NoMemory),
+        }
+        match push_frame(&mut self.streams, pass, octets) {
+            Ok(()) => {}
+            Err(NoMemory) => return Err(NoMemory),
+        }
+        self.left[pass as usize] += 1;
+        Ok(())
     }
 
     /// The cabinet hears the next input from the street.

@@ -1,5 +1,4 @@
 use Rattle.std.proofs.Common.{◌∙◌}
-use Rattle.cab_book.proofs.Adding.{act-next}
 use Rattle.cab_book.proofs.book.Book.apply.Goals as goal
 
 pub returns-in-0-clause-replays : goal.returns-in-0-clause-replays
@@ -22,12 +21,3 @@ returns-in_default-clause-replays c = λ first is. record {
   cabinet_histories = λ cabinet_history so. c.tick.ensures.stands cabinet_history (is.cabinet_histories cabinet_history so);
   ticks = c.tick.ensures.ticks ∙ is.ticks;
 }
-
-pub returns-in-0-clause-acts : goal.returns-in-0-clause-acts
-returns-in-0-clause-acts c = act-next c.args.self.now c.hear.new.self c.args.pass c.hear.ensures.streams c.hear.ensures.journal
-
-pub returns-in-1-to-3-clause-acts : goal.returns-in-1-to-3-clause-acts
-returns-in-1-to-3-clause-acts c = act-next c.args.self.now c.receive.new.self c.args.pass c.receive.ensures.streams c.receive.ensures.journal
-
-pub returns-in_default-clause-acts : goal.returns-in_default-clause-acts
-returns-in_default-clause-acts c = act-next c.args.self.now c.tick.new.self c.args.pass c.tick.ensures.streams c.tick.ensures.journal
