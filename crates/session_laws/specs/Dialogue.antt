@@ -1,5 +1,5 @@
 -- A session as bytes: its input, a scenario in the first line and a request in each line behind it, and the text of its answers.
-use Rattle.std.specs.Prelude.{◌≡◌, ℕ, ◌+◌, ◌==◌, nat_lt, if◌then◌else◌, List, [], ◌∷◌, ◌++◌, codes, decimal, Option, Some, None}
+use Rattle.std.specs.Prelude.{◌≡◌, ℕ, ◌+◌, nat_lt, if◌then◌else◌, List, [], ◌∷◌, ◌++◌, codes, decimal, Option, Some, None}
 use Rattle.safety_laws.specs.TraceText.{lines_text}
 use Rattle.std.specs.Option.{option_map}
 use Rattle.scenario_data.specs.Content.{ScenarioContent}
@@ -7,27 +7,8 @@ use Rattle.scenario_data.specs.Causes.{Limit, Names}
 use Rattle.scenario_data.specs.declared.refusal.Refusal.{Refusal}
 use Rattle.session_words.specs.declared.request.Untaken.{Untaken}
 use Rattle.session_words.specs.Requests.{untaken_word}
+pub use Rattle.session_words.specs.Lines.{first_line, behind_first, before_lines, whole_lines}
 use Rattle.session_laws.specs.Told.{Answer, Lines, Refuses, answers}
-
--- the bytes up to the first newline; all of them where there is none
-abbrev pub first_line : List ℕ → List ℕ
-first_line [] = []
-first_line (byte ∷ bytes) = if byte == 10 then [] else byte ∷ first_line bytes
-
--- the bytes behind the first newline; none where there is none
-abbrev pub behind_first : List ℕ → List ℕ
-behind_first [] = []
-behind_first (byte ∷ bytes) = if byte == 10 then bytes else behind_first bytes
-
--- a byte before the first of some lines; before no line it isn't in any
-abbrev pub before_lines : ℕ → List (List ℕ) → List (List ℕ)
-before_lines byte [] = []
-before_lines byte (line ∷ lines) = (byte ∷ line) ∷ lines
-
--- the lines of some bytes, each of which ends with a newline; what stands behind the last newline is in none
-abbrev pub whole_lines : List ℕ → List (List ℕ)
-whole_lines [] = []
-whole_lines (byte ∷ bytes) = if byte == 10 then [] ∷ whole_lines bytes else before_lines byte (whole_lines bytes)
 
 -- the requests of an input
 abbrev pub requests_in : List ℕ → List (List ℕ)

@@ -1,8 +1,7 @@
 -- What a line of a session asks. Its words are parted by one space each; what can't be taken is judged from the left.
-use Rattle.std.specs.Prelude.{ℕ, zero, suc, ◌+◌, ◌==◌, ◌&&◌, nat_le, nat_lt, Bool, true, false, bytes_eq, if◌then◌else◌, List, [], ◌∷◌, length, get_or, codes, decimal, Option, Some, None, Result, Ok, Err}
+use Rattle.std.specs.Prelude.{ℕ, zero, suc, ◌+◌, ◌==◌, ◌&&◌, nat_le, Bool, true, false, bytes_eq, if◌then◌else◌, List, [], ◌∷◌, length, get_or, codes, decimal, Option, Some, None, Result, Ok, Err}
 use Rattle.hex.specs.Hex.{decode_of}
 use Rattle.hex.specs.declared.error.FromHexError.{FromHexError}
-use Rattle.sig_types.specs.declared.frame.Field.{Field}
 use Rattle.sig_types.specs.declared.frame.Field.TheVariants.{Veh, Ped, Preempt}
 use Rattle.sig_types.specs.declared.notes.Way.{Way}
 use Rattle.sig_types.specs.declared.notes.Way.TheVariants.{Poll, Load, Prio}
@@ -22,7 +21,7 @@ words_of [] = [] ∷ []
 words_of (byte ∷ bytes) = if byte == 32 then [] ∷ words_of bytes else before_words byte (words_of bytes)
 
 -- of so many numbers from a first one on, the one that the word is in decimal digits: no sign, and no zero before the first
-abbrev pub number_among : ℕ → ℕ → List ℕ → Option ℕ
+unfoldable pub number_among : ℕ → ℕ → List ℕ → Option ℕ
 number_among first zero word = None
 number_among first (suc many) word = if bytes_eq word (decimal first) then Some first else number_among (first + 1) many word
 
