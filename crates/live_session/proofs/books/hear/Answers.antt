@@ -1,6 +1,5 @@
 use Rattle.std.proofs.Common.{◌-◌, ◌<◌, length, refl, arith}
 use Rattle.sig_types.specs.Items.{Told}
-use Rattle.round_run.proofs.Places.{pick}
 use Rattle.live_session.proofs.Appended.{on-ok-then}
 use Rattle.live_session.proofs.Taking.{has-brought}
 use Rattle.live_session.proofs.Cabinets.{come-here, one-silent}

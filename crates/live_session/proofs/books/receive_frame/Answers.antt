@@ -1,4 +1,4 @@
-use Rattle.std.proofs.Common.{◌<◌, ◌≤◌, ◌++◌, ◌∙◌, ℕ, List, drop, length, sym, ap, subst}
+use Rattle.std.proofs.Common.{◌<◌, ◌≤◌, ◌++◌, ◌∙◌, ℕ, List, drop, length, sym, ap, subst, arith}
 use Rattle.sig_types.specs.Items.{Came}
 use Rattle.sig_types.specs.Passes.{pass_of}
 use Rattle.trace_text.specs.declared.lines.Line.{Line}
@@ -13,6 +13,11 @@ use Rattle.live_session.proofs.Appended.{on-ok, on-ok-then}
 use Rattle.live_session.proofs.Steps.{way-low}
 use Rattle.live_session.proofs.Taking.{has-brought, brought-longer, brought-lines}
 use Rattle.live_session.proofs.books.receive_frame.Goals as goal
+
+pub bring_frame-requires-clause-few : goal.bring_frame-requires-clause-few
+bring_frame-requires-clause-few c =
+    let (s, t, steps, was, few) = c.requires in
+    omega (arith, was.short c.pass_of.result (subst (λ (pass : ℕ). pass < 4) (sym c.pass_of.ensures) (way-low c.args.frame.0)), few)
 
 pub replies_from-requires : goal.replies_from-requires
 replies_from-requires c =
