@@ -1,7 +1,10 @@
 -- A session as bytes: its input, a scenario in the first line and a request in each line behind it, and the text of its answers.
 use Rattle.std.specs.Prelude.{◌≡◌, ℕ, ◌+◌, nat_lt, if◌then◌else◌, List, [], ◌∷◌, ◌++◌, codes, decimal, Option, Some, None}
 use Rattle.safety_laws.specs.TraceText.{lines_text}
+use Rattle.std.specs.Option.{option_map}
 use Rattle.scenario_data.specs.Content.{ScenarioContent}
+use Rattle.scenario_data.specs.Causes.{Limit, Names}
+use Rattle.scenario_data.specs.declared.refusal.Refusal.{Refusal}
 use Rattle.session_words.specs.Requests.{untaken_word}
 pub use Rattle.session_words.specs.Lines.{first_line, behind_first, before_lines, whole_lines}
 use Rattle.session_laws.specs.Told.{Answer, Lines, Refuses, answers}
@@ -56,3 +59,7 @@ early_path None None = None
 
 abbrev pub order_fault : ScenarioContent → Option (List ℕ)
 order_fault s = early_path (early_load s) (early_priority s)
+
+-- the refusal names that item: its round is out of range
+abbrev pub IsOrderFault : ScenarioContent → Refusal → Type 0
+IsOrderFault s refusal = Names refusal (option_map Limit (order_fault s))
