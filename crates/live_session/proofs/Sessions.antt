@@ -92,6 +92,12 @@ module _ (old new : Session) (s : ScenarioContent) (h : SessionHistory) (step : 
       subst (λ (x : SessionHistory). SessionStands new s x) (sym (step-more s h step more))
       (record { in_round = step-in-round; ticks = left; some = some; brought = brought })
 
+  -- the same of a step that is made in another way
+  pub made-stands : (made : Step) → made ≡ step → is_last s h step ≡ false → new.ticks_left ≡ ticks_behind s (steps_with h step) → 1 ≤ new.ticks_left
+      → new.brought ≡ items_brought (steps_with h step) → SessionStands new s (with_step s h made)
+  made-stands made is more left some brought =
+      subst (λ (x : Step). SessionStands new s (with_step s h x)) (sym is) (step-stands more left some brought)
+
 module _ (session : Session) (s : ScenarioContent) (h : SessionHistory) (step : Step) (so : SessionStands session s h) where
   pub step-over : is_last s h step ≡ false → has_ended session ≡ is_over s (with_step s h step)
   step-over more =
