@@ -5,7 +5,7 @@ use Rattle.safety_laws.specs.TraceText.{lines_text}
 use Rattle.session_words.specs.declared.request.Request.{Request}
 use Rattle.session_laws.specs.Session.{Brings, step_of, with_step, steps_with, items_brought, is_over}
 use Rattle.session_laws.specs.Told.{step_lines}
-use Rattle.live_session.specs.Standing.{SessionStands, has_ended}
+use Rattle.live_session.specs.Standing.{has_ended}
 use Rattle.live_session.proofs.Steps.{ticks-same, items-more}
 use Rattle.live_session.proofs.Sessions.{made-stands, step-over, step-lines, brings-more}
 use Rattle.live_session.proofs.session.Session.carry_out.Goals as goal
