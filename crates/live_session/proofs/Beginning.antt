@@ -8,23 +8,21 @@ use Rattle.sig_types.specs.Items.{Item, Told, Came, Ticked}
 use Rattle.scenario_data.specs.Content.{ScenarioContent}
 use Rattle.scenario_data.specs.Inputs.{inputs_of}
 use Rattle.master_rounds.specs.Rounds.{delivered}
-use Rattle.master_rounds.specs.Served.{CanBeServed}
 use Rattle.master_rounds.specs.Bounds.{AreShort}
 use Rattle.cabinet_history.specs.declared.Reply.{Reply}
-use Rattle.cabinet_history.specs.CabinetHistory.{CabinetHistory, after}
+use Rattle.cabinet_history.specs.CabinetHistory.{after}
 use Rattle.cabinet_history.specs.Journals.{Act, times, act_of, acts_from, items_in, serial}
 use Rattle.cabinet_history.specs.Told.{acts_replies}
 use Rattle.cab_book.specs.declared.book.Book.{Book}
-use Rattle.cab_book.specs.declared.happened.Answered.{Answered}
 use Rattle.cab_book.specs.Happenings.{replies_in}
-use Rattle.cab_book.specs.Books.{streams_in, journal_of, left_of, answered_in}
+use Rattle.cab_book.specs.Books.{streams_in, left_of, answered_in}
 use Rattle.cab_book.proofs.OnePart.{one-tally}
 use Rattle.run_definition.specs.CabinetState.{CabinetState, coming_streams, round_acts}
 use Rattle.run_definition.specs.Lines.{acts_lines, reply_lines}
 use Rattle.run_definition.proofs.Merges.{serial-merge}
 use Rattle.round_run.specs.CabinetStates.{HasCome, HasRun, HaveNoTicks}
 use Rattle.round_run.specs.Lines.{new_reply_lines}
-use Rattle.session_laws.specs.Session.{begin_acts, session_acts}
+use Rattle.session_laws.specs.Session.{begin_acts}
 use Rattle.live_session.specs.Standing.{HasComeBy}
 
 abbrev IsNoTick : Item → Type 0
@@ -61,7 +59,7 @@ no-ticks : (streams : List (List Item)) → ((p : ℕ) → p < 4 → All IsNoTic
 no-ticks streams told before [] fit low = All-nil (λ (act : Act). act.item ≡ Ticked → ⊥)
 no-ticks streams told before (p ∷ journal) fit low =
     let own : times p (p ∷ journal) ≡ times p journal + 1 = counted (p == p) (times p journal) (eq-eqb p p refl) in
-    let below : p < 4 = elim (cases_lt p 4) [ | inl less ↦ less | inr most ↦ absurd (omega (arith, low p most, own)) ] in
+    let below : p < 4 = elim (cases_lt p 4) [ inl less ↦ less | inr most ↦ absurd (omega (arith, low p most, own)) ] in
     all-more (λ (act : Act). act.item ≡ Ticked → ⊥) (act_of streams before p) (acts_from streams (p ∷ before) journal)
     (told p below (times p before) Ticked (omega (arith, fit p, own)))
     (no-ticks streams told (p ∷ before) journal

@@ -1,5 +1,5 @@
 -- What all books have come to by one step more, and the lines of it, one cabinet after another.
-use Rattle.std.proofs.Common.{◌≡◌, ◌≢◌, ◌<◌, ◌≤◌, ◌+◌, ◌-◌, ◌∙◌, ℕ, zero, suc, inl, inr, List, [], ◌∷◌, ◌++◌, length, map, drop, get_or, slice_set, append-nil, refl, sym, ap, subst, arith}
+use Rattle.std.proofs.Common.{◌≡◌, ◌≢◌, ◌<◌, ◌≤◌, ◌+◌, ◌∙◌, ℕ, zero, suc, inl, inr, List, [], ◌∷◌, ◌++◌, length, drop, get_or, slice_set, append-nil, refl, sym, ap, subst, arith}
 use Rattle.std.proofs.lemmas.List.{get_or_default, get_or-map, get_or-set_same, get_or-set_other, length-set}
 use Rattle.std.proofs.lemmas.Bool.Decides.{eqb_tells}
 use Rattle.sig_types.specs.declared.frame.Frame.{Frame}
@@ -24,14 +24,14 @@ use Rattle.run_definition.specs.Lines.{shown_line, acts_lines, opening_lines}
 use Rattle.round_run.specs.CabinetStates.{IsAt, AreAt, HasCome, HasEnded, HaveEnded, HasRun, HaveRun, no_journals, state_by_acts, TicksWithin}
 use Rattle.round_run.specs.Replied.{replied_in}
 use Rattle.round_run.proofs.Places.{Picked, pick}
-use Rattle.session_laws.specs.Session.{Step, Ticks, Brings, step_acts, begin_acts, session_acts, history_by, state_behind, states_behind, ticks_behind, items_brought}
-use Rattle.session_laws.specs.Told.{each_begin, each_step, each_journal, journal_by}
+use Rattle.session_laws.specs.Session.{Step, Brings, step_acts, begin_acts, session_acts, history_by, state_behind, states_behind}
+use Rattle.session_laws.specs.Told.{each_begin, each_step, each_journal}
 use Rattle.live_session.specs.Standing.{HasComeBy, HaveComeBy, HasTaken, IsTold, HaveTaken}
 use Rattle.live_session.proofs.Appended.{text-append}
-use Rattle.live_session.proofs.Steps.{brings-here, brings-elsewhere}
+use Rattle.live_session.proofs.Steps.{brings-elsewhere}
 use Rattle.live_session.proofs.Passes.{journal-come}
 use Rattle.live_session.proofs.Taking.{has-none}
-use Rattle.live_session.proofs.Turns.{TurnsTo, turns-here, turns-all}
+use Rattle.live_session.proofs.Turns.{TurnsTo, turns-all}
 
 -- ---- before the first round
 

@@ -1,7 +1,7 @@
 -- The journal of acts: the passes that brought them.
 use Rattle.std.proofs.Common.{◌≡◌, ◌∙◌, ℕ, List, [], ◌∷◌, refl, sym, ap}
 use Rattle.sig_types.specs.Items.{Item}
-use Rattle.cabinet_history.specs.Journals.{Act, act_of, acts_from}
+use Rattle.cabinet_history.specs.Journals.{Act, acts_from}
 use Rattle.cab_book.specs.declared.book.Book.{Book}
 use Rattle.cab_book.specs.Books.{streams_in, journal_of}
 use Rattle.run_definition.specs.CabinetState.{CabinetState}

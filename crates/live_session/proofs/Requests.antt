@@ -1,9 +1,7 @@
 -- A request that was taken can be carried out.
-use Rattle.std.proofs.Common.{◌≡◌, ◌<◌, ◌≤◌, ◌+◌, ◌&&◌, nat_le, nat_lt, bytes_eq, if◌then◌else◌, ℕ, zero, suc, Bool, true, false, List, [], ◌∷◌, length, codes, decimal, Option, Some, None, Result, Ok, Err, IfOk, refl, sym, subst, arith, le-leb}
+use Rattle.std.proofs.Common.{◌≡◌, ◌<◌, ◌≤◌, ◌+◌, nat_le, bytes_eq, if◌then◌else◌, ℕ, zero, suc, Bool, true, false, List, length, codes, decimal, Option, Some, None, Result, Ok, Err, refl, sym, subst, arith, le-leb}
 use Rattle.std.proofs.lemmas.Bool.{and_from, leb-false}
 use Rattle.sig_types.specs.declared.frame.Field.{Field}
-use Rattle.sig_types.specs.declared.frame.Field.TheVariants.{Veh, Ped, Preempt}
-use Rattle.sig_types.specs.declared.notes.Way.{Way}
 use Rattle.sig_types.specs.Phases.{is_phase}
 use Rattle.tick_context.specs.Told.{NamesPlace}
 use Rattle.scenario_data.specs.Content.{ScenarioContent}
@@ -13,7 +11,7 @@ use Rattle.session_words.specs.declared.request.Untaken.{Untaken}
 use Rattle.session_words.specs.declared.request.Untaken.TheVariants.{Request as NoRequest, Cabinet, Phase, Number, On, Stream, Hex, Ticks, Full}
 use Rattle.session_words.specs.Requests.{number_among, number_to, switch_of, stream_of, octets_of, asked_for, word_at, words_of, tick_of, veh_of, ped_of, preempt_of, frame_of, is_form, request_of_words, request_of}
 use Rattle.session_laws.specs.Session.{SessionHistory, ticks_left, items_brought}
-use Rattle.session_laws.specs.Told.{with_room, with_room_for, taken}
+use Rattle.session_laws.specs.Told.{with_room_for, taken}
 use Rattle.live_session.specs.Standing.{CanBeTaken}
 
 -- ---- what a line asks names what is there

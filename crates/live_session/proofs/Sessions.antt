@@ -1,5 +1,5 @@
 -- What a session has come to by a step, by the end of a round and by the beginning of the next; and the lines of each.
-use Rattle.std.proofs.Common.{◌≡◌, ◌<◌, ◌≤◌, ◌+◌, ◌-◌, ◌*◌, ◌==◌, ◌∙◌, ℕ, suc, Bool, true, false, if◌then◌else◌, List, [], ◌∷◌, ◌++◌, length, map, append_assoc, append-nil, ne_eqb, eq-eqb, inl, inr, refl, sym, ap, subst, arith}
+use Rattle.std.proofs.Common.{◌≡◌, ◌<◌, ◌≤◌, ◌+◌, ◌-◌, ◌*◌, ◌==◌, ◌∙◌, ℕ, true, false, List, [], ◌∷◌, ◌++◌, length, map, append-nil, ne_eqb, eq-eqb, inl, inr, refl, sym, ap, subst, arith}
 use Rattle.std.proofs.lemmas.Bool.{cases_lt}
 use Rattle.sig_types.specs.Items.{Item}
 use Rattle.sig_types.specs.declared.notes.MasterNote.{MasterNote}
@@ -7,22 +7,22 @@ use Rattle.trace_text.specs.declared.lines.Line.{Line}
 use Rattle.trace_text.specs.declared.lines.Line.TheVariants.{R, M, Z}
 use Rattle.trace_text.specs.Line.{line_text}
 use Rattle.safety_laws.specs.TraceText.{lines_text}
-use Rattle.scenario_data.specs.Content.{ScenarioContent, CabinetContent, scenario_content}
+use Rattle.scenario_data.specs.Content.{ScenarioContent, scenario_content}
 use Rattle.runnable.specs.Runnable.{Runnable}
 use Rattle.cab_book.specs.declared.book.Book.{Book}
 use Rattle.cabinet_history.specs.Journals.{Act}
 use Rattle.cabinet_history.specs.Told.{acts_replies}
-use Rattle.run_definition.specs.CabinetState.{CabinetState, answers_in, opened_cabinet_states}
-use Rattle.run_definition.specs.Lines.{head_lines, notes_lines, opening_lines}
+use Rattle.run_definition.specs.CabinetState.{CabinetState, answers_in}
+use Rattle.run_definition.specs.Lines.{notes_lines}
 use Rattle.round_run.specs.declared.rounds.ClosedLoop.{ClosedLoop}
 use Rattle.round_run.specs.CabinetStates.{IsAt, HasCome, HaveEnded, TicksWithin, state_by_acts}
 use Rattle.round_run.specs.Replied.{replied_in}
-use Rattle.round_run.specs.ClosedLoop.{Between, InRound, cabinets_of}
+use Rattle.round_run.specs.ClosedLoop.{Between, InRound}
 use Rattle.master_rounds.specs.Served.{CanBeServed}
 use Rattle.round_run.proofs.Streams.{can-be-served, many-of}
-use Rattle.session_laws.specs.Session.{SessionHistory, Step, Ticks, Brings, opened_session, states_after, states_behind, ticks_behind, ticks_left, items_brought, steps_with, is_last, with_round, with_step, steps_to_end, is_over}
-use Rattle.session_laws.specs.Told.{begin_lines, each_begin, each_step, each_journal, next_lines, end_lines, step_lines, open_lines, leave_lines}
-use Rattle.session_laws.specs.Told.{Answer, Lines}
+use Rattle.session_laws.specs.Session.{SessionHistory, Step, Ticks, Brings, states_after, ticks_behind, ticks_left, items_brought, steps_with, is_last, with_round, with_step, steps_to_end, is_over}
+use Rattle.session_laws.specs.Told.{begin_lines, each_begin, each_step, each_journal, next_lines, end_lines, step_lines, leave_lines}
+use Rattle.session_laws.specs.Told.{Lines}
 use Rattle.session_laws.specs.Dialogue.{dot, answer_text}
 use Rattle.live_session.specs.declared.session.Session.{Session}
 use Rattle.live_session.specs.Standing.{HaveComeBy, HaveTaken, IsBetween, IsInRound, SessionStands, has_ended}
@@ -91,6 +91,12 @@ module _ (old new : Session) (s : ScenarioContent) (h : SessionHistory) (step : 
   step-stands more left some brought =
       subst (λ (x : SessionHistory). SessionStands new s x) (sym (step-more s h step more))
       (record { in_round = step-in-round; ticks = left; some = some; brought = brought })
+
+  -- the same of a step that is made in another way
+  pub made-stands : (made : Step) → made ≡ step → is_last s h step ≡ false → new.ticks_left ≡ ticks_behind s (steps_with h step) → 1 ≤ new.ticks_left
+      → new.brought ≡ items_brought (steps_with h step) → SessionStands new s (with_step s h made)
+  made-stands made is more left some brought =
+      subst (λ (x : Step). SessionStands new s (with_step s h x)) (sym is) (step-stands more left some brought)
 
 module _ (session : Session) (s : ScenarioContent) (h : SessionHistory) (step : Step) (so : SessionStands session s h) where
   pub step-over : is_last s h step ≡ false → has_ended session ≡ is_over s (with_step s h step)
@@ -220,14 +226,14 @@ end-more s h steps first second last closed count e one two =
     ∙ ap (λ (x : List ℕ). first ++ x) (sym (end-spelled s h steps))
 
 less : (n rounds : ℕ) {m all : ℕ} → n ≤ rounds → (n ≡ rounds → ⊥) → n ≡ m → rounds ≡ all → m < all
-less n rounds few more count same = elim (cases_lt n rounds) [ | inl below ↦ omega (arith, below, count, same) | inr most ↦ absurd (more (omega (arith, few, most))) ]
+less n rounds few more count same = elim (cases_lt n rounds) [ inl below ↦ omega (arith, below, count, same) | inr most ↦ absurd (more (omega (arith, few, most))) ]
 
 -- behind a round that was ended the next can begin, where it was not the last
 module _ (old new : Session) (s : ScenarioContent) (rounds : List (List Step)) (steps : List Step) (so : IsInRound old s rounds steps)
     (at : (t : CabinetState) (acts : List Act) (b : Book) → HasCome t acts b → IsAt b (state_by_acts t acts))
     (replied : (t : CabinetState) (acts : List Act) (b : Book) → HasCome t acts b → replied_in b ≡ answers_in (acts_replies t.cabinet_history acts))
     (ends : (ts next : List CabinetState) → InRound (scenario_content old.scenario) old.closed ts old.closed_loop → HaveEnded ts next old.closed_loop.books.items
-      → TicksWithin (old.closed * 600 + 600) old.closed_loop.books.items → Between (scenario_content old.scenario) (old.closed + 1) next new.closed_loop) where
+    → TicksWithin (old.closed * 600 + 600) old.closed_loop.books.items → Between (scenario_content old.scenario) (old.closed + 1) next new.closed_loop) where
   pub end-between : new.scenario ≡ old.scenario → new.closed ≡ old.closed + 1 → (old.closed + 1 ≡ old.scenario.rounds → ⊥) → IsBetween new s (steps ∷ rounds)
   end-between scenario closed more =
       let ts : List CabinetState = states_after s rounds in

@@ -1,10 +1,10 @@
 -- What a step more is at a cabinet, and how many ticks and items the steps then have.
-use Rattle.std.proofs.Common.{◌≡◌, ◌≢◌, ◌<◌, ◌+◌, ◌-◌, ◌∙◌, ℕ, zero, suc, List, [], ◌∷◌, ◌++◌, length, replicate, append_assoc, append-nil, eq-eqb, ne_eqb, refl, sym, ap, arith}
-use Rattle.std.proofs.lemmas.List.Elements.{All-nil, All-replicate}
+use Rattle.std.proofs.Common.{◌≡◌, ◌≢◌, ◌<◌, ◌+◌, ◌-◌, ◌∙◌, ℕ, zero, suc, List, [], ◌∷◌, ◌++◌, replicate, append_assoc, append-nil, eq-eqb, ne_eqb, refl, sym, ap, arith}
+use Rattle.std.proofs.lemmas.List.Elements.{All-replicate}
 use Rattle.sig_types.specs.declared.notes.Way.{Way}
 use Rattle.sig_types.specs.declared.notes.Way.TheVariants.{Poll, Load, Prio}
 use Rattle.sig_types.specs.Passes.{pass_of}
-use Rattle.sig_types.specs.Items.{Item, Told, Came, Ticked}
+use Rattle.sig_types.specs.Items.{Item, Ticked}
 use Rattle.scenario_data.specs.Content.{ScenarioContent}
 use Rattle.cabinet_history.specs.Journals.{Act}
 use Rattle.run_definition.specs.CabinetState.{CabinetState}

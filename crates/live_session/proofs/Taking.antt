@@ -1,5 +1,5 @@
 -- What a book has come to by one step more.
-use Rattle.std.proofs.Common.{◌≡◌, ◌≢◌, ◌<◌, ◌≤◌, ◌+◌, ◌-◌, ◌∙◌, ℕ, inl, inr, List, [], ◌∷◌, ◌++◌, length, map, drop, get_or, append_assoc, append-nil, replicate, refl, sym, ap, subst, arith}
+use Rattle.std.proofs.Common.{◌≡◌, ◌≢◌, ◌<◌, ◌≤◌, ◌+◌, ◌-◌, ◌∙◌, ℕ, inl, inr, List, [], ◌∷◌, ◌++◌, length, get_or, append_assoc, append-nil, replicate, refl, sym, ap, subst, arith}
 use Rattle.std.proofs.lemmas.List.{get_or-set_same, get_or-set_other, length-append, length-map, replicate-append-replicate}
 use Rattle.std.proofs.lemmas.Bool.Decides.{eqb_tells}
 use Rattle.sig_types.specs.declared.frame.Frame.{Frame}
@@ -17,7 +17,7 @@ use Rattle.run_definition.specs.CabinetState.{CabinetState}
 use Rattle.run_definition.specs.Lines.{acts_lines}
 use Rattle.round_run.specs.CabinetStates.{HasCome, AreTicks, HaveNoTicks}
 use Rattle.round_run.specs.Lines.{new_frame_lines, new_reply_lines}
-use Rattle.session_laws.specs.Session.{Step, Ticks, Brings, step_acts, session_acts, history_by, ticks_behind, items_brought}
+use Rattle.session_laws.specs.Session.{Step, Ticks, Brings, step_acts, session_acts, history_by}
 use Rattle.live_session.specs.Standing.{HasComeBy, IsTicked, HasTaken}
 use Rattle.live_session.proofs.Steps.{acts-more, brings-here, brings-elsewhere, ticks-more, ticks-same, items-more, items-same, are-ticks, no-tick}
 
@@ -222,9 +222,9 @@ has-none to cab pass item b other = record {
     come =
         subst (λ (acts : List Act). HasCome t acts b)
         (sym (
-          acts-more s cab t steps (Brings to pass item)
-          ∙ ap (λ (acts : List Act). session_acts s cab t steps ++ acts) (brings-elsewhere to cab pass item other)
-          ∙ append-nil (session_acts s cab t steps)
+        acts-more s cab t steps (Brings to pass item)
+        ∙ ap (λ (acts : List Act). session_acts s cab t steps ++ acts) (brings-elsewhere to cab pass item other)
+        ∙ append-nil (session_acts s cab t steps)
         )) was.come;
     brought = was.brought;
     ticks = was.ticks ∙ sym (ticks-same s steps to pass item);

@@ -36,12 +36,7 @@ pub fn open_books(alloc: Global, out: &mut Vec<u8>, books: &Vec<Book>) -> Result
 
 /// What master, line and scenario bring before any tick of a round that was just begun comes to a cabinet: all inputs, then the frames of
 /// each stream. The lines of the replies are appended.
-fn begin_book(
-    alloc: Global,
-    out: &mut Vec<u8>,
-    cab: u32,
-    book: &mut Book,
-) -> Result<(), NoMemory>
+fn begin_book(alloc: Global, out: &mut Vec<u8>, cab: u32, book: &mut Book) -> Result<(), NoMemory>
     ensures come { OnOk result ((s : ScenarioContent) (t : CabinetState) → CanBeServed s → HasRun s cab t [] book.old → HasComeBy s cab t [] book.new) }
     ensures text { OnOk result ((s : ScenarioContent) (t : CabinetState) → HasRun s cab t [] book.old
         → out.new.items ≡ out.old.items ++ lines_text (acts_lines cab t.cabinet_history (begin_acts s cab t))) }

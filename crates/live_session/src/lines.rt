@@ -77,12 +77,7 @@ pub fn put_frames(
 }
 
 /// Appends the line of the end of a download, where a frame brought one.
-fn put_load(
-    alloc: Global,
-    out: &mut Vec<u8>,
-    cab: u32,
-    load: &Option<Load>,
-) -> Result<(), NoMemory>
+fn put_load(alloc: Global, out: &mut Vec<u8>, cab: u32, load: &Option<Load>) -> Result<(), NoMemory>
     ensures { OnOk result (out.new.items ≡ out.old.items ++ lines_text (load_lines cab load.now)) }
 {
     match load {
@@ -128,12 +123,7 @@ pub fn put_replies(
 }
 
 /// Appends the line of the journal of a book's round.
-pub fn put_journal(
-    alloc: Global,
-    out: &mut Vec<u8>,
-    cab: u32,
-    book: &Book,
-) -> Result<(), NoMemory>
+pub fn put_journal(alloc: Global, out: &mut Vec<u8>, cab: u32, book: &Book) -> Result<(), NoMemory>
     ensures { OnOk result (out.new.items ≡ out.old.items ++ line_text (LineRow.J cab (runs_of (journal_of book.now)))) }
 {
     let Ok(runs) = book.runs().to_vec(alloc) else {
@@ -147,11 +137,7 @@ pub fn put_journal(
 }
 
 /// Appends the lines of the master's notes.
-pub fn put_notes(
-    alloc: Global,
-    out: &mut Vec<u8>,
-    notes: &[MasterNote],
-) -> Result<(), NoMemory>
+pub fn put_notes(alloc: Global, out: &mut Vec<u8>, notes: &[MasterNote]) -> Result<(), NoMemory>
     ensures { OnOk result (out.new.items ≡ out.old.items ++ lines_text (map LineRow.M notes.now)) }
 {
     for note in notes {

@@ -151,13 +151,7 @@ impl Session {
                 Ok(())
             }
             Request::Frame(cab, way, octets) => {
-                receive(
-                    alloc,
-                    out,
-                    &mut self.closed_loop.books,
-                    cab,
-                    (way, octets),
-                )?;
+                receive(alloc, out, &mut self.closed_loop.books, cab, (way, octets))?;
                 self.brought += 1;
                 Ok(())
             }

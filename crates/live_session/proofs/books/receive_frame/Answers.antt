@@ -1,6 +1,5 @@
 use Rattle.std.proofs.Common.{◌<◌, ◌≤◌, ◌++◌, ◌∙◌, ℕ, List, drop, length, sym, ap, subst, arith}
 use Rattle.sig_types.specs.Items.{Came}
-use Rattle.sig_types.specs.Passes.{pass_of}
 use Rattle.trace_text.specs.declared.lines.Line.{Line}
 use Rattle.safety_laws.specs.TraceText.{lines_text}
 use Rattle.cab_book.specs.declared.happened.Answered.{Answered}

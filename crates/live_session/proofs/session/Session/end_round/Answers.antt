@@ -1,4 +1,4 @@
-use Rattle.std.proofs.Common.{◌≡◌, ◌+◌, ◌++◌, ◌==◌, ◌∙◌, ℕ, List, ◌∷◌, true, false, length, eq-eqb, ne_eqb, ap, sym, refl, arith}
+use Rattle.std.proofs.Common.{◌≡◌, ◌+◌, ◌++◌, ◌==◌, ◌∙◌, ℕ, ◌∷◌, true, false, length, eq-eqb, ne_eqb, ap, sym, refl, arith}
 use Rattle.safety_laws.specs.TraceText.{lines_text}
 use Rattle.session_laws.specs.Session.{states_after}
 use Rattle.session_laws.specs.Told.{begin_lines}
@@ -15,12 +15,11 @@ returns-then-self-clause-text c = on-ok-then _ _ c.put_line.result (λ appended 
 
 pub begin_round-requires : goal.begin_round-requires
 begin_round-requires c =
-    let (s, h, steps, so) = c.requires in
-    (
+    let (s, h, steps, so) = c.requires in (
       s,
       steps ∷ h.closed,
       end-between c.args.self.now _ s h.closed steps so c.books_follow_acts.ensures.at c.books_follow_acts.ensures.replied
-      (c.in_ok-end_round.ensures {u = tt}).between refl refl c.if-self.false,
+          (c.in_ok-end_round.ensures {u = tt}).between refl refl c.if-self.false,
     )
 
 pub returns-clause-stands : goal.returns-clause-stands

@@ -1,8 +1,8 @@
-use Rattle.std.proofs.Common.{◌+◌, ◌++◌, ◌∷◌, ◌∙◌, [], ℕ, List, ap, subst}
+use Rattle.std.proofs.Common.{◌+◌, ◌++◌, ◌∙◌, ℕ, ap}
 use Rattle.trace_text.specs.Line.{line_text}
 use Rattle.trace_text.specs.declared.lines.Line.TheVariants.{Z}
 use Rattle.safety_laws.specs.TraceText.{lines_text}
-use Rattle.session_laws.specs.Session.{Step, Ticks, states_after, steps_with}
+use Rattle.session_laws.specs.Session.{Ticks, states_after, steps_with}
 use Rattle.session_laws.specs.Told.{each_step, each_journal, leave_lines}
 use Rattle.live_session.proofs.Appended.{on-ok-then}
 use Rattle.live_session.proofs.Sessions.{step-few, leave-spelled, answer-ends}
