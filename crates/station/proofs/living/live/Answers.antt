@@ -1,4 +1,4 @@
-use Rattle.std.proofs.Common.{◌≡◌, ◌∙◌, refl, sym, ap, subst, List, ℕ, Option}
+use Rattle.std.proofs.Common.{◌≡◌, ◌∙◌, refl, sym, ap, subst, List, ℕ, Option, Err}
 use Rattle.io_edge.specs.Edge.{Rises}
 use Rattle.scenario_data.specs.Content.{scenario_content}
 use Rattle.scenario_data.specs.declared.refusal.Refusal.{Refusal}

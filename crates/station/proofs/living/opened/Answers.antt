@@ -1,4 +1,5 @@
 use Rattle.std.proofs.Common.{◌≡◌, ◌∙◌, ap, ◌++◌, List, ℕ, subst}
+use Rattle.io_edge.specs.Edge.{Rises}
 use Rattle.scenario_data.specs.Content.{scenario_content}
 use Rattle.session_laws.specs.Told.{Lines, open_lines}
 use Rattle.session_laws.specs.Dialogue.{answer_text}
@@ -17,7 +18,7 @@ returns-in_default g c = record {
       let s = scenario_content c.args.scenario in
       let text : c.as_slice.result.now ≡ answer_text (Lines (open_lines s)) =
           c.as_slice.ensures.value ∙ c.in-Ok.ensures.text ∙ ap (λ (t : List ℕ). t ++ answer_text (Lines (open_lines s))) c.new-answer.ensures.items in
-      subst (λ (x : Status). StopsAtOpening x _ _ _ s) same (opening_stops c.tell.result c.as_slice.result.now _ _ _ s c.in_default.not-Done text c.tell.ensures.tells);
+      subst (λ (x : Status). StopsAtOpening x (Rises (g.K.Sink.faults c.args.sink.now) (g.K.Sink.faults c.tell.new.sink)) (g.K.Sink.written c.args.sink.now) (g.K.Sink.written c.tell.new.sink) s) same (opening_stops c.tell.result c.as_slice.result.now _ _ _ s c.in_default.not-Done text c.tell.ensures.tells);
   exact = tt;
   kept = c.tell.ensures.writes.kept;
 }
