@@ -4,6 +4,7 @@ import os
 import pathlib
 import subprocess
 import sys
+from collections.abc import Iterator
 
 import pytest
 
@@ -91,6 +92,36 @@ def folder(tmp_path, program) -> pathlib.Path:
     (tmp_path / "two.json").write_text(SCENARIO)
     (tmp_path / "study.toml").write_text(STUDY)
     return tmp_path
+
+
+class Held:
+    """A program that stops in the middle of a sweep: from its tenth call on it waits, until it is let go."""
+
+    TEXT = """\
+#!/bin/sh
+cd "{folder}" || exit 70
+echo >>calls
+while [ -e hold ] && [ "$(wc -l <calls)" -gt 10 ]; do sleep 0.05; done
+exec "{program}" "$@"
+"""
+
+    def __init__(self, folder: pathlib.Path, program: pathlib.Path) -> None:
+        self.path, self.hold = folder / "held", folder / "hold"
+        self.hold.touch()
+        self.path.write_text(self.TEXT.format(folder=folder, program=program))
+        self.path.chmod(0o700)
+
+    def let_go(self) -> None:
+        """Lets all calls go on."""
+        self.hold.unlink(missing_ok=True)
+
+
+@pytest.fixture
+def held(folder, program) -> Iterator[Held]:
+    """A program that waits from its tenth call on; it is let go at the end in any case."""
+    made = Held(folder, program)
+    yield made
+    made.let_go()
 
 
 @pytest.fixture(scope="session")
