@@ -125,19 +125,27 @@ class Engine:
         future = self.client.submit(
             self.task, self.name, indexes, pure=False, key=f"{self.name}-{indexes[0]}-{secrets.token_hex(4)}"
         )
-        self.jobs[future] = Job(indexes, keys, time.monotonic())
+        self.waits(future, Job(indexes, keys, time.monotonic()))
+
+    def waits(self, future: Any, job: Job) -> None:
+        """Waits for what comes of a batch."""
+        self.jobs[future] = job
         future.add_done_callback(self.over.put)
 
     def take(self, future: Any, job: Job) -> None:
-        """Takes what came of a batch. One that killed its worker over and over is taken apart, to find the run that
-        does it."""
+        """Takes what came of a batch. One whose result was lost with its worker is waited for again; one that killed its
+        worker over and over is taken apart, to find the run that does it."""
         from distributed.scheduler import KilledWorker
 
-        if future.status == "finished":
+        status = future.status
+        if status == "finished":
             rows = future.result()
             self.journal.add(zip(job.keys, rows))
             self.paced(job)
-        elif future.status == "cancelled":
+        elif status in ("lost", "pending"):
+            self.waits(future, job)
+            return
+        elif status == "cancelled":
             raise self.gone()
         elif not isinstance(fault := future.exception(), KilledWorker):
             raise Fault(f"a worker failed: {type(fault).__name__}: {fault}", Status.FILE)
