@@ -1,0 +1,86 @@
+"""The documents of this repository: the commands in their indented blocks, and what they say that these print."""
+
+import pathlib
+import re
+from dataclasses import dataclass, field
+
+TOP = pathlib.Path(__file__).resolve().parents[2]
+INDENT = "    "
+WORDS = re.compile(
+    r"(\./\w+|(vectors|mibs|tools|bench|corpora)/\w+|python3|grep|awk|sed|cmp|export|gcc|apt-get|snmp\w+|sinfo|rt)( |$)"
+)
+"""How a line begins that is a command, in a block that marks none by `$ `."""
+
+ANYTHING = ".."
+"""A line that stands for any further output."""
+
+
+@dataclass
+class Command:
+    """A command of a page: the number of its line, and the lines that it prints by the page; None where the page
+    doesn't say what it prints."""
+
+    line: int
+    text: str
+    printed: list[str] | None = field(default=None)
+
+
+def pages() -> list[pathlib.Path]:
+    """Returns all documents, by their names from the top of the repository."""
+    found = (it.relative_to(TOP) for it in TOP.rglob("*.md"))
+    return sorted(it for it in found if not any(part.startswith(".") or part == "out" for part in it.parts))
+
+
+def blocks(page: pathlib.Path) -> list[list[tuple[int, str]]]:
+    """Returns the indented blocks of a page, each line with its number and without its indent."""
+    found: list[list[tuple[int, str]]] = [[]]
+    for number, line in enumerate((TOP / page).read_text(encoding="utf-8").splitlines(), 1):
+        if line.startswith(INDENT):
+            found[-1].append((number, line[len(INDENT) :]))
+        elif found[-1]:
+            found.append([])
+    return [it for it in found if it]
+
+
+def joined(block: list[tuple[int, str]]) -> list[tuple[int, str]]:
+    """Returns a block with each line that ends in a backslash joined with the next one."""
+    found: list[tuple[int, str]] = []
+    for number, line in block:
+        if found and found[-1][1].endswith("\\"):
+            before, text = found.pop()
+            number, line = before, text[:-1] + line.lstrip()
+        found.append((number, line))
+    return found
+
+
+def commands(page: pathlib.Path) -> list[Command]:
+    """Returns the commands of a page in order. In a block that begins with `$ ` each line with that mark is a command,
+    and what stands behind it is all that it prints; in any other block a line that begins with the word of a command
+    is one, up to three spaces, behind which a remark stands."""
+    found = []
+    for block in map(joined, blocks(page)):
+        is_marked = block[0][1].startswith("$ ")
+        for number, line in block:
+            if is_marked and line.startswith("$ "):
+                found.append(Command(number, line[2:], []))
+            elif is_marked:
+                found[-1].printed.append(line)
+            elif WORDS.match(line):
+                found.append(Command(number, re.split(r"\s{3,}", line)[0]))
+    return found
+
+
+def agrees(printed: list[str], said: str) -> bool:
+    """Tells whether a command's output is what a page shows, where lines may be broken elsewhere."""
+    rest, is_open = " ".join(said.split()), False
+    for part in re.split(r"\x00", "\x00".join(printed).replace(f"\x00{ANYTHING}", "\x00\x01")):
+        if part.startswith("\x01"):
+            is_open, part = True, part[1:]
+        words = " ".join(part.split())
+        if not words:
+            continue
+        at = rest.find(words) if is_open else (0 if rest.startswith(words) else -1)
+        if at < 0:
+            return False
+        rest, is_open = rest[at + len(words) :].lstrip(), False
+    return is_open or not rest
