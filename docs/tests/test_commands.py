@@ -23,8 +23,7 @@ NOT_RUN = {
     r".*session\.json": "what a live cabinet has recorded; tools/tests/cabinet makes one",
     r"snmpwalk .* HOST ": "it asks a controller in the street",
     r"\./arterial plan from live ": "it asks a live cabinet; tools/tests/plan/test_controllers.py does so",
-    r"vectors/\w+( \[|$)": "./test runs it, and vectors/README.md tells how long it takes",
-    r"vectors/differ PROGRAM": "./test runs it",
+    r"vectors/(?!judge )": "./test runs it, and vectors/README.md tells how long it takes",
     r".*rt run\)": "it proves a crate",
     r"gcc ": "it builds a fuzzer, which needs packages that nothing else needs",
     r".*(--slurm|--scheduler|sinfo|embedded\.csv)": "it needs a cluster; tools/tests/sweep/test_clusters.py starts one",
@@ -83,8 +82,9 @@ def test_the_commands_of_a_page_do_what_it_says(folder, page):
         if reason(command) is not None:
             continue
         ran = subprocess.run(
-            ["sh", "-c", command.text], cwd=folder, capture_output=True, text=True, timeout=SECONDS, env=system
-        )
+            ["sh", "-c", command.text],
+            stdin=subprocess.DEVNULL, capture_output=True, cwd=folder, text=True, timeout=SECONDS, env=system,
+        )  # fmt: skip
         where, said = f"{page}:{command.line}: {command.text}", ran.stdout + ran.stderr
         assert "Traceback" not in said, f"{where}\n{said}"
         assert ran.returncode in (STATUSES if command.printed else (0,)), f"{where}\n{ran.returncode} {said}"
