@@ -1,5 +1,6 @@
 """The documents of this repository: the commands in their indented blocks, and what they say that these print."""
 
+import itertools
 import pathlib
 import re
 from dataclasses import dataclass, field
@@ -10,6 +11,9 @@ WORDS = re.compile(
     r"(\./\w+|(vectors|mibs|tools|bench|corpora)/\w+|python3|grep|awk|sed|cmp|export|gcc|apt-get|snmp\w+|sinfo|rt)( |$)"
 )
 """How a line begins that is a command, in a block that marks none by `$ `."""
+
+WITHIN = re.compile(r"`(\./(?:arterial|look) [^`]*\bscenarios/[a-z][^`]*)`")
+"""A command within a sentence: one that names a file of this repository. Others are named without being shown."""
 
 ANYTHING = ".."
 """A line that stands for any further output."""
@@ -54,7 +58,8 @@ def joined(block: list[tuple[int, str]]) -> list[tuple[int, str]]:
 
 
 def commands(page: pathlib.Path) -> list[Command]:
-    """Returns the commands of a page in order. In a block that begins with `$ ` each line with that mark is a command,
+    """Returns the commands of a page, those of its blocks in order and then those within its sentences. In a block that
+    begins with `$ ` each line with that mark is a command,
     and what stands behind it is all that it prints; in any other block a line that begins with the word of a command
     is one, up to three spaces, behind which a remark stands."""
     found = []
@@ -67,20 +72,20 @@ def commands(page: pathlib.Path) -> list[Command]:
                 found[-1].printed.append(line)
             elif WORDS.match(line):
                 found.append(Command(number, re.split(r"\s{3,}", line)[0]))
-    return found
+    text = (TOP / page).read_text(encoding="utf-8")
+    return found + [Command(text.count("\n", 0, it.start()) + 1, it[1]) for it in WITHIN.finditer(text)]
 
 
 def agrees(printed: list[str], said: str) -> bool:
     """Tells whether a command's output is what a page shows, where lines may be broken elsewhere."""
     rest, is_open = " ".join(said.split()), False
-    for part in re.split(r"\x00", "\x00".join(printed).replace(f"\x00{ANYTHING}", "\x00\x01")):
-        if part.startswith("\x01"):
-            is_open, part = True, part[1:]
-        words = " ".join(part.split())
-        if not words:
+    for is_gap, lines in itertools.groupby(printed, lambda line: line.strip() == ANYTHING):
+        if is_gap:
+            is_open = True
             continue
-        at = rest.find(words) if is_open else (0 if rest.startswith(words) else -1)
-        if at < 0:
+        words = " ".join(" ".join(lines).split())
+        at = rest.find(words)
+        if at < 0 or (at > 0 and not is_open):
             return False
         rest, is_open = rest[at + len(words) :].lstrip(), False
     return is_open or not rest
