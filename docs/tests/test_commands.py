@@ -83,9 +83,10 @@ def test_the_commands_of_a_page_do_what_it_says(folder, page):
             continue
         ran = subprocess.run(
             ["sh", "-c", command.text],
-            stdin=subprocess.DEVNULL, capture_output=True, cwd=folder, text=True, timeout=SECONDS, env=system,
+            stdin=subprocess.DEVNULL, stdout=subprocess.PIPE, stderr=subprocess.STDOUT,
+            cwd=folder, text=True, timeout=SECONDS, env=system,
         )  # fmt: skip
-        where, said = f"{page}:{command.line}: {command.text}", ran.stdout + ran.stderr
+        where, said = f"{page}:{command.line}: {command.text}", ran.stdout
         assert "Traceback" not in said, f"{where}\n{said}"
         assert ran.returncode in (STATUSES if command.printed else (0,)), f"{where}\n{ran.returncode} {said}"
         assert command.printed is None or pages.agrees(command.printed, said), f"{where}\n{said}"
