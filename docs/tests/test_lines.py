@@ -8,9 +8,10 @@ from pages import TOP
 
 MOST = 120
 LONG = {
-    "docs/TRACE.md": re.compile(r"    (A|S) "),
+    "docs/TRACE.md": re.compile(r"    A "),
+    "docs/SCENARIO.md": re.compile(r'    \{"cabinets":'),
 }
-"""By page, the lines of data that can't be broken: whole lines of a trace."""
+"""By page, the lines of data that can't be broken: replies in a trace; a scenario as `respond` writes it."""
 
 
 def lines_of(page) -> list[str]:
