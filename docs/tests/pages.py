@@ -59,12 +59,13 @@ def joined(block: list[tuple[int, str]]) -> list[tuple[int, str]]:
 
 def commands(page: pathlib.Path) -> list[Command]:
     """Returns the commands of a page, those of its blocks in order and then those within its sentences. In a block that
-    begins with `$ ` each line with that mark is a command,
-    and what stands behind it is all that it prints; in any other block a line that begins with the word of a command
-    is one, up to three spaces, behind which a remark stands."""
-    found = []
+    begins with `$ ` each line with that mark is a command, and what stands behind it is all that it prints, also behind
+    an empty line; in any other block a line that begins with the word of a command is one, up to three spaces, behind
+    which a remark stands."""
+    found, is_marked, last = [], False, 0
     for block in map(joined, blocks(page)):
-        is_marked = block[0][1].startswith("$ ")
+        is_marked = block[0][1].startswith("$ ") or (is_marked and block[0][0] == last + 2)
+        last = block[-1][0]
         for number, line in block:
             if is_marked and line.startswith("$ "):
                 found.append(Command(number, line[2:], []))
