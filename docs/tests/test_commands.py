@@ -1,6 +1,7 @@
 """Each command of each document is run, and what the document says that it prints is compared. What can't be run here
 is listed by NOT_RUN, with the reason."""
 
+import importlib.util
 import json
 import os
 import pathlib
@@ -15,6 +16,9 @@ from pages import TOP
 PROGRAM = pathlib.Path(os.environ.get("ARTERIAL_PROGRAM", TOP / "crates/arterial/out/arterial"))
 SECONDS = 120
 """How long one command may take."""
+
+PACKAGES = ("matplotlib", "pandas", "tqdm", "openpyxl", "tomli_w", "numpy", "distributed")
+"""What the tools need."""
 
 NOT_RUN = {
     r"apt-get ": "it installs packages",
@@ -71,6 +75,8 @@ def folder(tmp_path):
     """A folder that looks like the top of the repository; nothing of the repository itself is written."""
     if not PROGRAM.is_file():
         pytest.skip(f"no program at {PROGRAM}")
+    if missing := [it for it in PACKAGES if importlib.util.find_spec(it) is None]:
+        pytest.skip(f"Python's packages are missing: {', '.join(missing)}")
     shutil.copytree(TOP / "scenarios", tmp_path / "scenarios")
     shutil.copytree(TOP / "docs/pictures", tmp_path / "docs/pictures")
     for name in ("look", "model", "vectors", "mibs"):
@@ -90,7 +96,7 @@ def test_the_commands_of_a_page_do_what_it_says(folder, page):
         if reason(command) is not None:
             continue
         ran = subprocess.run(
-            ["sh", "-c", command.text],
+            ["sh", "-c", command.text.replace("| less", "| cat")],
             stdin=subprocess.DEVNULL, stdout=subprocess.PIPE, stderr=subprocess.STDOUT,
             cwd=folder, text=True, timeout=SECONDS, env=system,
         )  # fmt: skip
