@@ -100,3 +100,24 @@ def test_faults_come_one_after_another_as_is_shown(run):
         assert run(text)[1] == line.strip("`")
         text = text.replace(old, new)
     assert run(text)[1] == ""
+
+
+SHEETS = {
+    "docs/PLANS.md": ("scenarios/sheets/main-street.toml", "scenarios/sheets/mistake.toml"),
+    "docs/TUTORIAL.md": ("scenarios/tutorial/as-entered.toml",),
+}
+"""By page, the sheets of which it shows parts."""
+
+
+@pytest.mark.parametrize("page", SHEETS)
+def test_the_parts_of_sheets_that_a_page_shows_stand_in_the_sheets(page):
+    """Line by line."""
+    stands = {line.strip() for name in SHEETS[page] for line in (TOP / name).read_text(encoding="utf-8").splitlines()}
+    shown = [
+        line.strip()
+        for block in pages.blocks(pathlib.Path(page))
+        if re.match(r"\[|title = |rings = ", block[0][1])
+        for _, line in block
+        if line.strip()
+    ]
+    assert len(shown) > 8 and [line for line in shown if line not in stands] == []
