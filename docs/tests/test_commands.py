@@ -14,7 +14,7 @@ import pytest
 from pages import TOP
 
 PROGRAM = pathlib.Path(os.environ.get("ARTERIAL_PROGRAM", TOP / "crates/arterial/out/arterial"))
-SECONDS = 120
+SECONDS = 300
 """How long one command may take."""
 
 PACKAGES = ("matplotlib", "pandas", "tqdm", "openpyxl", "tomli_w", "numpy", "distributed")
