@@ -140,7 +140,9 @@ def told(program: str, text: bytes, said: str) -> list[str]:
     if not found or int(found[2]) == TOO_LONG:
         return []
     number = int(found[1])
-    return at_opening(program, text.partition(b"\n")[0]) if number == 1 else behind(program, text, number)
+    read, due = at_opening(program, text.partition(b"\n")[0]) if number == 1 else behind(program, text, number)
+    is_same = read.removeprefix("read") == due.removeprefix("due ")
+    return [read, due + "   (with a newline behind it)" * is_same]
 
 
 def tell(program: str, text: bytes, said: str) -> None:

@@ -68,6 +68,12 @@ def test_a_text_that_ends_and_one_that_goes_on():
     ]
 
 
+def test_a_last_line_without_its_newline_lacks_that():
+    number = MIXED.count(b"\n")
+    read, shown = due.told(NONE, MIXED[:-1], f"trace: line {number} breaks rule 2")
+    assert (read, shown) == ("read  Z 6", "due   Z 6   (with a newline behind it)")
+
+
 def test_bytes_that_are_no_line_are_shown_as_they_are():
     read, shown = due.told(NONE, with_line(MIXED, 3, b"R\t\xff\x01"), "trace: line 3 breaks rule 2")
     assert read == "read  R\\x09\\xff\\x01" and shown == "due   R 1"
@@ -137,6 +143,5 @@ def test_where_the_model_is_not_there_the_line_due_is_not_told(proved, damaged):
 
 
 def test_of_a_pipe_the_way_to_both_lines_is_told(proved):
-    assert proved.ran("check", **ANSWER) == (
-        5, "", f"{ANSWER['SAYS']}\narterial: with the name of a file, arterial check FILE also shows the line read and the line due\n"
-    )  # fmt: skip
+    way = "arterial: with the name of a file, arterial check FILE also shows the line read and the line due\n"
+    assert proved.ran("check", **ANSWER) == (5, "", f"{ANSWER['SAYS']}\n{way}")
