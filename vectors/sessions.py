@@ -44,8 +44,9 @@ def dialogue_of(file: pathlib.Path) -> Dialogue:
 
 
 def dialogues() -> list[Dialogue]:
-    """Returns the dialogues of vectors/live."""
-    return [dialogue_of(file) for file in sorted((HERE / "live").glob("*.dialogue"))]
+    """Returns the dialogues of vectors/live, and those that are shown in scenarios/."""
+    files = [*sorted((HERE / "live").glob("*.dialogue")), *sorted((HERE.parent / "scenarios").glob("*.dialogue"))]
+    return [dialogue_of(file) for file in files]
 
 
 def blocks(output: bytes) -> list[bytes]:
