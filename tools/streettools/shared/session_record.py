@@ -55,7 +55,7 @@ class SessionRecord:
     def take(self, line: bytes) -> None:
         """Takes a line of an answer."""
         kind, rest = line[:1], line[2:].split(b" ", 1)[0]
-        if kind in b"RZ":
+        if kind in (b"R", b"Z"):
             self.close_round()
             self.number, self.is_over = int(rest), kind == b"Z"
             self.lines.append(line)
