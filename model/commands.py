@@ -116,9 +116,10 @@ def read_piece() -> bytes:
 
 
 def write(output: bytes) -> None:
-    """Writes to standard output, and keeps nothing back."""
-    sys.stdout.buffer.write(output)
-    sys.stdout.buffer.flush()
+    """Writes to standard output, and keeps nothing back; a call may move less than all."""
+    left = memoryview(output)
+    while left:
+        left = left[os.write(1, left) :]
 
 
 def hold_session() -> Answer:
@@ -147,11 +148,5 @@ def main(words: list[str]) -> int:
         told = hold_session() if given.command_of(words) == given.Live() else answer_at_once(words)
     except OSError:
         told = refused(Status.WRITE_FAULT, "write fault")
-        drop_output()
     sys.stderr.buffer.write(told.said)
     return told.status
-
-
-def drop_output() -> None:
-    """Lets what is still to be written go where nobody reads it, so that Python doesn't try once more as it ends."""
-    os.dup2(os.open(os.devnull, os.O_WRONLY), 1)
