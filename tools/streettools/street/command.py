@@ -8,6 +8,7 @@ import pathlib
 import signal
 import subprocess
 import sys
+from collections.abc import Awaitable, Callable
 from typing import Any
 
 from ..shared import commandline
@@ -27,6 +28,13 @@ USUAL = {"version": 1, "rounds": 1, "ticks": 10, "cabinets": [{}]}
 def say(told: object) -> None:
     """Tells something on standard error."""
     commandline.say("street", told)
+
+
+class NoPanel(Exception):
+    """A package that the panel needs is missing, in words."""
+
+
+Closing = Callable[[], Awaitable[None]]
 
 
 class Telling(Hearer):
@@ -75,10 +83,37 @@ async def held(street: Street, requests: list[bytes], by_clock: bool) -> None:
     """Lets the street live: what is to happen again first."""
     if requests:
         await Replay(street, requests, street.pace if by_clock else None).play()
-        street.pace.since = street.pace.now()
+        street.pace.restart()
         if not by_clock:
             say(f"{street.session.taken} ticks have happened again")
     await street.live()
+
+
+async def opened_panel(given: argparse.Namespace, street: Street, stack: contextlib.ExitStack) -> Closing | None:
+    """Opens the panel where it is asked for; returns what closes it."""
+    found = next((hearer for hearer in street.hearers if hasattr(hearer, "pages")), None)
+    if found is None:
+        return None
+    found.street = street
+    port = stack.enter_context(ports.page_port(ports.Place(given.bind or ports.LOOPBACK, given.panel)))
+    runner = await found.open(port)
+    say(f"panel at http://{ports.place_of(port)}/")
+    return lambda: found.close(runner, "The street has ended.")
+
+
+def panel_hearers(given: argparse.Namespace) -> list[Hearer]:
+    """Returns what hears for the panel, where one is asked for."""
+    if given.panel is None:
+        return []
+    try:
+        from .panel.sight import Sight
+        from .panel.web import Panel
+    except ModuleNotFoundError as fault:
+        raise NoPanel(
+            f"the panel needs Python's package {fault.name}: apt-get install -y python3-aiohttp node-d3"
+        ) from None
+    sight = Sight()
+    return [sight, Panel(sight, given.bind or ports.LOOPBACK)]
 
 
 async def served(given: argparse.Namespace, street: Street, requests: list[bytes], stack: contextlib.ExitStack) -> None:
@@ -91,6 +126,7 @@ async def served(given: argparse.Namespace, street: Street, requests: list[bytes
         loop.add_signal_handler(number, street.end)
     transports = await ports.listening(sockets, street.datagram)
     tell_places(street, [ports.place_of(port) for port in sockets])
+    panel = await opened_panel(given, street, stack)
     if given.bind:
         say(f"warning: whoever reaches {given.bind} can read and change these cabinets: the protocol has no protection")
     try:
@@ -99,6 +135,8 @@ async def served(given: argparse.Namespace, street: Street, requests: list[bytes
     finally:
         for transport in transports:
             transport.close()
+        if panel:
+            await panel()
 
 
 def checked(given: argparse.Namespace) -> str | None:
@@ -122,6 +160,7 @@ def main(arguments: list[str] | None = None) -> int:
         hearers: list[Hearer] = [Telling()]
         if given.record:
             hearers.append(Recorder(pathlib.Path(given.record)))
+        hearers += panel_hearers(given)
         street, requests = street_of(given, hearers)
         with contextlib.ExitStack() as stack:
             asyncio.run(served(given, street, requests, stack))
@@ -132,6 +171,9 @@ def main(arguments: list[str] | None = None) -> int:
     except NoProgram as fault:
         say(fault)
         return Status.NO_PROGRAM
+    except NoPanel as fault:
+        say(fault)
+        return Status.FILE
     except OSError as fault:
         say(f"{fault.filename}: {fault.strerror}" if fault.filename else fault.strerror)
         return Status.FILE

@@ -32,6 +32,10 @@ class Pace:
         """Returns in how many seconds the next tick is due; a quarter of a second where time stands."""
         return (1 - self.rest) / (TICKS_A_SECOND * self.speed) if self.speed else 0.25
 
+    def restart(self) -> None:
+        """Lets time go on from now; what went by before makes nothing due."""
+        self.since = self.now()
+
     def set(self, speed: float) -> None:
         """Lets time go on at another speed from now on; what was due until now stays due."""
         self.steps += self.due()

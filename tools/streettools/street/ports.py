@@ -53,9 +53,24 @@ def bound(place: Place) -> socket.socket:
         port.bind((place.address, place.port))
     except (OSError, OverflowError) as fault:
         port.close()
-        raise OSError(getattr(fault, "errno", None), getattr(fault, "strerror", str(fault)), f"port {place.port}") from None
+        raise OSError(
+            getattr(fault, "errno", None), getattr(fault, "strerror", str(fault)), f"port {place.port}"
+        ) from None
     port.setblocking(False)
     return port
+
+
+@contextlib.contextmanager
+def page_port(place: Place) -> Iterator[socket.socket]:
+    """Gives a socket for pages at a place."""
+    family = socket.AF_INET6 if ":" in place.address else socket.AF_INET
+    with socket.socket(family, socket.SOCK_STREAM) as port:
+        port.setsockopt(socket.SOL_SOCKET, socket.SO_REUSEADDR, 1)
+        try:
+            port.bind((place.address, place.port))
+        except OSError as fault:
+            raise OSError(fault.errno, fault.strerror, f"port {place.port}") from None
+        yield port
 
 
 def place_of(port: socket.socket) -> Place:

@@ -63,6 +63,7 @@ class Street:
         session = Session(self.program, self.scenario, self.heard)
         await session.open()
         self.session = session
+        self.pace.restart()
 
     def heard(self, request: bytes | None, answer: Answer) -> None:
         """Lets all hear of an answer."""
@@ -70,7 +71,7 @@ class Street:
             hearer.heard(request, answer)
 
     async def message(self, cabinet: int, octets: bytes, stream: str = "priority") -> bytes | None:
-        """Returns a cabinet's reply to a message; None where it is silent, or where the street begins anew meanwhile."""
+        """Returns a cabinet's reply to a message; None where it is silent, or where the street begins anew."""
         if len(octets) > LONGEST:
             return None
         try:
@@ -81,10 +82,13 @@ class Street:
         return None if lines[-1][:1] == b"?" or digits == b"-" else bytes.fromhex(digits.decode())
 
     async def datagram(self, cabinet: int, octets: bytes) -> bytes | None:
-        """Returns a cabinet's reply to a datagram. Where time goes on by messages it does so behind the reply, and the
-        next message waits."""
+        """Returns a cabinet's reply to a datagram, which comes behind the ticks that are due. Where time goes on by
+        messages it does so behind the reply, and the next message waits."""
         if not self.after_message:
-            return await self.message(cabinet, octets)
+            due = self.pace.due()
+            if not due:
+                return await self.message(cabinet, octets)
+            return (await asyncio.gather(self.session.take(due), self.message(cabinet, octets)))[1]
         async with self.order:
             reply = await self.message(cabinet, octets)
             await self.session.take(self.after_message)

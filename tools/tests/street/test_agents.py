@@ -1,4 +1,4 @@
-"""Each cabinet of a street answers at its own port what a run answers, whatever comes, until the street is told to end."""
+"""Each cabinet of a street answers at its own port what a run answers, whatever comes, until the street is to end."""
 
 import json
 import random
@@ -69,12 +69,12 @@ def test_an_answer_is_that_of_the_run_of_all_that_came(street, tmp_path):
 def test_time_goes_by_the_wall_ten_times_as_fast(street, tmp_path):
     running = street("--scenario", written(tmp_path, TWO), "--ports", free_ports(2), "--speed", 10)
     seen = []
-    for wait in (0, 2):
+    for wait in (1, 3):
         time.sleep(wait)
         before = time.monotonic()
         seen.append((before, value_in(running.ask(get(1, CLOCK), 2)), time.monotonic()))
     (early, first, done), (begun, second, late) = seen
-    assert 100 * (begun - done) - 30 <= second - first <= 100 * (late - early) + 30
+    assert 100 * (begun - done) - 100 <= second - first <= 100 * (late - early) + 100
 
 
 @pytest.mark.parametrize("number", [signal.SIGINT, signal.SIGTERM])
@@ -87,7 +87,18 @@ def test_it_ends_as_it_is_told(street, number):
 
 def test_each_cabinet_may_have_an_address_of_its_own(street, tmp_path):
     port = free_ports(1)
-    running = street("--scenario", written(tmp_path, TWO), "--addresses", "127.0.1.1+", "--ports", port, "--speed", "step", "--step", 0)
+    running = street(
+        "--scenario",
+        written(tmp_path, TWO),
+        "--addresses",
+        "127.0.1.1+",
+        "--ports",
+        port,
+        "--speed",
+        "step",
+        "--step",
+        0,
+    )
     for cabinet, clock in ((1, 100), (2, 200)):
         running.socket.sendto(get(5, CLOCK), (f"127.0.1.{cabinet}", port))
         reply, place = running.socket.recvfrom(65_536)
@@ -97,7 +108,9 @@ def test_each_cabinet_may_have_an_address_of_its_own(street, tmp_path):
 def test_random_and_long_datagrams_leave_it_answering(street):
     dice, running = random.Random(2), street("--ports", 0, "--speed", "step", "--step", 0)
     for number in range(300):
-        running.send(dice.choice([b"", bytes(65_507), bytes(1473), dice.randbytes(dice.randrange(200)), drawn(dice, number)]))
+        running.send(
+            dice.choice([b"", bytes(65_507), bytes(1473), dice.randbytes(dice.randrange(200)), drawn(dice, number)])
+        )
         if number % 50 == 49:
             running.send(get(70_000 + number, VERSION))
             while reply_of(running.socket.recv(65_536)).number != 70_000 + number:
@@ -125,7 +138,10 @@ def test_what_is_wrong_is_told(tmp_path):
     assert refused("--scenario", wrong) == (2, "street: scenario: field speed")
     wrong.write_text("{")
     assert refused("--scenario", wrong) == (2, "street: scenario: not JSON")
-    assert refused("--scenario", tmp_path / "none.json") == (1, f"street: {tmp_path / 'none.json'}: No such file or directory")
+    assert refused("--scenario", tmp_path / "none.json") == (
+        1,
+        f"street: {tmp_path / 'none.json'}: No such file or directory",
+    )
     assert refused("--record", tmp_path) == (1, f"street: {tmp_path}: Is a directory")
     assert refused("--addresses", "10.0.0.1+")[0] == 2
     assert refused("--speed", "0")[0] == 2

@@ -54,7 +54,18 @@ def test_a_record_that_happens_again_gives_the_same_cabinet(street, tmp_path):
 
 def test_a_record_is_resumed_into_itself(street, tmp_path):
     first = recorded(street, tmp_path / "session.trace")
-    running = street("--ports", 0, "--speed", "step", "--step", 7, "--resume", tmp_path / "session.trace", "--record", tmp_path / "session.trace")
+    running = street(
+        "--ports",
+        0,
+        "--speed",
+        "step",
+        "--step",
+        7,
+        "--resume",
+        tmp_path / "session.trace",
+        "--record",
+        tmp_path / "session.trace",
+    )
     running.told("ticks have happened again")
     running.ask(set_clock(1, 5))
     assert running.end() == 0
