@@ -99,9 +99,15 @@ function showTime(told) {
   put(by("pause"), stands ? "Go on" : "Pause");
   if (!stands) {
     resumed = known.speed;
-    if (document.activeElement !== by("speed")) by("speed").value = String(known.speed);
+    if (document.activeElement !== by("speed")) showSpeed(String(known.speed));
   }
   if (told.ending) showEnding(told.ending);
+}
+
+function showSpeed(text) {
+  const select = by("speed");
+  if (![...select.options].some((it) => it.value === text)) select.append(new Option(text, text));
+  select.value = text;
 }
 
 function showEnding(text) {
