@@ -15,6 +15,7 @@ from ..shared import commandline
 from ..shared.program import NoProgram, found
 from ..shared.status import Status
 from . import ports, words
+from .ntcip.front import Fronts
 from .pace import Pace
 from .record import Recorder, read_requests
 from .replay import Replay
@@ -124,7 +125,7 @@ async def served(given: argparse.Namespace, street: Street, requests: list[bytes
     loop = asyncio.get_running_loop()
     for number in (signal.SIGINT, signal.SIGTERM):
         loop.add_signal_handler(number, street.end)
-    transports = await ports.listening(sockets, street.datagram)
+    transports = await ports.listening(sockets, Fronts(street).datagram if given.front else street.datagram)
     tell_places(street, [ports.place_of(port) for port in sockets])
     panel = await opened_panel(given, street, stack)
     if given.bind:

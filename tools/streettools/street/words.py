@@ -91,6 +91,9 @@ def parser() -> argparse.ArgumentParser:
     again.add_argument(
         "--resume", metavar="FILE", help="what this record holds happens again at once; then the street goes on"
     )
+    words.add_argument(
+        "--as", dest="front", choices=["ntcip1202"], help="answer more than the proved profile has: docs/CLIENTS.md"
+    )
     words.add_argument("--program", metavar="PATH", help="the program (the one that ./arterial prove has built)")
     return words
 

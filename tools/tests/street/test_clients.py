@@ -1,4 +1,4 @@
-"""Three cabinets of a street and the clients of others: net-snmp's tools, and messages that were recorded or damaged."""
+"""Three cabinets of a street and clients of others: net-snmp's tools, messages that were recorded or damaged."""
 
 import json
 import os
@@ -61,7 +61,7 @@ def test_a_name_without_an_object_is_told(three, tool):
 
 
 def listed():
-    """Yields each message of the corpora: its octets, and the number that is due in the reply; None where silence is."""
+    """Yields each message of the corpora: its octets, and the number due in the reply; None where silence is."""
     for name in ("real", "damaged"):
         for line in (TOP / f"corpora/snmp/{name}.jsonl").read_text().splitlines():
             it = json.loads(line)

@@ -113,7 +113,12 @@ def test_messages_of_management_software_are_told_by_their_names(panel, browser)
     awaited(browser, "cards", "Cabinet 1")
     running.ask(message(SET, 1, [(CONTROL, 255)]))
     running.ask(message(SET, 2, [(CONTROL, 256)]))
+    awaited(browser, "messages", "badValue")
+    browser.get(f"{address}#1")
+    browser.refresh()
     text = awaited(browser, "messages", "badValue")
+    time.sleep(1)
+    assert browser.find_element("id", "messages").text.count("badValue") == 1
     assert "Set systemPatternControl.0 = 255 systemPatternControl.0 = 255" in text
     assert "Set systemPatternControl.0 = 256 badValue at 1" in text
 

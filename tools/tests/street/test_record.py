@@ -1,5 +1,6 @@
 """What a street records is a trace, which has all that came but reads; and it can happen again."""
 
+import asyncio
 import json
 import subprocess
 import time
@@ -7,10 +8,12 @@ import time
 import pytest
 from model.promises.judging import broken_promises
 from streettools.cabinet.messages import SET, message
+from streettools.street import record
+from streettools.street.pace import Pace
 from streettools.street.record import Recorder
-from streettools.street.street import rounds_for
+from streettools.street.street import Street, rounds_for
 
-from .conftest import CLOCK, CONTROL, COUNTER, PROGRAM
+from .conftest import CLOCK, CONTROL, COUNTER, PROGRAM, SECONDS
 from .test_agents import get, value_in
 
 
@@ -128,3 +131,40 @@ def test_a_street_lives_as_long_as_a_scenario_may(tmp_path):
     assert rounds_for({"ticks": 10, "cabinets": [{}] * 64}) == 86_400
     assert rounds_for({"ticks": 600, "cabinets": [{}] * 64}) == 1440
     assert rounds_for({"ticks": 1, "cabinets": [{}]}) == 86_400
+
+
+async def lived(street):
+    """Lets a street live until it has begun anew, and ends it."""
+    await street.open()
+    living = asyncio.create_task(street.live())
+    until = time.monotonic() + SECONDS
+    while street.renewals == 0 and time.monotonic() < until:
+        await asyncio.sleep(0.1)
+    street.end()
+    await living
+    await street.close()
+
+
+def street_here(pace, hearers):
+    """Returns a street of one cabinet in rounds of five ticks."""
+    return Street(str(PROGRAM), {"version": 1, "rounds": 1, "ticks": 5, "cabinets": [{}]}, Pace(pace), hearers)
+
+
+def test_a_full_record_is_followed_by_another(tmp_path, monkeypatch):
+    monkeypatch.setattr(record, "FULL", 6e-6)
+    made = street_here(50, [Recorder(tmp_path / "session.trace")])
+    asyncio.run(lived(made))
+    assert made.renewals >= 1
+    names = ["session.trace", *(f"session.{part}.trace" for part in range(2, made.renewals + 2))]
+    assert [checked(tmp_path / name) for name in names] == [(0, b"")] * len(names)
+    # six millionths of 67,108,864 bytes are 402, some ten rounds of a trace
+    assert all((tmp_path / name).stat().st_size > 402 for name in names[:-1])
+
+
+def test_behind_the_last_round_a_new_session_begins(tmp_path):
+    made = street_here(50, [Recorder(tmp_path / "session.trace")])
+    made.scenario["rounds"] = 4
+    asyncio.run(lived(made))
+    assert made.renewals >= 1
+    assert (tmp_path / "session.trace").read_bytes().endswith(b"\nZ 4\n")
+    assert checked(tmp_path / "session.trace") == (0, b"")

@@ -51,6 +51,7 @@ class Page:
         self.socket = socket
         self.waiting: asyncio.Queue[str] = asyncio.Queue(MOST_WAITING)
         self.cabinet = 0
+        self.known = (0, 0)
 
     def tell(self, text: str) -> None:
         """Lets a text wait for the page; one that doesn't read is dropped."""
@@ -103,16 +104,23 @@ class Panel(Hearer):
             page.tell(text)
 
     async def news(self) -> None:
-        """Tells pages what has changed, again and again."""
-        known, session = self.sight.change, self.sight.sessions
+        """Tells pages what has changed since they were told last, again and again."""
         while True:
             await asyncio.sleep(EVERY)
-            if not self.pages:
-                continue
-            is_new = session != self.sight.sessions
-            told = self.head() if is_new else self.sight.news(known)
-            known, session = self.sight.change, self.sight.sessions
-            self.broadcast(told | self.state())
+            texts: dict[tuple[int, int], str] = {}
+            for page in list(self.pages):
+                if page.known not in texts:
+                    texts[page.known] = json.dumps(self.news_behind(page.known) | self.state(), separators=(",", ":"))
+                page.tell(texts[page.known])
+                page.known = self.known()
+
+    def known(self) -> tuple[int, int]:
+        """Returns up to what a page knows all that is told now: the session, and the last change."""
+        return self.sight.sessions, self.sight.change
+
+    def news_behind(self, known: tuple[int, int]) -> dict[str, Any]:
+        """Returns what a page is told that knows so much; of another session all."""
+        return self.sight.news(known[1]) if known[0] == self.sight.sessions else self.head()
 
     async def details(self) -> None:
         """Tells pages of the cabinets that they look at."""
@@ -198,6 +206,7 @@ class Panel(Hearer):
         await socket.prepare(request)
         page = Page(socket)
         page.tell(json.dumps(self.head() | self.state()))
+        page.known = self.known()
         page.tell(json.dumps({"greens": self.sight.greens()}))
         self.pages.add(page)
         writer = asyncio.create_task(page.write())
