@@ -49,7 +49,7 @@ function drawDiagram(known) {
   const height = known.facts.length * ROW + 40;
   const svg = d3.select("#diagram").attr("viewBox", `0 0 ${WIDTH} ${height}`);
   const times = [Math.max(0, known.now - ticks), Math.max(ticks, known.now)];
-  const x = d3.scaleLinear().domain(times).range([LEFT, WIDTH - 10]).clamp(true);
+  const x = d3.scaleLinear().domain(times).range([LEFT, WIDTH - 30]).clamp(true);
   const rows = known.facts.map((facts, at) => at);
   svg.selectAll("text.row").data(rows).join("text").attr("class", "row").attr("x", 6)
     .attr("y", (it) => it * ROW + ROW / 2 + 14).text((it) => `Cabinet ${it + 1}`);
