@@ -22,7 +22,10 @@ def rounds_for(scenario: dict[str, Any]) -> int:
 
 
 class Hearer:
-    """Hears what a street is told and answers. A record and a panel are hearers."""
+    """Hears what a street is told and answers, and may bring inputs. A record and a panel are hearers."""
+
+    stride = 600
+    """How many ticks may be taken at once before it is asked for inputs."""
 
     def began(self, scenario: dict[str, Any]) -> None:
         """A session begins."""
@@ -32,6 +35,10 @@ class Hearer:
 
     def ended(self, died: Died | None) -> None:
         """The session is over, or its program died."""
+
+    def inputs(self, ticks: int) -> list[bytes]:
+        """Returns the inputs that are due when so many ticks were taken, as requests."""
+        return []
 
     def is_full(self) -> bool:
         """Tells whether the session should end here."""
@@ -85,10 +92,8 @@ class Street:
         """Returns a cabinet's reply to a datagram, which comes behind the ticks that are due. Where time goes on by
         messages it does so behind the reply, and the next message waits."""
         if not self.after_message:
-            due = self.pace.due()
-            if not due:
-                return await self.message(cabinet, octets)
-            return (await asyncio.gather(self.session.take(due), self.message(cabinet, octets)))[1]
+            self.session.post_all_ticks(self.pace.due())
+            return await self.message(cabinet, octets)
         async with self.order:
             reply = await self.message(cabinet, octets)
             await self.session.take(self.after_message)
@@ -104,7 +109,7 @@ class Street:
     async def live(self) -> None:
         """Lets time go on, until the street is told to end; a program that dies is raised."""
         while not self.ended.is_set():
-            await self.session.take(self.pace.due())
+            await self.take(self.pace.due())
             if self.session.is_over:
                 if not await self.renewed():
                     return
@@ -112,6 +117,17 @@ class Street:
                 await self.session.finish()
             else:
                 await self.pause(self.pace.wait())
+
+    async def take(self, count: int) -> None:
+        """Takes ticks, and between them what hearers bring."""
+        stride = min((hearer.stride for hearer in self.hearers), default=Hearer.stride)
+        while count and not self.session.is_over and not self.ended.is_set():
+            for hearer in self.hearers:
+                for request in hearer.inputs(self.session.taken):
+                    await self.input(request)
+            now = min(count, stride)
+            await self.session.take(now)
+            count -= now
 
     async def pause(self, seconds: float) -> None:
         """Waits, or until it is woken."""

@@ -33,6 +33,11 @@ class Streams:
         elif (cabinet, phase) in self.of:
             self.of[cabinet, phase].rate = 0
 
+    def restart(self) -> None:
+        """Begins anew at tick 0, where no vehicle is on a detector."""
+        for it in self.of.values():
+            it.next, it.leaves = self.gap(it.rate) if it.rate else 0, None
+
     def gap(self, rate: int) -> float:
         """Draws the ticks until the next vehicle, at least those for which one stays and one more."""
         return max(STAYS + 1, self.draw.expovariate(rate / HOUR))

@@ -5,7 +5,6 @@ import contextlib
 import json
 import pathlib
 import socket
-from collections.abc import Iterator
 from typing import Any
 
 from aiohttp import WSMsgType, web
@@ -52,14 +51,14 @@ class Page:
         self.waiting: asyncio.Queue[str] = asyncio.Queue(MOST_WAITING)
         self.cabinet = 0
         self.known = (0, 0)
+        self.dropping: asyncio.Task[bool] | None = None
 
     def tell(self, text: str) -> None:
         """Lets a text wait for the page; one that doesn't read is dropped."""
         try:
             self.waiting.put_nowait(text)
         except asyncio.QueueFull:
-            if self.socket._writer is not None and self.socket._writer.transport is not None:
-                self.socket._writer.transport.abort()
+            self.dropping = self.dropping or asyncio.create_task(self.socket.close())
 
     async def write(self) -> None:
         """Sends what waits, until the page goes away."""
@@ -71,6 +70,8 @@ class Page:
 class Panel(Hearer):
     """The panel of a street."""
 
+    stride = 4
+
     def __init__(self, sight: Sight, allowed: str) -> None:
         self.sight = sight
         self.allowed = allowed
@@ -78,8 +79,6 @@ class Panel(Hearer):
         self.pages: set[Page] = set()
         self.streams = Streams()
         self.pulses: list[tuple[int, bytes]] = []
-        self.resumed = 1.0
-        self.is_closing = False
 
     # what pages are told
 
@@ -163,9 +162,9 @@ class Panel(Hearer):
         elif isinstance(order, orders.Pulse):
             place = b"veh %d %d " % (order.cabinet, order.phase)
             await self.street.input(place + b"on")
-            self.pulses.append((self.sight.ticks + STAYS, place + b"off"))
+            self.pulses.append((self.street.session.taken + STAYS, place + b"off"))
         elif isinstance(order, orders.Rate):
-            self.streams.set(order.cabinet, order.phase, order.rate, self.sight.ticks)
+            self.streams.set(order.cabinet, order.phase, order.rate, self.street.session.taken)
         elif isinstance(order, orders.Speed):
             self.street.pace.set(order.speed)
             self.street.wake()
@@ -175,25 +174,14 @@ class Panel(Hearer):
         else:
             page.cabinet = order.cabinet
 
-    def due_inputs(self) -> Iterator[bytes]:
-        """Yields the inputs that are due: of streams, and of vehicles that leave."""
-        yield from self.streams.due(self.sight.ticks)
-        due = [it for it in self.pulses if it[0] <= self.sight.ticks]
-        self.pulses = [it for it in self.pulses if it not in due]
-        yield from (request for _, request in due)
-
-    async def traffic(self) -> None:
-        """Brings the inputs that are due, tick by tick."""
-        seen = -1
-        while True:
-            if self.sight.ticks != seen:
-                seen = self.sight.ticks
-                for request in list(self.due_inputs()):
-                    await self.street.input(request)
-            await asyncio.sleep(0.05 / max(1.0, self.street.pace.speed))
+    def inputs(self, ticks: int) -> list[bytes]:
+        due = [it for it in self.pulses if it[0] <= ticks]
+        self.pulses = [it for it in self.pulses if it[0] > ticks]
+        return self.streams.due(ticks) + [request for _, request in due]
 
     def began(self, scenario: dict[str, Any]) -> None:
         self.pulses = []
+        self.streams.restart()
 
     # the server
 
@@ -246,7 +234,7 @@ class Panel(Hearer):
         runner = web.AppRunner(app, access_log=None)
         await runner.setup()
         await web.SockSite(runner, port, shutdown_timeout=1).start()
-        self.tasks = [asyncio.create_task(it()) for it in (self.news, self.details, self.greens, self.traffic)]
+        self.tasks = [asyncio.create_task(it()) for it in (self.news, self.details, self.greens)]
         return runner
 
     async def close(self, runner: web.AppRunner, ending: str) -> None:
