@@ -1,0 +1,45 @@
+/* Marks: what the master notes, what became of downloads, refused Sets, clocks that were set, priority requests. */
+const Marks = (() => {
+  const LETTERS = { note: "N", accepted: "D", refused: "R", clock: "T", priority: "B" };
+  const WORDS = { note: "master's note", accepted: "download accepted", refused: "refused", clock: "clock set", priority: "priority request" };
+  const kind = (cabinet, place) => Data.head.texts.kinds[cabinet.marks.kind[place]];
+  const words = (cabinet, place) => Data.head.texts.words[cabinet.marks.words[place]];
+
+  /* Draws a cabinet's marks at a height: letters where they have room, else lines. */
+  function draw(context, cabinet, y, height) {
+    const { from, to, x } = View.state, ticks = cabinet.marks.tick;
+    const low = Data.at(ticks, from - 1) + 1, high = Data.at(ticks, to) + 1;
+    drawLines(context, cabinet, low, high, y, height);
+    let reached = -Infinity;
+    context.textAlign = "center";
+    for (let i = low; i < high; i += 1) {
+      const at = x(ticks[i]), name = kind(cabinet, i);
+      if (at - reached < 11) continue;
+      reached = at;
+      context.fillStyle = Data.head.colours.marks[name];
+      context.fillRect(at - 5.5, y, 11, Math.min(12, height));
+      context.fillStyle = "#fff";
+      context.fillText(LETTERS[name], at, y + Math.min(12, height) / 2 + 0.5);
+    }
+  }
+
+  /* A line for each mark; of many in a column of pixels the first stands, and each refusal. */
+  function drawLines(context, cabinet, low, high, y, height) {
+    let last = -Infinity;
+    for (let i = low; i < high; i += 1) {
+      const at = View.state.x(cabinet.marks.tick[i]), name = kind(cabinet, i);
+      if (at - last < 1 && name !== "refused") continue;
+      last = at;
+      context.fillStyle = Data.head.colours.marks[name];
+      context.fillRect(at - 0.75, y, 1.5, height);
+    }
+  }
+
+  /* The places of a cabinet's marks within so many ticks of a tick. */
+  function near(cabinet, tick, reach) {
+    const ticks = cabinet.marks.tick;
+    return d3.range(Data.at(ticks, tick - reach) + 1, Data.at(ticks, tick + reach) + 1);
+  }
+
+  return { LETTERS, WORDS, draw, near, kind, words };
+})();
