@@ -44,7 +44,9 @@ const Keys = (() => {
   function pressed(event) {
     if (event.ctrlKey || event.metaKey || event.altKey) return;
     if (["INPUT", "SELECT"].includes(document.activeElement.tagName)) {
-      if (event.key === "Escape") document.activeElement.blur();
+      if (event.key !== "Escape") return;
+      event.preventDefault();
+      document.activeElement.blur();
       return;
     }
     const found = KEYS.find(([keys]) => keys.includes(event.key));
