@@ -1,4 +1,4 @@
-"""What a page has of a trace: each cabinet's frames, local zeros, barriers, ends of greens, calls, and marks with words.
+"""What a page has of a trace: each cabinet's frames, local zeros, barriers, ends of greens, calls and marks.
 
 Frames are kept as they stand in the trace; all else that needs the tables in force is worked out here, as for the other
 pictures.
@@ -130,10 +130,10 @@ class Story:
             self.paired(frame.tick, plan.coordinated)
         cycle = self.cabinet.cycle(frame)
         if cycle:
-            told = cycle.error is not None
+            told, met = cycle.error is not None, self.cabinet.is_met(cycle)
             self.tables["zeros"].add(
-                cycle.tick, cycle.pattern, int(cycle.pickup), int(told), cycle.error or 0, int(self.cabinet.is_met(cycle))
-            )
+                cycle.tick, cycle.pattern, int(cycle.pickup), int(told), cycle.error or 0, int(met)
+            )  # fmt: skip
 
     def changed(self, before: Frame, frame: Frame) -> None:
         """Keeps how greens end with a frame, and a barrier where a phase of another side turns green."""

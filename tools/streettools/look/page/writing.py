@@ -25,15 +25,15 @@ HERE = pathlib.Path(__file__).resolve().parent / "parts"
 LIBRARY = pathlib.Path("/usr/share/nodejs/d3/dist/d3.min.js")
 LICENCE = pathlib.Path("/usr/share/doc/node-d3/copyright")
 CODE = (
-    "text", "data", "lanes", "view", "panel", "marks", "overview", "bands", "street", "rings", "pointer", "ruler",
-    "search", "keys", "main",
+    "text", "data", "lanes", "view", "panel", "modes", "marks", "overview", "bands", "street", "calls", "rings",
+    "pointer", "ruler", "search", "fields", "link", "keys", "main",
 )  # fmt: skip
 """The files of the page's code, in the order in which they build on each other."""
 
 
 class Asked(NamedTuple):
-    """What was asked for beside the trace: the street's cabinets in order, the ticks of travel between them or None, and
-    the seconds from midnight at which tick 0 stands, or None."""
+    """What was asked for beside the trace: the street's cabinets in order, the ticks of travel between them or None,
+    and the seconds from midnight at which tick 0 stands, or None."""
 
     street: list[int]
     travel: list[int] | None

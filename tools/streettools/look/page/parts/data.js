@@ -84,7 +84,8 @@ const Data = (() => {
   function line(cabinet, place) {
     const it = cabinet.frames;
     const shown = head.texts.shown[it.shown[place]], mode = head.texts.modes[it.mode[place]];
-    return `F ${cabinet.number} ${it.tick[place]} ${shown} ${mode} ${it.counter[place]} ${it.target[place]} ${it.version[place]}`;
+    const numbers = `${it.counter[place]} ${it.target[place]} ${it.version[place]}`;
+    return `F ${cabinet.number} ${it.tick[place]} ${shown} ${mode} ${numbers}`;
   }
 
   /* By how many ticks a local zero is late or early, null where the tables don't tell. */

@@ -25,7 +25,10 @@ const Keys = (() => {
     [["p"], "p", "print, or save as PDF", () => window.print()],
     [["?"], "?", "these keys", () => help()],
   ];
-  const MORE = [["wheel, pinch", "zoom"], ["drag", "earlier or later"], ["Shift+drag", "ruler"], ["click", "shows a cabinet's rings"]];
+  const MORE = [
+    ["wheel, pinch", "zoom"], ["drag", "earlier or later"], ["Shift+drag", "ruler"],
+    ["click", "shows a cabinet's rings"],
+  ];
 
   function centre() {
     const { from, to } = View.state, at = Pointer.state.tick;

@@ -1,8 +1,8 @@
 /* Lanes: what a phase or a ring shows over time, as runs, and how a lane is drawn at any zoom.
 
-Where runs have room they are drawn as bars with letters. Further out a column of pixels has many runs: it shows by heights
-which share of its time was green, yellow change and red clearance. Sums before each run are kept, so that a share costs
-the same at every zoom. */
+Where runs have room they are drawn as bars with letters. Further out a column of pixels has many runs: it shows by
+heights which share of its time was green, yellow change and red clearance. Sums before each run are kept, so that a
+share costs the same at every zoom. */
 const Lanes = (() => {
   const kept = new Map();
 
@@ -17,7 +17,8 @@ const Lanes = (() => {
       phases.push(phase);
     }
     starts.push(Data.last);
-    return summed({ starts: Float64Array.from(starts), codes: Uint8Array.from(codes), phases: Uint8Array.from(phases) });
+    const [ticks, ...shown] = [Float64Array.from(starts), Uint8Array.from(codes), Uint8Array.from(phases)];
+    return summed({ starts: ticks, codes: shown[0], phases: shown[1] });
   }
 
   function summed(lane) {
@@ -73,12 +74,12 @@ const Lanes = (() => {
   /* Whether runs have room to be drawn one by one. */
   const isFine = (lane, view) => run(lane, view.to) - run(lane, view.from) < view.width / 6;
 
-  /* Calls `paint` for each run that is seen and not red: its place, code, phase, and from where to where it is drawn. */
+  /* Calls `paint` for each run that is seen and not red: its code, its phase, and from where to where it is drawn. */
   function each(lane, view, paint) {
     for (let i = run(lane, view.from); i < lane.codes.length && lane.starts[i] < view.to; i += 1) {
       if (!lane.codes[i]) continue;
       const low = Math.max(0, view.x(lane.starts[i])), high = Math.min(view.width, view.x(lane.starts[i + 1]));
-      paint(i, lane.codes[i], lane.phases[i], low, high);
+      paint(lane.codes[i], lane.phases[i], low, high);
     }
   }
 
@@ -96,7 +97,8 @@ const Lanes = (() => {
     for (let x = 0; x < raster.width; x += 1) {
       tick = Math.min(tick + step, lane.starts[final + 1]);
       while (i < final && lane.starts[i + 1] <= tick) i += 1;
-      const nextGreen = sum(lane, 1, i, tick), nextYellow = sum(lane, 2, i, tick), nextClearance = sum(lane, 3, i, tick);
+      const nextGreen = sum(lane, 1, i, tick), nextYellow = sum(lane, 2, i, tick);
+      const nextClearance = sum(lane, 3, i, tick);
       const one = (nextGreen - green) / step * height, two = one + (nextYellow - yellow) / step * height;
       const three = two + (nextClearance - clearance) / step * height;
       pile(raster, x, foot, [one, two, three, height], colours);
@@ -106,11 +108,12 @@ const Lanes = (() => {
     }
   }
 
-  /* Fills a column of pixels upwards from a foot, as far as it stands in the raster: up to each height with its colour. */
+  /* Fills a column of pixels upwards from a foot, as far as the raster goes: up to each height with its colour. */
   function pile(raster, x, foot, heights, colours) {
     let y = Math.max(0, foot - raster.height);
     for (let part = 0; part < 4; part += 1) {
-      for (const end = Math.min(foot, Math.round(heights[part])); y < end; y += 1) raster.pixels[(foot - 1 - y) * raster.width + x] = colours[part];
+      const end = Math.min(foot, Math.round(heights[part]));
+      for (; y < end; y += 1) raster.pixels[(foot - 1 - y) * raster.width + x] = colours[part];
     }
   }
 

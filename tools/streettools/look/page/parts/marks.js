@@ -1,25 +1,28 @@
 /* Marks: what the master notes, what became of downloads, refused Sets, clocks that were set, priority requests. */
 const Marks = (() => {
   const LETTERS = { note: "N", accepted: "D", refused: "R", clock: "T", priority: "B" };
-  const WORDS = { note: "master's note", accepted: "download accepted", refused: "refused", clock: "clock set", priority: "priority request" };
+  const WORDS = {
+    note: "master's note", accepted: "download accepted", refused: "refused", clock: "clock set",
+    priority: "priority request",
+  };
   const kind = (cabinet, place) => Data.head.texts.kinds[cabinet.marks.kind[place]];
   const words = (cabinet, place) => Data.head.texts.words[cabinet.marks.words[place]];
 
-  /* Draws a cabinet's marks at a height: letters where they have room, else lines. */
-  function draw(context, cabinet, y, height) {
-    const { from, to, x } = View.state, ticks = cabinet.marks.tick;
+  /* Draws a cabinet's marks at a height: letters where they have room, else lines; words beside them where asked. */
+  function draw(context, cabinet, y, height, withWords = false) {
+    const { from, to, x, width } = View.state, ticks = cabinet.marks.tick;
     const low = Data.at(ticks, from - 1) + 1, high = Data.at(ticks, to) + 1;
     drawLines(context, cabinet, low, high, y, height);
     let reached = -Infinity;
-    context.textAlign = "center";
     for (let i = low; i < high; i += 1) {
       const at = x(ticks[i]), name = kind(cabinet, i);
       if (at - reached < 11) continue;
       reached = at;
       context.fillStyle = Data.head.colours.marks[name];
       context.fillRect(at - 5.5, y, 11, Math.min(12, height));
-      context.fillStyle = "#fff";
-      context.fillText(LETTERS[name], at, y + Math.min(12, height) / 2 + 0.5);
+      within(context, [LETTERS[name]], at - 9, at + 9, y + Math.min(12, height) / 2 + 0.5, "#fff");
+      const end = i + 1 < high ? x(ticks[i + 1]) - 6 : width;
+      if (withWords) within(context, [words(cabinet, i)], at + 5, end, y + height / 2, "#22262a", true);
     }
   }
 

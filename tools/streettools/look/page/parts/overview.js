@@ -20,21 +20,6 @@ const Overview = (() => {
     for (const { zeros } of Data.head.cabinets) zeros.y = Float32Array.from(zeros.error, scale);
   }
 
-  /* Modes side by side, with their letters; what begins in a column of pixels that has one is left to that. */
-  function drawModes(context, row) {
-    const { from, x, to, width } = View.state, { tick, mode } = row.cabinet.modes;
-    let reached = -1;
-    for (let i = Math.max(0, Data.at(tick, from)); i < mode.length && tick[i] < to; i += 1) {
-      const low = Math.max(0, x(tick[i])), high = Math.min(width, x(tick[i + 1]));
-      if (high - reached < 1) continue;
-      const text = Data.head.texts.modes[mode[i]];
-      context.fillStyle = colours.modes[text[0]];
-      context.fillRect(Math.max(low, reached), row.y, Math.max(1, high - low - 0.4), row.height);
-      reached = high;
-      if (high - low > 12) within(context, [Text.mode(text), text, text[0]], low, high, row.y + row.height - 6, "#495057", true);
-    }
-  }
-
   /* Local zeros: a point on the line is on the offset, above it late, below it early. */
   function drawZeros(context, row) {
     const { from, to, x } = View.state, zeros = row.cabinet.zeros, middle = row.y + row.height / 2;
@@ -64,7 +49,8 @@ const Overview = (() => {
     for (let i = low; i < high; i += 1) {
       if (!zeros.told[i]) continue;
       const at = Math.round(x(zeros.tick[i]) * raster.ratio), y = middle + zeros.y[i];
-      const top = Math.max(0, raster.line(Math.min(y, middle) - 1)), foot = Math.min(raster.height, raster.line(Math.max(y, middle) + 1));
+      const top = Math.max(0, raster.line(Math.min(y, middle) - 1));
+      const foot = Math.min(raster.height, raster.line(Math.max(y, middle) + 1));
       for (let line = top; line < foot; line += 1) {
         for (let dot = 0; dot < part; dot += 1) {
           if (at + dot < raster.width) raster.pixels[line * raster.width + at + dot] = zeros.met[i] ? met : away;
@@ -75,7 +61,7 @@ const Overview = (() => {
 
   function draw(context, it, isSeen) {
     for (const row of it.rows.rows.filter(isSeen)) {
-      drawModes(context, row);
+      Modes.draw(context, row.cabinet, row.y, row.height, row.y + row.height - 6);
       drawZeros(context, row);
     }
     it.raster.end(context);
@@ -89,10 +75,13 @@ const Overview = (() => {
 
   function open() {
     place();
-    panel = new Panel("overview", "All cabinets: mode and pattern, local zeros late (above) or early (below), marks", plan, draw);
-    const modes = Object.entries(Text.MODES).map(([letter, words]) => [colours.modes[letter], letter, letter === "E" ? "ending (for flash)" : words]);
-    const marks = Object.entries(Marks.LETTERS).map(([kind, letter]) => [colours.marks[kind], letter, Marks.WORDS[kind], "#fff"]);
-    const zeros = [[colours.lines.met, "·", "local zero on the offset", "#fff"], [colours.lines.away, "|", "local zero late or early", "#fff"]];
+    const title = "All cabinets: mode and pattern, local zeros late (above) or early (below), marks";
+    panel = new Panel("overview", title, plan, draw);
+    const named = { ...Text.MODES, E: "ending (for flash)" }, { met, away } = colours.lines;
+    const modes = Object.entries(named).map(([letter, words]) => [colours.modes[letter], letter, words]);
+    const zeros = [[met, "·", "local zero on the offset", "#fff"], [away, "|", "local zero late or early", "#fff"]];
+    const kinds = Object.entries(Marks.LETTERS);
+    const marks = kinds.map(([kind, letter]) => [colours.marks[kind], letter, Marks.WORDS[kind], "#fff"]);
     Page.explain(panel, [...modes, ...zeros, ...marks]);
   }
 

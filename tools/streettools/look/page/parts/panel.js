@@ -56,6 +56,12 @@ class Panel {
     this.isSeen = View.state.printing || (above < this.whole && above > -window.innerHeight);
   }
 
+  /* Shows where a hit stands. */
+  follow(tick) {
+    const { from, to, x } = View.state, isSeen = tick !== null && tick >= from && tick <= to;
+    this.hit.attr("visibility", isSeen ? "visible" : "hidden").attr("x1", x(tick)).attr("x2", x(tick));
+  }
+
   draw() {
     if (!this.isSeen) return;
     const context = this.canvas.getContext("2d"), { width } = View.state, { ratio, top } = this;
@@ -84,7 +90,8 @@ class Raster {
 
   /* Begins a picture whose pixels stand from a height of the rows on. */
   begin(width, top, height, ratio) {
-    Object.assign(this, { ratio, top, width: Math.round(width * ratio), height: Math.round(height * ratio), pixels: null });
+    Object.assign(this, { ratio, top, width: Math.round(width * ratio), height: Math.round(height * ratio) });
+    this.pixels = null;
   }
 
   /* The line of pixels of a height of the rows. */
@@ -119,12 +126,14 @@ class Raster {
 }
 
 /* How many ticks may lie between two marks of a time axis. */
-const STEPS = [1, 2, 5, 10, 20, 50, 100, 150, 200, 300, 600, 1200, 3000, 6000, 9000, 18000, 36000, 72000, 108000, 216000];
+const STEPS = [
+  1, 2, 5, 10, 20, 50, 100, 150, 200, 300, 600, 1200, 3000, 6000, 9000, 18000, 36000, 72000, 108000, 216000,
+];
 
 /* A time axis in whole steps of the run, or of the day where its time is known. */
 function drawAxis(group) {
-  const { from, to, width } = View.state, room = width / 84;
-  const step = STEPS.find(it => (to - from) / it <= room) || STEPS[STEPS.length - 1] * Math.ceil((to - from) / room / STEPS[STEPS.length - 1]);
+  const { from, to, width } = View.state, room = width / 84, most = STEPS[STEPS.length - 1];
+  const step = STEPS.find(it => (to - from) / it <= room) || most * Math.ceil((to - from) / room / most);
   const shift = Text.isDay() ? Math.round(10 * Data.head.start) % step : 0;
   const first = Math.ceil((from + shift) / step) * step - shift;
   const axis = d3.axisTop(d3.scaleLinear().domain([from, to]).range([0, width]));

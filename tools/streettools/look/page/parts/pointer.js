@@ -8,7 +8,8 @@ const Pointer = (() => {
     if (!code) return null;
     const start = lane.starts[i], end = lane.starts[i + 1];
     const ended = words === Text.SIGNALS && code === 1 ? ending(cabinet, phase, end) : "";
-    return `phase ${phase} ${words[code]} ${Text.time(start)} to ${Text.time(end)} (${Text.seconds(end - start)}${ended})`;
+    const length = Text.seconds(end - start);
+    return `phase ${phase} ${words[code]} ${Text.time(start)} to ${Text.time(end)} (${length}${ended})`;
   }
 
   function ending(cabinet, phase, tick) {
@@ -33,9 +34,9 @@ const Pointer = (() => {
 
   function words(cabinet, tick, place) {
     const mode = Text.mode(Data.head.texts.modes[cabinet.frames.mode[place]]);
-    const lanes = [false, true].flatMap(walks => [1, 2].map(ring => [Lanes.ring(cabinet, ring, walks), walks ? Text.WALKS : Text.SIGNALS]));
-    const runs = lanes.map(([lane, names]) => run(cabinet, lane, tick, names));
-    return [mode, zero(cabinet, tick), ...runs, ...marks(cabinet, tick)].filter(Boolean).join(" · ");
+    const signals = [1, 2].map(ring => run(cabinet, Lanes.ring(cabinet, ring, false), tick, Text.SIGNALS));
+    const walks = [1, 2].map(ring => run(cabinet, Lanes.ring(cabinet, ring, true), tick, Text.WALKS));
+    return [mode, zero(cabinet, tick), ...signals, ...walks, ...marks(cabinet, tick)].filter(Boolean).join(" · ");
   }
 
   function show() {

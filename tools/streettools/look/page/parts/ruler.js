@@ -14,8 +14,8 @@ const Ruler = (() => {
 
   /* Puts an end (a, b) at the pointer, or in the middle of what is seen. */
   function mark(end) {
-    const middle = Math.round((View.state.from + View.state.to) / 2);
-    View.set({ [end]: Pointer.state.tick === null ? middle : tick(View.state.x(Pointer.state.tick), Pointer.state.cabinet) });
+    const middle = Math.round((View.state.from + View.state.to) / 2), { x, cabinet } = Pointer.state;
+    View.set({ [end]: x === null ? middle : tick(x, cabinet) });
   }
 
   function watch(panel) {
@@ -28,16 +28,17 @@ const Ruler = (() => {
 
   function words({ a, b }) {
     if (a === null && b === null) return "";
-    if (a === null || b === null) return `ruler: ${a === null ? "B" : "A"} at tick ${a === null ? b : a} (${Text.time(a === null ? b : a)})`;
+    const one = a === null ? b : a;
+    if (a === null || b === null) return `ruler: ${a === null ? "B" : "A"} at tick ${one} (${Text.time(one)})`;
     const length = Math.abs(b - a);
-    return `ruler: A tick ${a} (${Text.time(a)}), B tick ${b} (${Text.time(b)}): ${Text.seconds(length)}, ${length} ticks`;
+    const ends = `A tick ${a} (${Text.time(a)}), B tick ${b} (${Text.time(b)})`;
+    return `ruler: ${ends}: ${Text.seconds(length)}, ${length} ticks`;
   }
 
   function draw(state) {
     const ends = [state.a, state.b].filter(it => it !== null), both = ends.length === 2 ? [d3.extent(ends)] : [];
     for (const panel of Panel.all) {
       const { height } = panel.rows;
-      panel.ruler.attr("clip-path", "none");
       const inside = x => Math.max(0, Math.min(state.width, x));
       panel.ruler.selectAll("rect").data(both).join("rect").attr("height", height)
         .attr("x", it => inside(state.x(it[0]))).attr("width", it => inside(state.x(it[1])) - inside(state.x(it[0])));

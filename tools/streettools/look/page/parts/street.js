@@ -18,8 +18,8 @@ const Street = (() => {
     const spacing = street.length > 8 ? 44 : 62, most = far[far.length - 1] * spacing + 2 * TALL + 10;
     const rows = street.map((number, place) => {
       const cabinet = Data.cabinet(number), middle = most - TALL - 5 - far[place] * spacing;
-      const pick = () => Page.choose(number);
-      return { y: middle - TALL, height: 2 * TALL, middle, cabinet, label: label(cabinet), pick, chosen: number === View.state.cabinet };
+      const row = { y: middle - TALL, height: 2 * TALL, middle, cabinet, label: label(cabinet) };
+      return { ...row, pick: () => Page.choose(number), chosen: number === View.state.cabinet };
     });
     return { rows, height: most };
   }
@@ -38,11 +38,11 @@ const Street = (() => {
     }
     context.fillStyle = paints[0];
     context.fillRect(0, top, View.state.width, TALL - 1);
-    Lanes.each(lane, View.state, (_, code, phase, low, high) => {
+    Lanes.each(lane, View.state, (code, phase, low, high) => {
       context.fillStyle = paints[code];
       context.fillRect(low, top, Math.max(high - low, 0.7), TALL - 1);
-      const letter = LETTERS[code];
-      if (high - low > 9) within(context, [`${phase} ${letter}`, letter], low, high, top + TALL / 2, code === 2 ? "#22262a" : "#fff");
+      const letter = LETTERS[code], ink = code === 2 ? "#22262a" : "#fff";
+      if (high - low > 9) within(context, [`${phase} ${letter}`, letter], low, high, top + TALL / 2, ink);
     });
   }
 
@@ -51,7 +51,8 @@ const Street = (() => {
     const { street, travel, from, to, x, width } = View.state;
     if (!travel) return;
     Bands.ways(street, travel).forEach(({ spans, delays, most }, way) => {
-      const low = d3.bisector(span => span[1]).left(spans, from - most), high = d3.bisector(span => span[0]).left(spans, to);
+      const low = d3.bisector(span => span[1]).left(spans, from - most);
+      const high = d3.bisector(span => span[0]).left(spans, to);
       const isTooMany = high - low > width / 8;
       for (let i = low; i < high && !isTooMany; i += 1) drawBand(context, rows, spans[i], delays, way, x);
       if (isTooMany) note(context, way, high - low);
@@ -66,8 +67,9 @@ const Street = (() => {
 
   function drawBand(context, rows, [low, high], delays, way, x) {
     context.beginPath();
-    rows.forEach((row, place) => context.lineTo(x(low + delays[place]), row.middle));
-    for (let place = rows.length - 1; place >= 0; place -= 1) context.lineTo(x(high + delays[place]), rows[place].middle);
+    const ways = rows.map((row, place) => [delays[place], row.middle]);
+    for (const [delay, y] of ways) context.lineTo(x(low + delay), y);
+    for (const [delay, y] of ways.reverse()) context.lineTo(x(high + delay), y);
     context.globalAlpha = 0.26;
     context.fillStyle = colours.bands[NAMES[way]];
     context.fill();
@@ -75,7 +77,8 @@ const Street = (() => {
     const place = way ? rows.length - 2 : 0, far = (delays[place] + delays[place + 1]) / 2;
     const share = rows.length > 2 ? 0.5 : way ? 0.35 : 0.65;
     const y = rows[place].middle * (1 - share) + rows[place + 1].middle * share;
-    within(context, [`${way ? "in" : "out"} ${Text.seconds(high - low)}`, Text.seconds(high - low)], x(low + far), x(high + far), y, "#22262a");
+    const width = Text.seconds(high - low), texts = [`${way ? "in" : "out"} ${width}`, width];
+    within(context, texts, x(low + far), x(high + far), y, "#22262a");
   }
 
   function draw(context, it, isSeen) {
@@ -92,8 +95,10 @@ const Street = (() => {
     const { green, yellow, clearance, red } = colours.signals;
     paints = [red, green, yellow, clearance];
     pixels = [green, yellow, clearance, red].map(Raster.colour);
-    panel = new Panel("street", "Street: coordinated greens, outbound (ring 1) above each line, inbound (ring 2) below it, and through bands", plan, draw);
-    const letters = [[green, "G", "green", "#fff"], [yellow, "Y", "yellow change"], [clearance, "C", "red clearance", "#fff"], [red, "", "red"]];
+    const title = "Street: coordinated greens, outbound (ring 1) above each line, inbound (ring 2) below; through bands";
+    panel = new Panel("street", title, plan, draw);
+    const clearances = [[yellow, "Y", "yellow change"], [clearance, "C", "red clearance", "#fff"], [red, "", "red"]];
+    const letters = [[green, "G", "green", "#fff"], ...clearances];
     const bands = NAMES.map(name => [colours.bands[name], name[0] === "o" ? "out" : "in", `${name} band`, "#fff"]);
     Page.explain(panel, [...letters, ...bands, ["#fff", "", "far out: heights are shares of the time"]]);
   }

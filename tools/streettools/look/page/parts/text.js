@@ -28,7 +28,8 @@ const Text = (() => {
   /* A mode as it is written in a trace, in words. */
   function mode(text) {
     const [, letter, number, stage] = /^([A-Z])(\d*)([etdx]?)$/.exec(text);
-    return [MODES[letter], letter === "C" || letter === "K" ? `pattern ${number}` : number, STAGES[stage]].filter(Boolean).join(" ");
+    const which = letter === "C" || letter === "K" ? `pattern ${number}` : number;
+    return [MODES[letter], which, STAGES[stage]].filter(Boolean).join(" ");
   }
 
   /* By how much a cycle begins late or early; an error of null isn't told by the tables. */
@@ -37,5 +38,10 @@ const Text = (() => {
     return error ? `${seconds(Math.abs(error))} ${error > 0 ? "late" : "early"}` : "on the offset";
   }
 
-  return { SIGNALS, WALKS, MODES, clock, time, seconds, mode, deviation, begin: start => { began = start; }, isDay: () => began !== null };
+  /* Takes over the seconds from midnight at which the run began, or null. */
+  function begin(start) {
+    began = start;
+  }
+
+  return { SIGNALS, WALKS, MODES, time, seconds, mode, deviation, begin, isDay: () => began !== null };
 })();

@@ -80,5 +80,9 @@ const View = (() => {
   state.x = tick => (tick - state.from) / (state.to - state.from) * state.width;
   state.tick = x => state.from + x / state.width * (state.to - state.from);
 
-  return { state, whole, open, set, changed, go, zoomed, shifted, attach, resize, draw, watch: watcher => watchers.push(watcher) };
+  function watch(watcher) {
+    watchers.push(watcher);
+  }
+
+  return { state, whole, open, set, changed, go, zoomed, shifted, attach, resize, draw, watch };
 })();
