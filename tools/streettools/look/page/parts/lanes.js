@@ -90,30 +90,29 @@ const Lanes = (() => {
 
   /* Fills a stripe of a raster with shares: from the foot green, yellow change, red clearance, and red above. */
   function shares(lane, view, raster, top, tall, colours) {
-    const step = (view.to - view.from) / raster.width, final = lane.codes.length - 1;
-    const height = Math.round(tall * raster.ratio), foot = raster.line(top) + height;
+    const step = (view.to - view.from) / raster.width, final = lane.codes.length - 1, end = lane.starts[final + 1];
+    const height = Math.round(tall * raster.ratio), foot = raster.line(top) + height, scale = height / step;
+    const before = new Float64Array(3), heights = new Float64Array(4).fill(height);
     let i = run(lane, view.from), tick = view.from;
-    let green = sum(lane, 1, i, tick), yellow = sum(lane, 2, i, tick), clearance = sum(lane, 3, i, tick);
+    for (let code = 1; code < 4; code += 1) before[code - 1] = sum(lane, code, i, tick);
     for (let x = 0; x < raster.width; x += 1) {
-      tick = Math.min(tick + step, lane.starts[final + 1]);
+      tick = Math.min(tick + step, end);
       while (i < final && lane.starts[i + 1] <= tick) i += 1;
-      const nextGreen = sum(lane, 1, i, tick), nextYellow = sum(lane, 2, i, tick);
-      const nextClearance = sum(lane, 3, i, tick);
-      const one = (nextGreen - green) / step * height, two = one + (nextYellow - yellow) / step * height;
-      const three = two + (nextClearance - clearance) / step * height;
-      pile(raster, x, foot, [one, two, three, height], colours);
-      green = nextGreen;
-      yellow = nextYellow;
-      clearance = nextClearance;
+      for (let part = 0, reached = 0; part < 3; part += 1) {
+        const now = sum(lane, part + 1, i, tick);
+        heights[part] = reached += (now - before[part]) * scale;
+        before[part] = now;
+      }
+      pile(raster, x, foot, heights, colours);
     }
   }
 
   /* Fills a column of pixels upwards from a foot, as far as the raster goes: up to each height with its colour. */
-  function pile(raster, x, foot, heights, colours) {
-    let y = Math.max(0, foot - raster.height);
-    for (let part = 0; part < 4; part += 1) {
-      const end = Math.min(foot, Math.round(heights[part]));
-      for (; y < end; y += 1) raster.pixels[(foot - 1 - y) * raster.width + x] = colours[part];
+  function pile({ pixels, width, height }, x, foot, heights, colours) {
+    let y = Math.max(0, foot - height);
+    for (let part = 0, at = (foot - 1 - y) * width + x; part < 4; part += 1) {
+      const end = Math.min(foot, Math.round(heights[part])), colour = colours[part];
+      for (; y < end; y += 1, at -= width) pixels[at] = colour;
     }
   }
 

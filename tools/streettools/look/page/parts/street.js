@@ -47,14 +47,15 @@ const Street = (() => {
   }
 
   /* Draws the bands that are seen; where they have less than a point of width they are left out. */
-  function drawBands(context, rows) {
+  function drawBands(context, rows, isSeen) {
     const { street, travel, from, to, x, width } = View.state;
     if (!travel) return;
     Bands.ways(street, travel).forEach(({ spans, delays, most }, way) => {
       const low = d3.bisector(span => span[1]).left(spans, from - most);
       const high = d3.bisector(span => span[0]).left(spans, to);
       const isTooMany = high - low > width / 8;
-      for (let i = low; i < high && !isTooMany; i += 1) drawBand(context, rows, spans[i], delays, way, x);
+      const stops = corners(rows, delays, isSeen);
+      for (let i = low; i < high && !isTooMany; i += 1) drawBand(context, stops, spans[i], way, x);
       if (isTooMany) note(context, way, high - low);
     });
   }
@@ -65,25 +66,33 @@ const Street = (() => {
     context.fillText(`${count} ${NAMES[way]} bands: zoom in to see them`, 6, 8 + 14 * way);
   }
 
-  function drawBand(context, rows, [low, high], delays, way, x) {
+  /* Where a vehicle is at each cabinet: how long after its start, and at which height; of those that are seen, and of
+  the next on either side. */
+  function corners(rows, delays, isSeen) {
+    const near = place => rows[place] && isSeen(rows[place]);
+    const stops = rows.map((row, place) => [delays[place], row.middle]);
+    return stops.filter((_, place) => near(place - 1) || near(place) || near(place + 1));
+  }
+
+  function drawBand(context, stops, [low, high], way, x) {
+    if (stops.length < 2) return;
     context.beginPath();
-    const ways = rows.map((row, place) => [delays[place], row.middle]);
-    for (const [delay, y] of ways) context.lineTo(x(low + delay), y);
-    for (const [delay, y] of ways.reverse()) context.lineTo(x(high + delay), y);
+    for (const [delay, y] of stops) context.lineTo(x(low + delay), y);
+    for (const [delay, y] of [...stops].reverse()) context.lineTo(x(high + delay), y);
     context.globalAlpha = 0.26;
     context.fillStyle = colours.bands[NAMES[way]];
     context.fill();
     context.globalAlpha = 1;
-    const place = way ? rows.length - 2 : 0, far = (delays[place] + delays[place + 1]) / 2;
-    const share = rows.length > 2 ? 0.5 : way ? 0.35 : 0.65;
-    const y = rows[place].middle * (1 - share) + rows[place + 1].middle * share;
+    const [one, other] = way ? stops.slice(-2) : stops, far = (one[0] + other[0]) / 2;
+    const share = stops.length > 2 ? 0.5 : way ? 0.35 : 0.65;
+    const y = one[1] * (1 - share) + other[1] * share;
     const width = Text.seconds(high - low), texts = [`${way ? "in" : "out"} ${width}`, width];
     within(context, texts, x(low + far), x(high + far), y, "#22262a");
   }
 
   function draw(context, it, isSeen) {
     const rows = it.rows.rows;
-    if (rows.length > 1) drawBands(context, rows);
+    if (rows.length > 1) drawBands(context, rows, isSeen);
     for (const row of rows.filter(isSeen)) {
       drawWay(context, row, 0);
       drawWay(context, row, 1);
