@@ -250,8 +250,10 @@ def test_a_search_goes_to_a_tick_and_to_a_time(shown):
 
 def test_a_time_of_day_is_sought_as_the_axis_writes_it(shown):
     page = shown("--start", "06:59:00", STREET)
-    page.find("07:00:00")
-    assert page.text("at").startswith("tick 600 · 07:00:00 · ")
+    for text in ("07:00:00", "07:00"):
+        page.find("tick 5")
+        page.find(text)
+        assert page.text("at").startswith("tick 600 · 07:00:00 · ")
 
 
 def test_the_ruler_measures_between_two_lines_of_the_trace(shown):

@@ -1,6 +1,7 @@
 /* A panel: labels at its left, a time axis above, a picture on a canvas, and over it what follows the pointer.
 
-`plan()` gives the rows: their `y`, `height` and `label`, and the height of all; `draw(context, raster)` draws them. */
+`plan()` gives the rows: their `y`, `height` and `label`, and the height of all. `draw(context, panel, isSeen)` draws
+those that are seen. */
 const LEFT = 168, TOP = 20, RIGHT = 26;
 
 class Panel {

@@ -43,9 +43,11 @@ const Search = (() => {
     return new RegExp(`(^|[^a-z0-9])${word.replace(/[^a-z0-9]/g, "\\$&")}${end}`);
   }
 
-  /* The tick of a time as the axis writes it. */
+  /* The tick of a time as the axis writes it; of a time of day the seconds may be left out. */
   function moment([, hours, minutes, seconds, tenths]) {
-    const ticks = 36000 * Number(hours || 0) + 600 * Number(minutes) + 10 * Number(seconds) + Number(tenths || 0);
+    const isShort = Text.isDay() && hours === undefined;
+    const parts = isShort ? [minutes, seconds, 0] : [hours || 0, minutes, seconds];
+    const ticks = 36000 * Number(parts[0]) + 600 * Number(parts[1]) + 10 * Number(parts[2]) + Number(tenths || 0);
     if (!Text.isDay()) return ticks;
     return (ticks - Math.round(10 * Data.head.start) + 864000) % 864000;
   }
