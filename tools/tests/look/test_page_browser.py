@@ -53,8 +53,8 @@ class Shown:
         self.until(lambda: self.run("return document.body.dataset.open"))
 
     def until(self, holds):
-        """Waits until something holds, some seconds at most."""
-        end = time.monotonic() + 15
+        """Waits until something holds, two minutes at most on a busy machine."""
+        end = time.monotonic() + 120
         while not holds():
             assert time.monotonic() < end, self.text("fault") or "it takes too long"
             time.sleep(0.02)

@@ -4,6 +4,7 @@ Where runs have room they are drawn as bars with letters. Further out a column o
 heights which share of its time was green, yellow change and red clearance. Sums before each run are kept, so that a
 share costs the same at every zoom. */
 const Lanes = (() => {
+  const BROAD = 2;
   const kept = new Map();
 
   /* A lane out of what `shows(place)` gives for each frame: a code, and the phase that shows it. */
@@ -88,22 +89,23 @@ const Lanes = (() => {
     return lane.before[code - 1][i] + (lane.codes[i] === code ? tick - lane.starts[i] : 0);
   }
 
-  /* Fills a stripe of a raster with shares: from the foot green, yellow change, red clearance, and red above. */
+  /* Fills a stripe of a raster with shares: from the foot green, yellow change, red clearance, and red above.
+  A share is that of two columns of pixels. */
   function shares(lane, view, raster, top, tall, colours) {
     const step = (view.to - view.from) / raster.width, final = lane.codes.length - 1, end = lane.starts[final + 1];
-    const height = Math.round(tall * raster.ratio), foot = raster.line(top) + height, scale = height / step;
+    const height = Math.round(tall * raster.ratio), foot = raster.line(top) + height, scale = height / step / BROAD;
     const before = new Float64Array(3), heights = new Float64Array(4).fill(height);
     let i = run(lane, view.from), tick = view.from;
     for (let code = 1; code < 4; code += 1) before[code - 1] = sum(lane, code, i, tick);
-    for (let x = 0; x < raster.width; x += 1) {
-      tick = Math.min(tick + step, end);
+    for (let x = 0; x < raster.width; x += BROAD) {
+      tick = Math.min(tick + BROAD * step, end);
       while (i < final && lane.starts[i + 1] <= tick) i += 1;
       for (let part = 0, reached = 0; part < 3; part += 1) {
         const now = sum(lane, part + 1, i, tick);
         heights[part] = reached += (now - before[part]) * scale;
         before[part] = now;
       }
-      pile(raster, x, foot, heights, colours);
+      for (let at = x; at < Math.min(x + BROAD, raster.width); at += 1) pile(raster, at, foot, heights, colours);
     }
   }
 

@@ -36,7 +36,9 @@ const Page = (() => {
   }
 
   function draw(state) {
-    for (const panel of Panel.all) panel.place();
+    const head = document.querySelector("header").getBoundingClientRect().bottom;
+    const foot = document.querySelector("footer").getBoundingClientRect().top;
+    for (const panel of Panel.all) panel.place([head, foot]);
     for (const panel of Panel.all) {
       panel.draw();
       panel.follow(state.hit);

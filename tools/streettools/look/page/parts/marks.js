@@ -23,11 +23,12 @@ const Marks = (() => {
     }
   }
 
-  /* The marks whose letters have room: refusals before all others, notes last. */
+  /* The marks whose letters have room: refusals before all others, notes last. Of many marks only downloads and
+  refusals have letters. */
   function lettered(cabinet, low, high) {
-    const { x } = View.state, taken = new Map(), found = [];
+    const { x, width } = View.state, taken = new Map(), found = [];
     const isFree = (at, slot) => [slot - 1, slot, slot + 1].every(it => !(Math.abs(taken.get(it) - at) < 11));
-    for (const name of ORDER) {
+    for (const name of high - low > width / 30 ? ORDER.slice(0, 2) : ORDER) {
       for (let i = low; i < high; i += 1) {
         const at = x(cabinet.marks.tick[i]), slot = Math.floor(at / 11);
         if (kind(cabinet, i) !== name || !isFree(at, slot)) continue;

@@ -49,12 +49,13 @@ class Panel {
     texts.on("click", row => row.pick && row.pick());
   }
 
-  /* Puts the canvas where the window shows the panel; tells how far below the panel's top it begins, and whether any of
-  the panel is seen. */
-  place() {
+  /* Puts the canvas where the window shows the panel; tells how far below the panel's top it begins, and from which
+  height of the rows to which they are seen between the head and the foot of the page. */
+  place([head, foot]) {
     const above = View.state.printing ? 0 : -this.plot.node().getBoundingClientRect().top;
     this.top = Math.round(Math.max(0, Math.min(this.whole - this.tall, above)));
-    this.isSeen = View.state.printing || (above < this.whole && above > -window.innerHeight);
+    this.low = View.state.printing ? 0 : Math.max(0, Math.floor(above + head - TOP));
+    this.high = View.state.printing ? this.rows.height : Math.min(this.rows.height, Math.ceil(above + foot - TOP));
   }
 
   /* Shows where a hit stands. */
@@ -64,7 +65,7 @@ class Panel {
   }
 
   draw() {
-    if (!this.isSeen) return;
+    if (this.low >= this.high) return;
     const context = this.canvas.getContext("2d"), { width } = View.state, { ratio, top } = this;
     this.canvas.style.top = `${top}px`;
     context.setTransform(ratio, 0, 0, ratio, 0, 0);
@@ -76,8 +77,8 @@ class Panel {
     context.clip();
     context.font = '11px "DejaVu Sans", Arial, Helvetica, sans-serif';
     context.textBaseline = "middle";
-    this.raster.begin(width, top - TOP, this.tall, ratio);
-    this.picture(context, this, row => row.y <= top - TOP + this.tall && row.y + row.height >= top - TOP);
+    this.raster.begin(width, this.low, this.high - this.low, ratio);
+    this.picture(context, this, row => row.y <= this.high && row.y + row.height >= this.low);
     context.restore();
     drawAxis(this.axis);
   }

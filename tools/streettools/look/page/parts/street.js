@@ -104,7 +104,7 @@ const Street = (() => {
     const { green, yellow, clearance, red } = colours.signals;
     paints = [red, green, yellow, clearance];
     pixels = [green, yellow, clearance, red].map(Raster.colour);
-    const title = "Street: coordinated greens, outbound (ring 1) above each line, inbound (ring 2) below; through bands";
+    const title = "Street: coordinated greens, outbound (ring 1) above each line, inbound (ring 2) below; bands";
     panel = new Panel("street", title, plan, draw);
     const clearances = [[yellow, "Y", "yellow change"], [clearance, "C", "red clearance", "#fff"], [red, "", "red"]];
     const letters = [[green, "G", "green", "#fff"], ...clearances];
