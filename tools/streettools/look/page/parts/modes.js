@@ -1,8 +1,8 @@
 /* Modes side by side, with their words where they have room. */
 const Modes = (() => {
-  /* Draws a cabinet's modes at a height, their words at another. A mode that ends in a column of pixels that has one is
-  left to that. */
-  function draw(context, cabinet, y, height, line) {
+  /* Draws a cabinet's modes at a height, and at another their words, or short what the trace has. A mode that ends in a
+  column of pixels that has one is left to that. */
+  function draw(context, cabinet, y, height, line, isShort = false) {
     const { from, x, to, width } = View.state, { tick, mode } = cabinet.modes;
     let reached = -1;
     for (let i = Math.max(0, Data.at(tick, from)); i < mode.length && tick[i] < to; i += 1) {
@@ -12,7 +12,8 @@ const Modes = (() => {
       context.fillStyle = Data.head.colours.modes[text[0]];
       context.fillRect(Math.max(low, reached), y, Math.max(1, high - low - 0.4), height);
       reached = high;
-      if (high - low > 12) within(context, [Text.mode(text), text, text[0]], low, high, line, "#343a40", true);
+      const texts = [isShort ? text : Text.mode(text), text, text[0]];
+      if (high - low > 12) within(context, texts, low, high, line, "#343a40", true);
     }
   }
 

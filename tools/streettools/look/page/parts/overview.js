@@ -61,7 +61,7 @@ const Overview = (() => {
 
   function draw(context, it, isSeen) {
     for (const row of it.rows.rows.filter(isSeen)) {
-      Modes.draw(context, row.cabinet, row.y, row.height, row.y + row.height - 6);
+      Modes.draw(context, row.cabinet, row.y, row.height, row.y + row.height - 6, row.height < 20);
       drawZeros(context, row);
     }
     it.raster.end(context);
