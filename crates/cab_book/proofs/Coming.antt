@@ -80,6 +80,20 @@ pub left-of-frames : (streams : Streams) (left : List ℕ) (h : Happened) (pass 
 left-of-frames streams left h pass frames low tallied own =
     omega (arith, tallied.each pass low, ap (λ (x : List Item). length x) own, frames-many frames)
 
+-- the frame that a pass brings next
+pub frame-next : (streams : Streams) (left : List ℕ) (h : Happened) (pass place : ℕ) (frames : List (ArrayVec ℕ)) (octets : List ℕ) → pass < 4 → AreTallied streams left h
+    → map Came (texts_of frames) ≡ get_or (items_of streams) pass [] → place + get_or left pass 0 ≡ length frames → 0 < get_or left pass 0
+    → octets ≡ get_or (texts_of frames) place [] → Came octets ≡ get_or (get_or (items_of streams) pass []) (times pass (journal_in h)) Ticked
+frame-next streams left h pass place frames octets low tallied own e some is =
+    let items : length (get_or (items_of streams) pass []) ≡ length frames = ap (λ (x : List Item). length x) (sym own) ∙ frames-many frames in
+    let at : place ≡ times pass (journal_in h) = omega (arith, tallied.each pass low, e, items) in
+    let less : place < length frames = omega (arith, e, some) in
+    let within : place < length (texts_of frames) = omega (arith, less, length-map frames (λ (x : ArrayVec ℕ). x.items)) in
+    ap Came is
+    ∙ sym (get_or-map Came (texts_of frames) place [] Ticked within)
+    ∙ ap (λ (x : List Item). get_or x place Ticked) own
+    ∙ ap (λ (n : ℕ). get_or (get_or (items_of streams) pass []) n Ticked) at
+
 -- what is told of a frame
 abbrev pub reply_of : ℕ → Option (ArrayVec ℕ) → Option Load → Reply
 reply_of pass text load = record { pass = pass; text = text; load = load }
@@ -95,15 +109,7 @@ pub replied : (c next : Cabinet) (streams : Streams) (left : List ℕ) (old new 
     → HappenedGoesOn old new pass [] (reply_of pass text load ∷ []) → (cabinet_history : CabinetHistory) → RoundStands c streams old cabinet_history → RoundStands next streams new cabinet_history
 replied c next streams left old new pass place frames octets text load low tallied own e some is texts loads stands goes cabinet_history so =
     let now = cabinet_history_after streams old cabinet_history in
-    let items : length (get_or (items_of streams) pass []) ≡ length frames = ap (λ (x : List Item). length x) (sym own) ∙ frames-many frames in
-    let at : place ≡ times pass (journal_in old) = omega (arith, tallied.each pass low, e, items) in
-    let less : place < length frames = omega (arith, e, some) in
-    let within : place < length (texts_of frames) = omega (arith, less, length-map frames (λ (x : ArrayVec ℕ). x.items)) in
-    let item : Came octets ≡ get_or (get_or (items_of streams) pass []) (times pass (journal_in old)) Ticked =
-    ap Came is
-    ∙ sym (get_or-map Came (texts_of frames) place [] Ticked within)
-    ∙ ap (λ (x : List Item). get_or x place Ticked) own
-    ∙ ap (λ (n : ℕ). get_or (get_or (items_of streams) pass []) n Ticked) at in
+    let item = frame-next streams left old pass place frames octets low tallied own e some is in
     let told : (reply_of pass text load ∷ []) ≡ item_replies now pass (Came octets) =
     ap (λ (x : Option (ArrayVec ℕ)). reply_of pass x load ∷ []) (texts now so.cabinet)
     ∙ ap (λ (x : Option Load). reply_of pass (in_frame (reply_to now octets)) x ∷ []) (loads now so.cabinet) in

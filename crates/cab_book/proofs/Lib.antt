@@ -19,7 +19,10 @@ pub mod Keeping
 pub mod Bringing
 pub mod Coming
 pub mod Beginning
+pub mod Adding
+pub mod Ignoring
 pub mod Texts
 pub mod Rereading
 mod Same
 pub mod OnePart
+pub mod Lengthening

@@ -1,15 +1,17 @@
 -- What a book stands for: the cabinet history at which its round began, the streams of the round, and the journal of what was taken from them.
-use Rattle.std.specs.Prelude.{ℕ, ◌+◌, ◌≡◌, ◌≢◌, ◌<◌, ◌≤◌, List, [], ◌∷◌, ◌++◌, length, get_or}
+use Rattle.std.specs.Prelude.{ℕ, ◌+◌, ◌≡◌, ◌≢◌, ◌<◌, ◌≤◌, List, [], ◌∷◌, ◌++◌, length, replicate, get_or, None}
 use Rattle.sig_types.specs.declared.frame.Frame.{Frame}
-use Rattle.sig_types.specs.Items.{Item, items_of}
+use Rattle.sig_types.specs.Items.{Item, Came, Ticked, items_of}
 use Rattle.cabinet_history.specs.CabinetHistory.{CabinetHistory}
 use Rattle.cabinet_history.specs.Journals.{Act, times}
+use Rattle.cabinet_history.specs.Coming.{ask_after}
 use Rattle.cab_book.specs.declared.book.Book.{Book}
+use Rattle.cab_book.specs.declared.cabinet.Cabinet.{Cabinet}
 use Rattle.cab_book.specs.declared.happened.Answered.{Answered}
-use Rattle.cab_book.specs.Happened.{journal_in, written_of, answered_of}
+use Rattle.cab_book.specs.Happened.{IsSameRound, behind, journal_in, written_of, answered_of}
 use Rattle.cab_book.specs.Rounds.{RoundStands, acts_so_far, cabinet_history_after}
 use Rattle.cab_book.specs.Shares.{ticks_left}
-pub use Rattle.cab_book.specs.Rounds.{CanBeTaken}
+pub use Rattle.cab_book.specs.Rounds.{CanBeTaken, with_last}
 
 -- the streams of the round
 abbrev pub streams_in : Book → List (List Item)
@@ -33,6 +35,17 @@ left_of b pass = get_or b.left pass 0
 -- what has been brought in the round so far
 abbrev pub acts_in : Book → List Act
 acts_in b = acts_so_far b.streams b.happened
+
+-- a pass with the item that it brings next, and one that brings so many ticks
+abbrev pub next_act : Book → ℕ → Act
+next_act b pass = record { pass = pass; item = get_or (get_or (streams_in b) pass []) (times pass (journal_of b)) Ticked }
+
+abbrev pub tick_acts : ℕ → ℕ → List Act
+tick_acts pass many = replicate many (record { pass = pass; item = Ticked })
+
+-- the cabinet itself
+abbrev pub cabinet_in : Book → Cabinet
+cabinet_in b = b.cabinet.value
 
 -- the cabinet history by now, where the round began at this one
 abbrev pub cabinet_history_now : Book → CabinetHistory → CabinetHistory
@@ -59,13 +72,69 @@ pub record Shares (old new : Book) : Type 0 where
   pub others : (p : ℕ) → p < 4 → left_of new p ≡ left_of old p
   pub ticks : ticks_left new.left ≡ ticks_left old.left
 
+-- a frame was met with silence: the cabinet is as it was, and nothing but the silence was added
+pub record IsIgnored (old new : Book) (pass : ℕ) : Type 0 where
+  pub cabinet : cabinet_in new ≡ cabinet_in old
+  pub written : written_in new ≡ written_in old
+  pub silence : answered_in new ≡ answered_in old ++ behind (length (written_in old)) (record { pass = pass; text = None; load = None } ∷ [])
+
+-- so is an item of a pass that is a frame by which nothing is asked
+abbrev pub IgnoresWhatAsksNothing : Book → Book → ℕ → Item → Type 0
+IgnoresWhatAsksNothing old new pass item = (cabinet_history : CabinetHistory) (octets : List ℕ) → BookStands old cabinet_history → item ≡ Came octets
+    → ask_after (cabinet_history_now old cabinet_history) octets ≡ None → IsIgnored old new pass
+
 -- a pass has brought the next item of its stream
 pub record IsBrought (old new : Book) (pass : ℕ) : Type 0 where
   pub stands : (cabinet_history : CabinetHistory) → BookStands old cabinet_history → BookStands new cabinet_history
   pub streams : streams_in new ≡ streams_in old
   pub journal : journal_of new ≡ journal_of old ++ pass ∷ []
+  pub acts : acts_in new ≡ acts_in old ++ next_act old pass ∷ []
   pub own : left_of new pass + 1 ≡ left_of old pass
   pub others : (p : ℕ) → p ≢ pass → left_of new p ≡ left_of old p
+  pub ticks : ticks_by_end new ≡ ticks_by_end old
+  pub ignored : IgnoresWhatAsksNothing old new pass (next_act old pass).item
+
+-- an item more stands at the end of the stream of a pass, and is left to be brought
+pub record IsLengthened (old new : Book) (pass : ℕ) (item : Item) : Type 0 where
+  pub stands : (cabinet_history : CabinetHistory) → BookStands old cabinet_history → BookStands new cabinet_history
+  pub streams : streams_in new ≡ with_last (streams_in old) pass item
+  pub journal : journal_of new ≡ journal_of old
+  pub acts : acts_in new ≡ acts_in old
+  pub own : left_of new pass ≡ left_of old pass + 1
+  pub others : (p : ℕ) → p ≢ pass → left_of new p ≡ left_of old p
+  pub ticks : ticks_by_end new ≡ ticks_by_end old
+  pub cabinet : cabinet_in new ≡ cabinet_in old
+  pub written : written_in new ≡ written_in old
+  pub answered : answered_in new ≡ answered_in old
+
+-- an item more stands at the end of the stream of a pass, and was brought at once
+pub record IsBroughtAtEnd (old new : Book) (pass : ℕ) (item : Item) : Type 0 where
+  pub stands : (cabinet_history : CabinetHistory) → BookStands old cabinet_history → BookStands new cabinet_history
+  pub streams : streams_in new ≡ with_last (streams_in old) pass item
+  pub journal : journal_of new ≡ journal_of old ++ pass ∷ []
+  pub acts : acts_in new ≡ acts_in old ++ record { pass = pass; item = item } ∷ []
+  pub left : (p : ℕ) → left_of new p ≡ left_of old p
+  pub ticks : ticks_by_end new ≡ ticks_by_end old
+  pub one : IsOnePart old → IsOnePart new
+  pub ignored : IgnoresWhatAsksNothing old new pass item
+
+-- of a book nothing has changed but the room that there is for what happens
+pub record HasOnlyRoom (old new : Book) : Type 0 where
+  pub cabinet : cabinet_in new ≡ cabinet_in old
+  pub streams : new.streams ≡ old.streams
+  pub left : new.left ≡ old.left
+  pub happened : IsSameRound old.happened new.happened
+
+-- nothing that a contract tells of a book has changed
+pub record IsAsBefore (old new : Book) : Type 0 where
+  pub cabinet_histories : (cabinet_history : CabinetHistory) → BookStands old cabinet_history → BookStands new cabinet_history
+  pub no_others : (cabinet_history : CabinetHistory) → BookStands new cabinet_history → BookStands old cabinet_history
+  pub streams : streams_in new ≡ streams_in old
+  pub journal : journal_of new ≡ journal_of old
+  pub acts : acts_in new ≡ acts_in old
+  pub written : written_in new ≡ written_in old
+  pub answered : answered_in new ≡ answered_in old
+  pub left : (p : ℕ) → left_of new p ≡ left_of old p
   pub ticks : ticks_by_end new ≡ ticks_by_end old
 
 -- the book now is what the first has come to by passes that brought items of the same round: it has the same streams, the round of

@@ -27,6 +27,12 @@ pub record HasRoom (h : Happened) (ticks frames items : ℕ) : Type 0 where
   pub replies : vec_len h.replies + frames ≤ vec_capacity h.replies
   pub journal : vec_len h.journal.runs + items ≤ vec_capacity h.journal.runs
 
+-- what is kept is the same, whatever room there is
+pub record IsSameRound (old new : Happened) : Type 0 where
+  pub journal : journal_in new ≡ journal_in old
+  pub written : written_of new ≡ written_of old
+  pub replies : answered_of new ≡ answered_of old
+
 -- what is kept is what these acts give after a cabinet history: the frames, the replies, and their order
 pub record IsWritten (h : Happened) (cabinet_history : CabinetHistory) (acts : List Act) : Type 0 where
   pub frames : written_of h ≡ acts_written cabinet_history acts

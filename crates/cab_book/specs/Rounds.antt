@@ -1,9 +1,9 @@
 -- A round of a cabinet, part by part: which streams it can take, what of them is left, and the cabinet history of what was brought.
-use Rattle.std.specs.Prelude.{ℕ, ◌+◌, ◌≡◌, ◌≤◌, ◌<◌, List, [], length, get_or}
+use Rattle.std.specs.Prelude.{ℕ, ◌+◌, ◌≡◌, ◌≤◌, ◌<◌, List, [], ◌∷◌, ◌++◌, length, get_or, slice_set}
 use Rattle.sig_types.specs.declared.frame.Field.{Field}
 use Rattle.tick_context.specs.Told.{NamesPlace}
 use Rattle.sig_types.specs.declared.streams.Streams.{Streams}
-use Rattle.sig_types.specs.Items.{items_of}
+use Rattle.sig_types.specs.Items.{Item, items_of}
 use Rattle.cabinet_history.specs.CabinetHistory.{CabinetHistory, after}
 use Rattle.cabinet_history.specs.Journals.{Act, times, acts_of, items_in}
 use Rattle.cab_book.specs.declared.cabinet.Cabinet.{Cabinet}
@@ -11,6 +11,10 @@ use Rattle.cab_book.specs.declared.happened.Happened.{Happened}
 use Rattle.cab_book.specs.Stands.{CabinetStands}
 use Rattle.cab_book.specs.Shares.{ticks_left, ticks_brought}
 use Rattle.cab_book.specs.Happened.{IsWritten, HasRoom, journal_in}
+
+-- some streams with an item more at the end of that of a pass
+abbrev pub with_last : List (List Item) → ℕ → Item → List (List Item)
+with_last streams pass item = slice_set streams pass (get_or streams pass [] ++ item ∷ [])
 
 -- each input has its place
 abbrev pub ArePlaced : Streams → Type 0

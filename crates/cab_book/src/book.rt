@@ -1,15 +1,18 @@
 //! The book of a cabinet: the cabinet, the streams of the round under way, how many items of each pass are left, and what the round has
-//! come to so far. Any pass may bring the next item of its stream at any time; only a new book and the start of a round take memory.
+//! come to so far. Any pass may bring the next item of its stream at any time, and an item that comes behind all of its stream is
+//! brought at once. Only a new book, the start of a round and such an item take memory.
 
-ghost use Rattle.std.specs.Prelude.{◌≡◌, ◌≢◌, ◌<◌, ◌≤◌, ◌+◌, ◌-◌, ◌⊎◌, ◌++◌, ◌∷◌, [], ℕ, OnOk, IfOk, IfErr, length, replicate, map, get_or};
+ghost use Rattle.std.specs.Prelude.{◌≡◌, ◌≢◌, ◌<◌, ◌≤◌, ◌+◌, ◌-◌, ◌⊎◌, ◌++◌, ◌∷◌, [], ℕ, OnOk, OnErr, IfOk, IfErr, length, replicate, map, get_or};
 ghost use Rattle.sig_tables.specs.Decide.{last_frame_of, past_at};
-ghost use Rattle.sig_types.specs.Items.{Came, items_of, texts_of};
+ghost use Rattle.sig_types.specs.Items.{Told as ToldItem, Came, items_of, texts_of};
+ghost use Rattle.tick_context.specs.Told.{NamesPlace};
 ghost use Rattle.tick_context.specs.Strides.{IsStride};
 ghost use Rattle.cabinet_history.specs.CabinetHistory.{CabinetHistory};
 ghost use Rattle.cabinet_history.specs.Coming.{history_of};
 ghost use Rattle.cabinet_history.specs.Journals.{runs_of};
 ghost use Rattle.cab_book.specs.Stands.{CabinetStands};
-ghost use Rattle.cab_book.specs.Rounds.{ArePlaced, AreShort, AreTallied, HasRoomFor, RoundStands};
+ghost use Rattle.cab_book.specs.Rounds.{ArePlaced, AreShort, AreTallied, HasRoomFor, RoundStands, frames_left, items_left, with_last};
+ghost use Rattle.cab_book.specs.Happened.{HasRoom};
 ghost use Rattle.cab_book.specs.Shares.{read_journal, ticks_left, shares};
 
 use crate::cabinet::{Cabinet, Told};
@@ -17,7 +20,7 @@ use crate::happened::{Answered, Happened};
 use crate::sharing::shares_of;
 use cabinet_history::Reply;
 use sig_tables::Tables;
-use sig_types::{Frame, NoMemory, Octets, Streams};
+use sig_types::{Field, Frame, NoMemory, Octets, Streams};
 use std::alloc::Global;
 
 /// The streams of no round.
@@ -43,6 +46,38 @@ fn frames_of(streams: &Streams, pass: u32) -> &[Octets]
         1 => streams.polls.as_slice(),
         2 => streams.loads.as_slice(),
         _ => streams.prios.as_slice(),
+    }
+}
+
+/// An input more stands at the end of the others. Where memory is wanting all streams are as before.
+fn push_field(streams: &mut Streams, field: Field) -> Result<(), NoMemory>
+    ensures items { OnOk result (items_of streams.new ≡ with_last (items_of streams.old) 0 (ToldItem field)) }
+    ensures fields { OnOk result (streams.new.fields.items ≡ streams.old.fields.items ++ field ∷ []) }
+    ensures no_memory { OnErr result (items_of streams.new ≡ items_of streams.old) }
+    ensures as_before { OnErr result (streams.new.fields.items ≡ streams.old.fields.items) }
+{
+    match streams.fields.push(field) {
+        Ok(()) => Ok(()),
+        Err(_) => Err(NoMemory),
+    }
+}
+
+/// A frame more stands at the end of those of a pass, 1 to 3. Where memory is wanting all streams are as before.
+fn push_frame(streams: &mut Streams, pass: u32, octets: Octets) -> Result<(), NoMemory>
+    requires above { 1 ≤ pass }
+    requires within { pass ≤ 3 }
+    ensures items { OnOk result (items_of streams.new ≡ with_last (items_of streams.old) pass (Came octets.items)) }
+    ensures no_memory { OnErr result (items_of streams.new ≡ items_of streams.old) }
+    ensures fields { streams.new.fields ≡ streams.old.fields }
+{
+    let pushed = match pass {
+        1 => streams.polls.push(octets),
+        2 => streams.loads.push(octets),
+        _ => streams.prios.push(octets),
+    };
+    match pushed {
+        Ok(()) => Ok(()),
+        Err(_) => Err(NoMemory),
     }
 }
 
@@ -77,7 +112,7 @@ pub struct Book {
 }
 
 impl Book {
-    ghost use Rattle.cab_book.specs.Books.{BookStands, CanBeTaken, IsBrought, IsOnePart, Replays, Shares, streams_in, journal_of, left_of, cabinet_history_now, ticks_by_end, written_in, answered_in};
+    ghost use Rattle.cab_book.specs.Books.{BookStands, CanBeTaken, HasOnlyRoom, IgnoresWhatAsksNothing, IsAsBefore, IsBrought, IsBroughtAtEnd, IsLengthened, IsOnePart, Replays, Shares, acts_in, next_act, tick_acts, streams_in, journal_of, left_of, cabinet_history_now, ticks_by_end, written_in, answered_in};
 
     /// The book of a cabinet before its first round.
     pub fn new(alloc: Global, cabinet: Cabinet) -> Result<Book, NoMemory>
@@ -148,15 +183,18 @@ impl Book {
         }
     }
 
-    /// A pass brings the next item of its stream. It takes no memory.
+    /// A pass brings the next item of its stream. A frame that asks nothing of the cabinet changes nothing in it, and is met with silence.
+    /// It takes no memory.
     pub fn apply(&mut self, pass: u32)
         requires { 0 < left_of self.old pass }
         ensures stands { (cabinet_history : CabinetHistory) → BookStands self.old cabinet_history → BookStands self.new cabinet_history }
         ensures streams { streams_in self.new ≡ streams_in self.old }
         ensures journal { journal_of self.new ≡ journal_of self.old ++ pass ∷ [] }
+        ensures acts { acts_in self.new ≡ acts_in self.old ++ next_act self.old pass ∷ [] }
         ensures own { left_of self.new pass + 1 ≡ left_of self.old pass }
         ensures others { (p : ℕ) → p ≢ pass → left_of self.new p ≡ left_of self.old p }
         ensures ticks { ticks_by_end self.new ≡ ticks_by_end self.old }
+        ensures ignored { IgnoresWhatAsksNothing self.old self.new pass (next_act self.old pass).item }
         ensures replays { (first : Book) → Replays first self.old → Replays first self.new }
     {
         match pass {
@@ -232,6 +270,7 @@ impl Book {
         ensures stands { (cabinet_history : CabinetHistory) → BookStands self.old cabinet_history → BookStands self.new cabinet_history }
         ensures streams { streams_in self.new ≡ streams_in self.old }
         ensures journal { journal_of self.new ≡ journal_of self.old ++ replicate result pass }
+        ensures acts { acts_in self.new ≡ acts_in self.old ++ tick_acts pass result }
         ensures own { left_of self.new pass + result ≡ left_of self.old pass }
         ensures others { (p : ℕ) → p ≢ pass → left_of self.new p ≡ left_of self.old p }
         ensures ticks { ticks_by_end self.new ≡ ticks_by_end self.old }
@@ -243,6 +282,93 @@ impl Book {
         self.happened.add_ticks(pass, ticks, written);
         self.left[pass as usize] -= ticks;
         ticks
+    }
+
+    /// An input comes behind all others of the round, which were brought, and is brought at once. Where memory is wanting the book is
+    /// as before.
+    pub fn bring_input(&mut self, field: Field) -> Result<(), NoMemory>
+        requires place { NamesPlace field }
+        requires none { left_of self.old 0 ≡ 0 }
+        requires few { length (get_or (streams_in self.old) 0 []) < 2147483648 }
+        ensures brought { OnOk result (IsBroughtAtEnd self.old self.new 0 (ToldItem field)) }
+        ensures no_memory { OnErr result (IsAsBefore self.old self.new) }
+    {
+        match self.add_input(field) {
+            Ok(()) => {}
+            Err(NoMemory) => return Err(NoMemory),
+        }
+        self.hear();
+        Ok(())
+    }
+
+    /// A frame comes behind all others of its pass, 1 to 3, which were brought, and is brought at once: its reply is the last. Where
+    /// memory is wanting the book is as before.
+    pub fn bring_frame(&mut self, pass: u32, octets: Octets) -> Result<(), NoMemory>
+        requires above { 1 ≤ pass }
+        requires within { pass ≤ 3 }
+        requires none { left_of self.old pass ≡ 0 }
+        requires few { length (get_or (streams_in self.old) pass []) < 2147483648 }
+        ensures brought { OnOk result (IsBroughtAtEnd self.old self.new pass (Came octets.items)) }
+        ensures no_memory { OnErr result (IsAsBefore self.old self.new) }
+    {
+        match self.add_frame(pass, octets) {
+            Ok(()) => {}
+            Err(NoMemory) => return Err(NoMemory),
+        }
+        self.receive(pass);
+        Ok(())
+    }
+
+    /// Takes room for what one item more may give. Nothing else of the book changes, also where memory is wanting.
+    fn reserve_one(&mut self) -> Result<(), NoMemory>
+        ensures room { OnOk result (HasRoom self.new.happened (ticks_left self.old.left) (frames_left self.old.left + 1) (items_left self.old.left + 1)) }
+        ensures same { HasOnlyRoom self.old self.new }
+    {
+        let frames = self.left[1] as usize + self.left[2] as usize + self.left[3] as usize + 1;
+        let items = self.left[0] as usize + frames + self.ticks_left() as usize;
+        match self.happened.reserve(frames, items) {
+            Ok(()) => Ok(()),
+            Err(NoMemory) => Err(NoMemory),
+        }
+    }
+
+    /// An input comes behind all others of the round, and is left to be brought. Where memory is wanting the book is as before.
+    fn add_input(&mut self, field: Field) -> Result<(), NoMemory>
+        requires place { NamesPlace field }
+        requires few { length (get_or (streams_in self.old) 0 []) < 2147483648 }
+        ensures added { OnOk result (IsLengthened self.old self.new 0 (ToldItem field)) }
+        ensures no_memory { OnErr result (IsAsBefore self.old self.new) }
+    {
+        match self.reserve_one() {
+            Ok(()) => {}
+            Err(NoMemory) => return Err(NoMemory),
+        }
+        match push_field(&mut self.streams, field) {
+            Ok(()) => {}
+            Err(NoMemory) => return Err(NoMemory),
+        }
+        self.left[0] += 1;
+        Ok(())
+    }
+
+    /// A frame comes behind all others of its pass, 1 to 3, and is left to be brought. Where memory is wanting the book is as before.
+    fn add_frame(&mut self, pass: u32, octets: Octets) -> Result<(), NoMemory>
+        requires above { 1 ≤ pass }
+        requires within { pass ≤ 3 }
+        requires few { length (get_or (streams_in self.old) pass []) < 2147483648 }
+        ensures added { OnOk result (IsLengthened self.old self.new pass (Came octets.items)) }
+        ensures no_memory { OnErr result (IsAsBefore self.old self.new) }
+    {
+        match self.reserve_one() {
+            Ok(()) => {}
+            Err(NoMemory) => return Err(NoMemory),
+        }
+        match push_frame(&mut self.streams, pass, octets) {
+            Ok(()) => {}
+            Err(NoMemory) => return Err(NoMemory),
+        }
+        self.left[pass as usize] += 1;
+        Ok(())
     }
 
     /// The cabinet hears the next input from the street.

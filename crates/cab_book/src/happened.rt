@@ -1,7 +1,7 @@
 //! What a round of a cabinet has come to so far: its journal, the frames that have a line, and the replies, each behind as many of
-//! the frames as came before it. Room for the whole round is taken at its start.
+//! the frames as came before it. Room for the whole round is taken at its start, and for an item that comes behind, with it.
 
-ghost use Rattle.std.specs.Prelude.{◌≡◌, ◌≤◌, ◌<◌, ◌+◌, ℕ, [], ◌∷◌, IfOk, option_to_list, vec_capacity};
+ghost use Rattle.std.specs.Prelude.{◌≡◌, ◌≤◌, ◌<◌, ◌+◌, ℕ, [], ◌∷◌, IfOk, OnOk, option_to_list, vec_capacity};
 ghost use Rattle.cabinet_history.specs.Journals.{runs_of, times};
 ghost use Rattle.cab_book.specs.Shares.{read_journal};
 
@@ -27,7 +27,7 @@ pub struct Happened {
 }
 
 impl Happened {
-    ghost use Rattle.cab_book.specs.Happened.{journal_in, written_of, answered_of, HasRoom, HappenedGoesOn, TicksOn};
+    ghost use Rattle.cab_book.specs.Happened.{journal_in, written_of, answered_of, HasRoom, HappenedGoesOn, IsSameRound, TicksOn};
 
     /// No round: there is room for nothing.
     pub fn none(alloc: Global) -> Happened
@@ -73,6 +73,22 @@ impl Happened {
             written,
             replies,
         })
+    }
+
+    /// Takes room for so many frames from elsewhere and so many items in all, beside what there is. Nothing else changes, also where
+    /// memory is wanting.
+    pub fn reserve(&mut self, frames: usize, items: usize) -> Result<(), NoMemory>
+        ensures room { OnOk result ((ticks : ℕ) → HasRoom self.old ticks 0 0 → HasRoom self.new ticks frames items) }
+        ensures kept { (ticks others all : ℕ) → HasRoom self.old ticks others all → HasRoom self.new ticks others all }
+        ensures same { IsSameRound self.old self.new }
+    {
+        if self.replies.reserve(frames).is_err() {
+            return Err(NoMemory);
+        }
+        match self.journal.reserve(items) {
+            Ok(()) => Ok(()),
+            Err(NoMemory) => Err(NoMemory),
+        }
     }
 
     /// An input was heard. It takes no memory.

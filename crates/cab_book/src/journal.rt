@@ -1,11 +1,12 @@
 //! The journal of a round, kept in the longest runs of one pass, so that a round of many ticks takes little room.
 
-ghost use Rattle.std.specs.Prelude.{◌≡◌, ◌<◌, ◌≤◌, ◌+◌, ◌++◌, ◌∷◌, [], ℕ, length, take, get_or, replicate, vec_len, vec_capacity};
+ghost use Rattle.std.specs.Prelude.{◌≡◌, ◌<◌, ◌≤◌, ◌+◌, ◌++◌, ◌∷◌, [], ℕ, length, take, get_or, replicate, vec_len, vec_capacity, OnOk};
 ghost use Rattle.cabinet_history.specs.Journals.{times, runs_of, passes_of};
 ghost use Rattle.cab_book.specs.Runs.{with_run_last};
 ghost use Rattle.cab_book.specs.Shares.{read_journal};
 
 use crate::sharing::read_pass;
+use sig_types::NoMemory;
 
 /// The runs: each a pass, and how often in a row it brought the next item.
 #[derive(Drop)]
@@ -23,6 +24,19 @@ impl Journal {
         ensures room { vec_capacity result.runs ≡ vec_capacity room }
     {
         Journal { runs: room }
+    }
+
+    /// Takes room for so many runs more. Where memory is wanting it is as before.
+    pub fn reserve(&mut self, runs: usize) -> Result<(), NoMemory>
+        ensures passes { passes_of self.new.runs.items ≡ passes_of self.old.runs.items }
+        ensures len { vec_len self.new.runs ≡ vec_len self.old.runs }
+        ensures room { OnOk result (vec_len self.new.runs + runs ≤ vec_capacity self.new.runs) }
+        ensures kept { vec_capacity self.old.runs ≤ vec_capacity self.new.runs }
+    {
+        match self.runs.reserve(runs) {
+            Ok(()) => Ok(()),
+            Err(_) => Err(NoMemory),
+        }
     }
 
     /// One pass more. It takes no memory.

@@ -5,8 +5,8 @@ use Rattle.std.proofs.lemmas.Slice.Eq.{bytes_eq-Decides}
 use Rattle.command_words.specs.declared.command.Seeding.{Seeding}
 use Rattle.command_words.specs.declared.command.Overlap.{Overlap}
 use Rattle.command_words.specs.declared.command.Command.{Command}
-use Rattle.command_words.specs.declared.command.Command.TheVariants.{Run, Check, Generate, Survey, Band, Respond, Overlaps, Help, Version}
-use Rattle.command_words.specs.Words.{IsRun, IsCheck, IsGenerate, IsSurvey, IsBand, IsRespond, IsOverlaps, IsHelp, IsVersion, seeding_words, CanSeed, AskFor}
+use Rattle.command_words.specs.declared.command.Command.TheVariants.{Run, Check, Generate, Survey, Band, Respond, Overlaps, Live, Help, Version}
+use Rattle.command_words.specs.Words.{IsRun, IsCheck, IsGenerate, IsSurvey, IsBand, IsRespond, IsOverlaps, IsLive, IsHelp, IsVersion, seeding_words, CanSeed, AskFor}
 use Rattle.command_words.proofs.Decimals.{same_number}
 use Rattle.command_words.proofs.OneOverlap.{one_overlap}
 
@@ -63,6 +63,7 @@ name_of (Survey from) = codes "survey"
 name_of Band = codes "band"
 name_of Respond = codes "respond"
 name_of (Overlaps overlap) = codes "overlaps"
+name_of Live = codes "live"
 name_of Help = codes "--help"
 name_of Version = codes "--version"
 
@@ -76,6 +77,7 @@ has_name words (Survey from) is = ap (λ (ws : List (List ℕ)). get_or ws 0 [])
 has_name words Band is = ap (λ (ws : List (List ℕ)). get_or ws 0 []) is
 has_name words Respond is = ap (λ (ws : List (List ℕ)). get_or ws 0 []) is
 has_name words (Overlaps overlap) is = ap (λ (ws : List (List ℕ)). get_or ws 0 []) is.1
+has_name words Live is = ap (λ (ws : List (List ℕ)). get_or ws 0 []) is
 has_name words Help is = ap (λ (ws : List (List ℕ)). get_or ws 0 []) is
 has_name words Version is = ap (λ (ws : List (List ℕ)). get_or ws 0 []) is
 
@@ -103,6 +105,8 @@ one_command words Respond d is are = absurd (differ words Respond d is are refl)
 one_command words (Overlaps a) (Overlaps b) is are =
     ap Overlaps (one_overlap (drop 1 words) a b (is.0, ap (λ (ws : List (List ℕ)). drop 1 ws) is.1, is.2, is.3) (are.0, ap (λ (ws : List (List ℕ)). drop 1 ws) are.1, are.2, are.3))
 one_command words (Overlaps a) d is are = absurd (differ words (Overlaps a) d is are refl)
+one_command words Live Live is are = refl
+one_command words Live d is are = absurd (differ words Live d is are refl)
 one_command words Help Help is are = refl
 one_command words Help d is are = absurd (differ words Help d is are refl)
 one_command words Version Version is are = refl
@@ -116,8 +120,8 @@ its_command words c is d = (
 )
 
 -- they ask for none
-pub no_command : (words : List (List ℕ)) → ((n : ℕ) → IsRun words n → ⊥) → (IsCheck words → ⊥) → ((from : Seeding) → IsGenerate words from → ⊥) → ((from : Seeding) → IsSurvey words from → ⊥) → (IsBand words → ⊥) → (IsRespond words → ⊥) → ((overlap : Overlap) → IsOverlaps words overlap → ⊥) → (IsHelp words → ⊥) → (IsVersion words → ⊥) → (d : Command) → (None ≡ Some d) ↔ AskFor words d
-no_command words run check generate survey band respond overlaps help version d = (λ e. absurd (cc), λ is. absurd (none d is))
+pub no_command : (words : List (List ℕ)) → ((n : ℕ) → IsRun words n → ⊥) → (IsCheck words → ⊥) → ((from : Seeding) → IsGenerate words from → ⊥) → ((from : Seeding) → IsSurvey words from → ⊥) → (IsBand words → ⊥) → (IsRespond words → ⊥) → ((overlap : Overlap) → IsOverlaps words overlap → ⊥) → (IsLive words → ⊥) → (IsHelp words → ⊥) → (IsVersion words → ⊥) → (d : Command) → (None ≡ Some d) ↔ AskFor words d
+no_command words run check generate survey band respond overlaps live help version d = (λ e. absurd (cc), λ is. absurd (none d is))
   where
     none : (c : Command) → AskFor words c → ⊥
     none (Run workers) is = run workers is
@@ -127,6 +131,7 @@ no_command words run check generate survey band respond overlaps help version d 
     none Band is = band is
     none Respond is = respond is
     none (Overlaps overlap) is = overlaps overlap is
+    none Live is = live is
     none Help is = help is
     none Version is = version is
 

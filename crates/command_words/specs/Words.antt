@@ -5,7 +5,7 @@ use Rattle.gen_arterial.specs.Written.{CanMake}
 use Rattle.command_words.specs.declared.command.Seeding.{Seeding}
 use Rattle.command_words.specs.declared.command.Overlap.{Overlap}
 use Rattle.command_words.specs.declared.command.Command.{Command}
-use Rattle.command_words.specs.declared.command.Command.TheVariants.{Run, Check, Generate, Survey, Band, Respond, Overlaps, Help, Version}
+use Rattle.command_words.specs.declared.command.Command.TheVariants.{Run, Check, Generate, Survey, Band, Respond, Overlaps, Live, Help, Version}
 
 -- to run a scenario by so many workers, 0 to 8; with no number it is by none
 abbrev pub IsRun : List (List ℕ) → ℕ → Type 0
@@ -62,6 +62,10 @@ IsGiven words overlap = (hex : List ℕ) × (words ≡ overlap_words overlap hex
 abbrev pub IsOverlaps : List (List ℕ) → Overlap → Type 0
 IsOverlaps words overlap = (hex : List ℕ) × (words ≡ codes "overlaps" ∷ overlap_words overlap hex) × (decode_of hex ≡ Ok overlap.parents.items) × IsOverlap overlap
 
+-- to answer the requests of a session
+abbrev pub IsLive : List (List ℕ) → Type 0
+IsLive words = words ≡ codes "live" ∷ []
+
 -- to write the help
 abbrev pub IsHelp : List (List ℕ) → Type 0
 IsHelp words = words ≡ codes "--help" ∷ []
@@ -79,6 +83,7 @@ AskFor words (Survey from) = IsSurvey words from
 AskFor words Band = IsBand words
 AskFor words Respond = IsRespond words
 AskFor words (Overlaps overlap) = IsOverlaps words overlap
+AskFor words Live = IsLive words
 AskFor words Help = IsHelp words
 AskFor words Version = IsVersion words
 

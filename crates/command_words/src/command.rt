@@ -41,6 +41,8 @@ pub enum Command {
     Respond,
     /// To tell an overlap by a trace.
     Overlaps(Overlap),
+    /// To answer the requests of a session with cabinets, one by one.
+    Live,
     /// To write how the program is used.
     Help,
     /// To write which program this is.

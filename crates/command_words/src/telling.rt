@@ -125,6 +125,8 @@ pub fn command_of(words: &Vec<String>) -> Option<Command>
         Some(Command::Band)
     } else if is_lone(words, "respond") {
         Some(Command::Respond)
+    } else if is_lone(words, "live") {
+        Some(Command::Live)
     } else if is_lone(words, "--help") {
         Some(Command::Help)
     } else if is_lone(words, "--version") {

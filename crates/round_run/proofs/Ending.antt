@@ -6,12 +6,11 @@ use Rattle.sig_types.specs.declared.streams.Answers.{Answers}
 use Rattle.sig_types.specs.Replies.{Reply, replied_on}
 use Rattle.cab_book.specs.declared.book.Book.{Book}
 use Rattle.cab_book.specs.Books.{ticks_by_end}
-use Rattle.run_definition.specs.CabinetState.{CabinetState, next_cabinet_state, each_cabinet_state}
+use Rattle.run_definition.specs.CabinetState.{CabinetState}
 use Rattle.master_rounds.specs.Answered.{AreAllReplies, with_replies}
 use Rattle.master_rounds.specs.Stands.{MasterRoundsStands}
-use Rattle.round_run.specs.CabinetStates.{AreAt, HasRun, HaveRun, TicksWithin}
+use Rattle.round_run.specs.CabinetStates.{AreAt, HaveEnded, TicksWithin}
 use Rattle.round_run.specs.Replied.{replied_in, EachAnswers}
-use Rattle.round_run.proofs.Following.{each-here, each-length}
 use Rattle.round_run.specs.declared.rounds.ClosedLoop.{ClosedLoop}
 use Rattle.round_run.specs.ClosedLoop.{AreAnswered, Between, cabinets_of}
 use Rattle.round_run.proofs.Places.{pick}
@@ -49,42 +48,45 @@ all-replied all books each = λ k a below.
     }
 
 -- the cabinets stay the same
-each-cabinets : (s : ScenarioContent) (first : ℕ) (ts : List CabinetState) (journals : List (List ℕ)) → length journals ≡ length ts
-    → cabinets_of (each_cabinet_state s first ts journals) ≡ cabinets_of ts
-each-cabinets s first [] journals many = refl
-each-cabinets s first (t ∷ ts) [] many = absurd (omega (arith, many))
-each-cabinets s first (t ∷ ts) (journal ∷ journals) many =
-    ap (λ (cs : List CabinetContent). t.cabinet ∷ cs) (each-cabinets s (first + 1) ts journals (omega (arith, many)))
+next-cabinets : (ts next : List CabinetState) → length next ≡ length ts
+    → ((k : ℕ) (t u : CabinetState) → k < length ts → (get_or next k u).cabinet ≡ (get_or ts k t).cabinet) → cabinets_of next ≡ cabinets_of ts
+next-cabinets [] [] many same = refl
+next-cabinets [] (u ∷ next) many same = absurd (omega (arith, many))
+next-cabinets (t ∷ ts) [] many same = absurd (omega (arith, many))
+next-cabinets (t ∷ ts) (u ∷ next) many same =
+    ap (λ (c : CabinetContent). c ∷ cabinets_of next) (same 0 t u (omega arith))
+    ∙ ap (λ (cs : List CabinetContent). t.cabinet ∷ cs)
+    (next-cabinets ts next (omega (arith, many)) (λ k v w below. same (suc k) v w (omega (arith, below))))
 
 -- with the replies of the round the cabinets have answered what they have come to
-module _ (s : ScenarioContent) (ts : List CabinetState) (journals : List (List ℕ)) (books : List Book) (run : HaveRun s ts journals books)
-    (newest : (cab : ℕ) (t : CabinetState) (journal : List ℕ) (b : Book) → HasRun s cab t journal b → (next_cabinet_state s cab t journal).answered ≡ replied_in b ∷ t.answered) where
-  answered-here : (answered : ℕ → List (List Reply)) → AreAnswered answered ts → (k : ℕ) (t : CabinetState) → k < length ts
-      → with_replies (replied books) answered (k + 1) ≡ (get_or (each_cabinet_state s 1 ts journals) k t).answered
-  answered-here answered told k t below =
-      let place : k < length books = omega (arith, below, run.many) in
+module _ (ts next : List CabinetState) (books : List Book) (ended : HaveEnded ts next books) where
+  answered-here : (answered : ℕ → List (List Reply)) → AreAnswered answered ts → (k : ℕ) (u : CabinetState) → k < length ts
+      → with_replies (replied books) answered (k + 1) ≡ (get_or next k u).answered
+  answered-here answered told k u below =
+      let place : k < length books = omega (arith, below, ended.many) in
       let b : Book = (pick books k place).item in
-      let number : 1 + k ≡ k + 1 = omega arith in
-      let is : get_or (each_cabinet_state s 1 ts journals) k t ≡ next_cabinet_state s (k + 1) (get_or ts k t) (get_or journals k []) =
-      each-here s 1 ts journals k t [] run.as_many below ∙ ap (λ (cab : ℕ). next_cabinet_state s cab (get_or ts k t) (get_or journals k [])) number in
-      let own : with_replies (replied books) answered (k + 1) ≡ replied_in (get_or books k b) ∷ (get_or ts k t).answered =
       ap (λ (r : List Reply). r ∷ answered (k + 1)) (replied-here books k b place)
-      ∙ ap (λ (a : List (List Reply)). replied_in (get_or books k b) ∷ a) (told k t below) in
-      own
-      ∙ sym (newest (k + 1) (get_or ts k t) (get_or journals k []) (get_or books k b) (run.each k b t [] below))
-      ∙ sym (ap (λ (u : CabinetState). u.answered) is)
+      ∙ ap (λ (a : List (List Reply)). replied_in (get_or books k b) ∷ a) (told k u below)
+      ∙ sym (ended.each k u u b below).answered
 
-  answered-next : (answered : ℕ → List (List Reply)) → AreAnswered answered ts
-      → AreAnswered (with_replies (replied books) answered) (each_cabinet_state s 1 ts journals)
-  answered-next answered told = λ k t below. answered-here answered told k t (omega (arith, below, each-length s 1 ts journals run.as_many))
+  answered-next : (answered : ℕ → List (List Reply)) → AreAnswered answered ts → AreAnswered (with_replies (replied books) answered) next
+  answered-next answered told = λ k u below. answered-here answered told k u (omega (arith, below, ended.as_many))
+
+  books-next : AreAt books next
+  books-next = record {
+    many = ended.many ∙ sym ended.as_many;
+    each = λ k b u below. (ended.each k u u b (omega (arith, below, ended.as_many))).at;
+  }
 
   -- the closed loop after one round more
-  pub between-next : (done : ℕ) (c : ClosedLoop) (answered : ℕ → List (List Reply)) → c.books.items ≡ books → cabinets_of ts ≡ s.cabinets
-      → AreAt books (each_cabinet_state s 1 ts journals) → TicksWithin (done * 600 + 600) books → AreAnswered answered ts
-      → MasterRoundsStands c.master_rounds s (done + 1) (with_replies (replied books) answered) → Between s (done + 1) (each_cabinet_state s 1 ts journals) c
-  between-next done c answered own cabinets at within told master_rounds = record {
-    cabinets = each-cabinets s 1 ts journals run.as_many ∙ cabinets;
-    books = subst (λ (bs : List Book). AreAt bs (each_cabinet_state s 1 ts journals)) (sym own) at;
+  pub between-next : (s : ScenarioContent) (done : ℕ) (c : ClosedLoop) (answered : ℕ → List (List Reply)) → c.books.items ≡ books → cabinets_of ts ≡ s.cabinets
+      → TicksWithin (done * 600 + 600) books → AreAnswered answered ts
+      → MasterRoundsStands c.master_rounds s (done + 1) (with_replies (replied books) answered) → Between s (done + 1) next c
+  between-next s done c answered own cabinets within told master_rounds = record {
+    cabinets = next-cabinets ts next ended.as_many (λ k t u below.
+        let place : k < length books = omega (arith, below, ended.many) in
+        (ended.each k t u (pick books k place).item below).cabinet) ∙ cabinets;
+    books = subst (λ (bs : List Book). AreAt bs next) (sym own) books-next;
     ticks = subst (λ (bs : List Book). TicksWithin ((done + 1) * 600) bs) (sym own)
         (λ k b below. let most : ticks_by_end (get_or books k b) ≤ done * 600 + 600 = within k b below in omega (arith, most));
     answered = with_replies (replied books) answered;

@@ -1,4 +1,5 @@
 -- What the books of a round have come to.
+use Rattle.std.proofs.lemmas.List.{get_or_default}
 use Rattle.std.proofs.Common.{◌≡◌, ◌<◌, ◌+◌, ◌∙◌, ℕ, zero, suc, List, [], ◌∷◌, length, get_or, refl, sym, ap, subst, arith}
 use Rattle.scenario_data.specs.Content.{ScenarioContent}
 use Rattle.cabinet_history.specs.declared.Reply.{Reply}
@@ -9,7 +10,7 @@ use Rattle.run_definition.specs.CabinetState.{CabinetState, coming_streams, roun
 use Rattle.sig_types.specs.Items.{Item}
 use Rattle.cab_book.specs.declared.book.Book.{Book}
 use Rattle.cab_book.specs.Books.{BookStands, streams_in, journal_of, acts_in}
-use Rattle.round_run.specs.CabinetStates.{IsAt, AreAt, HasRun, HaveRun}
+use Rattle.round_run.specs.CabinetStates.{IsAt, AreAt, HasEnded, HasRun, HaveEnded, HaveRun}
 use Rattle.round_run.specs.Replied.{replied_in}
 
 -- what was brought to a book is what the journal brings
@@ -61,6 +62,27 @@ each-here s first (u ∷ ts) (own ∷ journals) (suc k) t journal many below =
     let there : first + 1 + k ≡ first + suc k = omega arith in
     each-here s (first + 1) ts journals k t journal (omega (arith, many)) (omega (arith, below))
     ∙ ap (λ (cab : ℕ). next_cabinet_state s cab (get_or ts k t) (get_or journals k journal)) there
+
+-- each cabinet of a round that was run by journals has ended it
+pub all-ended : (s : ScenarioContent) (ts : List CabinetState) (journals : List (List ℕ)) (books : List Book) → HaveRun s ts journals books
+    → HaveEnded ts (each_cabinet_state s 1 ts journals) books
+all-ended s ts journals books run = record {
+  many = run.many;
+  as_many = each-length s 1 ts journals run.as_many;
+  each = λ k t u b below.
+      let own = run.each k b t [] below in
+      let within : k < length (each_cabinet_state s 1 ts journals) = omega (arith, below, each-length s 1 ts journals run.as_many) in
+      let number : 1 + k ≡ k + 1 = omega arith in
+      let is : get_or (each_cabinet_state s 1 ts journals) k u ≡ next_cabinet_state s (k + 1) (get_or ts k t) (get_or journals k []) =
+      get_or_default (each_cabinet_state s 1 ts journals) k u t within
+      ∙ each-here s 1 ts journals k t [] run.as_many below
+      ∙ ap (λ (cab : ℕ). next_cabinet_state s cab (get_or ts k t) (get_or journals k [])) number in
+      subst (λ (x : CabinetState). HasEnded (get_or ts k t) x (get_or books k b)) (sym is) (record {
+        at = next-at s (k + 1) (get_or ts k t) (get_or journals k []) (get_or books k b) own;
+        cabinet = refl;
+        answered = replied-newest s (k + 1) (get_or ts k t) (get_or journals k []) (get_or books k b) own;
+      });
+}
 
 pub all-at : (s : ScenarioContent) (ts : List CabinetState) (journals : List (List ℕ)) (books : List Book) → HaveRun s ts journals books
     → AreAt books (each_cabinet_state s 1 ts journals)

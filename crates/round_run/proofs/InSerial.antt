@@ -1,6 +1,6 @@
 -- All that comes to a cabinet is brought, pass after pass; and so to one cabinet after another.
-use Rattle.std.proofs.Common.{◌≡◌, ◌≢◌, ◌<◌, ◌≤◌, ◌+◌, ◌∙◌, ℕ, zero, suc, inl, inr, List, [], ◌∷◌, ◌++◌, length, drop, replicate, get_or, slice_set, refl, sym, ap, subst, append_assoc, append-nil, drop-cons, add-one, arith}
-use Rattle.std.proofs.lemmas.List.{get_or_default, get_or-map, length-set, replicate-append-replicate}
+use Rattle.std.proofs.Common.{◌≡◌, ◌≢◌, ◌<◌, ◌≤◌, ◌+◌, ◌∙◌, ℕ, zero, suc, inl, inr, List, [], ◌∷◌, ◌++◌, length, take, drop, replicate, get_or, slice_set, refl, sym, ap, subst, append_assoc, append-nil, drop-cons, add-one, arith}
+use Rattle.std.proofs.lemmas.List.{append_cancel_right, get_or_default, get_or-map, length-set, replicate-append-replicate}
 use Rattle.std.proofs.lemmas.Bool.{cases_lt}
 use Rattle.std.proofs.lemmas.Bool.Decides.{eqb_tells}
 use Rattle.sig_types.proofs.InTurn.{InTurn, InTurn-start, InTurn-set}
@@ -88,6 +88,51 @@ brought-whole s cab t pass b last so = record {
       ∙ ap (λ (n : ℕ). journal_of b ++ serial_from pass (drop n (coming_streams s cab t))) (sym last)
       ∙ so.journal;
   one = so.one;
+}
+
+-- the serial journal of some first streams, and then that of the others
+serial-split : (first n : ℕ) (streams : List (List Item)) → serial_from first streams ≡ serial_from first (take n streams) ++ serial_from (first + n) (drop n streams)
+serial-split first zero streams = let same : first ≡ first + 0 = omega arith in ap (λ (k : ℕ). serial_from k streams) same
+serial-split first (suc n) [] = refl
+serial-split first (suc n) (items ∷ others) =
+    let own = replicate (length items) first in
+    let number : first + 1 + n ≡ first + suc n = omega arith in
+    ap (λ (passes : List ℕ). own ++ passes) (serial-split (first + 1) n others)
+    ∙ ap (λ (k : ℕ). own ++ (serial_from (first + 1) (take n others) ++ serial_from k (drop n others))) number
+    ∙ sym (append_assoc own (serial_from (first + 1) (take n others)) (serial_from (first + suc n) (drop n others)))
+
+-- passes 0 to 3 have brought all of theirs
+pub brought-beginning : (s : ScenarioContent) (cab : ℕ) (t : CabinetState) (pass : ℕ) (b : Book) → pass ≡ 4 → BroughtTo s cab t pass b
+    → HasRun s cab t (serial (take 4 (coming_streams s cab t))) b
+brought-beginning s cab t pass b last so =
+    let streams : List (List Item) = coming_streams s cab t in
+    let all : journal_of b ++ serial_from 4 (drop 4 streams) ≡ serial streams =
+    subst (λ (n : ℕ). journal_of b ++ serial_from n (drop n streams) ≡ serial streams) last so.journal in
+    record {
+      stands = so.stands;
+      streams = so.streams;
+      journal_is = append_cancel_right (journal_of b) (serial (take 4 streams)) (serial_from 4 (drop 4 streams)) (all ∙ serial-split 0 4 streams);
+      one = so.one;
+    }
+
+-- so far the passes below this one have nothing left, and the others what they had
+pub record BegunTo (old new : Book) (pass : ℕ) : Type 0 where
+  pub streams : streams_in new ≡ streams_in old
+  pub none : (p : ℕ) → p < pass → left_of new p ≡ 0
+  pub others : (p : ℕ) → pass ≤ p → left_of new p ≡ left_of old p
+  pub ticks : ticks_by_end new ≡ ticks_by_end old
+
+pub begun-more : (old now new : Book) (pass : ℕ) → BringsAll now new pass → ticks_by_end new ≡ ticks_by_end now → BegunTo old now pass → BegunTo old new (pass + 1)
+begun-more old now new pass brings ticks so = record {
+  streams = brings.streams ∙ so.streams;
+  none = λ p below. elim (eqb_tells p pass) [
+    | inl (t, same) ↦ subst (λ (q : ℕ). left_of new q ≡ 0) (sym same) brings.own
+    | inr (t, other) ↦ brings.others p other ∙ so.none p (omega (arith, below, other))
+  ];
+  others = λ p above.
+      let other : p ≢ pass = omega (arith, above) in
+      brings.others p other ∙ so.others p (omega (arith, above));
+  ticks = ticks ∙ so.ticks;
 }
 
 -- a book whose shares of ticks were joined has run what it had

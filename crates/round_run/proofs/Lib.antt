@@ -1,4 +1,5 @@
 pub mod Following
+pub mod Coming
 pub mod Telling
 pub mod Begun
 pub mod InSerial

@@ -1,11 +1,15 @@
 -- What books stand for in a run: between rounds each is at what its cabinet has come to; within a round each has run a journal of the
 -- streams that come to its cabinet. Cabinets are counted from 1, in their order.
-use Rattle.std.specs.Prelude.{ℕ, ◌+◌, ◌≡◌, ◌<◌, ◌≤◌, List, [], map, length, get_or}
+use Rattle.std.specs.Prelude.{ℕ, ◌+◌, ◌≡◌, ◌<◌, ◌≤◌, List, [], ◌∷◌, map, length, get_or, All}
 use Rattle.scenario_data.specs.Content.{ScenarioContent}
-use Rattle.cabinet_history.specs.CabinetHistory.{CabinetHistory}
-use Rattle.run_definition.specs.CabinetState.{CabinetState, coming_streams}
+use Rattle.sig_types.specs.Items.{Ticked}
+use Rattle.cabinet_history.specs.CabinetHistory.{CabinetHistory, after}
+use Rattle.cabinet_history.specs.Journals.{Act, items_in}
+use Rattle.cabinet_history.specs.Told.{acts_replies}
+use Rattle.run_definition.specs.CabinetState.{CabinetState, answers_in, coming_streams}
 use Rattle.cab_book.specs.declared.book.Book.{Book}
-use Rattle.cab_book.specs.Books.{BookStands, IsOnePart, streams_in, journal_of, cabinet_history_now, ticks_by_end}
+use Rattle.cab_book.specs.Books.{BookStands, IsOnePart, streams_in, journal_of, acts_in, cabinet_history_now, ticks_by_end}
+use Rattle.round_run.specs.Replied.{replied_in}
 
 -- a book is at what its cabinet has come to
 pub record IsAt (b : Book) (t : CabinetState) : Type 0 where
@@ -36,6 +40,39 @@ pub record HaveRun (s : ScenarioContent) (ts : List CabinetState) (journals : Li
 -- the journals of a round in which nothing was brought yet
 abbrev pub no_journals : List CabinetState → List (List ℕ)
 no_journals ts = map (λ t. []) ts
+
+-- to the book of a cabinet, which had come to this before the round, these acts have come in the round; its ticks are those of one pass
+pub record HasCome (t : CabinetState) (acts : List Act) (b : Book) : Type 0 where
+  pub stands : BookStands b t.cabinet_history
+  pub acts_are : acts_in b ≡ acts
+  pub one : IsOnePart b
+
+-- what a cabinet has come to by these acts of a round
+abbrev pub state_by_acts : CabinetState → List Act → CabinetState
+state_by_acts t acts = record {
+  cabinet = t.cabinet;
+  cabinet_history = after t.cabinet_history (items_in acts);
+  answered = answers_in (acts_replies t.cabinet_history acts) ∷ t.answered;
+}
+
+-- these acts are ticks alone, or have none among them
+abbrev pub AreTicks : List Act → Type 0
+AreTicks acts = All (λ (act : Act). act.item ≡ Ticked) acts
+
+abbrev pub HaveNoTicks : List Act → Type 0
+HaveNoTicks acts = All (λ (act : Act). act.item ≡ Ticked → ⊥) acts
+
+-- a cabinet had come to the first before a round and has come to the other by now; its book is there, and its replies are what was added
+pub record HasEnded (t u : CabinetState) (b : Book) : Type 0 where
+  pub at : IsAt b u
+  pub cabinet : u.cabinet ≡ t.cabinet
+  pub answered : u.answered ≡ replied_in b ∷ t.answered
+
+-- so of each cabinet
+pub record HaveEnded (ts next : List CabinetState) (books : List Book) : Type 0 where
+  pub many : length books ≡ length ts
+  pub as_many : length next ≡ length ts
+  pub each : (k : ℕ) (t u : CabinetState) (b : Book) → k < length ts → HasEnded (get_or ts k t) (get_or next k u) (get_or books k b)
 
 -- each cabinet will have had at most so many ticks by the end of its round: after so many rounds, at most the ticks of a round for each
 abbrev pub TicksWithin : ℕ → List Book → Type 0

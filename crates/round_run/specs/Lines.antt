@@ -1,14 +1,15 @@
 -- The lines of a cabinet's round as they are written of its book: its journal, and the replies, each behind the frames before it.
-use Rattle.std.specs.Prelude.{ℕ, ◌-◌, List, [], ◌∷◌, ◌++◌, take, drop}
+use Rattle.std.specs.Prelude.{ℕ, ◌-◌, List, [], ◌∷◌, ◌++◌, length, take, drop}
 use Rattle.sig_types.specs.declared.frame.Frame.{Frame}
 use Rattle.trace_text.specs.declared.lines.Line.{Line}
 use Rattle.trace_text.specs.declared.lines.Line.TheVariants.{J, A}
 use Rattle.cabinet_history.specs.declared.Reply.{Reply}
 use Rattle.cabinet_history.specs.Journals.{runs_of}
-use Rattle.run_definition.specs.Lines.{frame_lines, load_lines}
+use Rattle.run_definition.specs.Lines.{frame_lines, load_lines, reply_lines}
 use Rattle.cab_book.specs.declared.book.Book.{Book}
 use Rattle.cab_book.specs.declared.happened.Answered.{Answered}
 use Rattle.cab_book.specs.Books.{journal_of, written_in, answered_in}
+use Rattle.cab_book.specs.Happenings.{replies_in}
 
 -- the frames of a round that have a line, from one place up to another
 abbrev pub frames_between : ℕ → ℕ → List (ℕ × Frame) → List (ℕ × Frame)
@@ -28,3 +29,10 @@ told_lines cab first written (a ∷ answered) =
 -- the lines of a book's round
 abbrev pub book_lines : ℕ → Book → List Line
 book_lines cab b = J cab (runs_of (journal_of b)) ∷ told_lines cab 0 (written_in b) (answered_in b)
+
+-- the lines of the frames that a book has behind those of an earlier one, and of the replies
+abbrev pub new_frame_lines : ℕ → Book → Book → List Line
+new_frame_lines cab old new = frame_lines cab (drop (length (written_in old)) (written_in new))
+
+abbrev pub new_reply_lines : ℕ → Book → Book → List Line
+new_reply_lines cab old new = reply_lines cab (replies_in (drop (length (answered_in old)) (answered_in new)))

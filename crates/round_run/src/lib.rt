@@ -17,6 +17,6 @@ mod starting;
 pub use joined::joined_round;
 pub use replying::answers;
 pub use rounds::ClosedLoop;
-pub use run_laws::books_follow_runs;
-pub use serial::serial_round;
+pub use run_laws::{books_follow_acts, books_follow_runs};
+pub use serial::{bring_beginning, serial_round};
 pub use starting::open_rounds;

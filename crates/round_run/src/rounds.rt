@@ -4,13 +4,13 @@ ghost use Rattle.std.specs.Prelude.{◌≡◌, ◌<◌, ◌+◌, ◌*◌, ℕ, L
 ghost use Rattle.trace_text.specs.declared.lines.Line.{Line as LineRow};
 ghost use Rattle.scenario_data.specs.Content.{scenario_content};
 ghost use Rattle.runnable.specs.Runnable.{Runnable};
-ghost use Rattle.run_definition.specs.CabinetState.{CabinetState, opened_cabinet_states, each_cabinet_state};
+ghost use Rattle.run_definition.specs.CabinetState.{CabinetState, opened_cabinet_states};
 ghost use Rattle.run_definition.specs.Lines.{notes_lines};
-ghost use Rattle.round_run.specs.CabinetStates.{HaveRun, no_journals, TicksWithin};
+ghost use Rattle.round_run.specs.CabinetStates.{HaveEnded, HaveRun, no_journals, TicksWithin};
 ghost use Rattle.round_run.specs.Joined.{AreFresh, HaveFewLeft};
 
 use crate::books::open_books;
-use crate::{answers, books_follow_runs, open_rounds};
+use crate::{answers, open_rounds};
 use cab_book::{Book, Way};
 use master_rounds::{Begun, MasterRounds};
 use scenario_data::Scenario;
@@ -76,17 +76,16 @@ impl ClosedLoop {
         }
     }
 
-    /// Ends the round after so many, of which all was brought, by some journals: what the cabinets replied goes back to the master. Where
-    /// memory is wanting the closed loop is of no more use.
+    /// Ends the round after so many, by which the cabinets have come to other states, whatever was brought to them: what they replied goes
+    /// back to the master. Where memory is wanting the closed loop is of no more use.
     pub fn end_round(&mut self, alloc: Global, done: u32, s: &Scenario) -> Result<(), NoMemory>
         requires few { done < 4294967295 }
         requires begun { (ts : List CabinetState) × InRound (scenario_content s.now) done ts self.old × (length self.old.books.items ≡ length ts) }
-        ensures between { OnOk result ((ts : List CabinetState) (journals : List (List ℕ)) → InRound (scenario_content s.now) done ts self.old
-            → HaveRun (scenario_content s.now) ts journals self.old.books.items → TicksWithin (done * 600 + 600) self.old.books.items
-            → Between (scenario_content s.now) (done + 1) (each_cabinet_state (scenario_content s.now) 1 ts journals) self.new) }
+        ensures between { OnOk result ((ts next : List CabinetState) → InRound (scenario_content s.now) done ts self.old
+            → HaveEnded ts next self.old.books.items → TicksWithin (done * 600 + 600) self.old.books.items
+            → Between (scenario_content s.now) (done + 1) next self.new) }
         ensures books { self.new.books ≡ self.old.books }
     {
-        books_follow_runs();
         let replies = match answers(alloc, &self.books) {
             Ok(replies) => replies,
             Err(NoMemory) => return Err(NoMemory),

@@ -1,7 +1,7 @@
 //! The serial order of a round: cabinet after cabinet, pass after pass, all that is left to come.
 //! Ticks are brought in strides.
 
-ghost use Rattle.std.specs.Prelude.{ℕ, ◌≡◌, ◌≢◌, ◌<◌, ◌≤◌, ◌+◌, ◌++◌, List, [], length, replicate, get_or, vec_capacity};
+ghost use Rattle.std.specs.Prelude.{ℕ, ◌≡◌, ◌≢◌, ◌<◌, ◌≤◌, ◌+◌, ◌++◌, List, [], length, replicate, take, get_or, vec_capacity};
 ghost use Rattle.scenario_data.specs.Content.{ScenarioContent};
 ghost use Rattle.cabinet_history.specs.CabinetHistory.{CabinetHistory};
 ghost use Rattle.cabinet_history.specs.Journals.{serial};
@@ -39,6 +39,20 @@ fn bring_all(book: &mut Book, pass: u32)
 {
     while book.left(pass) > 0 {
         bring_some(book, pass);
+    }
+}
+
+/// What a round brings to a cabinet before any tick: all inputs, and then the frames of each of the three streams. It takes no memory.
+pub fn bring_beginning(book: &mut Book)
+    ensures run { (s : ScenarioContent) (cab : ℕ) (t : CabinetState) → HasRun s cab t [] book.old
+        → HasRun s cab t (serial (take 4 (coming_streams s cab t))) book.new }
+    ensures streams { streams_in book.new ≡ streams_in book.old }
+    ensures none { (pass : ℕ) → pass < 4 → left_of book.new pass ≡ 0 }
+    ensures others { (pass : ℕ) → 4 ≤ pass → left_of book.new pass ≡ left_of book.old pass }
+    ensures ticks { ticks_by_end book.new ≡ ticks_by_end book.old }
+{
+    for pass in 0..4 {
+        bring_all(book, pass);
     }
 }
 

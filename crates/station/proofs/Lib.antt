@@ -4,3 +4,5 @@ mod Due
 mod CheckDue
 mod OverlapDue
 mod Telling
+mod Sessions
+mod LiveDue

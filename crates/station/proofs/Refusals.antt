@@ -1,13 +1,18 @@
--- Why an input is refused: for its length, or for its first fault.
-use Rattle.std.proofs.Common.{◌≡◌, ◌≤◌, inr, ℕ, List, Option, String, codes, string_bytes, length, subst}
+-- Why an input, or its first line, is refused: for its length, or for its first fault.
+use Rattle.std.proofs.Common.{◌≡◌, ◌≤◌, inl, inr, ℕ, List, Option, Some, None, IfSome, String, codes, string_bytes, length, get_or, ◌∙◌, ap, subst, arith}
+use Rattle.std.specs.Option.{option_map}
 use Rattle.std.specs.declared.alloc.Global.{Global}
 use Rattle.scenario_data.specs.declared.refusal.Refusal.{Refusal}
 use Rattle.scenario_data.specs.declared.refusal.Refusal.TheVariants.{Syntax, Field, Limit, Broken}
+use Rattle.scenario_data.specs.Causes.{Limit as LimitCause}
 use Rattle.scenario_data.specs.Content.{ScenarioContent}
 use Rattle.scenario_read.specs.Answers.{IsScenario, IsFirstFault}
 use Rattle.scenario_read.proofs.LimitNames.{limit-elsewhere}
+use Rattle.session_words.specs.Lines.{first_line}
+use Rattle.session_laws.specs.Dialogue.{early_load, early_priority, early_path, round_path, IsOrderFault}
 use Rattle.station.specs.Bytes.{AreInput, nothing_left}
 use Rattle.station.specs.Answers.{IsRead, IsLengthLimit, IsRefused}
+use Rattle.station.specs.Lived.{IsFirstLineFault, IsLineRefused}
 
 -- a first fault is never that of the whole input's length
 pub fault_elsewhere : (bytes : List ℕ) (refusal : Refusal) → IsFirstFault bytes refusal → IsLengthLimit refusal → ⊥
@@ -37,3 +42,32 @@ module _ (IsFirst : List ℕ → Refusal → Type 0) (elsewhere : (bytes : List 
 pub whole_scenario : (left : Option (List ℕ)) (bytes slice : List ℕ) (s : ScenarioContent) → AreInput left bytes → slice ≡ bytes → length bytes ≤ 16777216
     → IsScenario slice s → IsRead left s
 whole_scenario left bytes slice s same e short is = (bytes, same, short, subst (λ (x : List ℕ). IsScenario x s) e is)
+
+-- the path of an item of a list is never that of the whole input's length
+early_named : (loads priority : Option ℕ) (path : List ℕ) → option_map LimitCause (early_path loads priority) ≡ Some (LimitCause path) → path ≡ codes "." → ⊥
+early_named (Some place) priority path e dot =
+    let same : round_path (codes "loads") place ≡ path = cc in
+    let heads : 108 ≡ 46 = ap (λ (bytes : List ℕ). get_or bytes 0 0) (same ∙ dot) in
+    absurd (omega (arith, heads))
+early_named None (Some place) path e dot =
+    let same : round_path (codes "priority") place ≡ path = cc in
+    let heads : 112 ≡ 46 = ap (λ (bytes : List ℕ). get_or bytes 0 0) (same ∙ dot) in
+    absurd (omega (arith, heads))
+early_named None None path e dot = absurd (cc)
+
+order_elsewhere : (s : ScenarioContent) (refusal : Refusal) → IsOrderFault s refusal → IsLengthLimit refusal → ⊥
+order_elsewhere s Syntax fault limit = limit
+order_elsewhere s (Field path) fault limit = limit
+order_elsewhere s (Limit path) fault limit = early_named (early_load s) (early_priority s) (string_bytes path) fault limit
+order_elsewhere s (Broken cabinet rule row) fault limit = limit
+
+line_elsewhere : (line : List ℕ) (refusal : Refusal) → IsFirstLineFault line refusal → IsLengthLimit refusal → ⊥
+line_elsewhere line refusal (inl fault) limit = fault_elsewhere line refusal fault limit
+line_elsewhere line refusal (inr (s, is, fault)) limit = order_elsewhere s refusal fault limit
+
+-- the first line was read, and this is its first fault
+pub line_refused : (left : Option (List ℕ)) (line slice : List ℕ) (refusal : Refusal) → IfSome left (λ input. line ≡ first_line input) → slice ≡ line
+    → length line ≤ 16777216 → IsFirstLineFault slice refusal → IsLineRefused refusal left
+line_refused left line slice refusal first e short fault =
+    let its : IsFirstLineFault line refusal = subst (λ (x : List ℕ). IsFirstLineFault x refusal) e fault in
+    inr (line_elsewhere line refusal its, record { line = line; first = first; short = short; fault = its })

@@ -3,15 +3,16 @@ use Rattle.std.proofs.Common.{◌≡◌, ◌⊎◌, inl, inr, ◌↔◌, ℕ, Li
 use Rattle.scenario_data.specs.declared.refusal.Refusal.{Refusal}
 use Rattle.trace_check.specs.declared.faults.TraceFault.{TraceFault}
 use Rattle.command_words.specs.declared.command.Command.{Command}
-use Rattle.command_words.specs.declared.command.Command.TheVariants.{Run, Check, Generate, Survey, Band, Respond, Overlaps, Help, Version}
+use Rattle.command_words.specs.declared.command.Command.TheVariants.{Run, Check, Generate, Survey, Band, Respond, Overlaps, Live, Help, Version}
 use Rattle.command_words.specs.declared.command.Overlap.{Overlap}
-use Rattle.command_words.specs.Words.{IsRun, IsCheck, IsGenerate, IsSurvey, IsBand, IsRespond, IsOverlaps, IsHelp, IsVersion, AskFor, IsCommand}
+use Rattle.command_words.specs.Words.{IsRun, IsCheck, IsGenerate, IsSurvey, IsBand, IsRespond, IsOverlaps, IsLive, IsHelp, IsVersion, AskFor, IsCommand}
 use Rattle.overlap_run.specs.declared.faults.OverlapFault.{OverlapFault}
 use Rattle.station.specs.declared.status.Status.{Status}
 use Rattle.station.specs.declared.status.Status.TheVariants.{Done, Usage, Scenario, NotATrace, Overlap as BrokenOverlap, ReadFault, WriteFault, NoMemory}
 use Rattle.station.specs.Io.{Io}
 use Rattle.station.specs.Answers.{StopsShort}
-use Rattle.station.specs.Commands.{Answered, ReadsNothing, NeedsNoInput, IsRefusedFor, Causes, Answers}
+use Rattle.station.specs.Lived.{LivesShort}
+use Rattle.station.specs.Commands.{Answered, ReadsNothing, NeedsNoInput, IsRefusedFor, LeavesRun, LeavesSession, Causes, Answers}
 
 -- the words ask for one command, or for none
 pub one_command : (found : Option Command) (c d : Command) → found ≡ Some c → found ≡ Some d → c ≡ d
@@ -47,19 +48,24 @@ module _ (status : Status) (io : Io) where
       none Band is = is.told
       none Respond is = is.told
       none (Overlaps o) is = is.told
+      none Live is = is.told
       none Help is = is
       none Version is = is
 
   pub told_no_memory : (words : List (List ℕ)) (c : Command) → AskFor words c → Tells c status → status ≡ NoMemory
-      → (io.new ≡ io.old) ⊎ ((workers : ℕ) × IsRun words workers × StopsShort workers io.left io.ends io.old io.new)
+      → (io.new ≡ io.old) ⊎ (LeavesRun words io ⊎ LeavesSession words io)
   told_no_memory words c asked tells e = from c asked (subst (λ (x : Status). Tells c x) e tells)
     where
       run : (workers : ℕ) → IsRun words workers → (io.new ≡ io.old) ⊎ StopsShort workers io.left io.ends io.old io.new
-          → (io.new ≡ io.old) ⊎ ((workers : ℕ) × IsRun words workers × StopsShort workers io.left io.ends io.old io.new)
+          → (io.new ≡ io.old) ⊎ (LeavesRun words io ⊎ LeavesSession words io)
       run workers is (inl same) = inl same
-      run workers is (inr short) = inr (workers, is, short)
+      run workers is (inr short) = inr (inl (workers, is, short))
 
-      from : (d : Command) → AskFor words d → Tells d NoMemory → (io.new ≡ io.old) ⊎ ((workers : ℕ) × IsRun words workers × StopsShort workers io.left io.ends io.old io.new)
+      live : IsLive words → (io.new ≡ io.old) ⊎ LivesShort io.left io.old io.new → (io.new ≡ io.old) ⊎ (LeavesRun words io ⊎ LeavesSession words io)
+      live is (inl same) = inl same
+      live is (inr short) = inr (inr (is, short))
+
+      from : (d : Command) → AskFor words d → Tells d NoMemory → (io.new ≡ io.old) ⊎ (LeavesRun words io ⊎ LeavesSession words io)
       from (Run workers) is so = run workers is so.told
       from Check is so = inl so.0
       from (Generate seeding) is so = inl so
@@ -67,22 +73,32 @@ module _ (status : Status) (io : Io) where
       from Band is so = inl so.told
       from Respond is so = inl so.told
       from (Overlaps o) is so = inl so.told
+      from Live is so = live is so.told
       from Help is so = absurd so
       from Version is so = absurd so
 
-  pub told_read_fault : (c : Command) → Tells c status → status ≡ ReadFault → io.unread × (io.new ≡ io.old)
-  told_read_fault c tells e = from c (subst (λ (x : Status). Tells c x) e tells)
+  pub told_read_fault : (words : List (List ℕ)) (c : Command) → AskFor words c → Tells c status → status ≡ ReadFault
+      → io.unread × ((io.new ≡ io.old) ⊎ LeavesSession words io)
+  told_read_fault words c asked tells e = from c asked (subst (λ (x : Status). Tells c x) e tells)
     where
-      from : (d : Command) → Tells d ReadFault → io.unread × (io.new ≡ io.old)
-      from (Run workers) so = so.told
-      from Check so = (so.1.told, so.0)
-      from (Generate seeding) so = absurd so
-      from (Survey seeding) so = absurd so
-      from Band so = so.told
-      from Respond so = so.told
-      from (Overlaps o) so = so.told
-      from Help so = absurd so
-      from Version so = absurd so
+      none : io.unread × (io.new ≡ io.old) → io.unread × ((io.new ≡ io.old) ⊎ LeavesSession words io)
+      none (failed, same) = (failed, inl same)
+
+      live : IsLive words → (io.new ≡ io.old) ⊎ LivesShort io.left io.old io.new → (io.new ≡ io.old) ⊎ LeavesSession words io
+      live is (inl same) = inl same
+      live is (inr short) = inr (is, short)
+
+      from : (d : Command) → AskFor words d → Tells d ReadFault → io.unread × ((io.new ≡ io.old) ⊎ LeavesSession words io)
+      from (Run workers) is so = none so.told
+      from Check is so = none (so.1.told, so.0)
+      from (Generate seeding) is so = absurd so
+      from (Survey seeding) is so = absurd so
+      from Band is so = none so.told
+      from Respond is so = none so.told
+      from (Overlaps o) is so = none so.told
+      from Live is so = (so.told.0, live is so.told.1)
+      from Help is so = absurd so
+      from Version is so = absurd so
 
   pub told_refused : (words : List (List ℕ)) (c : Command) (r : Refusal) → AskFor words c → Tells c status → status ≡ Scenario r
       → IsRefusedFor words r io.left io.ends × (io.new ≡ io.old)
@@ -94,8 +110,9 @@ module _ (status : Status) (io : Io) where
       from (Generate seeding) is so = absurd so
       from (Survey seeding) is so = absurd so
       from Band is so = (inr (inl (is, so.told.0)), so.told.1)
-      from Respond is so = (inr (inr (is, so.told.0)), so.told.1)
+      from Respond is so = (inr (inr (inl (is, so.told.0))), so.told.1)
       from (Overlaps o) is so = absurd so.told
+      from Live is so = (inr (inr (inr (is, so.told.0))), so.told.1)
       from Help is so = absurd so
       from Version is so = absurd so
 
@@ -111,6 +128,7 @@ module _ (status : Status) (io : Io) where
       from Band is so = absurd so.told
       from Respond is so = absurd so.told
       from (Overlaps o) is so = inr (o, is)
+      from Live is so = absurd so.told
       from Help is so = absurd so
       from Version is so = absurd so
 
@@ -126,6 +144,7 @@ module _ (status : Status) (io : Io) where
       from Band is so = absurd so.told
       from Respond is so = absurd so.told
       from (Overlaps o) is so = (o, is)
+      from Live is so = absurd so.told
       from Help is so = absurd so
       from Version is so = absurd so
 
@@ -133,7 +152,7 @@ module _ (status : Status) (io : Io) where
   causes : (words : List (List ℕ)) (c : Command) → AskFor words c → Tells c status → Causes words status io
   causes words c asked tells = record {
     no_memory = λ e. told_no_memory words c asked tells e;
-    read_fault = λ e. told_read_fault c tells e;
+    read_fault = λ e. told_read_fault words c asked tells e;
     refused = λ r e. told_refused words c r asked tells e;
     no_trace = λ fault e. told_no_trace words c fault asked tells e;
     broken_overlap = λ fault e. told_broken words c fault asked tells e;
@@ -154,6 +173,7 @@ module _ (status : Status) (io : Io) where
         overlaps = λ o. told (Overlaps o);
         band = told Band;
         respond = told Respond;
+        live = told Live;
         causes = causes words c ((is c).0 some) tells;
       }
 
@@ -172,6 +192,7 @@ none_answers words found io none is =
       overlaps = λ o asked. absurd (never (Overlaps o) asked);
       band = λ asked. absurd (never Band asked);
       respond = λ asked. absurd (never Respond asked);
+      live = λ asked. absurd (never Live asked);
       causes = record {
         no_memory = λ e. absurd (cc);
         read_fault = λ e. absurd (cc);

@@ -3,7 +3,7 @@ use Rattle.std.specs.Prelude.{◌≡◌, ◌⊎◌, ℕ, List, Option}
 use Rattle.io_edge.specs.Edge.{Appends}
 use Rattle.whole_run.specs.Bytes.{AppendsFront}
 use Rattle.command_words.specs.declared.command.Command.{Command}
-use Rattle.command_words.specs.declared.command.Command.TheVariants.{Run, Check, Generate, Survey, Band, Respond, Overlaps, Help, Version}
+use Rattle.command_words.specs.declared.command.Command.TheVariants.{Run, Check, Generate, Survey, Band, Respond, Overlaps, Live, Help, Version}
 use Rattle.gen_arterial.specs.Written.{generated, generated_text}
 use Rattle.whole_run.specs.Counting.{surveyed_text}
 use Rattle.station.specs.declared.status.Status.{Status}
@@ -11,7 +11,7 @@ use Rattle.scenario_data.specs.declared.refusal.Refusal.{Refusal}
 use Rattle.scenario_read.specs.Answers.{IsFirstFault}
 use Rattle.band_report.specs.Told.{AsksOfBands, TellsBands, IsFirstBandFault}
 use Rattle.field_file.specs.Told.{HasResult, TellsResult, IsFirstResultFault}
-use Rattle.command_words.specs.Words.{IsRun, IsCheck, IsGenerate, IsSurvey, IsBand, IsRespond, IsOverlaps, IsHelp, IsVersion, AskFor}
+use Rattle.command_words.specs.Words.{IsRun, IsCheck, IsGenerate, IsSurvey, IsBand, IsRespond, IsOverlaps, IsLive, IsHelp, IsVersion, AskFor}
 use Rattle.command_words.specs.declared.command.Seeding.{Seeding}
 use Rattle.command_words.specs.declared.command.Overlap.{Overlap}
 use Rattle.overlap_run.specs.declared.faults.OverlapFault.{OverlapFault}
@@ -23,6 +23,7 @@ use Rattle.station.specs.Answers.{WritesText, StopsShort, RunAnswer, IsRefused}
 use Rattle.station.specs.Replied.{ReplyAnswer}
 use Rattle.station.specs.Checked.{CheckAnswer}
 use Rattle.station.specs.Overlapped.{asked_by, OverlapAnswer}
+use Rattle.station.specs.Lived.{IsLineRefused, LivesShort, LiveAnswer}
 
 -- a text that the program makes was written whole; or a write failed, and a front of it was written and not all of it; or there was not
 -- memory enough to make it, and nothing was written
@@ -41,6 +42,7 @@ Answered (Survey from) status io = MakesText status (surveyed_text (generated fr
 Answered Band status io = ReplyAnswer TellsBands AsksOfBands IsFirstBandFault status io
 Answered Respond status io = ReplyAnswer TellsResult HasResult IsFirstResultFault status io
 Answered (Overlaps o) status io = OverlapAnswer (asked_by o) status io
+Answered Live status io = LiveAnswer status io
 Answered Help status io = WritesText status HELP.now io.unwritten io.old io.new
 Answered Version status io = WritesText status VERSION.now io.unwritten io.old io.new
 
@@ -51,24 +53,35 @@ ReadsNothing Check = ⊥
 ReadsNothing Band = ⊥
 ReadsNothing Respond = ⊥
 ReadsNothing (Overlaps o) = ⊥
+ReadsNothing Live = ⊥
 ReadsNothing _ = Unit {0}
 
--- why a refusal comes: the words run a scenario, ask of bands or take a field file, and it is that of such an input
+-- why a refusal comes: the words run a scenario, ask of bands, take a field file or open a session, and it is that of such an input
 abbrev pub IsRefusedFor : List (List ℕ) → Refusal → Option (List ℕ) → Option (List ℕ) → Type 0
 IsRefusedFor words refusal left ends =
     (((workers : ℕ) × IsRun words workers) × IsRefused IsFirstFault refusal left ends)
-    ⊎ ((IsBand words × IsRefused IsFirstBandFault refusal left ends) ⊎ (IsRespond words × IsRefused IsFirstResultFault refusal left ends))
+    ⊎ ((IsBand words × IsRefused IsFirstBandFault refusal left ends)
+    ⊎ ((IsRespond words × IsRefused IsFirstResultFault refusal left ends) ⊎ (IsLive words × IsLineRefused refusal left)))
+
+-- a session that stopped short has left this
+abbrev pub LeavesSession : List (List ℕ) → Io → Type 0
+LeavesSession words io = IsLive words × LivesShort io.left io.old io.new
+
+-- and a run of a scenario this
+abbrev pub LeavesRun : List (List ℕ) → Io → Type 0
+LeavesRun words io = (workers : ℕ) × IsRun words workers × StopsShort workers io.left io.ends io.old io.new
 
 -- the words ask for what reads nothing
 abbrev pub NeedsNoInput : List (List ℕ) → Type 0
 NeedsNoInput words = (command : Command) × AskFor words command × ReadsNothing command
 
--- why an answer comes, whatever the words ask for. Want of memory: nothing was written, or a run stopped short while it wrote. A failed read and
--- each refusal: nothing was written; a refusal names the first fault of the input that `run`, `band` or `respond` read; the path `.` with
--- `Limit` is the input's length alone, and no other fault has it.
+-- why an answer comes, whatever the words ask for. Want of memory: nothing was written, or a run or a session stopped short while it wrote. A
+-- failed read: nothing was written, or a session stopped short. Each refusal: nothing was written; it names the first fault of the input that
+-- `run`, `band` or `respond` read, or of the first line that `live` read; the path `.` with `Limit` is the input's or the line's length alone,
+-- and no other fault has it.
 pub record Causes (words : List (List ℕ)) (status : Status) (io : Io) : Type 0 where
-  pub no_memory : status ≡ NoMemory → (io.new ≡ io.old) ⊎ ((workers : ℕ) × IsRun words workers × StopsShort workers io.left io.ends io.old io.new)
-  pub read_fault : status ≡ ReadFault → io.unread × (io.new ≡ io.old)
+  pub no_memory : status ≡ NoMemory → (io.new ≡ io.old) ⊎ (LeavesRun words io ⊎ LeavesSession words io)
+  pub read_fault : status ≡ ReadFault → io.unread × ((io.new ≡ io.old) ⊎ LeavesSession words io)
   pub refused : (refusal : Refusal) → status ≡ Scenario refusal → IsRefusedFor words refusal io.left io.ends × (io.new ≡ io.old)
   pub no_trace : (fault : TraceFault) → status ≡ NotATrace fault → IsCheck words ⊎ ((o : Overlap) × IsOverlaps words o)
   pub broken_overlap : (fault : OverlapFault) → status ≡ BrokenOverlap fault → (o : Overlap) × IsOverlaps words o
@@ -87,4 +100,5 @@ pub record Answers (words : List (List ℕ)) (status : Status) (io : Io) : Type 
   pub overlaps : (o : Overlap) → IsOverlaps words o → OverlapAnswer (asked_by o) status io
   pub band : IsBand words → ReplyAnswer TellsBands AsksOfBands IsFirstBandFault status io
   pub respond : IsRespond words → ReplyAnswer TellsResult HasResult IsFirstResultFault status io
+  pub live : IsLive words → LiveAnswer status io
   pub causes : Causes words status io

@@ -5,3 +5,5 @@ pub mod Answers
 pub mod Replied
 pub mod Overlapped
 pub mod Commands
+pub mod Lived
+pub mod Living

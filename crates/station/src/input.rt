@@ -12,7 +12,7 @@ use scenario_data::Refusal;
 use std::alloc::Global;
 
 /// The most bytes that a scenario has.
-const SCENARIO_LIMIT: usize = 16_777_216;
+pub(crate) const SCENARIO_LIMIT: usize = 16_777_216;
 
 /// Why there is nothing to work on.
 pub enum Unread {
@@ -22,7 +22,7 @@ pub enum Unread {
 }
 
 /// The refusal of the whole input for its length.
-fn too_long(alloc: Global) -> Unread
+pub(crate) fn too_long(alloc: Global) -> Unread
     ensures refused { (r : Refusal) → result ≡ Unread.Refused r → IsLengthLimit r }
     ensures no_fault { result ≡ Unread.Fault → ⊥ }
 {

@@ -7,6 +7,7 @@ mod bytes;
 mod checking;
 mod help;
 mod input;
+mod living;
 mod overlapping;
 mod responding;
 mod status;

@@ -16,6 +16,7 @@ use crate::asking::band;
 use crate::checking::check_input;
 use crate::help::{HELP, VERSION};
 use crate::input::{Unread, whole_input};
+use crate::living::live;
 use crate::overlapping::overlaps;
 use crate::responding::respond;
 use crate::status::Status;
@@ -101,6 +102,7 @@ fn answer<R: Threads + Sync, S: Source, K: Sink, G: Gate + Sync>(
         Command::Band => band(alloc, source, sink),
         Command::Respond => respond(alloc, source, sink),
         Command::Overlaps(overlap) => overlaps(alloc, overlap, source, sink),
+        Command::Live => live(alloc, source, sink),
         Command::Help => tell(sink, HELP.as_bytes()),
         Command::Version => tell(sink, VERSION.as_bytes()),
     }
@@ -108,7 +110,7 @@ fn answer<R: Threads + Sync, S: Source, K: Sink, G: Gate + Sync>(
 
 /// All that the program does: `run` reads a scenario from the source and writes its trace to the sink; `check` reads a text and tells
 /// whether it is a trace; `overlaps` reads a trace, and writes what an overlap shows over it; `band` reads what is asked of a street, and writes its greatest bands; `respond` reads a field file, and writes
-/// the scenario that its detectors and its traffic make; `generate` writes a scenario, `survey` what a run of one comes to, `--help` and `--version` a text, and they read nothing.
+/// the scenario that its detectors and its traffic make; `live` answers the requests of a session line by line; `generate` writes a scenario, `survey` what a run of one comes to, `--help` and `--version` a text, and they read nothing.
 ///
 /// The words are those after the program's name. `run --workers N`, N 0 to 8, has so many workers bring the items of each round to the
 /// cabinets, each worker in a thread of its own where one can be started; with none, as without a number, they come in the serial order.

@@ -28,12 +28,13 @@ returns-in-Some-overlap_of c =
     its_command _ (Overlaps overlap)
     (subst (λ (ws : List _). AskFor (map string_bytes ws) (Overlaps overlap)) c.as_slice-words.ensures.value ((c.overlap_of.ensures overlap).0 c.in-Some-overlap_of.is))
 
-pub returns-else-is_lone-5 : goal.returns-else-is_lone-5
-returns-else-is_lone-5 c =
+pub returns-else-is_lone-6 : goal.returns-else-is_lone-6
+returns-else-is_lone-6 c =
     let texts = map string_bytes c.as_slice-words.result.now in
     subst (λ (ws : List _). (d : Command) → (None ≡ Some d) ↔ AskFor (map string_bytes ws) d) c.as_slice-words.ensures.value
     (no_command texts (not_found (IsRun texts) _ c.in_default.is c.run_workers.ensures) (not_lone texts _ _ c.is_lone.ensures c.if-is_lone.false)
     (not_found (IsGenerate texts) _ c.in_default-seeding_of.is c.seeding_of.ensures) (not_found (IsSurvey texts) _ c.in_default-seeding_of-2.is c.seeding_of-2.ensures)
     (not_lone texts _ _ c.is_lone-else-is_lone.ensures c.if-is_lone-2.false) (not_lone texts _ _ c.is_lone-else-is_lone-2.ensures c.if-is_lone-3.false)
     (not_found (IsOverlaps texts) _ c.in_default-overlap_of.is c.overlap_of.ensures) (not_lone texts _ _ c.is_lone-else-is_lone-3.ensures c.if-is_lone-4.false)
-    (not_lone texts _ _ c.is_lone-else-is_lone-4.ensures c.if-is_lone-5.false))
+    (not_lone texts _ _ c.is_lone-else-is_lone-4.ensures c.if-is_lone-5.false)
+    (not_lone texts _ _ c.is_lone-else-is_lone-5.ensures c.if-is_lone-6.false))

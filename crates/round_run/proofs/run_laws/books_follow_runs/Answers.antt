@@ -1,4 +1,4 @@
-use Rattle.round_run.proofs.Following.{new-at, next-at, all-at, replied-newest}
+use Rattle.round_run.proofs.Following.{new-at, next-at, all-at, all-ended, replied-newest}
 use Rattle.round_run.proofs.Telling.{book-told}
 use Rattle.round_run.proofs.run_laws.books_follow_runs.Goals as goal
 
@@ -7,6 +7,7 @@ returns c = record {
   new = new-at;
   next = next-at;
   all = all-at;
+  ended = all-ended;
   replied = replied-newest;
   lines = book-told;
   order = λ s cab t journal b run. run.stands.written.counts;

@@ -5,6 +5,7 @@ use Rattle.run_definition.specs.CabinetState.{each_cabinet_state}
 use Rattle.round_run.specs.CabinetStates.{HaveRun, no_journals, TicksWithin}
 use Rattle.round_run.specs.Joined.{HaveMerged, journals_in}
 use Rattle.round_run.specs.ClosedLoop.{Between}
+use Rattle.round_run.proofs.Following.{all-ended}
 use Rattle.whole_run.proofs.rounds.run_round.Goals as goal
 
 pub end_round-requires-clause-begun : goal.end_round-requires-clause-begun
@@ -29,5 +30,6 @@ returns-in-Ok-end_round g c = λ ts so.
       merged = subst (λ (bs : List Book). HaveMerged s ts bs) (sym left) merged;
       serial = λ none. ap (λ (bs : List Book). journals_in bs) left ∙ c.in-Ok-bring_round.ensures.serial none s ts opened;
       between = subst (λ (bs : List Book). Between s (c.args.done + 1) (each_cabinet_state s 1 ts (journals_in bs)) c.end_round.new.self) (sym left)
-          (c.in-Ok-end_round.ensures.between ts (journals_in c.in-Ok-bring_round.books.items) (c.in-Ok.ensures.begun ts so) merged.run ticks);
+          (c.in-Ok-end_round.ensures.between ts (each_cabinet_state s 1 ts (journals_in c.in-Ok-bring_round.books.items)) (c.in-Ok.ensures.begun ts so)
+          (all-ended s ts (journals_in c.in-Ok-bring_round.books.items) c.in-Ok-bring_round.books.items merged.run) ticks);
     }

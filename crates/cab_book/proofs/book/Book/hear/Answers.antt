@@ -6,6 +6,10 @@ use Rattle.cab_book.specs.declared.cabinet.Cabinet.{Cabinet}
 use Rattle.cab_book.specs.Rounds.{frames_left, items_left, RoundStands}
 use Rattle.cab_book.proofs.Bringing.{taken, tallied-more, input-taken, room-less}
 use Rattle.cab_book.proofs.Coming.{NamesPlace-prop, left-of-fields, heard}
+use Rattle.cabinet_history.specs.Journals.{times}
+use Rattle.cab_book.specs.Happened.{journal_in}
+use Rattle.cab_book.proofs.Ignoring.{input-no-frame}
+use Rattle.cab_book.proofs.Adding.{act-next}
 use Rattle.cab_book.proofs.book.Book.hear.Goals as goal
 
 pub hear-requires : goal.hear-requires
@@ -56,7 +60,9 @@ returns c =
           (subst (λ (k : Cabinet). RoundStands k b.streams b.happened cabinet_history) (sym same) so);
       streams = refl;
       journal = c.add_input.ensures.goes.journal;
+      acts = act-next b.streams b.happened c.add_input.new.self 0 c.add_input.ensures.goes.journal;
       own = o.own;
       others = o.others;
       ticks = omega (arith, ap (λ (k : Cabinet). k.ticks) same, c.hear.ensures.ticks, (input-taken b.left (slice_set b.left 0 (get_or b.left 0 0 - 1)) o).ticks_are);
+      ignored = λ cabinet_history octets so frame asks. absurd (input-no-frame b.streams (times 0 (journal_in b.happened)) octets frame);
     }

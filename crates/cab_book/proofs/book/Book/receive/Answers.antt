@@ -1,11 +1,17 @@
-use Rattle.std.proofs.Common.{◌+◌, ◌-◌, get_or, slice_set, length, refl, sym, ap, subst, arith}
+use Rattle.std.proofs.Common.{◌≡◌, ◌+◌, ◌-◌, ◌∙◌, ◌++◌, ◌∷◌, [], ℕ, List, get_or, slice_set, length, refl, sym, ap, subst, append-nil, arith}
 use Rattle.std.proofs.Math.Logic.{∥∥₁_map}
 use Rattle.cab_book.specs.Shares.{ticks_left}
 use Rattle.cab_book.specs.declared.cabinet.Cabinet.{Cabinet}
 use Rattle.cab_book.specs.Stands.{CabinetStands}
 use Rattle.cab_book.specs.Rounds.{frames_left, items_left, cabinet_history_after, RoundStands}
 use Rattle.cab_book.proofs.Bringing.{taken, tallied-more, frame-taken, room-less}
-use Rattle.cab_book.proofs.Coming.{left-of-frames, replied}
+use Rattle.cab_book.proofs.Coming.{frame-next, left-of-frames, replied, reply_of}
+use Rattle.cab_book.proofs.Ignoring.{same-octets}
+use Rattle.sig_types.specs.Items.{Came}
+use Rattle.cabinet_history.specs.Coming.{ask_after}
+use Rattle.cab_book.specs.Happened.{answered_of, behind, written_of}
+use Rattle.cab_book.specs.declared.cabinet.Told.{Told}
+use Rattle.cab_book.proofs.Adding.{act-next}
 use Rattle.cab_book.proofs.book.Book.receive.Goals as goal
 
 pub receive-text-requires : goal.receive-text-requires
@@ -67,6 +73,7 @@ returns c =
           (subst (λ (k : Cabinet). RoundStands k b.streams b.happened cabinet_history) (sym same) so);
       streams = refl;
       journal = c.add_reply.ensures.goes.journal;
+      acts = act-next b.streams b.happened c.add_reply.new.self pass c.add_reply.ensures.goes.journal;
       own = o.own;
       others = o.others;
       ticks = omega (
@@ -75,4 +82,19 @@ returns c =
         c.receive-text.ensures.ticks,
         (frame-taken b.left (slice_set b.left pass (get_or b.left pass 0 - 1)) pass c.requires.above c.requires.within o).ticks_are,
       );
+      ignored = λ cabinet_history octets so frame asks.
+          let now = cabinet_history_after b.streams b.happened cabinet_history in
+          let next = c.next_of-octets.result.now in
+          let came : Came next ≡ Came octets =
+          frame-next b.streams b.left b.happened pass (length frames - get_or b.left pass 0) frames next (omega (arith, c.requires.within)) b.tallied c.frames_of-frames.ensures
+          (left-of-frames b.streams b.left b.happened pass frames (omega (arith, c.requires.within)) b.tallied c.frames_of-frames.ensures) c.requires.some c.next_of-octets.ensures
+          ∙ frame in
+          let quiet = c.receive-text.ensures.nothing now (subst (λ (k : Cabinet). CabinetStands k now) (sym same) so.cabinet)
+          (ap (λ (x : List ℕ). ask_after now x) (same-octets next octets came) ∙ asks) in
+          record {
+            cabinet = quiet.0 ∙ same;
+            written = c.add_reply.ensures.goes.written ∙ append-nil (written_of b.happened);
+            silence = c.add_reply.ensures.goes.replies
+                ∙ ap (λ (told : Told). answered_of b.happened ++ behind (length (written_of b.happened)) (reply_of pass told.text told.load ∷ [])) quiet.1;
+          };
     }

@@ -8,6 +8,7 @@ use Rattle.cab_book.specs.Stands.{CabinetStands}
 use Rattle.cab_book.specs.Rounds.{frames_left, items_left, cabinet_history_after, RoundStands}
 use Rattle.cab_book.proofs.Bringing.{taken, tallied-more, ticks-taken, room-less, few-shared, pass-within}
 use Rattle.cab_book.proofs.Coming.{strode}
+use Rattle.cab_book.proofs.Adding.{ticks-next}
 use Rattle.cab_book.proofs.book.Book.stride.Goals as goal
 
 pub stride-ticks-requires : goal.stride-ticks-requires
@@ -83,6 +84,7 @@ returns c =
       stands = stands;
       streams = refl;
       journal = c.add_ticks.ensures.goes.journal;
+      acts = ticks-next b.streams b.happened c.add_ticks.new.self pass m c.requires.above c.add_ticks.ensures.goes.journal;
       own = o.own;
       others = o.others;
       ticks = omega (arith, ap (λ (k : Cabinet). k.ticks) same, e.ticks, t.ticks_are);

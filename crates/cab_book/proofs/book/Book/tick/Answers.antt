@@ -6,6 +6,10 @@ use Rattle.cab_book.specs.Stands.{CabinetStands}
 use Rattle.cab_book.specs.Rounds.{frames_left, items_left, cabinet_history_after, RoundStands}
 use Rattle.cab_book.proofs.Bringing.{taken, tallied-more, ticks-taken, room-less, few-shared}
 use Rattle.cab_book.proofs.Coming.{strode}
+use Rattle.cabinet_history.specs.Journals.{times}
+use Rattle.cab_book.specs.Happened.{journal_in}
+use Rattle.cab_book.proofs.Ignoring.{tick-no-frame}
+use Rattle.cab_book.proofs.Adding.{act-next}
 use Rattle.cab_book.proofs.book.Book.tick.Goals as goal
 
 pub tick-written-requires-clause-some : goal.tick-written-requires-clause-some
@@ -58,7 +62,9 @@ returns c =
           (subst (λ (k : Cabinet). RoundStands k b.streams b.happened cabinet_history) (sym same) so);
       streams = refl;
       journal = c.add_ticks.ensures.goes.journal;
+      acts = act-next b.streams b.happened c.add_ticks.new.self pass c.add_ticks.ensures.goes.journal;
       own = o.own;
       others = o.others;
       ticks = omega (arith, ap (λ (k : Cabinet). k.ticks) same, c.tick-written.ensures.ticks, (ticks-taken b.left rest pass 1 c.requires.above c.requires.within o).ticks_are);
+      ignored = λ cabinet_history octets so frame asks. absurd (tick-no-frame b.streams pass (times pass (journal_in b.happened)) octets c.requires.above frame);
     }

@@ -14,10 +14,9 @@ end-requires c =
     record { each = omega (arith, as_many, c.in-Ok.ensures.many, many, many-of s ts so.cabinets, so.master_rounds.cabinets) }
 
 pub returns-in-Ok-end-clause-between : goal.returns-in-Ok-end-clause-between
-returns-in-Ok-end-clause-between c = λ ts journals so run within.
+returns-in-Ok-end-clause-between c = λ ts next so ended within.
     let s = scenario_content c.args.s.now in
     let books = c.args.self.now.books.items in
-    between-next s ts journals books run (c.books_follow_runs.ensures.replied s) c.args.done _ so.answered refl so.cabinets
-    (c.books_follow_runs.ensures.all s ts journals books run) within so.told
+    between-next ts next books ended s c.args.done _ so.answered refl so.cabinets within so.told
     (c.in-Ok-end.ensures.stands so.answered (replied books) so.master_rounds
     (subst (λ (all : List Answers). AreAllReplies all (replied books)) (sym c.as_slice.ensures.value) (all-replied c.in-Ok.replies.items books c.in-Ok.ensures)))

@@ -1,0 +1,15 @@
+pub mod Lists
+pub mod Acts
+pub mod Carrying
+pub mod Requesting
+pub mod Loads
+pub mod Turning
+pub mod Bringing
+pub mod Streams
+pub mod Rounds
+pub mod Parts
+pub mod Cabinets
+pub mod Ordering
+pub mod Telling
+pub mod Sound
+pub mod Later

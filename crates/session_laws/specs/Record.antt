@@ -1,0 +1,135 @@
+-- What a session is as a run: the scenario that results, the journals, and the lines of its answers in the order of a trace.
+use Rattle.std.specs.Prelude.{ℕ, zero, suc, ◌+◌, ◌==◌, nat_le, Bool, true, false, if◌then◌else◌, List, [], ◌∷◌, ◌++◌, length}
+use Rattle.std.specs.List.{filter}
+use Rattle.sig_types.specs.Items.{Told, Came}
+use Rattle.sig_types.specs.declared.notes.Way.{Way}
+use Rattle.sig_types.specs.declared.notes.Way.TheVariants.{Poll, Load, Prio}
+use Rattle.trace_text.specs.declared.lines.Line.{Line}
+use Rattle.trace_text.specs.declared.lines.Line.TheVariants.{F, R, M, J, L, A, Z}
+use Rattle.scenario_data.specs.declared.scenario.Input.{Input}
+use Rattle.scenario_data.specs.Content.{ScenarioContent, FrameContent}
+use Rattle.run_definition.specs.CabinetState.{CabinetState}
+use Rattle.session_laws.specs.Session.{Step, Brings, states_after}
+use Rattle.session_laws.specs.Told.{Answer, Lines, Refuses, journal_by}
+
+-- the input that a step brings to the scenario in a round
+abbrev pub input_of : ℕ → Step → List Input
+input_of round (Brings cab pass (Told field)) = record { round = round; cabinet = cab; field = field } ∷ []
+input_of round step = []
+
+-- the stream of a pass that brings frames
+abbrev pub way_of : ℕ → Way
+way_of pass = if pass == 1 then Poll else if pass == 2 then Load else Prio
+
+-- the frame that a step brings to it
+abbrev pub frame_of : ℕ → Step → List FrameContent
+frame_of round (Brings cab pass (Came octets)) = record { round = round; cabinet = cab; stream = way_of pass; hex = octets } ∷ []
+frame_of round step = []
+
+-- what these steps bring, in order
+abbrev pub inputs_by : ℕ → List Step → List Input
+inputs_by round [] = []
+inputs_by round (step ∷ steps) = input_of round step ++ inputs_by round steps
+
+abbrev pub frames_by : ℕ → List Step → List FrameContent
+frames_by round [] = []
+frames_by round (step ∷ steps) = frame_of round step ++ frames_by round steps
+
+-- and what rounds with these steps bring, of which the newest stands first
+abbrev pub inputs_brought : List (List Step) → List Input
+inputs_brought [] = []
+inputs_brought (steps ∷ before) = inputs_brought before ++ inputs_by (length before + 1) steps
+
+abbrev pub frames_brought : List (List Step) → List FrameContent
+frames_brought [] = []
+frames_brought (steps ∷ before) = frames_brought before ++ frames_by (length before + 1) steps
+
+-- the items of a list that are of the first rounds
+abbrev pub of_rounds : {A : Type 0} → (A → ℕ) → ℕ → List A → List A
+of_rounds round_of rounds xs = filter (λ x. nat_le (round_of x) rounds) xs
+
+-- the scenario that results from a session with these rounds: the base cut to them, and behind its inputs and frames what the session
+-- brought. Its compact text is this.
+abbrev pub resulting : ScenarioContent → List (List Step) → List ℕ → ScenarioContent
+resulting s rounds compact = record {
+  version = s.version;
+  rounds = length rounds;
+  ticks = s.ticks;
+  community = s.community;
+  cabinets = s.cabinets;
+  master = s.master;
+  inputs = of_rounds (λ i. i.round) (length rounds) s.inputs ++ inputs_brought rounds;
+  loads = of_rounds (λ l. l.round) (length rounds) s.loads;
+  priority = of_rounds (λ p. p.round) (length rounds) s.priority;
+  frames = of_rounds (λ f. f.round) (length rounds) s.frames ++ frames_brought rounds;
+  faults = of_rounds (λ f. f.round) (length rounds) s.faults;
+  compact = compact;
+}
+
+-- the journals of a round with these steps
+abbrev pub round_journals : ScenarioContent → ℕ → List CabinetState → List Step → List (List ℕ)
+round_journals s first [] steps = []
+round_journals s first (t ∷ ts) steps = journal_by s first t steps ∷ round_journals s (first + 1) ts steps
+
+-- the journals of a session with these rounds; as those of a run they have the oldest round first
+abbrev pub session_journals : ScenarioContent → List (List Step) → List (List (List ℕ))
+session_journals s [] = []
+session_journals s (steps ∷ before) = session_journals s before ++ round_journals s 1 (states_after s before) steps ∷ []
+
+-- the lines of some answers; a refusal has none
+abbrev pub lines_in : List Answer → List Line
+lines_in [] = []
+lines_in (Lines lines ∷ answers) = lines ++ lines_in answers
+lines_in (Refuses untaken ∷ answers) = lines_in answers
+
+-- a line with which a part of a trace begins: a round, or the end
+abbrev pub begins_part : Line → Bool
+begins_part (R round) = true
+begins_part (Z rounds) = true
+begins_part _ = false
+
+-- a line before the first part of some
+abbrev pub before_parts : Line → List (List Line) → List (List Line)
+before_parts line [] = (line ∷ []) ∷ []
+before_parts line (part ∷ parts) = (line ∷ part) ∷ parts
+
+-- the parts of some lines: what stands before the first round, each round, and the end
+abbrev pub parts_of : List Line → List (List Line)
+parts_of [] = [] ∷ []
+parts_of (line ∷ lines) = if begins_part line then [] ∷ before_parts line (parts_of lines) else before_parts line (parts_of lines)
+
+-- a line of no one cabinet: a round, a note of the master, the end
+abbrev pub is_of_street : Line → Bool
+is_of_street (R round) = true
+is_of_street (M note) = true
+is_of_street (Z rounds) = true
+is_of_street _ = false
+
+-- the journal of a cabinet, and what else is told of it
+abbrev pub is_journal_of : ℕ → Line → Bool
+is_journal_of cab (J of runs) = of == cab
+is_journal_of cab _ = false
+
+abbrev pub is_told_of : ℕ → Line → Bool
+is_told_of cab (F of tick veh ped mode counter target version) = of == cab
+is_told_of cab (L of id result) = of == cab
+is_told_of cab (A of pass hex) = of == cab
+is_told_of cab _ = false
+
+-- of a part the lines of so many cabinets, counted from a first number: the journal of each before what else is told of it
+abbrev pub cabinets_in_order : ℕ → ℕ → List Line → List Line
+cabinets_in_order first zero part = []
+cabinets_in_order first (suc many) part =
+    filter (is_journal_of first) part ++ (filter (is_told_of first) part ++ cabinets_in_order (first + 1) many part)
+
+-- a part in the order of a trace of so many cabinets
+abbrev pub part_in_order : ℕ → List Line → List Line
+part_in_order cabinets part = filter is_of_street part ++ cabinets_in_order 1 cabinets part
+
+abbrev pub parts_in_order : ℕ → List (List Line) → List Line
+parts_in_order cabinets [] = []
+parts_in_order cabinets (part ∷ parts) = part_in_order cabinets part ++ parts_in_order cabinets parts
+
+-- these lines in the order of a trace
+abbrev pub in_trace_order : ℕ → List Line → List Line
+in_trace_order cabinets lines = parts_in_order cabinets (parts_of lines)

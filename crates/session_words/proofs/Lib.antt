@@ -1,0 +1,4 @@
+pub mod Cuts
+mod Numbers
+mod Octets
+mod Held

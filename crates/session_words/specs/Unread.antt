@@ -1,0 +1,64 @@
+-- What a reader of lines has not given yet, and what its calls take from that.
+use Rattle.std.specs.Prelude.{◌≡◌, ◌<◌, ◌≤◌, ℕ, List, ◌++◌, take, drop, length, Option, Some, None, IfSome}
+use Rattle.session_words.specs.declared.line_reader.LineReader.{LineReader}
+use Rattle.session_words.specs.declared.line_reader.Next.{Next}
+use Rattle.session_words.specs.declared.line_reader.Next.TheVariants.{Line, Long, End}
+use Rattle.session_words.specs.Lines.{behind_first, Lacks, IsCut}
+
+-- the bytes that a reader holds and that no line was made of
+abbrev pub held_of : LineReader → List ℕ
+held_of reader = drop reader.at reader.held.items
+
+-- the line that it gave last
+abbrev pub given_line : LineReader → List ℕ
+given_line reader = take reader.count (drop reader.start reader.held.items)
+
+-- these bytes, and then what is left, where it is told
+abbrev pub ahead_of : List ℕ → Option (List ℕ) → Option (List ℕ)
+ahead_of held None = None
+ahead_of held (Some left) = Some (held ++ left)
+
+-- all that no line was made of: what the reader holds, and then what its source has left
+abbrev pub unread : LineReader → Option (List ℕ) → Option (List ℕ)
+unread reader left = ahead_of (held_of reader) left
+
+-- what is behind the first line, where it is told
+abbrev pub behind_told : Option (List ℕ) → Option (List ℕ)
+behind_told None = None
+behind_told (Some bytes) = Some (behind_first bytes)
+
+-- the bytes begin with a front, and a rest is behind it
+abbrev pub Leaves : Option (List ℕ) → Option (List ℕ) → List ℕ → Type 0
+Leaves None new front = new ≡ None
+Leaves (Some bytes) new front = (rest : List ℕ) × (new ≡ Some rest) × (bytes ≡ front ++ rest)
+
+-- the bytes begin with a line and its newline, and a rest is behind them
+abbrev pub GivesLine : Option (List ℕ) → Option (List ℕ) → List ℕ → Type 0
+GivesLine None new line = new ≡ None
+GivesLine (Some bytes) new line = (rest : List ℕ) × (new ≡ Some rest) × IsCut 10 bytes line rest
+
+-- they begin with a line of more than 4,096 bytes and its newline
+abbrev pub PassesLong : Option (List ℕ) → Option (List ℕ) → Type 0
+PassesLong None new = new ≡ None
+PassesLong (Some bytes) new = (line rest : List ℕ) × (new ≡ Some rest) × IsCut 10 bytes line rest × (4096 < length line)
+
+-- they begin with more than 4,096 bytes without a newline, and a rest is behind them
+abbrev pub PassesOver : Option (List ℕ) → Option (List ℕ) → Type 0
+PassesOver None new = new ≡ None
+PassesOver (Some bytes) new = (front rest : List ℕ) × (new ≡ Some rest) × (bytes ≡ front ++ rest) × Lacks 10 front × (4096 < length front)
+
+-- no newline is left
+abbrev pub HasNoLine : Option (List ℕ) → Type 0
+HasNoLine told = IfSome told (λ bytes. Lacks 10 bytes)
+
+-- what a call gives of the bytes, where this is the line that it gave
+abbrev pub Gives : Next → Option (List ℕ) → Option (List ℕ) → List ℕ → Type 0
+Gives Line old new line = GivesLine old new line × (length line ≤ 4096)
+Gives Long old new line = PassesLong old new
+Gives End old new line = HasNoLine old
+
+-- a line that stands whole in what a reader holds
+abbrev pub GivesHeld : Next → List ℕ → List ℕ → List ℕ → Type 0
+GivesHeld Line old new line = IsCut 10 old line new × (length line ≤ 4096)
+GivesHeld Long old new line = (long : List ℕ) × IsCut 10 old long new × (4096 < length long)
+GivesHeld End old new line = Unit {0}
