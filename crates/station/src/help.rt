@@ -28,6 +28,13 @@ and its trace is proved to be the one that is due.
       64), two hexadecimal digits each. The times are in ticks (0 to 255): how
       long green trails, yellow change, red clearance. An overlap that could
       still be clearing when all its parents are red is refused.
+  arterial live < SESSION
+      Reads a scenario in the first line of standard input, and in each line
+      behind it a request: ticks, a detector, a push button, a preempt, a message.
+      Each is answered, before more is read, by the lines of the trace that it
+      brings and a line with a dot. A request that can't be taken is answered by
+      one line that says which word is wrong, and changes nothing. docs/LIVE.md
+      says more.
   arterial band < STREET
       Reads a JSON object (at most 16,777,216 bytes) from standard input: a
       scenario, one of its sections, a pattern, and the travel time in ticks
@@ -60,7 +67,8 @@ and its trace is proved to be the one that is due.
 Exit status: 0 done, 1 the words are no command, 2 the scenario is refused,
 3 standard input could not be read, 4 standard output could not be written,
 5 the text is no trace, 6 out of memory, 7 the overlap breaks a rule. After 4,
-and 6 of a run, what was written is a front of the whole, and not all of it.
+after 6 of a run, and after 3 and 6 of a session, what was written is a front of
+the whole, and not all of it.
 
 docs/SCENARIO.md says how a scenario is written, which rules its tables must
 keep, what is asked of bands, what a field file says, and what each refusal

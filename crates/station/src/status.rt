@@ -17,7 +17,7 @@ pub enum Status {
     NotATrace(TraceFault),
     /// The overlap breaks a rule at the cabinet of the trace: the first that it breaks, and nothing was written.
     Overlap(OverlapFault),
-    /// A read failed, and nothing was written.
+    /// A read failed, and nothing was written; of a session, a front of its answers.
     ReadFault,
     /// A write failed: a front of the text was written, and not all of it.
     WriteFault,
