@@ -28,7 +28,7 @@ NOT_RUN = {
     r".*session\.json": "what a live cabinet has recorded; tools/tests/cabinet makes one",
     r"snmpwalk .* HOST ": "it asks a controller in the street",
     r"\./arterial plan from live ": "it asks a live cabinet; tools/tests/plan/test_controllers.py does so",
-    r"vectors/(?!judge )": "./test runs it, and vectors/README.md tells how long it takes",
+    r"vectors/(?!judge trace)": "./test runs it, or it is a form with the reader's words",
     r".*rt run\)": "it proves a crate",
     r"gcc ": "it builds a fuzzer, which needs packages that nothing else needs",
     r".*(--slurm|--scheduler|sinfo|embedded\.csv)": "it needs a cluster; tools/tests/sweep/test_clusters.py starts one",
