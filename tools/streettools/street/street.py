@@ -36,7 +36,7 @@ class Hearer:
     def ended(self, died: Died | None) -> None:
         """The session is over, or its program died."""
 
-    def inputs(self, ticks: int) -> list[bytes]:
+    def due_inputs(self, ticks: int) -> list[bytes]:
         """Returns the inputs that are due when so many ticks were taken, as requests."""
         return []
 
@@ -123,7 +123,7 @@ class Street:
         stride = min((hearer.stride for hearer in self.hearers), default=Hearer.stride)
         while count and not self.session.is_over and not self.ended.is_set():
             for hearer in self.hearers:
-                for request in hearer.inputs(self.session.taken):
+                for request in hearer.due_inputs(self.session.taken):
                     await self.input(request)
             now = min(count, stride)
             await self.session.take(now)

@@ -13,8 +13,8 @@ STEP = "step"
 ABOUT = (
     "Runs the cabinets of a scenario as live cabinets: each answers SNMP version 1 at its own UDP port, until Ctrl-C."
 )
-AFTER = """A tick is 0.1 s. The ports are those of loopback: the protocol has no protection, so another address is opened
-only where --bind names it. docs/STREET.md says more."""
+AFTER = """A tick is 0.1 s. The ports are those of loopback: the protocol has no protection, so another address is
+opened only where --bind names it. docs/STREET.md says more."""
 
 
 def speed(text: str) -> float | str:

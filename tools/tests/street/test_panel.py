@@ -75,8 +75,11 @@ def test_a_held_detector_brings_a_green(panel, browser):
     _, address = panel("--speed", 20)
     browser.get(f"{address}#1")
     awaited(browser, "box-2", "green")
+    browser.find_element("id", "pause").click()
+    awaited(browser, "pause", "Go on")
     browser.find_element("id", "hold-4").click()
     awaited(browser, "calls-4", "vehicle")
+    browser.find_element("id", "pause").click()
     awaited(browser, "box-4", "green")
     assert browser.find_element("id", "hold-4").get_attribute("aria-pressed") == "true"
     browser.find_element("id", "hold-4").click()
@@ -97,7 +100,7 @@ def test_a_held_preempt_is_shown_in_the_rings(panel, browser):
 
 
 def test_a_push_button_brings_a_walk_and_vehicles_come_by_chance(panel, browser):
-    _, address = panel("--speed", 20)
+    _, address = panel("--speed", 5)
     browser.get(f"{address}#1")
     awaited(browser, "box-2", "green")
     browser.find_element("id", "push-8").click()

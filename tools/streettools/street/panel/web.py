@@ -174,7 +174,7 @@ class Panel(Hearer):
         else:
             page.cabinet = order.cabinet
 
-    def inputs(self, ticks: int) -> list[bytes]:
+    def due_inputs(self, ticks: int) -> list[bytes]:
         due = [it for it in self.pulses if it[0] <= ticks]
         self.pulses = [it for it in self.pulses if it[0] > ticks]
         return self.streams.due(ticks) + [request for _, request in due]
