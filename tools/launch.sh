@@ -26,7 +26,7 @@ set_python() {
 # Whether the words are right without a doubt, so that nothing has to be added to the program's answer.
 are_right() {
     case "$*" in
-    run | band | respond | --version | "run --workers "[0-8]) true ;;
+    run | live | band | respond | --version | "run --workers "[0-8]) true ;;
     *) false ;;
     esac
 }

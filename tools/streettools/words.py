@@ -38,7 +38,7 @@ PROVE = Word("prove", "proves the program here, and builds it")
 
 LAUNCH = Word("launch", "what the launcher's shell hands over to Python; no word for users")
 
-PROGRAM = ("run", "check", "overlaps", "band", "respond", "generate", "survey")
+PROGRAM = ("run", "check", "overlaps", "live", "band", "respond", "generate", "survey")
 """Commands of the program itself."""
 
 
