@@ -75,7 +75,11 @@ def check(data: bytes) -> Run:
     """Returns the run that a text is the trace of; else its first fault is raised."""
     if len(data) > MOST_TEXT:
         raise Fault(0, 1)
-    text = Text(data)
+    return gone_through(Text(data))
+
+
+def gone_through(text: Text) -> Run:
+    """Returns the run of a text that is not too long; else its first fault is raised."""
     run = opened(text)
     due, given = run.lines(), None
     next(due)
@@ -87,6 +91,6 @@ def check(data: bytes) -> Run:
         given = text.journal(told) if isinstance(told, JournalDue) else None
         if given is None:
             text.expect(told)
-    if text.at < len(data):
+    if text.at < len(text.data):
         raise Fault(text.line + 1, 11)
     return run

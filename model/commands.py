@@ -1,18 +1,22 @@
 """What each command of the program's words reads and writes, and its exit status.
 
-docs/arterial.1; docs/SCENARIO.md, "What is refused, and how"; docs/TRACE.md, "Checking a trace".
+`live` answers each line before it reads on; every other command reads all of its input first. docs/arterial.1;
+docs/SCENARIO.md, "What is refused, and how"; docs/TRACE.md, "Checking a trace".
 """
 
+import os
 import sys
 from collections.abc import Iterator
 from dataclasses import dataclass
 from enum import IntEnum
+from io import BytesIO
 
 from model import words_given as given
 from model.band import bands
 from model.check import Fault, check
 from model.field_file import respond
 from model.generator import generated
+from model.live import live
 from model.overlaps import OverlapFault, overlap_lines
 from model.run import trace_lines
 from model.scenario_read import read_scenario
@@ -32,6 +36,11 @@ class Status(IntEnum):
     OVERLAP = 7
 
 
+class ReadFault(Exception):
+    """A read of standard input failed."""
+
+
+PIECE = 65_536
 USAGE = "usage: arterial run [--workers N] | check | generate | survey"
 
 
@@ -79,6 +88,8 @@ def answer(words: list[str], data: bytes) -> Answer:
     if command is None:
         return refused(Status.USAGE, USAGE)
     try:
+        if isinstance(command, given.Live):
+            return Answer(Status.DONE, b"".join(live(BytesIO(data).read)))
         return Answer(Status.DONE, b"".join(line + b"\n" for line in lines_of(command, data)))
     except Refused as fault:
         return refused(Status.SCENARIO, f"scenario: {fault}")
@@ -96,13 +107,45 @@ def read_all(words: list[str]) -> bytes | None:
         return None
 
 
-def main(words: list[str]) -> int:
-    """Does what the words say; returns the exit status."""
+def read_piece() -> bytes:
+    """Returns what standard input has, as soon as it has something; nothing at its end."""
+    try:
+        return os.read(0, PIECE)
+    except OSError as fault:
+        raise ReadFault from fault
+
+
+def write(output: bytes) -> None:
+    """Writes to standard output, and keeps nothing back; a call may move less than all."""
+    left = memoryview(output)
+    while left:
+        left = left[os.write(1, left) :]
+
+
+def hold_session() -> Answer:
+    """Answers each line of standard input before it reads on; returns how that ended."""
+    try:
+        for output in live(read_piece):
+            write(output)
+    except Refused as fault:
+        return refused(Status.SCENARIO, f"scenario: {fault}")
+    except ReadFault:
+        return refused(Status.READ_FAULT, "read fault")
+    return Answer(Status.DONE)
+
+
+def answer_at_once(words: list[str]) -> Answer:
+    """Answers all of standard input at once; returns how that ended."""
     data = read_all(words)
     told = refused(Status.READ_FAULT, "read fault") if data is None else answer(words, data)
+    write(told.output)
+    return told
+
+
+def main(words: list[str]) -> int:
+    """Does what the words say; returns the exit status."""
     try:
-        sys.stdout.buffer.write(told.output)
-        sys.stdout.buffer.flush()
+        told = hold_session() if given.command_of(words) == given.Live() else answer_at_once(words)
     except OSError:
         told = refused(Status.WRITE_FAULT, "write fault")
     sys.stderr.buffer.write(told.said)

@@ -2,14 +2,19 @@
 
 import json
 import subprocess
+import sys
 from collections.abc import Callable, Iterator
 from dataclasses import dataclass
 from pathlib import Path
 from typing import Any
 
-from model.commands import Answer, answer
-from model.drawn.cases import Case
-from model.promises.judging import broken_promises
+sys.path.append(str(Path(__file__).resolve().parents[1] / "tools"))
+
+from streettools.shared.session_record import trace_of_session  # noqa: E402
+
+from model.commands import Answer, answer  # noqa: E402
+from model.drawn.cases import Case  # noqa: E402
+from model.promises.judging import broken_promises  # noqa: E402
 
 SECONDS = 120
 """How long the program may take for a case."""
@@ -51,10 +56,19 @@ def compared(program: Path, case: Case) -> Difference | None:
         )
     if output != due.output:
         return Difference(first_other_line(output, due.output))
-    if case.words[:1] == ["run"] and due.status == 0:
-        broken = broken_promises(output)
-        return Difference(f"both break a promise: {broken[0]}") if broken else None
-    return None
+    return None if due.status else broken_by_trace(case, output)
+
+
+def broken_by_trace(case: Case, output: bytes) -> Difference | None:
+    """Returns what is wrong with the trace that a run wrote, or that a session comes to, None where nothing is."""
+    if case.words == ["live"]:
+        output = trace_of_session(case.data, output)
+        if told := answer(["check"], output).said:
+            return Difference(f"both answer a session whose trace is none: {told[:120]!r}")
+    elif case.words[:1] != ["run"]:
+        return None
+    broken = broken_promises(output)
+    return Difference(f"both break a promise: {broken[0]}") if broken else None
 
 
 def smaller_lists(value: list[Any]) -> Iterator[list[Any]]:

@@ -12,7 +12,7 @@ from model.cabinet import FIELDS, TICKS, Cabinet
 from model.controller import Controller
 from model.link import Link
 from model.lines import frame_line, journal_line
-from model.master import Master
+from model.master import Master, Sent
 from model.scenario import Input, Scenario, Stream
 
 Runs = list[tuple[int, int]]
@@ -83,31 +83,43 @@ class Run:
         for item in scenario.inputs:
             self.inputs[item.cabinet, item.round].append(item.what)
 
-    def cabinet_round(self, number: int, cabinet: Cabinet, frames: dict[Stream, list[bytes]]) -> Due:
-        """Gives the lines of a round at a cabinet, and lets its replies go up."""
+    def master_turns(self, number: int) -> tuple[list[bytes], list[Sent]]:
+        """Returns the master's notes of a round, and what it sends to each cabinet."""
+        turns = [
+            master.turn(number, arrived[Stream.POLL], arrived[Stream.LOAD])
+            for master, arrived in zip(self.masters, self.arrived)
+        ]
+        return [note for notes, _ in turns for note in notes], [sent for _, sent in turns]
+
+    def opened_round(self, number: int, cabinet: Cabinet, sent: Sent) -> Round:
+        """Returns the round of a cabinet with what master, line and scenario bring to it."""
         cabinet.replies = []
         inputs = self.inputs.get((cabinet.number, number), [])
-        yield from Round(cabinet, inputs, frames, self.scenario.ticks).lines()
+        return Round(cabinet, inputs, self.link.down(number, cabinet.number, sent), self.scenario.ticks)
+
+    def close_round(self, number: int, cabinet: Cabinet) -> None:
+        """Lets a cabinet's replies of a round go up."""
         replies = {stream: [it.octets for it in cabinet.replies if it.stream == stream.value] for stream in Stream}
         self.arrived[cabinet.number - 1] = self.link.up(number, cabinet.number, replies)
 
     def round(self, number: int) -> Due:
         """Gives the lines of a round: the master's notes, then cabinet by cabinet what comes to it."""
         yield b"R %d" % number
-        turns = [
-            master.turn(number, arrived[Stream.POLL], arrived[Stream.LOAD])
-            for master, arrived in zip(self.masters, self.arrived)
-        ]
-        for notes, _ in turns:
-            yield from notes
-        for cabinet, (_, sent) in zip(self.cabinets, turns):
-            yield from self.cabinet_round(number, cabinet, self.link.down(number, cabinet.number, sent))
+        notes, sent = self.master_turns(number)
+        yield from notes
+        for cabinet, frames in zip(self.cabinets, sent):
+            yield from self.opened_round(number, cabinet, frames).lines()
+            self.close_round(number, cabinet)
+
+    def openings(self) -> Iterator[bytes]:
+        """Yields the line of tick 0 of each cabinet."""
+        for cabinet in self.cabinets:
+            yield frame_line(cabinet.number, 0, cabinet.controller.past.last.frame)
 
     def lines(self) -> Due:
         """Gives the lines of the trace."""
         yield b"S " + self.scenario.compact
-        for cabinet in self.cabinets:
-            yield frame_line(cabinet.number, 0, cabinet.controller.past.last.frame)
+        yield from self.openings()
         for number in range(1, self.scenario.rounds + 1):
             yield from self.round(number)
         yield b"Z %d" % self.scenario.rounds

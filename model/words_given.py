@@ -20,6 +20,11 @@ class Check:
 
 
 @dataclass(frozen=True)
+class Live:
+    """Hold a session, request by request."""
+
+
+@dataclass(frozen=True)
 class Respond:
     """Make a scenario of a field file."""
 
@@ -57,8 +62,8 @@ class Overlaps:
     red: int
 
 
-Command = Run | Check | Respond | Band | Generate | Survey | Overlaps
-ALONE: dict[str, Command] = {"run": Run(), "check": Check(), "respond": Respond(), "band": Band()}
+Command = Run | Check | Live | Respond | Band | Generate | Survey | Overlaps
+ALONE: dict[str, Command] = {"run": Run(), "check": Check(), "live": Live(), "respond": Respond(), "band": Band()}
 
 
 def number(word: str, low: int, high: int) -> int | None:

@@ -26,7 +26,7 @@ set_python() {
 # Whether the words are right without a doubt, so that nothing has to be added to the program's answer.
 are_right() {
     case "$*" in
-    run | check | band | respond | --version | "run --workers "[0-8]) true ;;
+    run | live | band | respond | --version | "run --workers "[0-8]) true ;;
     *) false ;;
     esac
 }
@@ -37,7 +37,7 @@ has_mark() {
 }
 
 # Runs the program, and adds to its answer what it does not say: which command was meant, that a byte order mark is in
-# the way. Where the reader of its output has gone, nothing is said.
+# the way, which line is due where a text is no trace. Where the reader of its output has gone, nothing is said.
 run_and_tell() {
     # (a link is that of a smaller system, whose setpriv lacks this)
     guard=$(command -v setpriv) && [ ! -L "$guard" ] && guard="$guard --pdeathsig TERM" || guard=
@@ -53,6 +53,8 @@ run_and_tell() {
             say "the text begins with a byte order mark (EF BB BF), which does not belong to it: save it as UTF-8 without one"
         elif [ "$status" = 2 ] && [ -p /dev/stdin ]; then
             say "one cause can be a byte order mark (EF BB BF) at its beginning, which does not belong to JSON"
+        elif [ "$status" = 5 ] && [ "$1" = check ]; then
+            tell_due "$said"
         fi
         ;;
     esac
@@ -63,6 +65,15 @@ run_and_tell() {
 tell_meant() {
     set_python
     "$found" -B "$tools/streettools" launch meant "$@" >&2
+}
+
+# Says, behind the program's line about a text that is no trace, which line was read there and which is due.
+tell_due() {
+    if [ -f /dev/stdin ]; then
+        (set_python && "$found" -B "$tools/streettools" launch due "$program" "$1")
+    else
+        say "with the name of a file, arterial check FILE also shows the line read and the line due"
+    fi
 }
 
 # Prints the program's help, or the part of it that is about one command; then, for all, what stands beside the program.

@@ -16,6 +16,7 @@ from model.drawn import reports  # noqa: E402
 from model.drawn.hostile import hostile, text_of  # noqa: E402
 from model.drawn.orders import trace_in_order, with_damage  # noqa: E402
 from model.drawn.scenarios import scenario  # noqa: E402
+from model.drawn.sessions import session  # noqa: E402
 from model.scenario_read import read_scenario  # noqa: E402
 from model.shapes import Refused  # noqa: E402
 
@@ -35,6 +36,7 @@ class CaseKind(Enum):
     HOSTILE = "hostile"
     DAMAGED = "damaged"
     CHECK = "check"
+    LIVE = "live"
     OVERLAPS = "overlaps"
     RESPOND = "respond"
     BAND = "band"
@@ -99,6 +101,12 @@ def check_case(draw: Random) -> Case:
     return Case(["check"], trace)
 
 
+def live_case(draw: Random) -> Case:
+    """Draws a session, at times with damage behind its first line."""
+    first, rest = session(draw).split(b"\n", 1)
+    return Case(["live"], first + b"\n" + (damaged(draw, rest) if rest and draw.random() < 0.1 else rest))
+
+
 def overlap_case(draw: Random) -> Case:
     """Draws an overlap over a trace."""
     trace = drawn_trace(draw)
@@ -134,6 +142,7 @@ DRAWS: dict[CaseKind, Callable[[Random], Case]] = {
     CaseKind.HOSTILE: hostile_case,
     CaseKind.DAMAGED: damaged_case,
     CaseKind.CHECK: check_case,
+    CaseKind.LIVE: live_case,
     CaseKind.OVERLAPS: overlap_case,
     CaseKind.RESPOND: respond_case,
     CaseKind.BAND: band_case,
@@ -144,6 +153,7 @@ OFTEN = {
     CaseKind.HOSTILE: 16,
     CaseKind.DAMAGED: 6,
     CaseKind.CHECK: 14,
+    CaseKind.LIVE: 12,
     CaseKind.OVERLAPS: 4,
     CaseKind.RESPOND: 5,
     CaseKind.BAND: 5,

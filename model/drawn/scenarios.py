@@ -131,6 +131,11 @@ def length(draw: Random) -> tuple[int, int]:
 
 def scenario(draw: Random, most_ticks: int = 1 << 20) -> dict[str, Any]:
     """Draws a scenario."""
+    return with_street(draw, most_ticks)[0]
+
+
+def with_street(draw: Random, most_ticks: int) -> tuple[dict[str, Any], Street]:
+    """Draws a scenario, and returns it with what its items are drawn for."""
     version = draw.choice([1, 2])
     rounds, ticks = length(draw)
     rounds = max(1, min(rounds, most_ticks // ticks))
@@ -155,4 +160,4 @@ def scenario(draw: Random, most_ticks: int = 1 << 20) -> dict[str, Any]:
         "frames": street.some(street.frame, draw.choice([4, 16, 40])),
         "faults": street.some(street.fault, 12),
     }
-    return told | {name: items for name, items in lists.items() if items}
+    return told | {name: items for name, items in lists.items() if items}, street

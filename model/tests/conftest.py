@@ -4,5 +4,5 @@ import sys
 from pathlib import Path
 
 TOP = Path(__file__).resolve().parents[2]
-sys.path[:0] = [str(TOP), str(TOP / "vectors")]
+sys.path[:0] = [str(TOP), str(TOP / "vectors"), str(TOP / "tools")]
 sys.dont_write_bytecode = True

@@ -33,6 +33,12 @@ def main(given: list[str] | None = None) -> int:
         return words.run(given)
     except KeyboardInterrupt:
         return Status.INTERRUPTED
+    except ModuleNotFoundError as fault:
+        print(
+            f"{given[0]}: Python's package {fault.name} is missing: README.md has the line that installs all of them",
+            file=sys.stderr,
+        )
+        return Status.FILE
 
 
 if __name__ == "__main__":

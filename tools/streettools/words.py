@@ -27,6 +27,7 @@ class Word:
 TOOLS = (
     Word("look", "pictures, a timing report and an event log of a trace"),
     Word("cabinet", "a live cabinet that answers SNMP version 1 on loopback"),
+    Word("street", "the cabinets of a scenario as live cabinets, each at its own port"),
     Word("plan", "a timing sheet as a scenario, and its refusals in words"),
     Word("sweep", "many plans over many scenarios, on one machine or several"),
 )
@@ -37,7 +38,7 @@ PROVE = Word("prove", "proves the program here, and builds it")
 
 LAUNCH = Word("launch", "what the launcher's shell hands over to Python; no word for users")
 
-PROGRAM = ("run", "check", "overlaps", "band", "respond", "generate", "survey")
+PROGRAM = ("run", "check", "overlaps", "live", "band", "respond", "generate", "survey")
 """Commands of the program itself."""
 
 

@@ -14,14 +14,14 @@ const USAGE: &str = "usage: arterial run [--workers N] | check | generate | surv
 
 /// Prints a text.
 fn print<K: Sink>(sink: &mut K, text: &str) -> Result<(), Failed>
-    ensures { Prints K.written result sink.old sink.new text.now }
+    ensures { Prints K.written K.faults result sink.old sink.new text.now }
 {
     put_all(sink, text.as_bytes())
 }
 
 /// Prints some words and a number.
 fn print_number<K: Sink>(sink: &mut K, words: &str, n: u32) -> Result<(), Failed>
-    ensures { Prints K.written result sink.old sink.new (words.now ++ decimal n) }
+    ensures { Prints K.written K.faults result sink.old sink.new (words.now ++ decimal n) }
 {
     match print(sink, words) {
         Ok(()) => {}
@@ -33,7 +33,7 @@ fn print_number<K: Sink>(sink: &mut K, words: &str, n: u32) -> Result<(), Failed
 
 /// Prints a line of some words and what is named.
 fn print_named<K: Sink>(sink: &mut K, words: &str, name: &str) -> Result<(), Failed>
-    ensures { Prints K.written result sink.old sink.new (named_line words.now name.now) }
+    ensures { Prints K.written K.faults result sink.old sink.new (named_line words.now name.now) }
 {
     match print(sink, words) {
         Ok(()) => {}
@@ -54,7 +54,7 @@ fn print_two<K: Sink>(
     between: &str,
     second: u32,
 ) -> Result<(), Failed>
-    ensures { Prints K.written result sink.old sink.new (number_then words.now first (number_then between.now second (10 ∷ []))) }
+    ensures { Prints K.written K.faults result sink.old sink.new (number_then words.now first (number_then between.now second (10 ∷ []))) }
 {
     match print_number(sink, words, first) {
         Ok(()) => {}
@@ -69,7 +69,7 @@ fn print_two<K: Sink>(
 
 /// Prints which rule the opening tables of a cabinet break.
 fn print_broken<K: Sink>(sink: &mut K, cab: u32, rule: u8, row: u16) -> Result<(), Failed>
-    ensures { Prints K.written result sink.old sink.new (refusal_line (Refusal.Broken cab rule row)) }
+    ensures { Prints K.written K.faults result sink.old sink.new (refusal_line (Refusal.Broken cab rule row)) }
 {
     match print_number(sink, "scenario: cabinet ", cab) {
         Ok(()) => {}
@@ -86,7 +86,7 @@ fn print_broken<K: Sink>(sink: &mut K, cab: u32, rule: u8, row: u16) -> Result<(
 
 /// Prints why an input is refused.
 fn print_refusal<K: Sink>(sink: &mut K, refusal: &Refusal) -> Result<(), Failed>
-    ensures { Prints K.written result sink.old sink.new (refusal_line refusal.now) }
+    ensures { Prints K.written K.faults result sink.old sink.new (refusal_line refusal.now) }
 {
     match refusal {
         Refusal::Syntax => print(sink, "scenario: not JSON\n"),
@@ -98,7 +98,7 @@ fn print_refusal<K: Sink>(sink: &mut K, refusal: &Refusal) -> Result<(), Failed>
 
 /// Prints the line of an answer; nothing where all is done. It takes no memory. Where a write fails, a front of the line is printed.
 pub fn report<K: Sink>(status: &Status, sink: &mut K) -> Result<(), Failed>
-    ensures { Prints K.written result sink.old sink.new (report_line status.now) }
+    ensures { Prints K.written K.faults result sink.old sink.new (report_line status.now) }
 {
     match status {
         Status::Done => Ok(()),

@@ -1,159 +1,181 @@
-"""The command `./cabinet`: its words, its clocks, and the datagrams that it answers."""
+"""The command `./cabinet`: a street of one cabinet, with words of its own."""
 
 import argparse
+import asyncio
 import json
 import pathlib
 import signal
-import socket
 import subprocess
-import time
+from dataclasses import dataclass
+from typing import Any
 
-from streettools.shared import commandline, files
-from streettools.shared.commandline import number
-from streettools.shared.program import NoProgram, Refused, found, trace_of
-from streettools.shared.status import Status
+from ..shared import commandline, files
+from ..shared.commandline import number
+from ..shared.program import NoProgram, Refused, found, trace_of
+from ..shared.session_record import SessionRecord
+from ..shared.status import Status
+from ..street import ports
+from ..street.pace import Pace
+from ..street.record import MOST_FRAMES, MOST_SCENARIO
+from ..street.session import Answer, Died
+from ..street.street import Hearer, Street, rounds_for
+from .alone import alone, compact, with_all
 
-from .history import LONGEST, Full, History, answer_in
-
-
-HOST = "127.0.0.1"
 USUAL = b'{"version":1,"rounds":1,"ticks":10,"cabinets":[{}]}'
 """Where no scenario is named: the standard tables, rounds of a second."""
+OF_FRAME = 80
+"""How many octets a frame of a scenario has beside its digits, at the most."""
 
 
-class WallClock:
-    """Ticks of 0.1 s since the agent began."""
-
-    def __init__(self):
-        self.start = time.monotonic()
-
-    def tick(self):
-        """Returns how many ticks are over as a datagram comes."""
-        return int(10 * (time.monotonic() - self.start))
+class Full(Exception):
+    """A limit of scenarios is reached, in words."""
 
 
-class StepClock:
-    """Ticks that go by the datagrams: so many after each."""
-
-    def __init__(self, step):
-        self.step, self.over = step, 0
-
-    def tick(self):
-        """Returns how many ticks are over as a datagram comes."""
-        over = self.over
-        self.over += self.step
-        return over
-
-
-class Agent:
-    """Answers datagrams as a cabinet, each by a run of its whole history."""
-
-    def __init__(self, program, history, clock):
-        self.program, self.history, self.clock = program, history, clock
-
-    def round(self):
-        """Returns the round in which a datagram comes now."""
-        return self.clock.tick() // self.history.ticks + 1
-
-    def answer(self, datagram):
-        """Returns the cabinet's reply, None where it is silent. Where the program gives no trace the datagram is lost: that is
-        told, and nothing has changed."""
-        round = self.round()
-        if len(datagram) > LONGEST:
-            return None
-        scenario = self.history.with_message(round, datagram)
-        try:
-            reply = answer_in(trace_of(self.program, scenario))
-        except (Refused, OSError) as fault:
-            say(f"a datagram is lost: {fault}")
-            return None
-        if reply is not None:
-            self.history.answered(round, datagram)
-        return reply
-
-    def serve(self, port):
-        """Answers each datagram that comes to the port, until it is interrupted or a limit is reached."""
-        while True:
-            datagram, client = port.recvfrom(65_536)
-            reply = self.answer(datagram)
-            if reply is not None:
-                try:
-                    port.sendto(reply, client)
-                except OSError as fault:
-                    say(f"a reply is lost: {fault.strerror}")
-
-
-def say(words):
+def say(words: object) -> None:
     """Tells something on standard error."""
     commandline.say("cabinet", words)
 
 
-def parser():
+class Sets(Hearer):
+    """Keeps the messages that came and may have changed something, for the scenario that is written at the end."""
+
+    def __init__(self, scenario: dict[str, Any]) -> None:
+        self.frames = MOST_FRAMES - len(scenario.get("frames", ()))
+        self.octets = MOST_SCENARIO - len(compact(scenario)) - OF_FRAME
+        self.record: SessionRecord
+
+    def began(self, scenario: dict[str, Any]) -> None:
+        self.record = SessionRecord(scenario, keeps_reads=False)
+
+    def heard(self, request: bytes | None, answer: Answer) -> None:
+        self.record.answered(request, answer)
+        self.record.lines.clear()
+
+    def size(self) -> int:
+        """Returns about how many octets the messages have in a scenario."""
+        return self.record.added_size + OF_FRAME * len(self.record.added["frames"])
+
+    def is_full(self) -> bool:
+        return len(self.record.added["frames"]) >= self.frames or self.size() >= self.octets
+
+
+@dataclass
+class Cabinet:
+    """A cabinet that answers: its street, its place, the whole scenario, and what came to it."""
+
+    words: argparse.Namespace
+    scenario: dict[str, Any]
+    street: Street
+    sets: Sets | None
+
+    def limit(self) -> str:
+        """Returns the limit that is reached, in words."""
+        if self.sets is not None and self.sets.is_full():
+            return "the history is full: a scenario has at most 100000 frames and 16777216 bytes"
+        return f"the time is over: a scenario like this has at most {self.street.scenario['rounds']} rounds"
+
+    async def serve(self) -> None:
+        """Answers until it is told to end; that a limit is reached is raised."""
+        with ports.opened([ports.Place(ports.LOOPBACK, self.words.port)]) as sockets:
+            await self.street.open()
+            for it in (signal.SIGINT, signal.SIGTERM):
+                asyncio.get_running_loop().add_signal_handler(it, self.street.end)
+            transports = await ports.listening(sockets, self.street.datagram)
+            community = self.scenario.get("community", "public")
+            place = ports.place_of(sockets[0])
+            say(f"cabinet {self.words.cabinet} answers at {place}, community {community}")
+            try:
+                await self.street.live()
+                await self.street.close()
+            finally:
+                for transport in transports:
+                    transport.close()
+        if not self.street.ended.is_set():
+            raise Full(self.limit())
+
+    def write(self) -> None:
+        """Writes the scenario of all that came, where that is asked for."""
+        if self.sets is not None:
+            text = with_all(
+                self.scenario, self.words.cabinet, self.sets.record.number, self.sets.record.added["frames"]
+            )
+            with files.whole(self.words.record) as name:
+                pathlib.Path(name).write_bytes(text)
+
+
+def parser() -> argparse.ArgumentParser:
     """Returns the reader of the command's words."""
     words = argparse.ArgumentParser(
-        prog="cabinet", description="Answers SNMP version 1 on loopback as a live cabinet, until Ctrl-C. A tick is 0.1 s."
+        prog="cabinet",
+        description="Answers SNMP version 1 on loopback as a live cabinet, until Ctrl-C. A tick is 0.1 s.",
     )
-    words.add_argument("--port", type=number(0, 65_535), default=10_161, help="the UDP port (10161); 0 for one that is free")
-    words.add_argument("--scenario", metavar="FILE", help="the scenario that it lives in (one standard cabinet, rounds of 1 s)")
-    words.add_argument("--cabinet", type=number(1, 64), default=1, metavar="N", help="which cabinet of the scenario answers (1)")
-    words.add_argument("--step", type=number(0, 864_000), metavar="TICKS", help="ticks that go by after each datagram (those of the clock)")
-    words.add_argument("--record", metavar="FILE", help="at the end write the scenario of all that came, for arterial run")
+    words.add_argument(
+        "--port", type=number(0, 65_535), default=10_161, help="the UDP port (10161); 0 for one that is free"
+    )
+    words.add_argument(
+        "--scenario", metavar="FILE", help="the scenario that it lives in (one standard cabinet, rounds of 1 s)"
+    )
+    words.add_argument(
+        "--cabinet", type=number(1, 64), default=1, metavar="N", help="which cabinet of the scenario answers (1)"
+    )
+    words.add_argument(
+        "--step",
+        type=number(0, 864_000),
+        metavar="TICKS",
+        help="ticks that go by after each datagram (those of the clock)",
+    )
+    words.add_argument(
+        "--record", metavar="FILE", help="at the end write the scenario of all that came, for arterial run"
+    )
     words.add_argument("--program", metavar="PATH", help="the program (the one that ./arterial prove has built)")
     return words
 
 
-def scenario_of(program, name):
+def scenario_of(program: pathlib.Path, name: str | None) -> dict[str, Any]:
     """Returns the scenario in a file, once the program has taken it."""
     text = pathlib.Path(name).read_bytes() if name else USUAL
     trace_of(program, text, out=subprocess.DEVNULL)
     return json.loads(text)
 
 
-def listening(number):
-    """Returns the port on loopback, opened."""
-    port = socket.socket(socket.AF_INET, socket.SOCK_DGRAM)
+def cabinet_of(words: argparse.Namespace) -> Cabinet | None:
+    """Returns the cabinet that the words ask for; None where the scenario has none of this number."""
+    program = found(words.program)
+    scenario = scenario_of(program, words.scenario)
+    if words.cabinet > len(scenario["cabinets"]):
+        return None
+    sets = Sets(scenario) if words.record else None
+    pace = Pace(1.0 if words.step is None else 0.0)
+    street = Street(str(program), alone(scenario, words.cabinet), pace, [] if sets is None else [sets])
+    street.scenario["rounds"] = rounds_for(scenario)
+    street.after_message, street.stops_at_end = words.step or 0, True
+    return Cabinet(words, scenario, street, sets)
+
+
+def answered(cabinet: Cabinet) -> int:
+    """Lets a cabinet answer to its end, and returns the exit status."""
+    status = Status.DONE
     try:
-        port.bind((HOST, number))
-    except OSError as fault:
-        raise OSError(fault.errno, fault.strerror, f"port {number}") from None
-    return port
-
-
-def serve(words, program, scenario):
-    """Answers until it is interrupted (status 0) or a limit of scenarios is reached (status 3)."""
-    with listening(words.port) as port:
-        clock = WallClock() if words.step is None else StepClock(words.step)
-        agent = Agent(program, History(scenario, words.cabinet), clock)
-        status = Status.DONE
-        try:
-            community = scenario.get("community", "public")
-            say(f"cabinet {words.cabinet} answers at {HOST}:{port.getsockname()[1]}, community {community}")
-            agent.serve(port)
-        except KeyboardInterrupt:
-            pass
-        except Full as full:
-            say(full)
-            status = Status.FULL
-        if words.record:
-            with files.whole(words.record) as name:
-                pathlib.Path(name).write_bytes(agent.history.recorded(agent.round()))
+        asyncio.run(cabinet.serve())
+    except Full as full:
+        say(full)
+        status = Status.FULL
+    cabinet.write()
     return status
 
 
-def main(arguments=None):
+def main(arguments: list[str] | None = None) -> int:
     """Does what the words ask for, and returns the exit status."""
     words = parser().parse_args(arguments)
     # also where it was started with SIGINT ignored, as a shell does behind `&`
     signal.signal(signal.SIGINT, signal.default_int_handler)
-    signal.signal(signal.SIGTERM, signal.default_int_handler)
     try:
-        program = found(words.program)
-        scenario = scenario_of(program, words.scenario)
-        if words.cabinet > len(scenario["cabinets"]):
+        cabinet = cabinet_of(words)
+        if cabinet is None:
             say(f"the scenario has no cabinet {words.cabinet}")
             return Status.REFUSED
-        return serve(words, program, scenario)
-    except Refused as fault:
+        return answered(cabinet)
+    except (Refused, Died) as fault:
         say(fault)
         return fault.status
     except NoProgram as fault:

@@ -6,7 +6,7 @@ behind it; an answer counts only once the walk has come to its name.
 
 from streettools.shared.program import trace_of
 
-from .history import compact
+from .alone import compact
 from .messages import GET_NEXT, INTEGER, OCTETS, message, reply_of
 
 KINDS = {INTEGER: "INTEGER", OCTETS: "OCTET STRING"}

@@ -1,4 +1,5 @@
-"""What the launcher's shell hands over to Python: `launch prove`, `unproved`, `help`, `meant`, `sums`, `record`."""
+"""What the launcher's shell hands over to Python: `launch prove`, `unproved`, `help`, `meant`, `due`, `sums`,
+`record`."""
 
 import json
 import pathlib
@@ -7,7 +8,7 @@ import sys
 from streettools.shared.commandline import say
 from streettools.shared.status import Status
 
-from . import crates, help, hint, prove, record, unproved
+from . import crates, due, help, hint, prove, record, unproved
 
 
 def meant(words: list[str]) -> int:
@@ -37,6 +38,7 @@ DOES = {
     "unproved": unproved.main,
     "help": help.main,
     "meant": meant,
+    "due": due.main,
     "sums": sums,
     "record": recorded,
 }

@@ -29,7 +29,8 @@ def beside() -> str:
     return (
         head
         + "".join(lines)
-        + "\nA file can be named behind run, check, overlaps, band and respond, in place of < FILE.\n"
+        + "\nA file can be named behind run, check, overlaps, band and respond, in place of < FILE. Of a file that is no trace"
+        + "\ncheck also shows the line read and the line due.\n"
     )
 
 

@@ -18,10 +18,13 @@ from streettools.shared.commandline import say
 from streettools.shared.progress import waiting
 from streettools.shared.status import Status
 
-from . import crates, help, hint, kit, source
+from . import crates, due, help, hint, kit, source
 
 READERS = ("run", "check", "overlaps", "band", "respond")
 """Commands that read standard input."""
+
+NO_TRACE = 5
+"""The status of the program where a text is no trace."""
 
 MOST_INPUT = (64 << 20) - 1
 SECONDS = 60
@@ -101,6 +104,9 @@ def answer(rt: str, arguments: list[str]) -> int:
         sys.stderr.flush()
         if status == 1:
             print(hint.of(arguments), file=sys.stderr)
+        elif status == NO_TRACE and arguments[0] == "check":
+            stdin.seek(0)
+            due.tell("", stdin.read(), said.decode())
         return written(stdout.read(), status)
 
 

@@ -55,6 +55,16 @@ def names_of(words, course):
     return found
 
 
+def street_of(words, course):
+    """Returns the cabinets of the street that is asked for, which the trace must have, in its order."""
+    cabinets = [cabinet_of(course, it) for it in words.cabinets or range(1, course.cabinets + 1)]
+    if len(set(cabinets)) < len(cabinets):
+        raise Fault("a cabinet is named twice")
+    if words.travel and len(words.travel) != len(cabinets) - 1:
+        raise Fault(f"{len(cabinets)} cabinets have {len(cabinets) - 1} times of travel between them")
+    return cabinets
+
+
 def rings(words, course, names):
     """Draws a cabinet's rings."""
     from . import rings
@@ -69,11 +79,7 @@ def coordination(words, course, names):
     """Draws a street."""
     from . import coordination, planned
 
-    cabinets = [cabinet_of(course, it) for it in words.cabinets or range(1, course.cabinets + 1)]
-    if len(set(cabinets)) < len(cabinets):
-        raise Fault("a cabinet is named twice")
-    if words.travel and len(words.travel) != len(cabinets) - 1:
-        raise Fault(f"{len(cabinets)} cabinets have {len(cabinets) - 1} times of travel between them")
+    cabinets = street_of(words, course)
     if words.planned and not words.travel:
         raise Fault("--planned goes with --travel")
     try:
@@ -93,6 +99,13 @@ def offset(words, course, names):
     seen = offset.collect(course, cabinet_of(course, words.cabinet), *span(words, course, course.rounds * course.ticks))
     finish(course)
     offset.draw(seen, words.out, names, words.start)
+
+
+def page(words, course, names):
+    """Writes a page."""
+    from .page import writing
+
+    writing.write(course, names, writing.Asked(street_of(words, course), words.travel, words.start), words.out, finish)
 
 
 def report(words, course, names):
@@ -120,7 +133,7 @@ def events(words, course, names):
             say("look", f"{names.cabinet(number)}: {names.left_out(number)}")
 
 
-DOES = {it.__name__: it for it in (rings, coordination, offset, report, events)}
+DOES = {it.__name__: it for it in (rings, coordination, offset, page, report, events)}
 
 
 def main(arguments=None):

@@ -10,6 +10,7 @@ from itertools import accumulate
 
 from matplotlib.patches import Patch, Polygon
 
+from streettools.shared.bands import common, delays_of
 from streettools.shared.cabinet import mode_of, opened
 from streettools.shared.course import Ended, RoundEnd
 from streettools.shared.lines import Frame
@@ -119,20 +120,6 @@ def collect(course, numbers, view):
     return [corners[number] for number in numbers]
 
 
-def common(one, other):
-    """Returns the spans that two rising lists of spans have in common."""
-    found, i, j = [], 0, 0
-    while i < len(one) and j < len(other):
-        low, high = max(one[i][0], other[j][0]), min(one[i][1], other[j][1])
-        if low < high:
-            found.append((low, high))
-        if one[i][1] < other[j][1]:
-            i += 1
-        else:
-            j += 1
-    return found
-
-
 def bands(greens, delays):
     """Returns when a vehicle may start so as to meet green at each place, as spans of ticks.
 
@@ -146,10 +133,8 @@ def bands(greens, delays):
 
 def ways(corners, travel):
     """Returns for outbound and inbound the bands, with the delay at each cabinet in the order of the street."""
-    reached = list(accumulate(travel, initial=0))
-    back = [reached[-1] - it for it in reached]
     found = []
-    for way, delays in ((0, reached), (1, back)):
+    for way, delays in enumerate(delays_of(travel)):
         found.append((bands([corner.spans[way]["G"] for corner in corners], delays), delays))
     return found
 

@@ -1,35 +1,16 @@
 """What all pictures share: colours, an axis of time, room for rows, a legend."""
 
 import math
-import pathlib
 import textwrap
 import warnings
 
-import matplotlib
+from matplotlib.ticker import FuncFormatter, MultipleLocator
 
-matplotlib.use("Agg")
-from matplotlib import pyplot as plt  # noqa: E402
-from matplotlib.ticker import FuncFormatter, MultipleLocator  # noqa: E402
-
-from streettools.shared import files  # noqa: E402
+from streettools.shared.pictures import FAINT, INK, STYLE, plt, save  # noqa: F401 (the other pictures take them from here)
 
 GREEN, YELLOW, CLEARANCE, RED = "#2f9e53", "#f4c20d", "#c9302c", "#e9ecef"
 WALK, FLASHING = "#ffffff", "#f58220"
-INK, FAINT = "#22262a", "#8a9299"
 MODES = {"S": "#ced4da", "F": "#a5d8ff", "K": "#ffe066", "C": "#b2f2bb", "E": "#ffc9c9", "X": "#ff8787", "P": "#d0bfff"}
-STYLE = {
-    "svg.fonttype": "none",
-    "svg.hashsalt": "arterial",
-    "font.family": "sans-serif",
-    "font.sans-serif": ["DejaVu Sans", "Arial", "Helvetica"],
-    "font.size": 9,
-    "axes.spines.top": False,
-    "axes.spines.right": False,
-    "axes.edgecolor": FAINT,
-    "savefig.dpi": 150,
-}
-
-
 STEPS = (0.1, 0.2, 0.5, 1, 2, 5, 10, 15, 20, 30, 60, 120, 300, 600, 900, 1800, 3600, 7200, 10800, 21600)
 """How many seconds may lie between two marks of a time axis."""
 
@@ -120,15 +101,3 @@ def figure(height, title, rows=1, ratios=None, under="", labels=()):
 def legend(drawn, keys):
     """Explains colours and lines in one row at the foot."""
     drawn.legend(handles=keys, ncol=len(keys), loc="lower center", frameon=False, fontsize=8, handlelength=1.4, borderaxespad=0.2)
-
-
-def save(drawn, path):
-    """Writes a figure by the suffix of its file; the same figure gives the same bytes."""
-    metadata = {"Creator": "arterial"} if pathlib.Path(path).suffix != ".png" else {"Software": "arterial"}
-    if pathlib.Path(path).suffix == ".svg":
-        metadata["Date"] = None
-    if pathlib.Path(path).suffix == ".pdf":
-        metadata["CreationDate"] = None
-    with files.whole(path) as name:
-        drawn.savefig(name, metadata=metadata)
-    plt.close(drawn)

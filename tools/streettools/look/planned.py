@@ -4,22 +4,12 @@ A time of the cycle is the cabinets' clock modulo the cycle. Where the clock sta
 offset; where offsets refer to the end of green, the window is added.
 """
 
-import re
 from typing import NamedTuple
 
-NUMBER = "(0|[1-9][0-9]{0,8})"
-FORM = re.compile("outbound (none|{0} {0} {0} {0})\ninbound (none|{0} {0} {0} {0})\n".format(NUMBER))
-
+from streettools.shared.bands import read_bands
 
 class NoBands(Exception):
     """A text isn't what `arterial band` writes, or not for this street."""
-
-
-class Band(NamedTuple):
-    """A band: when it begins at the first cabinet that is passed, as a time of the cycle, and its width, both in ticks."""
-
-    start: int
-    width: int
 
 
 class Beat(NamedTuple):
@@ -32,10 +22,10 @@ class Beat(NamedTuple):
 def read(path):
     """Returns the bands that a file holds, outbound and inbound, each None where there is none."""
     with open(path, encoding="ascii", errors="replace") as file:
-        found = FORM.fullmatch(file.read(1000))
-    if not found:
+        found = read_bands(file.read(1000))
+    if found is None:
         raise NoBands(f"{path}: not the two lines that `arterial band` writes")
-    return [None if found[at] == "none" else Band(int(found[at + 1]), int(found[at + 2])) for at in (1, 6)]
+    return found
 
 
 def beat(plan, frame):

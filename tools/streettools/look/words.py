@@ -9,6 +9,7 @@ EPILOG = """examples:
   ./look rings --from 900 --to 2100 -o rings.svg trace     both rings of cabinet 1 over two minutes
   ./look rings --names street.names.json -o rings.svg trace        with names, and without partner phases
   ./look coordination --start 06:30:00 --travel 20,20,20 -o street.svg trace
+  ./look page --travel 20,20,20 -o street.html trace       one file to move about in: any second of any cabinet
   ./look events --start 2026-11-27T06:00:00 -o log.csv trace
 
 Where a proved program is there, `arterial check` reads the text first, and one that isn't a trace is refused.
@@ -73,13 +74,33 @@ def picture(text):
     return text
 
 
-def add_command(commands, name, text, drawn=True):
-    """Returns a command's reader, with the words that all share, or those that pictures share where it draws one."""
+def page(text):
+    """Reads the name of a page."""
+    if os.path.splitext(text)[1] not in (".html", ".htm"):
+        raise argparse.ArgumentTypeError("the page's name must end in .html")
+    return text
+
+
+def add_reader(commands, name, text):
+    """Returns a command's reader, with the words that all share."""
     found = commands.add_parser(name, help=text, description=text)
     found.add_argument("trace", nargs="?", help="the trace's file; standard input where it isn't named")
     found.add_argument("--names", metavar="FILE", help="names of cabinets and phases, as `arterial plan scenario` "
                        "writes them; partner phases are left out")  # fmt: skip
     found.add_argument("--no-check", action="store_true", help="don't let `arterial check` read the text first")
+    return found
+
+
+def add_street(found):
+    """Adds the words that choose a street."""
+    found.add_argument("--cabinets", type=numbers, metavar="N,N,..", help="the cabinets in the street's order (all)")
+    found.add_argument("--travel", type=travel, metavar="S,S,..",
+                       help="seconds from each cabinet to the next, for the bands")  # fmt: skip
+
+
+def add_command(commands, name, text, drawn=True):
+    """Returns a command's reader, with the words that all share, or those that pictures share where it draws one."""
+    found = add_reader(commands, name, text)
     if drawn:
         found.add_argument("-o", "--out", type=picture, required=True, help="the picture: .svg, .png or .pdf")
         found.add_argument("--from", dest="first", type=tick, default=0, metavar="TICK", help="first tick (0)")
@@ -100,9 +121,7 @@ def add_pictures(commands):
         commands, "coordination",
         "the coordinated greens of several cabinets over time, with through bands (to: 3000 ticks on)",
     )  # fmt: skip
-    street.add_argument("--cabinets", type=numbers, metavar="N,N,..", help="the cabinets in the street's order (all)")
-    street.add_argument("--travel", type=travel, metavar="S,S,..",
-                        help="seconds from each cabinet to the next, for the bands")  # fmt: skip
+    add_street(street)
     street.add_argument("--planned", metavar="FILE",
                         help="what `arterial band` wrote: the plan's greatest bands, as dashed outlines")  # fmt: skip
     street.add_argument("--phases", type=phases, metavar="P,P", help="the phases to show, not the coordinated ones")
@@ -110,6 +129,17 @@ def add_pictures(commands):
         commands, "offset", "how a cabinet brings its offset about, and what disturbs it (to: the end)"
     )
     offset.add_argument("--cabinet", type=int, default=1, metavar="N", help="the cabinet (1)")
+
+
+def add_page(commands):
+    """Adds the command that writes a page."""
+    found = add_reader(
+        commands, "page",
+        "one file that a browser opens without a network: all cabinets, the street and any rings, to zoom and search in",
+    )  # fmt: skip
+    found.add_argument("-o", "--out", type=page, required=True, help="the page: .html")
+    found.add_argument("--start", type=daytime, metavar="TIME", help=STARTED)
+    add_street(found)
 
 
 def parser():
@@ -120,6 +150,7 @@ def parser():
     )  # fmt: skip
     commands = words.add_subparsers(dest="command", required=True, metavar="COMMAND")
     add_pictures(commands)
+    add_page(commands)
     report = add_command(
         commands, "report",
         "services, greens and how they ended, walks, modes, offsets, replies, refused Sets, downloads, notes", False,

@@ -115,7 +115,9 @@ class PatternSentences(Sentences):
                 f", e.g. from phase {best}, which has {spare(laid, best)} s to spare (in both rings then, since it stands on another side of the "
                 "barrier)"
             )
-        return f"; no phase of its ring has so much to spare: a longer cycle than {laid.cycle // 10} s is needed, or a shorter service"
+        if sum(spare(laid, it) for it in order if it != phase) >= missing:
+            return "; no single phase of its ring has so much to spare: --fix tells whether several have together"
+        return f"; its ring hasn't so much to spare: a longer cycle than {laid.cycle // 10} s is needed, or a shorter service"
 
     def rule_19(self, row: int) -> str:
         """The coordinated phases stay green long enough together."""

@@ -6,7 +6,8 @@ from dataclasses import dataclass
 
 from matplotlib import pyplot as plt
 
-from ..look.pictures import CLEARANCE, FAINT, GREEN, INK, STYLE, YELLOW, save
+from ..look.pictures import CLEARANCE, GREEN, YELLOW
+from ..shared.pictures import FAINT, INK, STYLE, save
 from ..shared.tables import Tables
 from . import drawing, fields, rules
 from .cells import value

@@ -132,31 +132,35 @@ class Course:
                     if not isinstance(record, Frame) or (record.cabinet, record.tick) != (opened, 0):
                         raise ValueError
                     yield record
+                elif type(record) is Journal:
+                    yield from self.begun(record)
+                elif type(record) is Round or type(record) is End:
+                    yield from self.closed(record)
                 else:
                     yield from self.placed(record)
             except (ValueError, StopIteration, IndexError, RuntimeError):
                 raise NotATrace(self.line) from None
         self.line += not self.whole
 
+    def begun(self, journal):
+        """Takes a journal, where it may stand here, and returns what the round of the cabinet before it leaves."""
+        left = self.left() if self.now is not None else ()
+        if self.whole or self.round == 0 or journal.cabinet != self.cabinet + 1 or journal.cabinet > self.cabinets:
+            raise ValueError
+        self.cabinet += 1
+        start = (self.round - 1) * self.ticks
+        self.now = CabinetRound(journal, start, self.inputs.pop((self.round, self.cabinet), ()))
+        if self.now.end != start + self.ticks:
+            raise ValueError
+        return left
+
     def placed(self, record):
-        """Yields what a line tells, where it may stand here."""
+        """Yields what a line tells that stands within a cabinet's round, or that notes something."""
         if self.whole:
             raise ValueError
         match record:
             case Frame():
                 yield from self.shown(record)
-            case Journal():
-                if self.now is not None:
-                    yield from self.left()
-                if self.round == 0 or record.cabinet != self.cabinet + 1 or record.cabinet > self.cabinets:
-                    raise ValueError
-                self.cabinet += 1
-                start = (self.round - 1) * self.ticks
-                self.now = CabinetRound(record, start, self.inputs.pop((self.round, self.cabinet), ()))
-                if self.now.end != start + self.ticks:
-                    raise ValueError
-            case Round() | End():
-                yield from self.closed(record)
             case Answer(cabinet, way, digits):
                 due, tick = self.of(cabinet).next_answer()
                 if way != due:
@@ -189,22 +193,21 @@ class Course:
         yield frame
 
     def left(self):
-        """Returns the inputs that a cabinet's round leaves; no reply may be left."""
+        """Returns the inputs that a cabinet's round leaves, which is over; no reply may be left."""
         now, self.now = self.now, None
-        if now is None:
-            return ()
         if now.answers:
             raise ValueError
         return now.before(now.end + 1) if now.inputs else ()
 
     def closed(self, record):
-        """Yields the end of a round, once each cabinet has had its own, as the next begins or the trace ends."""
-        yield from self.left()
-        if self.round and self.cabinet != self.cabinets:
+        """Returns what the round before leaves and its end, once each cabinet has had its own, as the next begins or
+        the trace ends."""
+        ends = type(record) is End
+        if self.whole or (self.round and self.cabinet != self.cabinets):
             raise ValueError
-        if self.round:
-            yield RoundEnd(self.round, self.round * self.ticks)
-        ends = isinstance(record, End)
         if (record.rounds if ends else record.number) != self.round + (not ends) or (ends and self.round != self.rounds):
             raise ValueError
+        left = self.left() if self.now is not None else ()
+        over = (*left, RoundEnd(self.round, self.round * self.ticks)) if self.round else ()
         self.round, self.cabinet, self.whole = self.round + (not ends), 0, ends
+        return over

@@ -17,7 +17,6 @@ SIGNED = rb"(0|-?[1-9][0-9]{0,9})"
 FRAME = re.compile(rb"F %s %s ([GYCR]{16}) ([WFD]{16}) ([A-Z0-9a-z]+) %s %s %s\n" % ((NUMBER,) * 5))
 JOURNAL = re.compile(rb"J %s ([0-9* ]+)\n" % NUMBER)
 RUN = re.compile(rb"%s\*%s" % (NUMBER, NUMBER))
-ROUND = re.compile(rb"R %s\n" % NUMBER)
 ANSWER = re.compile(rb"A %s %s (-|(?:[0-9a-f]{2}){1,1472})\n" % (NUMBER, NUMBER))
 LOAD = re.compile(rb"L %s %s (?:accepted %s|refused %s %s)\n" % ((NUMBER,) * 5))
 NOTE = re.compile(rb"M %s (fail|good|pattern %s|load %s (?:done|refused %s %s))\n" % (NUMBER, NUMBER, NUMBER, SIGNED, SIGNED))
@@ -135,6 +134,14 @@ def journal(line):
     return Journal(number(found[1]), runs(found[2]))
 
 
+def round_of(line):
+    """Returns the record of an R line."""
+    value = int(line[2:-1])
+    if line != b"R %d\n" % value or not 0 <= value <= MOST:
+        raise ValueError
+    return Round(value)
+
+
 def frame(found):
     """Returns the record of an F line."""
     cabinet, tick, vehicles, pedestrians, word, counter, target, version = found.groups()
@@ -172,13 +179,13 @@ def answer(found):
 
 KINDS = {
     b"F": (FRAME, frame),
-    b"R": (ROUND, lambda found: Round(number(found[1]))),
     b"A": (ANSWER, answer),
     b"L": (LOAD, load),
     b"M": (NOTE, note),
     b"Z": (END, lambda found: End(number(found[1]))),
 }
-"""By its first letter, what a line must match and the record that it gives; J lines have their own way."""
+"""By its first letter, what a line must match and the record that it gives; J and R lines, the most of all, have their
+own ways."""
 
 
 def scenario(line):
@@ -193,9 +200,12 @@ def scenario(line):
 
 def record(line):
     """Returns the record of a line other than the first; ValueError where it is none."""
-    if line[:1] == b"J":
+    letter = line[:1]
+    if letter == b"J":
         return journal(line)
-    kind = KINDS.get(line[:1])
+    if letter == b"R":
+        return round_of(line)
+    kind = KINDS.get(letter)
     found = kind and kind[0].fullmatch(line)
     if not found:
         raise ValueError

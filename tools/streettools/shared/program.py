@@ -2,7 +2,6 @@
 
 import os
 import pathlib
-import shutil
 import subprocess
 
 HERE = pathlib.Path(__file__).resolve().parents[2]
@@ -41,6 +40,8 @@ def usual() -> str:
         if asked.returncode:
             raise NoProgram(asked.stderr.strip())
         return asked.stdout.rstrip("\n")
+    import shutil
+
     path = shutil.which("arterial")
     if path is None:
         raise NoProgram("there is no program arterial on the path")

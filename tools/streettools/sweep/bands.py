@@ -2,18 +2,15 @@
 
 import functools
 import json
-import re
 import subprocess
-from itertools import accumulate
 from pathlib import Path
 
+from ..shared.bands import Spans, common, delays_of, read_bands
 from ..shared.cabinet import Cabinet
 from ..shared.lines import Frame
 from .counts import Spread, StreetCounts
 from .study import Street
 
-Spans = list[tuple[int, int]]
-LINES = re.compile(rb"outbound (?:none|\d+ (\d+) \d+ \d+)\ninbound (?:none|\d+ (\d+) \d+ \d+)\n")
 ASKED = ("version", "rounds", "ticks", "cabinets")
 
 
@@ -22,8 +19,8 @@ def asked(program: Path, question: str, seconds: float) -> tuple[int | None, int
     """Returns the widths of the greatest bands of a plan, outbound and inbound: 0 where there is none, None where
     none can be asked for."""
     ran = subprocess.run([program, "band"], input=question.encode(), capture_output=True, timeout=seconds)
-    found = LINES.fullmatch(ran.stdout) if ran.returncode == 0 else None
-    return (int(found[1] or 0), int(found[2] or 0)) if found else (None, None)
+    found = read_bands(ran.stdout.decode(errors="replace")) if ran.returncode == 0 else None
+    return tuple(it.width if it else 0 for it in found) if found else (None, None)
 
 
 def planned(program: Path, scenario: dict, street: Street, seconds: float) -> tuple[int | None, int | None]:
@@ -31,20 +28,6 @@ def planned(program: Path, scenario: dict, street: Street, seconds: float) -> tu
     short = {name: scenario[name] for name in ASKED if name in scenario}
     question = {"scenario": short, "section": street.section, "pattern": street.pattern, "travel": street.travel}
     return asked(program, json.dumps(question), seconds)
-
-
-def common(one: Spans, other: Spans) -> Spans:
-    """Returns the spans that two rising lists of spans have in common."""
-    found, i, j = [], 0, 0
-    while i < len(one) and j < len(other):
-        low, high = max(one[i][0], other[j][0]), min(one[i][1], other[j][1])
-        if low < high:
-            found.append((low, high))
-        if one[i][1] < other[j][1]:
-            i += 1
-        else:
-            j += 1
-    return found
 
 
 class Greens:
@@ -89,12 +72,13 @@ class StreetTally:
     def close(self, last: int) -> StreetCounts:
         """Returns the bands that came out: the spans of time at which a vehicle may start so as to meet green in
         each cabinet."""
-        reached = list(accumulate(self.street.travel, initial=0))
+        ways = delays_of(self.street.travel)
+        reached = ways[0]
         if len(reached) != len(self.greens) or not all(it.pair for it in self.greens.values()):
             return StreetCounts()
         end = max(self.start, last - reached[-1])
         seen = (Spread(), Spread())
-        for way, delays in enumerate((reached, [reached[-1] - it for it in reached])):
+        for way, delays in enumerate(ways):
             spans = [(self.start, end)]
             for green, delay in zip(self.greens.values(), delays):
                 green.show(way, False, last)

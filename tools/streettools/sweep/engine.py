@@ -1,11 +1,13 @@
 """Drives the runs: batches of variants to the workers, never more than they can do soon, and each result to the disk
 as it comes."""
 
+import contextlib
 import hashlib
 import itertools
 import math
 import queue
 import secrets
+import signal
 import time
 from collections.abc import Callable, Iterator
 from dataclasses import dataclass
@@ -24,6 +26,21 @@ AIM, MOST = 0.5, 64
 """A batch is to take so many seconds, and has at most so many runs."""
 PATIENCE, PATIENCE_ALONE = 5.0, 30.0
 """So many seconds pass before it is looked whether anybody still works, and before it is told that nobody does."""
+
+
+@contextlib.contextmanager
+def interrupts_told(tell: Callable[[], None]) -> Iterator[None]:
+    """Lets a first Ctrl-C be told, in place of breaking into whatever is done just then; a second one breaks in."""
+
+    def taken(*_: object) -> None:
+        signal.signal(signal.SIGINT, before)
+        tell()
+
+    before = signal.signal(signal.SIGINT, taken)
+    try:
+        yield
+    finally:
+        signal.signal(signal.SIGINT, before)
 
 
 @dataclass
@@ -48,7 +65,8 @@ class Engine:
         )
         self.name = f"arterial_sweep_{secrets.token_hex(6)}"
         self.jobs: dict[Any, Job] = {}
-        self.over: queue.Queue[Any] = queue.Queue()
+        self.over: queue.SimpleQueue[Any] = queue.SimpleQueue()
+        """Batches that are over, and None for a Ctrl-C."""
         self.size, self.threads, self.looked = 1, 1, 0.0
         self.alone: float | None = None
 
@@ -74,9 +92,14 @@ class Engine:
         except Exception as fault:
             raise Fault(f"a worker can't take up the sweep: {fault}", Status.FILE) from None
 
-    def run(self, indexes: Iterator[tuple[int, str]]) -> None:
-        """Runs the variants with these numbers and keys."""
-        pending = indexes
+    def run(self, pending: Iterator[tuple[int, str]]) -> None:
+        """Runs the variants with these numbers and keys. A Ctrl-C ends it between two batches, so that each one that
+        was taken is written whole."""
+        with interrupts_told(lambda: self.over.put(None)):
+            self.run_all(pending)
+
+    def run_all(self, pending: Iterator[tuple[int, str]]) -> None:
+        """Sends out batches and takes what comes of them, until nothing is left."""
         while True:
             self.look()
             while len(self.jobs) < 2 * self.threads + 1 and (batch := self.batch(pending)):
@@ -87,6 +110,8 @@ class Engine:
                 future = self.over.get(timeout=PATIENCE)
             except queue.Empty:
                 continue
+            if future is None:
+                raise KeyboardInterrupt
             if (job := self.jobs.pop(future, None)) is not None:
                 self.take(future, job)
 
@@ -100,19 +125,27 @@ class Engine:
         future = self.client.submit(
             self.task, self.name, indexes, pure=False, key=f"{self.name}-{indexes[0]}-{secrets.token_hex(4)}"
         )
-        self.jobs[future] = Job(indexes, keys, time.monotonic())
+        self.waits(future, Job(indexes, keys, time.monotonic()))
+
+    def waits(self, future: Any, job: Job) -> None:
+        """Waits for what comes of a batch."""
+        self.jobs[future] = job
         future.add_done_callback(self.over.put)
 
     def take(self, future: Any, job: Job) -> None:
-        """Takes what came of a batch. One that killed its worker over and over is taken apart, to find the run that
-        does it."""
+        """Takes what came of a batch. One whose result was lost with its worker is waited for again; one that killed its
+        worker over and over is taken apart, to find the run that does it."""
         from distributed.scheduler import KilledWorker
 
-        if future.status == "finished":
+        status = future.status
+        if status == "finished":
             rows = future.result()
             self.journal.add(zip(job.keys, rows))
             self.paced(job)
-        elif future.status == "cancelled":
+        elif status in ("lost", "pending"):
+            self.waits(future, job)
+            return
+        elif status == "cancelled":
             raise self.gone()
         elif not isinstance(fault := future.exception(), KilledWorker):
             raise Fault(f"a worker failed: {type(fault).__name__}: {fault}", Status.FILE)

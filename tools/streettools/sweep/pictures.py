@@ -1,30 +1,12 @@
 """The pictures of a sweep's table: lines, a map, a frontier."""
 
-import pathlib
 from typing import Any
 
-import matplotlib
-
-matplotlib.use("Agg")
-from matplotlib import pyplot as plt  # noqa: E402
-
-from ..shared import files  # noqa: E402
-from .faults import Fault  # noqa: E402
-from .results import Results, in_order  # noqa: E402
+from ..shared.pictures import FAINT, INK, STYLE, plt, save
+from .faults import Fault
+from .results import Results, in_order
 
 COLOURS = ("#1c7ed6", "#e8590c", "#2f9e53", "#862e9c", "#c2255c", "#5f3dc4", "#846358", "#495057")
-FAINT, INK = "#8a9299", "#22262a"
-STYLE = {
-    "svg.fonttype": "none",
-    "svg.hashsalt": "arterial",
-    "font.family": "sans-serif",
-    "font.sans-serif": ["DejaVu Sans", "Arial", "Helvetica"],
-    "font.size": 9,
-    "axes.spines.top": False,
-    "axes.spines.right": False,
-    "axes.edgecolor": FAINT,
-    "savefig.dpi": 150,
-}
 MOST_LINES = len(COLOURS)
 
 
@@ -34,16 +16,6 @@ def figure(title: str) -> tuple[Any, Any]:
     drawn, axes = plt.subplots(figsize=(7.5, 4.6), layout="constrained")
     axes.set_title(title, loc="left", fontsize=10, fontweight="bold", color=INK)
     return drawn, axes
-
-
-def save(drawn: Any, path: str) -> None:
-    """Writes a figure by the suffix of its file; the same figure gives the same bytes."""
-    suffix = pathlib.Path(path).suffix
-    metadata = {"Software": "arterial"} if suffix == ".png" else {"Creator": "arterial"}
-    metadata |= {".svg": {"Date": None}, ".pdf": {"CreationDate": None}}.get(suffix, {})
-    with files.whole(path) as name:
-        drawn.savefig(name, metadata=metadata)
-    plt.close(drawn)
 
 
 def others(results: Results, shown: list[str]) -> str:

@@ -13,9 +13,21 @@ import pytest
 TOP = pathlib.Path(__file__).resolve().parents[3]
 sys.dont_write_bytecode = True
 
-PROGRAM = pathlib.Path(os.environ.get("ARTERIAL_PROGRAM", TOP / "crates/arterial/out/arterial"))
+MODEL = TOP / "model/program"
 SECONDS = 60
 """How long anything may take."""
+
+
+def program_here():
+    """Returns the program that is named, else the one that was built; the model, which has the same form, where that
+    has no `live`."""
+    program = pathlib.Path(os.environ.get("ARTERIAL_PROGRAM", TOP / "crates/arterial/out/arterial"))
+    text = b'{"version":1,"rounds":1,"ticks":1,"cabinets":[{}]}\n'
+    has_live = program.is_file() and subprocess.run([program, "live"], input=text, capture_output=True).returncode == 0
+    return program if has_live else MODEL
+
+
+PROGRAM = program_here()
 
 ASC = (1, 3, 6, 1, 4, 1, 1206, 4, 2, 1)
 OWN = (1, 3, 6, 1, 4, 1, 32473, 1)

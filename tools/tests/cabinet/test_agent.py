@@ -11,7 +11,7 @@ import pytest
 from streettools.cabinet.messages import GET, GET_NEXT, SET, kind_of, message, reply_of
 from streettools.shared.program import trace_of
 
-from .conftest import ASC, CLOCK, CONTROL, OWN, SECONDS, TOP, VERSION
+from .conftest import ASC, CLOCK, CONTROL, MODEL, OWN, PROGRAM, SECONDS, TOP, VERSION
 
 COUNTER, TARGET, MODE, OUTCOME, REQUEST = (*OWN, 2, 2, 0), (*OWN, 2, 3, 0), (*OWN, 2, 4, 0), (*OWN, 1, 7, 0), (*OWN, 4, 3, 1, 2)
 GETS = [COUNTER, TARGET, MODE, OUTCOME, REQUEST, CLOCK, VERSION, (*ASC, 1, 4, 1, 4, 1), (*ASC, 4, 10, 0)]
@@ -142,20 +142,34 @@ def test_it_ends_as_it_is_told(client, number):
     assert agent.end(number) == (0, "")
 
 
-def test_a_datagram_is_lost_where_the_program_fails(program, client, tmp_path):
+FAILING = """#!/usr/bin/python3
+import os, subprocess, sys, time
+if sys.argv[1:] != ["live"]:
+    os.execv("{program}", ["{program}", *sys.argv[1:]])
+ran = subprocess.Popen(["{program}", "live"])
+while not os.path.exists("{flag}"):
+    time.sleep(0.1)
+ran.kill()
+ran.wait()
+print("out of memory", file=sys.stderr)
+sys.exit(6)
+"""
+"""Stands before the program, and ends as where memory is wanting once the flag is there."""
+
+
+def test_a_program_that_fails_ends_it_with_its_line_and_its_status(program, client, tmp_path):
     failing, flag = tmp_path / "failing", tmp_path / "flag"
-    failing.write_text(f'#!/bin/sh\nif [ -e "{flag}" ]; then echo "out of memory" >&2; exit 6; fi\nexec "{program}" "$@"\n')
+    failing.write_text(FAILING.format(program=program, flag=flag))
     failing.chmod(0o755)
     agent = client("--program", failing)
     agent.ask(set_of(1, (CONTROL, 1)))
     flag.touch()
-    agent.send(set_of(2, (CONTROL, 255)))
-    assert agent.agent.stderr.readline() == "cabinet: a datagram is lost: out of memory\n"
-    flag.unlink()
-    assert value_in(agent.ask(message(GET, 3, [(CONTROL, None)]))) == 1
+    assert agent.ended() == (6, "cabinet: out of memory\n")
 
 
 def test_it_ends_where_time_is_over(client):
+    if PROGRAM == MODEL:
+        pytest.skip("the model keeps all moments, and a day of them takes 2 GB")
     agent = client("--step", 864_000)
     assert reply_of(agent.ask(message(GET, 1, [(CLOCK, None)]))).status == 0
     agent.send(message(GET, 2, [(CLOCK, None)]))

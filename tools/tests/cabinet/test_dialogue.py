@@ -17,7 +17,7 @@ END = "-- so far --"
 def dialogue():
     """Returns the commands of the page, each with what it prints."""
     found = []
-    for line in PAGE.read_text(encoding="utf-8").split("\n## ")[1].splitlines():
+    for line in PAGE.read_text(encoding="utf-8").replace("\\\n", "").split("\n## ")[1].splitlines():
         if line.startswith("    $ "):
             found.append((line[6:], []))
         elif line.startswith("    "):

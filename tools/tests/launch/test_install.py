@@ -15,7 +15,7 @@ COMMIT = {f"GIT_{who}_{what}": "x" for who in ("AUTHOR", "COMMITTER") for what i
 @pytest.fixture
 def whole(proved):
     """A copy in which the program is proved, with all that is installed beside it."""
-    for name in ("docs", "mibs", "scenarios"):
+    for name in ("docs", "mibs", "model", "scenarios"):
         shutil.copytree(TOP / name, proved.top / name, ignore=shutil.ignore_patterns("tests", "__pycache__"))
     for name in ("README.md", "CHANGELOG.md"):
         shutil.copy(TOP / name, proved.top)
@@ -52,6 +52,12 @@ def test_the_installed_program_takes_files_and_tools_and_needs_no_kit(whole, tmp
     program = to / "bin/arterial"
     assert done(program, "run", file, env=names) == (7, "words run\nin the file\n", "")
     assert done(program, "run", file, env={"PATH": f"{to}/bin:/usr/bin:/bin"}, cwd=to)[1] == "words run\nin the file\n"
+    trace = tmp_path / "a trace"
+    trace.write_text('S {"cabinets":[{}],"rounds":1,"ticks":1,"version":1}\nF 1 0 R\n')
+    refused = {**names, "SAYS": "trace: line 2 breaks rule 2", "STATUS": "5"}
+    assert done(program, "check", trace, env=refused)[2].endswith(
+        "\narterial: due   F 1 0 RRRRRRRRRRRRRRRR DDDDDDDDDDDDDDDD S 0 0 0\n"
+    )
     for command in ("look", "cabinet"):
         assert done(program, command, "--help", env=names)[1].startswith(f"usage: {command} ")
         assert done(to / f"bin/arterial-{command}", "--help", env=names)[1].startswith(f"usage: {command} ")

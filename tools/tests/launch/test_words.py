@@ -116,6 +116,13 @@ def test_the_tools_can_be_called_as_a_package_of_python(proved):
     assert called("lok") == (2, "", "streettools: no command lok: look?\n")
 
 
+def test_a_package_of_python_that_is_missing_is_told_in_one_line(proved, tmp_path):
+    (tmp_path / "tqdm.py").write_text("raise ModuleNotFoundError('none', name='tqdm')\n")
+    status, written, said = proved.ran("plan", "--help", PYTHONPATH=str(tmp_path))
+    assert (status, written) == (1, "")
+    assert said == "plan: Python's package tqdm is missing: README.md has the line that installs all of them\n"
+
+
 def test_a_command_of_the_tools_is_a_line_and_a_module(proved):
     """As a command that is to come: with its module it is a word of the launcher, in help and without."""
     assert "  arterial sweep " not in proved.ran("--help")[1] or (TOP / "tools/streettools/sweep").is_dir()

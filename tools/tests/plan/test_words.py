@@ -189,3 +189,25 @@ def test_a_file_that_is_no_names_file_is_refused(text):
     """Phases that are none, measures in words, unknown names, other JSON, none."""
     with pytest.raises(names.NoNames):
         names.read(text)
+
+
+def test_a_split_that_several_phases_can_mend_together_is_told_so():
+    """Phase 4 lacks 4 s in a cycle of 80 s. Of the others of its ring 1 and 3 have 2 s each (12 less 5 + 3.5 + 1), and
+    2 has 0.5 s (29 less 5.5, of which walk 7, clearance 12 and a skip of 4 s need 23)."""
+    sheet = """
+    [[intersection]]
+    [intersection.coordination]
+    correction = "shortway"
+    add_limit = 10
+    skip_limit = 4
+    [intersection.phase]
+    4 = {yellow = 3.5, ped_clear = 19}
+    8 = {yellow = 3.5, ped_clear = 19}
+    [intersection.pattern.1]
+    cycle = 80
+    splits = {1 = 12, 2 = 29, 3 = 12, 4 = 27, 5 = 12, 6 = 29, 7 = 12, 8 = 27}
+    """
+    told = findings(sheet, Level.ERROR)
+    assert len(told) == 2 and all("give it 4 s more; no single phase of its ring" in it for it in told)
+    told = findings(sheet.replace("= 12", "= 10").replace("cycle = 80", "cycle = 76"), Level.ERROR)
+    assert len(told) == 2 and all("a longer cycle than 76 s is needed" in it for it in told)

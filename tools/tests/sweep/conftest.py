@@ -4,15 +4,20 @@ import os
 import pathlib
 import subprocess
 import sys
+import tomllib
+from collections.abc import Iterator
 
 import pytest
 
 TOP = pathlib.Path(__file__).resolve().parents[3]
 PROGRAM = pathlib.Path(os.environ.get("ARTERIAL_PROGRAM", TOP / "crates/arterial/out/arterial"))
-SECONDS = 300
-"""How long anything may take."""
+SECONDS = 1200
+"""How long anything may take, on a machine that is busy with other things."""
 sys.path.insert(0, str(TOP / "tools"))
 sys.dont_write_bytecode = True
+
+from streettools.sweep import table  # noqa: E402
+from streettools.sweep.prepared import prepared  # noqa: E402
 
 SCENARIO = '{"version":1,"rounds":20,"ticks":10,"cabinets":[{"pattern":1},{"pattern":1}]}'
 STUDY = """\
@@ -93,12 +98,41 @@ def folder(tmp_path, program) -> pathlib.Path:
     return tmp_path
 
 
+class Held:
+    """A program that stops in the middle of a sweep: from its tenth call on it waits, until it is let go."""
+
+    TEXT = """\
+#!/bin/sh
+cd "{folder}" || exit 70
+echo >>calls
+while [ -e hold ] && [ "$(wc -l <calls)" -gt 10 ]; do sleep 0.05; done
+exec "{program}" "$@"
+"""
+
+    def __init__(self, folder: pathlib.Path, program: pathlib.Path) -> None:
+        self.path, self.hold = folder / "held", folder / "hold"
+        self.hold.touch()
+        self.path.write_text(self.TEXT.format(folder=folder, program=program))
+        self.path.chmod(0o700)
+
+    def let_go(self) -> None:
+        """Lets all calls go on."""
+        self.hold.unlink(missing_ok=True)
+
+
+@pytest.fixture
+def held(folder, program) -> Iterator[Held]:
+    """A program that waits from its tenth call on; it is let go at the end in any case."""
+    made = Held(folder, program)
+    yield made
+    made.let_go()
+
+
 @pytest.fixture(scope="session")
 def reference(tmp_path_factory, program) -> str:
-    """The table of the study, by one process on this machine."""
-    place = tmp_path_factory.mktemp("reference")
-    (place / "two.json").write_text(SCENARIO)
-    (place / "study.toml").write_text(STUDY)
-    status, _, said = sweep(place, "study.toml", "-o", "out.csv", "--workers", 1)
-    assert status == 0, said
-    return (place / "out.csv").read_text()
+    """The table of the study, run after run in this process, without an engine."""
+    ready = prepared(tomllib.loads(STUDY), {"two.json": SCENARIO.encode()}.__getitem__, program)
+    runner, out = ready.runner(False, SECONDS), tmp_path_factory.mktemp("reference") / "out.csv"
+    lines = (ready.line(index, runner.row(ready.variants.at(index))) for index in range(ready.variants.count()))
+    table.write(out, ready.names(), lines)
+    return out.read_text()

@@ -1,5 +1,6 @@
 """The study of 60 variants, done in each way that there is: the same table each time."""
 
+import hashlib
 import os
 import pathlib
 import re
@@ -8,6 +9,7 @@ import subprocess
 import time
 
 import pytest
+from streettools.sweep.carried import Parcel
 
 from .conftest import SECONDS, begun, ended, rows_done, sweep
 
@@ -76,47 +78,58 @@ def test_the_table_has_a_row_for_each_variant_and_refusals_are_rows(reference):
     assert refused == lines[45:] and all("scenario: cabinet 2 breaks rule 15 at row 1" in it for it in refused)
 
 
-def test_a_killed_worker_of_this_machine_changes_nothing(folder, reference):
-    command = begun(folder, "study.toml", "-o", "out.csv", "--workers", 2)
+def begun_and_held(folder, held, *words) -> tuple[subprocess.Popen, int]:
+    """Starts the study with the program that waits in the middle; returns the command once some runs are done, and how
+    many are."""
+    command = begun(folder, "study.toml", "-o", "out.csv", "--program", held.path, *words)
     wait_for(lambda: rows_done(folder / "out.csv") or command.poll() is not None)
     done = rows_done(folder / "out.csv")
+    assert command.poll() is None and 0 < done < 60
+    return command, done
+
+
+def test_a_killed_worker_of_this_machine_changes_nothing(folder, held, reference):
+    command, _ = begun_and_held(folder, held, "--workers", 2)
     workers = [
         it
         for it in children(command.pid)
         if b"multiprocessing.spawn" in pathlib.Path(f"/proc/{it}/cmdline").read_bytes()
     ]
     os.kill(workers[0], signal.SIGKILL)
+    held.let_go()
     status, _, said = ended(command)
-    assert 0 < done < 60 and status == 0, said
+    assert status == 0, said
     assert (folder / "out.csv").read_text() == reference
 
 
-def test_an_interrupted_sweep_goes_on(folder, reference):
-    command = begun(folder, "study.toml", "-o", "out.csv", "--workers", 1)
-    wait_for(lambda: rows_done(folder / "out.csv") or command.poll() is not None)
+def test_an_interrupted_sweep_goes_on(folder, held, reference):
+    command, _ = begun_and_held(folder, held, "--workers", 1)
     command.send_signal(signal.SIGINT)
     status, _, said = ended(command)
     done = rows_done(folder / "out.csv")
     assert status == 130 and f"interrupted: {done} of 60 runs are kept" in said
     assert not (folder / "out.csv").exists()
-    status, _, said = sweep(folder, "study.toml", "-o", "out.csv", "--workers", 1)
+    held.let_go()
+    words = ("study.toml", "-o", "out.csv", "--workers", 1, "--program", held.path)
+    status, _, said = sweep(folder, *words)
     assert status == 2 and "--resume goes on with it" in said
-    kept = (folder / "out.csv.runs").read_text()
-    status, _, said = sweep(folder, "study.toml", "-o", "out.csv", "--workers", 1, "--resume")
-    assert status == 0 and f"{done} of them before" in said, (said, kept)
+    status, _, said = sweep(folder, *words, "--resume")
+    assert status == 0 and f"{done} of them before" in said, said
     assert (folder / "out.csv").read_text() == reference
     assert not (folder / "out.csv.runs").exists()
 
 
-def test_a_killed_sweep_loses_only_what_was_under_way(folder, reference):
-    command = begun(folder, "study.toml", "-o", "out.csv", "--workers", 1)
-    wait_for(lambda: rows_done(folder / "out.csv") or command.poll() is not None)
+def test_a_killed_sweep_loses_only_what_was_under_way(folder, held, reference):
+    command, done = begun_and_held(folder, held, "--workers", 1)
     command.kill()
     command.wait()
+    held.let_go()
     with open(folder / "out.csv.runs", "ab") as file:
         file.write(b'{"key":"a line that was not wri')
-    status, _, said = sweep(folder, "study.toml", "-o", "out.csv", "--workers", 1, "--resume")
-    assert status == 0 and "of them before" in said
+    words = ("study.toml", "-o", "out.csv", "--workers", 1, "--program", held.path, "--resume")
+    status, _, said = sweep(folder, *words)
+    kept = re.search(r"(\d+) of them before", said)
+    assert status == 0 and kept and done <= int(kept[1]) < 60, said
     assert (folder / "out.csv").read_text() == reference
 
 
@@ -129,11 +142,20 @@ def test_a_cluster_gives_the_same_table_and_takes_the_program_along(cluster, fol
     assert (folder / "out.csv").read_text() == reference
 
 
-def test_a_killed_worker_of_a_cluster_changes_nothing(cluster, folder, reference):
-    command = begun(folder, "study.toml", "-o", "out.csv", "--scheduler", cluster[0])
-    wait_for(lambda: rows_done(folder / "out.csv") or command.poll() is not None)
-    done = rows_done(folder / "out.csv")
+def test_a_worker_that_lacks_the_program_writes_the_one_that_it_was_sent(tmp_path, program):
+    octets = program.read_bytes()
+    parcel = Parcel("a_sweep", {}, {}, str(tmp_path / "not here"), hashlib.sha256(octets).hexdigest(), octets)
+    parcel.folder = tmp_path
+    assert parcel.program_here().read_bytes() == octets
+    parcel.program = octets[:-1]
+    with pytest.raises(RuntimeError, match="is not the one of this sweep"):
+        parcel.program_here()
+
+
+def test_a_killed_worker_of_a_cluster_changes_nothing(cluster, folder, held, reference):
+    command, _ = begun_and_held(folder, held, "--scheduler", cluster[0])
     cluster[1][0].kill()
+    held.let_go()
     status, _, said = ended(command)
-    assert 0 < done < 60 and status == 0, said
+    assert status == 0, said
     assert (folder / "out.csv").read_text() == reference

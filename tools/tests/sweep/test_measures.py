@@ -136,6 +136,7 @@ def test_a_measure_of_ones_own_gets_the_run(program):
 
 
 def test_each_measure_of_the_program_is_in_the_document_with_unit_and_definition():
-    page = (TOP / "docs/SWEEP.md").read_text()
+    """A row that goes on in the next one is one row."""
+    page = (TOP / "docs/SWEEP.md").read_text().replace(" |\n| | | ", " ")
     for it in measures.ALL.values():
         assert f"| `{it.name}` | {it.unit} | {it.what} |" in page

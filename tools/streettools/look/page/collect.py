@@ -1,0 +1,158 @@
+"""What a page has of a trace: each cabinet's frames, local zeros, barriers, ends of greens, calls and marks.
+
+Frames are kept as they stand in the trace; all else that needs the tables in force is worked out here, as for the other
+pictures.
+"""
+
+from typing import NamedTuple
+
+from streettools.shared import answers
+from streettools.shared.answers import Cancelled, ClockNamed, Requested
+from streettools.shared.cabinet import changes, mode_of, opened
+from streettools.shared.course import Answered, Course, Ended, Input, Noted, RoundEnd
+from streettools.shared.lines import Frame
+from streettools.shared.plans import coordinated
+from streettools.shared.tables import ALL
+
+from .tables import FIELDS, Table, Words
+
+KINDS = ("note", "accepted", "refused", "clock", "priority")
+"""The kinds of marks; `parts/marks.js` has their letters."""
+
+CALLS = ("veh", "ped", "preempt")
+NOTE, ACCEPTED, REFUSED, CLOCK, PRIORITY = range(len(KINDS))
+
+
+class Shared(NamedTuple):
+    """Texts that all cabinets share: what phases and walks show together, modes, ends of greens, words of marks."""
+
+    shown: Words
+    modes: Words
+    endings: Words
+    words: Words
+
+
+def set_words(refused) -> str:
+    """Returns the words for a Set that was refused."""
+    value = "" if refused.value is None else f" = {refused.value}"
+    download = "" if refused.download is None else f", download {refused.download}"
+    return f"refused Set: {refused.object}{value}{download}, {refused.error}"
+
+
+class Story:
+    """A cabinet's tables of numbers, filled as the trace is read. `rings` tells the ring of each phase from a tick on,
+    `pairs` the coordinated phases of ring 1 and ring 2."""
+
+    def __init__(self, scenario: dict, number: int, shared: Shared):
+        self.cabinet, self.shared = opened(scenario, number), shared
+        self.tables = {name: Table(fields) for name, fields in FIELDS.items()}
+        self.side, self.rings, self.pairs = None, [], []
+        self.laid(0)
+        self.paired(0, self.opening_pair())
+
+    def opening_pair(self) -> tuple[int, int]:
+        """Returns the coordinated phases of the pattern that opens, or of the first that has such, or else 2 and 6."""
+        tables = self.cabinet.tables
+        chosen = [it for it in (self.cabinet.opening, *tables.patterns()) if it in tables.patterns()]
+        return next((pair for pair in (coordinated(tables, it) for it in chosen) if pair), (2, 6))
+
+    def laid(self, tick: int) -> None:
+        """Takes over the rings of the tables in force."""
+        tables = self.cabinet.tables
+        digits = "".join(str(tables.phase(phase, 22) if tables.option(phase, 1) else 0) for phase in ALL)
+        if not self.rings or self.rings[-1][1] != digits:
+            self.rings.append((tick, digits))
+
+    def paired(self, tick: int, pair: tuple[int, int]) -> None:
+        """Takes over coordinated phases."""
+        if not self.pairs or self.pairs[-1][1:] != pair:
+            self.pairs.append((tick, *pair))
+
+    def mark(self, tick: int, kind: int, text: str) -> None:
+        """Keeps a mark with its words."""
+        self.tables["marks"].add(tick, kind, self.shared.words.number(text))
+
+    def take(self, happening) -> None:
+        """Takes over what happened at the cabinet."""
+        match happening:
+            case Frame():
+                self.shown(happening)
+            case Input(_, tick, kind, number, on):
+                self.cabinet.sensed(happening)
+                self.tables["calls"].add(tick, CALLS.index(kind), number, int(on))
+            case Ended(_, tick, load):
+                self.ended(tick, load)
+            case Noted(_, tick, _, words):
+                self.mark(tick, NOTE, f"master notes: {words}")
+            case Answered(_, tick, _, str() as digits):
+                self.answered(tick, digits)
+
+    def ended(self, tick: int, load) -> None:
+        """Keeps the end of a download."""
+        self.cabinet.ended(load)
+        if load.version is None:
+            self.mark(tick, REFUSED, f"download {load.number} refused by rule {load.rule} in row {load.row}")
+        else:
+            self.mark(tick, ACCEPTED, f"download {load.number} accepted, version {load.version}")
+            self.laid(tick)
+
+    def answered(self, tick: int, digits: str) -> None:
+        """Keeps what a reply tells of orders, and that it refuses a Set."""
+        refused = answers.refused(digits)
+        if refused is not None:
+            self.mark(tick, REFUSED, set_words(refused))
+        for order in answers.orders(digits):
+            match order:
+                case ClockNamed(ticks) if self.cabinet.clock.named(ticks, tick):
+                    self.mark(tick, CLOCK, f"clock set to {ticks}")
+                case Requested(number, departure):
+                    self.mark(tick, PRIORITY, f"priority request {number}, departure in {departure} ticks")
+                case Cancelled(number):
+                    self.mark(tick, PRIORITY, f"priority request {number} cancelled")
+
+    def shown(self, frame: Frame) -> None:
+        """Keeps a frame, and what begins and ends with it."""
+        shared, before = self.shared, self.cabinet.frame
+        self.tables["frames"].add(
+            frame.tick, shared.shown.number(f"{frame.vehicles} {frame.pedestrians}"), shared.modes.number(frame.mode),
+            frame.counter, frame.target, frame.version,
+        )  # fmt: skip
+        if before is not None:
+            self.cycled(frame)
+            self.changed(before, frame)
+        self.cabinet.shown(frame)
+
+    def cycled(self, frame: Frame) -> None:
+        """Keeps a local zero, by how much it is late or early, and the coordinated phases of the pattern."""
+        mode = mode_of(frame.mode)
+        plan = self.cabinet.plan(mode.number) if mode.letter in "CK" else None
+        if plan:
+            self.paired(frame.tick, plan.coordinated)
+        cycle = self.cabinet.cycle(frame)
+        if cycle:
+            told, met = cycle.error is not None, self.cabinet.is_met(cycle)
+            self.tables["zeros"].add(
+                cycle.tick, cycle.pattern, int(cycle.pickup), int(told), cycle.error or 0, int(met)
+            )  # fmt: skip
+
+    def changed(self, before: Frame, frame: Frame) -> None:
+        """Keeps how greens end with a frame, and a barrier where a phase of another side turns green."""
+        for phase, was, shows in changes(before.vehicles, frame.vehicles):
+            if was == "G":
+                ending = self.shared.endings.number(self.cabinet.ending(phase, frame))
+                self.tables["greens"].add(frame.tick, phase, ending)
+            if shows == "G":
+                side = self.cabinet.side(phase)
+                if self.side not in (None, side):
+                    self.tables["barriers"].add(frame.tick)
+                self.side = side
+
+
+def collect(course: Course) -> tuple[list[Story], Shared]:
+    """Reads the trace and returns what is kept of each cabinet, and the texts that they share."""
+    shared = Shared(Words(), Words(), Words(), Words())
+    stories = [Story(course.scenario, number, shared) for number in range(1, course.cabinets + 1)]
+    for happening in course.happenings():
+        if not isinstance(happening, RoundEnd):
+            stories[happening.cabinet - 1].take(happening)
+    return stories, shared

@@ -1,0 +1,124 @@
+"""Puts a page together: its frame, its style, the drawing library, its code and its data, in one file.
+
+The library is D3 as Debian's `node-d3` packages it: it has scales, axes, zoom by wheel, pinch and drag, and searches in
+rising lists. It stands in the page whole, with its licence, so that the page needs no network.
+"""
+
+import html
+import json
+import pathlib
+import re
+from collections.abc import Iterator
+from typing import NamedTuple
+
+from streettools.shared import files
+from streettools.shared.course import Course
+from streettools.shared.status import Status
+
+from ..called import Called
+from ..fault import Fault
+from . import colours
+from .collect import CALLS, KINDS, Shared, Story, collect
+from .tables import FIELDS, packed
+
+HERE = pathlib.Path(__file__).resolve().parent / "parts"
+LIBRARY = pathlib.Path("/usr/share/nodejs/d3/dist/d3.min.js")
+LICENCE = pathlib.Path("/usr/share/doc/node-d3/copyright")
+CODE = (
+    "text", "data", "lanes", "view", "panel", "modes", "marks", "overview", "bands", "street", "calls", "rings",
+    "pointer", "ruler", "search", "fields", "link", "keys", "main",
+)  # fmt: skip
+"""The files of the page's code, in the order in which they build on each other."""
+
+
+class Asked(NamedTuple):
+    """What was asked for beside the trace: the street's cabinets in order, the ticks of travel between them or None,
+    and the seconds from midnight at which tick 0 stands, or None."""
+
+    street: list[int]
+    travel: list[int] | None
+    start: float | None
+
+
+def part(name: str) -> str:
+    """Returns a file of the page's own parts."""
+    return (HERE / name).read_text(encoding="utf-8")
+
+
+def library(path: pathlib.Path) -> str:
+    """Returns a file of the library; where it is missing, what is to be installed is told."""
+    try:
+        return path.read_text(encoding="utf-8")
+    except FileNotFoundError:
+        raise Fault(f"the drawing library is missing ({path}): apt-get install node-d3", Status.FILE) from None
+
+
+def shown_pairs(story: Story, partners: frozenset[int]) -> list[list[int]]:
+    """Returns the coordinated phases from tick to tick; for a partner stands the other one, which it is green with."""
+    found = []
+    for tick, one, other in story.pairs:
+        found.append([tick, other if one in partners else one, one if other in partners else other])
+    return found
+
+
+def cabinet_head(story: Story, names: Called) -> dict:
+    """Returns what a page says of a cabinet beside its numbers."""
+    number = story.cabinet.number
+    partners = names.partners(number)
+    preempts = {it: names.preempt(number, it) for it in range(1, 17)} if names.is_given else {}
+    return {
+        "number": number,
+        "title": names.cabinet(number),
+        "phases": {phase: names.phase(number, phase) for phase in range(1, 17) if names.phase(number, phase)},
+        "preempts": {it: words for it, words in preempts.items() if words != f"preempt {it}"},
+        "partners": sorted(partners),
+        "left_out": names.left_out(number),
+        "rings": story.rings,
+        "pairs": shown_pairs(story, partners),
+    }
+
+
+def head(course: Course, stories: list[Story], shared: Shared, names: Called, asked: Asked) -> dict:
+    """Returns all of a page that isn't a number of a table."""
+    return {
+        "title": names.title() or f"A run of {course.cabinets} cabinet{'s' * (course.cabinets > 1)}",
+        "rounds": course.rounds,
+        "ticks": course.ticks,
+        "start": asked.start,
+        "street": asked.street,
+        "travel": asked.travel,
+        "texts": {field: words.texts() for field, words in shared._asdict().items()} | {"kinds": KINDS, "calls": CALLS},
+        "colours": colours.ALL,
+        "fields": FIELDS,
+        "cabinets": [cabinet_head(it, names) for it in stories],
+    }
+
+
+def in_script(code: str) -> str:
+    """Returns code that doesn't end the element around it."""
+    return code.replace("</script", "<\\/script")
+
+
+def page(top: dict, data: str) -> Iterator[str]:
+    """Yields the parts of the file."""
+    filled = {
+        "TITLE": html.escape(top["title"]),
+        "STYLE": part("page.css"),
+        "HEAD": json.dumps(top, separators=(",", ":")).replace("<", "\\u003c"),
+        "DATA": data,
+        "LICENCE": html.escape(library(LICENCE)),
+        "LIBRARY": in_script(library(LIBRARY)),
+        "CODE": in_script("\n".join(part(f"{name}.js") for name in CODE)),
+    }
+    for place, text in enumerate(re.split(r"\{\{([A-Z]+)\}\}", part("page.html"))):
+        yield filled[text] if place % 2 else text
+
+
+def write(course: Course, names: Called, asked: Asked, path: str, finish) -> None:
+    """Reads the trace and writes its page; `finish` makes sure that the trace came to its end."""
+    stories, shared = collect(course)
+    finish(course)
+    top = head(course, stories, shared, names, asked)
+    top["counts"], data = packed([story.tables for story in stories])
+    with files.output(path) as out:
+        out.writelines(page(top, data))

@@ -1,0 +1,34 @@
+"""What every picture shares, whichever tool draws it: two colours, the style, and how a figure is written."""
+
+import pathlib
+from typing import Any
+
+import matplotlib
+
+matplotlib.use("Agg")
+from matplotlib import pyplot as plt  # noqa: E402
+
+from . import files  # noqa: E402
+
+INK, FAINT = "#22262a", "#8a9299"
+STYLE = {
+    "svg.fonttype": "none",
+    "svg.hashsalt": "arterial",
+    "font.family": "sans-serif",
+    "font.sans-serif": ["DejaVu Sans", "Arial", "Helvetica"],
+    "font.size": 9,
+    "axes.spines.top": False,
+    "axes.spines.right": False,
+    "axes.edgecolor": FAINT,
+    "savefig.dpi": 150,
+}
+UNDATED: dict[str, dict[str, Any]] = {".svg": {"Date": None}, ".pdf": {"CreationDate": None}}
+
+
+def save(drawn: Any, path: str) -> None:
+    """Writes a figure by the suffix of its file; the same figure gives the same bytes."""
+    suffix = pathlib.Path(path).suffix
+    maker = {"Software": "arterial"} if suffix == ".png" else {"Creator": "arterial"}
+    with files.whole(path) as name:
+        drawn.savefig(name, metadata=maker | UNDATED.get(suffix, {}))
+    plt.close(drawn)

@@ -1,0 +1,227 @@
+"""The trace of a session, from what was asked and answered.
+
+docs/LIVE.md, "What a session means". Nothing is worked out here: the lines are those of the answers, put in the order
+of a trace behind the S line of the scenario that results.
+"""
+
+import json
+from collections import defaultdict
+from collections.abc import Iterator
+from typing import Any, NamedTuple
+
+from .answers import fields
+
+LISTS = ("inputs", "loads", "priority", "frames", "faults")
+"""The lists of a scenario whose items have a round."""
+PASSES = {"poll": 1, "load": 2, "priority": 3}
+INPUTS, TICKS, SET = 0, 4, 0xA3
+OF_ITEM = 60
+"""How many octets more an item has in a scenario than in its request."""
+
+Runs = list[tuple[int, int]]
+"""A journal in runs of a pass and a number."""
+
+
+def item_of(request: bytes, number: int) -> tuple[str, dict[str, Any]] | None:
+    """Returns the list and the item that a request which was taken in a round adds to the scenario, None for ticks."""
+    kind, *words = request.decode("ascii").split(" ")
+    if kind == "tick":
+        return None
+    item: dict[str, Any] = {"round": number, "cabinet": int(words[0])}
+    if kind == "frame":
+        return "frames", item | {"stream": words[1], "hex": words[2].lower()}
+    item[kind] = int(words[1])
+    return "inputs", item if kind == "ped" else item | {"on": words[2] == "on"}
+
+
+def compact(scenario: dict[str, Any]) -> bytes:
+    """Returns the compact text of a scenario: names in byte order, no white space."""
+    return json.dumps(scenario, sort_keys=True, separators=(",", ":"), ensure_ascii=False).encode()
+
+
+def runs_of(line: bytes) -> Runs:
+    """Returns the runs of a J line."""
+    return [tuple(map(int, run.split(b"*"))) for run in line.split(b" ")[2:]]
+
+
+def joined(runs: Runs) -> Runs:
+    """Returns runs of which no two of one pass stand side by side, and none is empty."""
+    found: Runs = []
+    for number, count in runs:
+        if found and found[-1][0] == number:
+            count += found.pop()[1]
+        if count:
+            found.append((number, count))
+    return found
+
+
+def without_end(runs: Runs, end: Runs) -> Runs:
+    """Returns runs without those at their end."""
+    left = list(runs)
+    for number, count in reversed(end):
+        last, size = left.pop()
+        assert last == number and size >= count
+        if size > count:
+            left.append((last, size - count))
+    return left
+
+
+def is_read(request: bytes, answer: list[bytes]) -> bool:
+    """Tells whether a request is a message on the stream of priority that changes nothing: one that is met with
+    silence, or that is answered and is no Set."""
+    words = request.split(b" ")
+    if words[0] != b"frame" or words[2] != b"priority":
+        return False
+    return answer[-1].endswith(b" -") or not is_set(bytes.fromhex(words[3].decode()))
+
+
+def is_set(octets: bytes) -> bool:
+    """Tells whether a message that was answered is a Set (RFC 1157)."""
+    ((_, content),) = fields(octets)
+    _, _, (kind, _) = fields(content)
+    return kind == SET
+
+
+class Brought(NamedTuple):
+    """What a request brought in a round: to a cabinet, or to all where it is 0; the pass, how many items, and whether
+    it is kept."""
+
+    cabinet: int
+    number: int
+    count: int
+    is_kept: bool
+
+
+class SessionRecord:
+    """The lines of a session in the order of a trace, and what the session added to its scenario. A Get on the stream
+    of priority changes nothing: where reads aren't kept it is left out, with its A line and its item of the journal."""
+
+    def __init__(self, scenario: dict[str, Any], keeps_reads: bool = True) -> None:
+        self.scenario = scenario
+        self.keeps_reads = keeps_reads
+        self.number = 0
+        self.is_over = False
+        self.added: dict[str, list[dict[str, Any]]] = {"inputs": [], "frames": []}
+        self.lines: list[bytes] = []
+        self.size = self.added_size = 0
+        """The octets of the lines, and about how many those of what was added to the scenario have."""
+        self.journals: dict[int, bytes] = {}
+        self.events: dict[int, list[bytes]] = defaultdict(list)
+        self.brought: list[Brought] = []
+
+    def answered(self, request: bytes | None, answer: list[bytes]) -> bool:
+        """Takes a request and the lines of its answer without the dot; no request stands for the scenario, and for
+        the end of input. Tells whether it is kept."""
+        if any(line.startswith(b"? ") for line in answer):
+            return False
+        if request is None:
+            self.brought.append(Brought(0, TICKS, self.ticks_left(), True))
+        elif not self.is_noted(request, answer):
+            return False
+        for line in answer:
+            self.take(line)
+        return True
+
+    def is_noted(self, request: bytes, answer: list[bytes]) -> bool:
+        """Notes what a request brings; tells whether it is kept."""
+        found = item_of(request, self.number)
+        if found is None:
+            self.brought.append(Brought(0, TICKS, int(request[5:]), True))
+            return True
+        name, item = found
+        is_kept = self.keeps_reads or not is_read(request, answer)
+        number = PASSES[item["stream"]] if name == "frames" else INPUTS
+        self.brought.append(Brought(item["cabinet"], number, 1, is_kept))
+        if is_kept:
+            self.added[name].append(item)
+            self.added_size += len(request) + OF_ITEM
+        return is_kept
+
+    def ticks_left(self) -> int:
+        """Returns how many ticks of the round weren't taken yet."""
+        return self.scenario["ticks"] - sum(it.count for it in self.brought if it.cabinet == 0)
+
+    def take(self, line: bytes) -> None:
+        """Takes a line of an answer."""
+        kind, rest = line[:1], line[2:].split(b" ", 1)[0]
+        if kind in (b"R", b"Z"):
+            self.close_round()
+            self.number, self.is_over = int(rest), kind == b"Z"
+            self.add(line)
+        elif kind == b"M" or self.number == 0:
+            self.add(line)
+        elif kind == b"J":
+            self.journals[int(rest)] = line
+        else:
+            self.events[int(rest)].append(line)
+
+    def add(self, line: bytes) -> None:
+        """Adds a line to the trace."""
+        self.lines.append(line)
+        self.size += len(line) + 1
+
+    def close_round(self) -> None:
+        """Puts the lines of the round that ends in the order of a trace."""
+        dropped = {it.cabinet for it in self.brought if not it.is_kept}
+        for cabinet in sorted(self.journals):
+            self.add(self.less(cabinet) if cabinet in dropped else self.journals[cabinet])
+            for line in self.events[cabinet]:
+                self.add(line)
+        self.journals, self.events, self.brought = {}, defaultdict(list), []
+
+    def less(self, cabinet: int) -> bytes:
+        """Returns the J line of a cabinet without the reads that are left out."""
+        brought = [it for it in self.brought if it.cabinet in (0, cabinet)]
+        end = joined([(it.number, it.count) for it in brought])
+        kept = [(it.number, it.count) for it in brought if it.is_kept]
+        runs = joined(without_end(runs_of(self.journals[cabinet]), end) + kept)
+        return b"J %d %b" % (cabinet, b" ".join(b"%d*%d" % run for run in runs))
+
+    def cut(self) -> None:
+        """Ends the record with the last whole round, as where the session broke off; what came behind is left out."""
+        while self.lines and not self.lines[-1].startswith(b"R "):
+            self.lines.pop()
+        if self.lines:
+            self.lines.pop()
+        self.number -= 1
+        for name, items in self.added.items():
+            self.added[name] = [item for item in items if item["round"] <= self.number]
+        self.lines.append(b"Z %d" % self.number)
+        self.is_over = True
+
+    def resulting(self) -> dict[str, Any]:
+        """Returns the scenario that results from the rounds that there are."""
+        made = self.scenario | {"rounds": self.number}
+        for name in LISTS:
+            own = [item for item in made.get(name, ()) if item["round"] <= self.number]
+            items = own + self.added.get(name, [])
+            if name in made or items:
+                made[name] = items
+        return made
+
+    def trace(self) -> Iterator[bytes]:
+        """Yields the lines of the trace of a session that is over, each with its newline."""
+        yield b"S " + compact(self.resulting()) + b"\n"
+        for line in self.lines:
+            yield line + b"\n"
+
+
+def answers_of(output: bytes) -> list[list[bytes]]:
+    """Returns the answers of a session, each as its lines without the dot."""
+    answers: list[list[bytes]] = [[]]
+    for line in output.split(b"\n")[:-1]:
+        if line == b".":
+            answers.append([])
+        else:
+            answers[-1].append(line)
+    return answers[:-1]
+
+
+def trace_of_session(dialogue: bytes, output: bytes, keeps_reads: bool = True) -> bytes:
+    """Returns the trace of a session by its whole input and its whole output."""
+    first, *requests = dialogue.split(b"\n")
+    record = SessionRecord(json.loads(first), keeps_reads)
+    asked = [None, *requests[:-1], None]
+    for request, answer in zip(asked, answers_of(output)):
+        record.answered(request, answer)
+    return b"".join(record.trace())

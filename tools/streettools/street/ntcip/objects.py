@@ -1,0 +1,192 @@
+"""The objects that the front answers itself, beside those of the cabinet.
+
+Names and numbers are those of the public standards as they are known here: MIB-2's system group (RFC 3418), NTCIP 1201
+and NTCIP 1202. Where that is in doubt docs/CLIENTS.md says so.
+"""
+
+import calendar
+import time
+from collections.abc import Awaitable, Callable
+from dataclasses import dataclass, field
+
+from ...cabinet.messages import NAME, name_of
+from ..street import Street
+from .pdus import Arcs, Value, fields, text, whole
+from .side import Side
+
+ASC, GLOBAL, OWN = (1, 3, 6, 1, 4, 1, 1206, 4, 2, 1), (1, 3, 6, 1, 4, 1, 1206, 4, 2, 6), (1, 3, 6, 1, 4, 1, 32473, 1)
+SYSTEM = (1, 3, 6, 1, 2, 1, 1)
+TIME_TICKS, COUNTER = 0x43, 0x41
+CONTROL, STATUS, CLOCK = ASC + (4, 14, 0), ASC + (4, 10, 0), OWN + (2, 1, 0)
+COUNTER_OF_CYCLE, MODE = OWN + (2, 2, 0), OWN + (2, 4, 0)
+GLOBAL_TIME, TRANSACTION = GLOBAL + (3, 1, 0), GLOBAL + (2, 1, 0)
+VERIFY_STATUS, VERIFY_ERROR = GLOBAL + (2, 6, 0), GLOBAL + (2, 7, 0)
+PHASE_CONTROL, PREEMPT_CONTROL, DETECTOR_GROUP = ASC + (1, 5, 1), ASC + (6, 3, 1), ASC + (2, 4, 1)
+VEH_CALL, PED_CALL = PHASE_CONTROL + (6,), PHASE_CONTROL + (7,)
+PREEMPT_STATE = PREEMPT_CONTROL + (2,)
+FLASH, COORD, SEEK = 6, 4, 3
+DAY = 86_400
+
+
+@dataclass
+class Inputs:
+    """What management software has put in at a cabinet: the bits of calls by group, and the preempts that are on."""
+
+    vehicles: list[int] = field(default_factory=lambda: [0, 0])
+    people: list[int] = field(default_factory=lambda: [0, 0])
+    preempts: set[int] = field(default_factory=set)
+
+
+@dataclass
+class Front:
+    """What the front keeps of a cabinet."""
+
+    street: Street
+    side: Side
+    midnight: int = field(default_factory=lambda: calendar.timegm(time.gmtime()) // DAY * DAY)
+    """The seconds at which the cabinet's day began, as globalTime counts them."""
+    inputs: Inputs = field(default_factory=Inputs)
+    state: int = 1
+    verified: int = 1
+    error: bytes = b""
+
+
+Read = Callable[[Front], Awaitable[Value]]
+
+
+def constant(value: Value) -> Read:
+    """Returns what reads a value that doesn't change."""
+
+    async def read(front: Front) -> Value:
+        return value
+
+    return read
+
+
+def kept(told: Callable[[Front], Value]) -> Read:
+    """Returns what reads a value that the front keeps."""
+
+    async def read(front: Front) -> Value:
+        return told(front)
+
+    return read
+
+
+async def up_time(front: Front) -> Value:
+    """Returns the hundredths of a second since the session began."""
+    return Value(TIME_TICKS, whole(10 * front.street.session.taken).content)
+
+
+async def global_time(front: Front) -> Value:
+    """Returns the cabinet's clock as seconds since 1970."""
+    (clock,) = await front.side.numbers(CLOCK)
+    return Value(COUNTER, whole(front.midnight + clock // 10).content)
+
+
+async def flash_status(front: Front) -> Value:
+    """Returns notFlash (2) or automatic (3)."""
+    (mode,) = await front.side.numbers(MODE)
+    return whole(3 if mode == FLASH else 2)
+
+
+async def free_status(front: Front) -> Value:
+    """Returns notFree (2), commandFree (3), transitionFree (4) or other (1)."""
+    mode, command = await front.side.numbers(MODE, CONTROL)
+    if mode == COORD:
+        return whole(2)
+    if mode == SEEK:
+        return whole(4)
+    return whole(3 if command in (0, 254) else 1)
+
+
+async def sync_status(front: Front) -> Value:
+    """Returns the whole seconds since local zero."""
+    (counter,) = await front.side.numbers(COUNTER_OF_CYCLE)
+    return whole(counter // 10)
+
+
+async def cycle_status(front: Front) -> Value:
+    """Returns the whole seconds that are left of the cycle, 0 where no pattern runs."""
+    pattern, counter = await front.side.numbers(STATUS, COUNTER_OF_CYCLE)
+    if not 1 <= pattern <= 48:
+        return whole(0)
+    (cycle,) = await front.side.numbers(ASC + (4, 7, 1, 2, pattern))
+    return whole(max(0, cycle - counter // 10))
+
+
+def scalars() -> dict[Arcs, Read]:
+    """Returns the scalar objects."""
+    words = {
+        SYSTEM + (1, 0): text(b"arterial, a simulated signal cabinet"),
+        SYSTEM + (2, 0): Value(NAME, name_content(OWN)),
+        SYSTEM + (4, 0): text(b""),
+        SYSTEM + (5, 0): text(b"cabinet"),
+        SYSTEM + (6, 0): text(b""),
+        SYSTEM + (7, 0): whole(72),
+        GLOBAL + (1, 1, 0): whole(0),
+        GLOBAL + (1, 2, 0): whole(1),
+        ASC + (1, 1, 0): whole(16),
+        ASC + (1, 3, 0): whole(2),
+        ASC + (2, 1, 0): whole(16),
+        ASC + (2, 3, 0): whole(2),
+        ASC + (3, 5, 0): whole(2),
+        ASC + (4, 5, 0): whole(48),
+        ASC + (4, 8, 0): whole(16),
+        ASC + (6, 1, 0): whole(8),
+        ASC + (7, 1, 0): whole(2),
+        ASC + (7, 2, 0): whole(16),
+    }
+    made = {name: constant(value) for name, value in words.items()}
+    made |= {SYSTEM + (3, 0): up_time, GLOBAL_TIME: global_time, ASC + (3, 6, 0): flash_status}
+    made |= {ASC + (4, 11, 0): free_status, ASC + (4, 12, 0): cycle_status, ASC + (4, 13, 0): sync_status}
+    made[TRANSACTION] = kept(lambda front: whole(front.state))
+    made[VERIFY_STATUS] = kept(lambda front: whole(front.verified))
+    made[VERIFY_ERROR] = kept(lambda front: text(front.error))
+    return made
+
+
+def name_content(arcs: Arcs) -> bytes:
+    """Returns the content of a name."""
+    ((_, content),) = fields(name_of(arcs))
+    return content
+
+
+def modules() -> dict[Arcs, Read]:
+    """Returns the row of the one module: number, node, make, model, version, type (software)."""
+    row = [whole(1), Value(NAME, name_content(ASC)), text(b"arterial"), text(b"bench"), text(b"0.8"), whole(3)]
+    return {GLOBAL + (1, 3, 1, column, 1): constant(value) for column, value in enumerate(row, 1)}
+
+
+def calls() -> dict[Arcs, Read]:
+    """Returns the groups by which calls are put in, and those that show detectors."""
+    made: dict[Arcs, Read] = {}
+    for group in (1, 2):
+        made[PHASE_CONTROL + (1, group)] = constant(whole(group))
+        made[VEH_CALL + (group,)] = kept(lambda front, at=group - 1: whole(front.inputs.vehicles[at]))
+        made[PED_CALL + (group,)] = kept(lambda front, at=group - 1: whole(front.inputs.people[at]))
+        made[DETECTOR_GROUP + (1, group)] = constant(whole(group))
+        made[DETECTOR_GROUP + (2, group)] = kept(lambda front, at=group - 1: whole(front.inputs.vehicles[at]))
+        made[DETECTOR_GROUP + (3, group)] = constant(whole(0))
+    return made
+
+
+def preempts() -> dict[Arcs, Read]:
+    """Returns the states of the inputs of preempts."""
+    made: dict[Arcs, Read] = {PREEMPT_CONTROL + (1, n): constant(whole(n)) for n in range(1, 9)}
+    for n in range(1, 9):
+        made[PREEMPT_STATE + (n,)] = kept(lambda front, n=n: whole(int(n in front.inputs.preempts)))
+    return made
+
+
+OBJECTS: dict[Arcs, Read] = {**scalars(), **modules(), **calls(), **preempts()}
+ORDER = sorted(OBJECTS)
+WRITABLE = {GLOBAL_TIME, TRANSACTION}
+WRITABLE |= {column + (group,) for column in (VEH_CALL, PED_CALL) for group in (1, 2)}
+WRITABLE |= {PREEMPT_STATE + (n,) for n in range(1, 9)}
+TABLES = [ASC + it for it in ((1, 2, 1), (4, 7, 1), (4, 9, 1), (6, 2, 1), (7, 3, 1))]
+UNIT = [ASC + (4, 2, 0), *(OWN + (3, n, 0) for n in range(1, 8))]
+
+
+def is_cell(name: Arcs) -> bool:
+    """Tells whether a name is one of a cell of the tables."""
+    return name in UNIT or any(name[: len(table)] == table for table in TABLES)

@@ -1,0 +1,46 @@
+"""How time goes on: by a clock that nobody sets, at some speed, or by steps."""
+
+import time
+from collections.abc import Callable
+
+TICKS_A_SECOND = 10
+MOST_BEHIND = 600
+"""How many ticks are made up for at most after the machine stood still; what is more is left out."""
+
+
+class Pace:
+    """Says how many ticks are due. With speed 0 time stands, but for the steps that are asked for."""
+
+    def __init__(self, speed: float, now: Callable[[], float] = time.monotonic) -> None:
+        self.speed = speed
+        self.now = now
+        self.since = now()
+        self.rest = 0.0
+        self.steps = 0
+
+    def due(self) -> int:
+        """Returns how many ticks are due since this was asked last."""
+        now = self.now()
+        self.rest += (now - self.since) * TICKS_A_SECOND * self.speed
+        self.since = now
+        whole = int(self.rest)
+        self.rest -= whole
+        count, self.steps = min(whole, max(MOST_BEHIND, int(MOST_BEHIND * self.speed))) + self.steps, 0
+        return count
+
+    def wait(self) -> float:
+        """Returns in how many seconds the next tick is due; a quarter of a second where time stands."""
+        return (1 - self.rest) / (TICKS_A_SECOND * self.speed) if self.speed else 0.25
+
+    def restart(self) -> None:
+        """Lets time go on from now; what went by before makes nothing due."""
+        self.since = self.now()
+
+    def set(self, speed: float) -> None:
+        """Lets time go on at another speed from now on; what was due until now stays due."""
+        self.steps += self.due()
+        self.speed = speed
+
+    def step(self, count: int) -> None:
+        """Makes so many ticks due at once."""
+        self.steps += count

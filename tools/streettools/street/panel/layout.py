@@ -1,0 +1,64 @@
+"""What a page must know of a cabinet's tables: its rings, and its patterns laid out.
+
+By the tables with which the cabinet opens and the downloads of the scenario; a download of other software is told by
+the version alone.
+"""
+
+from typing import Any
+
+from ...shared.plans import plan
+from ...shared.tables import Tables
+
+Facts = dict[str, Any]
+
+
+def sides(tables: Tables) -> list[list[int]]:
+    """Returns the enabled phases by sides of the barrier, each side once."""
+    found: list[list[int]] = []
+    for phase in tables.enabled():
+        side = sorted(tables.side(phase))
+        if side and side not in found and not any(phase in other for other in found):
+            found.append(side)
+    return found
+
+
+def rings(tables: Tables) -> list[list[int]]:
+    """Returns the enabled phases of each ring in the order of sequence 1."""
+    enabled = tables.enabled()
+    found = []
+    for ring in (1, 2):
+        order = [phase for phase in tables.sequence(1, ring) if phase in enabled]
+        found.append(order + [it for it in enabled if tables.phase(it, 22) == ring and it not in order])
+    return found
+
+
+def pattern_facts(tables: Tables, number: int) -> Facts | None:
+    """Returns a pattern laid out, None where it can't be."""
+    try:
+        laid = plan(tables, number)
+    except (KeyError, ValueError, TypeError):
+        return None
+    if laid is None:
+        return None
+    return {"cycle": laid.cycle, "offset": laid.offset, "coordinated": list(laid.coordinated), "force": laid.force}
+
+
+def facts(number: int, tables: Tables) -> Facts:
+    """Returns what a page must know of a cabinet."""
+    patterns = {it: laid for it in tables.patterns() if (laid := pattern_facts(tables, it))}
+    return {
+        "number": number,
+        "phases": tables.enabled(),
+        "rings": rings(tables),
+        "sides": sides(tables),
+        "patterns": patterns,
+        "times": {p: [tables.phase(p, 4) * 10, tables.phase(p, 6) * 10] for p in tables.enabled()},
+    }
+
+
+def street_facts(scenario: dict[str, Any]) -> list[Facts]:
+    """Returns the facts of all cabinets."""
+    return [
+        facts(number, Tables(setup.get("base", "std8"), setup.get("cells", ())))
+        for number, setup in enumerate(scenario["cabinets"], 1)
+    ]

@@ -1,0 +1,356 @@
+// The panel's page: it keeps what the street tells it, draws it, and asks for what is switched.
+"use strict";
+
+const COLOURS = { G: "green", Y: "yellow change", C: "red clearance", R: "red" };
+const SIGNALS = { W: "walk", F: "flashing don't walk", D: "don't walk" };
+const STAGES = { e: "on the way", t: "track clearance", d: "dwell", x: "exit" };
+const KEPT = 200;
+const known = { facts: [], cabinets: {}, now: 0, speed: 1, inputs: new Set(), rates: {}, greens: {}, details: {} };
+const by = (id) => document.getElementById(id);
+let socket = null;
+let viewed = 0;
+let resumed = 1;
+
+function made(kind, classes, text) {
+  const it = document.createElement(kind);
+  if (classes) it.className = classes;
+  if (text !== undefined) it.textContent = text;
+  return it;
+}
+
+function put(element, text) {
+  if (element.textContent !== text) element.textContent = text;
+}
+
+function seconds(ticks) {
+  return (ticks / 10).toFixed(1) + " s";
+}
+
+function clock(ticks) {
+  const all = Math.floor(ticks / 10);
+  const parts = [Math.floor(all / 3600), Math.floor(all / 60) % 60, all % 60];
+  return parts.map((it) => String(it).padStart(2, "0")).join(":") + "." + (ticks % 10);
+}
+
+function modeText(mode) {
+  const number = (mode.match(/\d+/) || [""])[0];
+  const words = { S: "start-up", F: "free", X: "flash", E: "on the way to flash" };
+  Object.assign(words, { K: `seeks pattern ${number}`, C: `pattern ${number}` });
+  return mode[0] === "P" ? `preempt ${number}, ${STAGES[mode.slice(-1)]}` : words[mode[0]];
+}
+
+function ask(order) {
+  if (socket && socket.readyState === WebSocket.OPEN) socket.send(JSON.stringify(order));
+}
+
+// what the street tells
+
+function shownOf(row) {
+  const [tick, vehicles, pedestrians, mode, counter, target, version, since, pedSince] = row;
+  return { tick, vehicles, pedestrians, mode, counter, target, version, since, pedSince };
+}
+
+function take(told) {
+  if (told.facts) {
+    known.facts = told.facts;
+    build();
+  }
+  if (told.all) clearLists();
+  if (told.now !== undefined) known.now = told.now;
+  for (const [number, row] of Object.entries(told.cabinets || {})) known.cabinets[number] = shownOf(row);
+  if (told.speed !== undefined) {
+    known.speed = told.speed;
+    known.inputs = new Set(told.inputs);
+    known.rates = told.rates;
+    showTime(told);
+  }
+  if (told.details) known.details = told.details;
+  if (told.greens) {
+    known.greens = told.greens;
+    drawDiagram(known);
+  }
+  (told.notes || []).forEach(addNote);
+  (told.messages || []).forEach(addMessage);
+  show();
+}
+
+function clearLists() {
+  by("notes").replaceChildren();
+  by("messages").tBodies[0].replaceChildren();
+}
+
+function addNote([tick, text]) {
+  const list = by("notes");
+  list.prepend(made("li", "", `${clock(tick)} ${text}`));
+  while (list.children.length > KEPT) list.lastChild.remove();
+}
+
+function addMessage([tick, cabinet, asked, answered]) {
+  const body = by("messages").tBodies[0];
+  const row = made("tr");
+  for (const text of [clock(tick), cabinet, asked, answered]) row.append(made("td", "", text));
+  body.prepend(row);
+  while (body.children.length > KEPT) body.lastChild.remove();
+}
+
+function showTime(told) {
+  const stands = known.speed === 0;
+  by("pause").setAttribute("aria-pressed", String(stands));
+  put(by("pause"), stands ? "Go on" : "Pause");
+  if (!stands) {
+    resumed = known.speed;
+    if (document.activeElement !== by("speed")) showSpeed(String(known.speed));
+  }
+  if (told.ending) showEnding(told.ending);
+}
+
+function showSpeed(text) {
+  const select = by("speed");
+  if (![...select.options].some((it) => it.value === text)) select.append(new Option(text, text));
+  select.value = text;
+}
+
+function showEnding(text) {
+  by("ending").hidden = false;
+  put(by("ending"), text);
+}
+
+// the street
+
+function lamp(letter, name, label) {
+  const it = made("span", `lamp ${letter}`, `${name}${letter}`);
+  it.setAttribute("aria-label", label);
+  return it;
+}
+
+function buildCards() {
+  const cards = known.facts.map((facts) => {
+    const card = made("a", "card");
+    card.href = `#${facts.number}`;
+    card.append(made("strong", "", `Cabinet ${facts.number}`), made("span", "mode"), made("div", "lamps"));
+    card.querySelector(".mode").before(" ");
+    return card;
+  });
+  by("cards").replaceChildren(...cards);
+}
+
+function showCard(facts) {
+  const shown = known.cabinets[facts.number];
+  const card = by("cards").children[facts.number - 1];
+  if (!shown || card.dataset.tick === String(shown.tick)) return;
+  card.dataset.tick = shown.tick;
+  put(card.querySelector(".mode"), modeText(shown.mode));
+  const lamps = facts.phases.map((p) => lamp(shown.vehicles[p - 1], p, `phase ${p} ${COLOURS[shown.vehicles[p - 1]]}`));
+  card.querySelector(".lamps").replaceChildren(...lamps);
+}
+
+// one cabinet
+
+function phaseBox(p) {
+  const box = made("div", "phase");
+  box.id = `box-${p}`;
+  box.append(made("b", "", `Phase ${p}`), made("span", "interval"));
+  return box;
+}
+
+function buildRings(facts) {
+  const rings = facts.rings.map((phases, at) => {
+    const ring = made("div", "ring");
+    ring.append(made("span", "name", `Ring ${at + 1}`));
+    const sides = [];
+    for (const p of phases) {
+      const side = facts.sides.findIndex((it) => it.includes(p));
+      if (!sides.length || sides[sides.length - 1].side !== side) {
+        sides.push({ side, element: made("div", "side") });
+      }
+      sides[sides.length - 1].element.append(phaseBox(p));
+    }
+    ring.append(...sides.map((it) => it.element));
+    return ring;
+  });
+  by("rings").replaceChildren(...rings);
+}
+
+function button(text, id, pressed) {
+  const it = made("button", "", text);
+  it.type = "button";
+  it.id = id;
+  if (pressed) it.setAttribute("aria-pressed", "false");
+  return it;
+}
+
+function cell(...content) {
+  const it = made("td");
+  it.append(...content);
+  return it;
+}
+
+function phaseRow(p) {
+  const row = made("tr");
+  const name = made("th", "", String(p));
+  name.scope = "row";
+  const hold = button("Hold", `hold-${p}`, true);
+  const pulse = button("Pulse", `pulse-${p}`);
+  const rate = made("input");
+  Object.assign(rate, { type: "number", min: 0, max: 3600, step: 50, value: 0, id: `rate-${p}` });
+  const push = button("Push", `push-${p}`);
+  const labels = ["hold the detector of", "a vehicle on", "vehicles an hour on", "push the button of"];
+  [hold, pulse, rate, push].forEach((it, at) => it.setAttribute("aria-label", `${labels[at]} phase ${p}`));
+  hold.addEventListener("click", () => toggle("veh", p));
+  pulse.addEventListener("click", () => ask({ do: "pulse", cabinet: viewed, phase: p }));
+  rate.addEventListener("change", () => {
+    ask({ do: "rate", cabinet: viewed, phase: p, rate: Math.round(Number(rate.value)) });
+  });
+  push.addEventListener("click", () => ask({ do: "input", kind: "ped", cabinet: viewed, place: p }));
+  const calls = cell();
+  calls.id = `calls-${p}`;
+  const lamps = [cell(), cell()];
+  lamps[0].id = `vehicles-${p}`;
+  lamps[1].id = `people-${p}`;
+  row.append(name, ...lamps, calls, cell(hold, " ", pulse), cell(rate), cell(push));
+  return row;
+}
+
+function toggle(kind, place) {
+  const on = !known.inputs.has(`${kind} ${viewed} ${place}`);
+  ask({ do: "input", kind, cabinet: viewed, place, on });
+}
+
+function buildCabinet() {
+  const facts = known.facts[viewed - 1];
+  if (!facts) return;
+  put(by("cabinet-title"), `Cabinet ${viewed}`);
+  buildRings(facts);
+  by("phases").tBodies[0].replaceChildren(...Array.from({ length: 16 }, (_, at) => phaseRow(at + 1)));
+  const preempts = Array.from({ length: 8 }, (_, at) => {
+    const it = button(`Preempt ${at + 1}`, `preempt-${at + 1}`, true);
+    it.addEventListener("click", () => toggle("preempt", at + 1));
+    return it;
+  });
+  by("preempts").replaceChildren(...preempts);
+}
+
+function factRows(shown, details) {
+  const pattern = (known.facts[viewed - 1].patterns || {})[details.status] || {};
+  const now = (value) => (value === undefined ? "–" : value);
+  const command = { 0: "0: free", 254: "254: free", 255: "255: flash" }[details.command] || now(details.command);
+  return [
+    ["Mode", modeText(shown.mode)],
+    ["Pattern in command", String(command)],
+    ["Counter", details.counter === undefined ? "–" : seconds(details.counter)],
+    ["Target", details.target === undefined ? "–" : seconds(details.target)],
+    ["Cycle and offset", pattern.cycle ? `${seconds(pattern.cycle)}, ${seconds(pattern.offset)}` : "–"],
+    ["Clock", details.clock === undefined ? "–" : clock(details.clock)],
+    ["Tables", `version ${shown.version}`],
+  ];
+}
+
+function showFacts(shown) {
+  const details = known.details.cabinet === viewed ? known.details : {};
+  const list = by("facts");
+  factRows(shown, details).forEach(([name, text], at) => {
+    if (!list.children[at]) {
+      const pair = made("div");
+      pair.append(made("dt", "", name), made("dd"));
+      list.append(pair);
+    }
+    put(list.children[at].lastChild, text);
+  });
+}
+
+function isCalled(p, kind) {
+  const details = known.details.cabinet === viewed ? known.details : {};
+  return Boolean(((details[`${kind}${p > 8 ? 2 : 1}`] || 0) >> ((p - 1) % 8)) & 1);
+}
+
+function showLamp(id, letter, words, ticks) {
+  const place = by(id);
+  if (place.dataset.letter !== letter) {
+    place.dataset.letter = letter;
+    place.replaceChildren(lamp(letter, "", words[letter]), " ", made("span"));
+  }
+  put(place.lastChild, seconds(ticks));
+}
+
+function press(id, on) {
+  by(id).setAttribute("aria-pressed", String(on));
+}
+
+function showPhase(p, shown) {
+  const letter = shown.vehicles[p - 1];
+  const ticks = known.now - shown.since[p - 1];
+  const box = by(`box-${p}`);
+  if (box) {
+    box.className = `phase ${letter}`;
+    const walk = shown.pedestrians[p - 1];
+    const signal = walk === "D" ? "" : `, ${SIGNALS[walk]}`;
+    put(box.querySelector(".interval"), `${COLOURS[letter]} ${seconds(ticks)}${signal}`);
+  }
+  showLamp(`vehicles-${p}`, letter, COLOURS, ticks);
+  showLamp(`people-${p}`, shown.pedestrians[p - 1], SIGNALS, known.now - shown.pedSince[p - 1]);
+  const calls = [isCalled(p, "vehicles") ? "vehicle" : "", isCalled(p, "people") ? "person" : ""].filter(Boolean);
+  put(by(`calls-${p}`), calls.join(", "));
+  press(`hold-${p}`, known.inputs.has(`veh ${viewed} ${p}`));
+  const rate = by(`rate-${p}`);
+  if (document.activeElement !== rate) rate.value = String(known.rates[`${viewed} ${p}`] || 0);
+}
+
+function showCabinet() {
+  const shown = known.cabinets[viewed];
+  if (!shown || !by("hold-1")) return;
+  showFacts(shown);
+  for (let p = 1; p <= 16; p += 1) showPhase(p, shown);
+  for (let n = 1; n <= 8; n += 1) press(`preempt-${n}`, known.inputs.has(`preempt ${viewed} ${n}`));
+}
+
+// all
+
+function build() {
+  buildCards();
+  buildCabinet();
+}
+
+function show() {
+  put(by("time"), clock(known.now));
+  if (viewed) showCabinet();
+  else known.facts.forEach(showCard);
+}
+
+function look() {
+  viewed = Number(location.hash.slice(1)) || 0;
+  if (viewed > known.facts.length && known.facts.length) viewed = 0;
+  by("overview").hidden = viewed !== 0;
+  by("cabinet").hidden = viewed === 0;
+  by("facts").replaceChildren();
+  known.details = {};
+  ask({ do: "view", cabinet: viewed });
+  if (viewed) buildCabinet();
+  show();
+}
+
+function connect() {
+  socket = new WebSocket(`${location.protocol === "https:" ? "wss" : "ws"}://${location.host}/feed`);
+  socket.addEventListener("open", () => {
+    by("ending").hidden = true;
+    ask({ do: "view", cabinet: viewed });
+  });
+  socket.addEventListener("message", (event) => take(JSON.parse(event.data)));
+  socket.addEventListener("close", () => {
+    if (by("ending").hidden) showEnding("The street doesn't answer. This page tries again.");
+    setTimeout(connect, 2000);
+  });
+}
+
+by("pause").addEventListener("click", () => ask({ do: "speed", speed: known.speed === 0 ? resumed : 0 }));
+by("tick").addEventListener("click", () => ask({ do: "step", ticks: 1 }));
+by("second").addEventListener("click", () => ask({ do: "step", ticks: 10 }));
+by("speed").addEventListener("change", () => ask({ do: "speed", speed: Number(by("speed").value) }));
+for (const id of ["travel", "minutes", "outbound", "inbound"]) {
+  by(id).addEventListener("change", () => drawDiagram(known));
+}
+window.addEventListener("hashchange", look);
+viewed = Number(location.hash.slice(1)) || 0;
+by("overview").hidden = viewed !== 0;
+by("cabinet").hidden = viewed === 0;
+by("no-drawing").hidden = typeof d3 !== "undefined";
+connect();

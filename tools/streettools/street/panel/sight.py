@@ -1,0 +1,159 @@
+"""What a street shows, kept for pages: each cabinet's last frame, its greens, the master's notes, the messages."""
+
+import collections
+from dataclasses import dataclass, field
+from typing import Any
+
+from ..session import Answer, Died
+from ..street import Hearer
+from .layout import street_facts
+from .names import answered_text, asked_text
+
+DARK = "R" * 16
+DONT = "D" * 16
+KEPT_TICKS = 12_000
+"""For how many ticks greens are kept for the coordination diagram."""
+KEPT_LINES = 200
+"""How many notes and messages are kept."""
+NOTES = {"fail": "fails", "good": "is good again"}
+
+
+@dataclass
+class Shown:
+    """What a cabinet shows since the tick of its last frame line."""
+
+    tick: int = 0
+    vehicles: str = DARK
+    pedestrians: str = DONT
+    mode: str = "S"
+    counter: int = 0
+    target: int = 0
+    version: int = 0
+    since: list[int] = field(default_factory=lambda: [0] * 16)
+    ped_since: list[int] = field(default_factory=lambda: [0] * 16)
+    greens: collections.deque = field(default_factory=lambda: collections.deque(maxlen=4000))
+    """Greens that are over: phase, first tick, tick behind the last."""
+    changed: int = 0
+
+    def take(self, words: list[str]) -> None:
+        """Takes over a frame line, by its words behind the cabinet."""
+        tick, vehicles, pedestrians = int(words[0]), words[1], words[2]
+        for at in range(16):
+            if vehicles[at] != self.vehicles[at]:
+                if self.vehicles[at] == "G":
+                    self.greens.append((at + 1, self.since[at], tick))
+                self.since[at] = tick
+            if pedestrians[at] != self.pedestrians[at]:
+                self.ped_since[at] = tick
+        self.tick, self.vehicles, self.pedestrians, self.mode = tick, vehicles, pedestrians, words[3]
+        self.counter, self.target, self.version = map(int, words[4:7])
+
+    def row(self) -> list[Any]:
+        """Returns what a page is told of it."""
+        return [self.tick, self.vehicles, self.pedestrians, self.mode, self.counter, self.target, self.version,
+                self.since, self.ped_since]  # fmt: skip
+
+
+def note_text(line: str) -> str:
+    """Returns an M or an L line in words."""
+    _, cabinet, *words = line.split(" ")
+    if line[0] == "L":
+        end = (
+            f"in force as version {words[2]}" if words[1] == "accepted" else f"breaks rule {words[2]} at row {words[3]}"
+        )
+        return f"cabinet {cabinet}: download {words[0]} {end}"
+    if words[0] == "pattern":
+        return f"cabinet {cabinet} has acknowledged pattern {words[1]}"
+    if words[0] == "load":
+        end = "is in force" if words[2] == "done" else f"was refused, status {words[3]} index {words[4]}"
+        return f"cabinet {cabinet}: the master's download {words[1]} {end}"
+    return f"cabinet {cabinet} {NOTES[words[0]]}"
+
+
+class Sight(Hearer):
+    """All that pages show. What changes gets the next number, so that a page can be told what it doesn't know yet."""
+
+    def __init__(self) -> None:
+        self.scenario: dict[str, Any] = {}
+        self.facts: list[dict[str, Any]] = []
+        self.cabinets: list[Shown] = []
+        self.ticks = self.round = self.change = self.sessions = 0
+        self.notes: collections.deque = collections.deque(maxlen=KEPT_LINES)
+        self.messages: collections.deque = collections.deque(maxlen=KEPT_LINES)
+        self.inputs: dict[str, bool] = {}
+        self.ending: str | None = None
+        self.own: set[bytes] = set()
+        """Requests of the panel's own that are under way: they aren't shown as messages."""
+
+    def began(self, scenario: dict[str, Any]) -> None:
+        self.sessions += 1
+        self.scenario, self.facts = scenario, street_facts(scenario)
+        self.cabinets = [Shown() for _ in scenario["cabinets"]]
+        self.ticks = self.round = 0
+        self.inputs = {}
+
+    def heard(self, request: bytes | None, answer: Answer) -> None:
+        if request is not None and request.startswith(b"tick "):
+            self.ticks += int(request[5:])
+        elif request is not None and not answer_refuses(answer):
+            self.asked(request, answer)
+        for line in answer:
+            self.take(line.decode("ascii"))
+
+    def asked(self, request: bytes, answer: Answer) -> None:
+        """Keeps a message or an input."""
+        words = request.decode("ascii").split(" ")
+        if words[0] in ("veh", "preempt"):
+            self.inputs[" ".join(words[:3])] = words[3] == "on"
+        elif words[0] == "frame" and request not in self.own:
+            digits = answer[-1].rsplit(b" ", 1)[1].decode()
+            self.change += 1
+            self.messages.append((self.change, self.ticks, int(words[1]), words[3], digits))
+
+    def take(self, line: str) -> None:
+        """Takes a line of an answer."""
+        if line[0] == "F":
+            cabinet, *words = line[2:].split(" ")
+            self.change += 1
+            shown = self.cabinets[int(cabinet) - 1]
+            shown.take(words)
+            shown.changed = self.change
+        elif line[0] == "R":
+            self.round = int(line[2:])
+        elif line[0] in "ML":
+            self.change += 1
+            self.notes.append((self.change, self.ticks, note_text(line)))
+
+    def ended(self, died: Died | None) -> None:
+        self.ending = f"the program ended: {died}" if died else None
+
+    def news(self, known: int) -> dict[str, Any]:
+        """Returns what has changed since a page knew so much."""
+        return {
+            "now": self.ticks,
+            "round": self.round,
+            "session": self.sessions,
+            "cabinets": {n: it.row() for n, it in enumerate(self.cabinets, 1) if it.changed > known or not known},
+            "notes": [it[1:] for it in self.notes if it[0] > known],
+            "messages": [message_row(it) for it in self.messages if it[0] > known],
+        }
+
+    def greens(self) -> dict[int, list[tuple[int, int, int]]]:
+        """Returns the greens of each cabinet's coordinated phases that are over and not long ago."""
+        found = {}
+        for number, (shown, facts) in enumerate(zip(self.cabinets, self.facts), 1):
+            wanted = {p for laid in facts["patterns"].values() for p in laid["coordinated"]}
+            found[number] = [it for it in shown.greens if it[0] in wanted and it[2] > self.ticks - KEPT_TICKS]
+        return found
+
+
+def answer_refuses(answer: Answer) -> bool:
+    """Tells whether a request couldn't be taken."""
+    return bool(answer) and answer[0].startswith(b"? ")
+
+
+def message_row(it: tuple[int, int, int, str, str]) -> list[Any]:
+    """Returns a message in words: tick, cabinet, what was asked, what was answered."""
+    _, tick, cabinet, asked, digits = it
+    reply = None if digits == "-" else bytes.fromhex(digits)
+    return [tick, cabinet, asked_text(bytes.fromhex(asked)), answered_text(reply)]

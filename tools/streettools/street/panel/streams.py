@@ -1,0 +1,61 @@
+"""Vehicles that come by chance: so many an hour onto a detector."""
+
+import random
+from dataclasses import dataclass
+
+HOUR = 36_000
+STAYS = 8
+"""For how many ticks a vehicle is on its detector."""
+MOST = 3600
+"""The most vehicles an hour."""
+
+
+@dataclass
+class Stream:
+    """Vehicles on a detector: when the next comes, and when the one that is there leaves."""
+
+    rate: int
+    next: float
+    leaves: int | None = None
+
+
+class Streams:
+    """The streams of a street, by cabinet and phase."""
+
+    def __init__(self, seed: int | None = None) -> None:
+        self.draw = random.Random(seed)
+        self.of: dict[tuple[int, int], Stream] = {}
+
+    def set(self, cabinet: int, phase: int, rate: int, now: int) -> None:
+        """Lets so many vehicles an hour come from now on; with 0 none."""
+        if rate:
+            self.of[cabinet, phase] = Stream(rate, now + self.gap(rate))
+        elif (cabinet, phase) in self.of:
+            self.of[cabinet, phase].rate = 0
+
+    def restart(self) -> None:
+        """Begins anew at tick 0, where no vehicle is on a detector."""
+        for it in self.of.values():
+            it.next, it.leaves = self.gap(it.rate) if it.rate else 0, None
+
+    def gap(self, rate: int) -> float:
+        """Draws the ticks until the next vehicle, at least those for which one stays and one more."""
+        return max(STAYS + 1, self.draw.expovariate(rate / HOUR))
+
+    def rates(self) -> dict[str, int]:
+        """Returns the vehicles an hour of each stream."""
+        return {f"{cabinet} {phase}": it.rate for (cabinet, phase), it in self.of.items() if it.rate}
+
+    def due(self, now: int) -> list[bytes]:
+        """Returns the inputs that are due by a tick."""
+        found = []
+        for (cabinet, phase), it in list(self.of.items()):
+            if it.leaves is not None and it.leaves <= now:
+                it.leaves = None
+                found.append(b"veh %d %d off" % (cabinet, phase))
+            if it.leaves is None and not it.rate:
+                del self.of[cabinet, phase]
+            elif it.leaves is None and it.next <= now:
+                it.leaves, it.next = now + STAYS, now + self.gap(it.rate)
+                found.append(b"veh %d %d on" % (cabinet, phase))
+        return found

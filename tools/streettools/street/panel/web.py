@@ -1,0 +1,249 @@
+"""The panel's server: its pages, what it tells them, and what they may ask."""
+
+import asyncio
+import contextlib
+import json
+import pathlib
+import socket
+from typing import Any
+
+from aiohttp import WSMsgType, web
+
+from ...cabinet.messages import GET, message
+from ..street import Hearer, Street
+from . import orders
+from .names import numbers_of
+from .sight import Sight
+from .streams import STAYS, Streams
+
+PAGES = pathlib.Path(__file__).resolve().parent / "pages"
+DRAWING = [pathlib.Path(it) for it in ("/usr/share/nodejs/d3/dist/d3.min.js", "/usr/share/javascript/d3/d3.min.js")]
+"""Where Debian's packages node-d3 and libjs-d3 have the library that draws."""
+EVERY, DETAILS_EVERY, GREENS_EVERY = 0.2, 0.5, 2.0
+"""How often, in seconds, pages are told news, details of the cabinet that they look at, and greens."""
+MOST_PAGES, MOST_WAITING = 250, 40
+"""How many pages may be open; how many texts may wait for a page before it is dropped."""
+NTCIP, OWN = (1, 3, 6, 1, 4, 1, 1206, 4, 2, 1), (1, 3, 6, 1, 4, 1, 32473, 1)
+DETAILS = {
+    "command": (*NTCIP, 4, 14, 0),
+    "status": (*NTCIP, 4, 10, 0),
+    "clock": (*OWN, 2, 1, 0),
+    "counter": (*OWN, 2, 2, 0),
+    "target": (*OWN, 2, 3, 0),
+    "version": (*OWN, 1, 10, 0),
+    "vehicles1": (*NTCIP, 1, 4, 1, 8, 1),
+    "vehicles2": (*NTCIP, 1, 4, 1, 8, 2),
+    "people1": (*NTCIP, 1, 4, 1, 9, 1),
+    "people2": (*NTCIP, 1, 4, 1, 9, 2),
+}
+"""What a page is told of the cabinet that it looks at, read as management software reads it."""
+POLICY = (
+    "default-src 'none'; script-src 'self'; style-src 'self'; connect-src 'self'; img-src 'self' data:; base-uri 'none'"
+)
+HEADERS = {"Content-Security-Policy": POLICY, "X-Content-Type-Options": "nosniff", "Cache-Control": "no-store"}
+
+
+class Page:
+    """A page that is open: its socket, the texts that wait for it, the cabinet that it looks at."""
+
+    def __init__(self, socket: web.WebSocketResponse) -> None:
+        self.socket = socket
+        self.waiting: asyncio.Queue[str] = asyncio.Queue(MOST_WAITING)
+        self.cabinet = 0
+        self.known = (0, 0)
+        self.dropping: asyncio.Task[bool] | None = None
+
+    def tell(self, text: str) -> None:
+        """Lets a text wait for the page; one that doesn't read is dropped."""
+        try:
+            self.waiting.put_nowait(text)
+        except asyncio.QueueFull:
+            self.dropping = self.dropping or asyncio.create_task(self.socket.close())
+
+    async def write(self) -> None:
+        """Sends what waits, until the page goes away."""
+        with contextlib.suppress(ConnectionError, RuntimeError):
+            while True:
+                await self.socket.send_str(await self.waiting.get())
+
+
+class Panel(Hearer):
+    """The panel of a street."""
+
+    stride = 4
+
+    def __init__(self, sight: Sight, allowed: str) -> None:
+        self.sight = sight
+        self.allowed = allowed
+        self.street: Street
+        self.pages: set[Page] = set()
+        self.streams = Streams()
+        self.pulses: list[tuple[int, bytes]] = []
+
+    # what pages are told
+
+    def head(self) -> dict[str, Any]:
+        """Returns what a page is told as it opens."""
+        return {"facts": self.sight.facts, "ticks": self.sight.scenario["ticks"], "all": True, **self.sight.news(0)}
+
+    def state(self) -> dict[str, Any]:
+        """Returns what every text tells: the speed, the switches, the streams, and how the street ended."""
+        return {
+            "speed": self.street.pace.speed,
+            "step": self.street.after_message,
+            "inputs": [name for name, is_on in self.sight.inputs.items() if is_on],
+            "rates": self.streams.rates(),
+            "ending": self.sight.ending,
+        }
+
+    def broadcast(self, told: dict[str, Any]) -> None:
+        """Tells all pages."""
+        text = json.dumps(told, separators=(",", ":"))
+        for page in list(self.pages):
+            page.tell(text)
+
+    async def news(self) -> None:
+        """Tells pages what has changed since they were told last, again and again."""
+        while True:
+            await asyncio.sleep(EVERY)
+            texts: dict[tuple[int, int], str] = {}
+            for page in list(self.pages):
+                if page.known not in texts:
+                    texts[page.known] = json.dumps(self.news_behind(page.known) | self.state(), separators=(",", ":"))
+                page.tell(texts[page.known])
+                page.known = self.known()
+
+    def known(self) -> tuple[int, int]:
+        """Returns up to what a page knows all that is told now: the session, and the last change."""
+        return self.sight.sessions, self.sight.change
+
+    def news_behind(self, known: tuple[int, int]) -> dict[str, Any]:
+        """Returns what a page is told that knows so much; of another session all."""
+        return self.sight.news(known[1]) if known[0] == self.sight.sessions else self.head()
+
+    async def details(self) -> None:
+        """Tells pages of the cabinets that they look at."""
+        while True:
+            await asyncio.sleep(DETAILS_EVERY)
+            for cabinet in sorted({page.cabinet for page in self.pages} - {0}):
+                text = json.dumps({"details": await self.details_of(cabinet)})
+                for page in list(self.pages):
+                    if page.cabinet == cabinet:
+                        page.tell(text)
+
+    async def details_of(self, cabinet: int) -> dict[str, Any]:
+        """Returns what management software reads of a cabinet."""
+        octets = message(GET, 1, [(name, None) for name in DETAILS.values()], self.community())
+        request = b"frame %d priority %b" % (cabinet, octets.hex().encode())
+        self.sight.own.add(request)
+        reply = await self.street.message(cabinet, octets)
+        return {"cabinet": cabinet} | (dict(zip(DETAILS, numbers_of(reply))) if reply else {})
+
+    def community(self) -> bytes:
+        """Returns the community of the street."""
+        return self.sight.scenario.get("community", "public").encode()
+
+    async def greens(self) -> None:
+        """Tells pages the greens of the coordination diagram."""
+        while True:
+            await asyncio.sleep(GREENS_EVERY)
+            if any(page.cabinet == 0 for page in self.pages):
+                text = json.dumps({"greens": self.sight.greens()}, separators=(",", ":"))
+                for page in list(self.pages):
+                    if page.cabinet == 0:
+                        page.tell(text)
+
+    # what pages ask
+
+    async def obey(self, page: Page, order: orders.Order) -> None:
+        """Does what a page asks for."""
+        if isinstance(order, orders.Input):
+            await self.street.input(order.request)
+        elif isinstance(order, orders.Pulse):
+            place = b"veh %d %d " % (order.cabinet, order.phase)
+            await self.street.input(place + b"on")
+            self.pulses.append((self.street.session.taken + STAYS, place + b"off"))
+        elif isinstance(order, orders.Rate):
+            self.streams.set(order.cabinet, order.phase, order.rate, self.street.session.taken)
+        elif isinstance(order, orders.Speed):
+            self.street.pace.set(order.speed)
+            self.street.wake()
+        elif isinstance(order, orders.Step):
+            self.street.pace.step(order.ticks)
+            self.street.wake()
+        else:
+            page.cabinet = order.cabinet
+
+    def due_inputs(self, ticks: int) -> list[bytes]:
+        due = [it for it in self.pulses if it[0] <= ticks]
+        self.pulses = [it for it in self.pulses if it[0] > ticks]
+        return self.streams.due(ticks) + [request for _, request in due]
+
+    def began(self, scenario: dict[str, Any]) -> None:
+        self.pulses = []
+        self.streams.restart()
+
+    # the server
+
+    async def feed(self, request: web.Request) -> web.StreamResponse:
+        """Holds the socket of a page."""
+        origin = request.headers.get("Origin", "")
+        if origin.split("//", 1)[-1] != request.headers.get("Host") or len(self.pages) >= MOST_PAGES:
+            raise web.HTTPForbidden
+        socket = web.WebSocketResponse(max_msg_size=4096, heartbeat=20)
+        await socket.prepare(request)
+        page = Page(socket)
+        page.tell(json.dumps(self.head() | self.state()))
+        page.known = self.known()
+        page.tell(json.dumps({"greens": self.sight.greens()}))
+        self.pages.add(page)
+        writer = asyncio.create_task(page.write())
+        try:
+            async for came in socket:
+                if came.type is WSMsgType.TEXT:
+                    with contextlib.suppress(orders.Wrong):
+                        await self.obey(page, orders.order_of(came.data, len(self.sight.cabinets)))
+        finally:
+            self.pages.discard(page)
+            writer.cancel()
+        return socket
+
+    async def file(self, request: web.Request) -> web.StreamResponse:
+        """Gives a file of the pages."""
+        name = request.match_info.get("name") or "index.html"
+        if name == "d3.min.js":
+            drawing = next((it for it in DRAWING if it.is_file()), None)
+            if drawing is None:
+                raise web.HTTPNotFound
+            return web.FileResponse(drawing, headers=HEADERS)
+        if name not in ("index.html", "panel.css", "panel.js", "diagram.js"):
+            raise web.HTTPNotFound
+        return web.FileResponse(PAGES / name, headers=HEADERS)
+
+    @web.middleware
+    async def only_here(self, request: web.Request, handler) -> web.StreamResponse:
+        """Refuses requests that name another host."""
+        if not orders.is_here(request.headers.get("Host"), self.allowed):
+            raise web.HTTPForbidden
+        return await handler(request)
+
+    async def open(self, port: socket.socket) -> web.AppRunner:
+        """Serves pages at an open port."""
+        app = web.Application(middlewares=[self.only_here])
+        app.add_routes([web.get("/feed", self.feed), web.get("/", self.file), web.get("/{name}", self.file)])
+        runner = web.AppRunner(app, access_log=None)
+        await runner.setup()
+        await web.SockSite(runner, port, shutdown_timeout=1).start()
+        self.tasks = [asyncio.create_task(it()) for it in (self.news, self.details, self.greens)]
+        return runner
+
+    async def close(self, runner: web.AppRunner, ending: str) -> None:
+        """Tells pages that the street has ended, and ends."""
+        for task in self.tasks:
+            task.cancel()
+        self.sight.ending = self.sight.ending or ending
+        self.broadcast(self.state())
+        await asyncio.sleep(EVERY)
+        for page in list(self.pages):
+            await page.socket.close()
+        await runner.cleanup()

@@ -1,0 +1,56 @@
+"""A record that happens again: its requests are asked once more, by the clock or at once."""
+
+import asyncio
+import math
+
+from .pace import Pace
+from .street import Street
+
+AHEAD = 256
+"""How many requests are given before their answers are waited for."""
+
+
+class Replay:
+    """Asks the requests of a record. Without a pace they are asked at once."""
+
+    def __init__(self, street: Street, requests: list[bytes], pace: Pace | None) -> None:
+        self.street = street
+        self.requests = requests
+        self.pace = pace
+        self.under_way: list[asyncio.Task] = []
+
+    async def play(self) -> None:
+        """Asks all, or those until the street is told to end."""
+        for request in self.requests:
+            if self.street.ended.is_set() or self.street.session.is_over:
+                break
+            if request.startswith(b"tick "):
+                await self.ticks(int(request[5:]))
+            else:
+                await self.give(self.street.session.ask(request))
+        await self.caught_up()
+
+    async def give(self, asking) -> None:
+        """Asks without waiting, unless many are under way."""
+        self.under_way.append(asyncio.create_task(asking))
+        if len(self.under_way) >= AHEAD:
+            await self.caught_up()
+
+    async def caught_up(self) -> None:
+        """Waits for all answers that are under way."""
+        await asyncio.gather(*self.under_way, return_exceptions=True)
+        self.under_way = []
+
+    async def ticks(self, count: int) -> None:
+        """Takes ticks as they are due."""
+        left: float = 0 if self.pace else math.inf
+        while count and not self.street.ended.is_set():
+            left += self.pace.due() if self.pace else 0
+            now = int(min(count, left))
+            if now:
+                await self.give(self.street.session.take(now))
+                count, left = count - now, left - now
+            else:
+                await self.street.pause(self.pace.wait())
+        if self.pace and left:
+            self.pace.step(int(left))

@@ -1,0 +1,108 @@
+"""The words of `./arterial street`."""
+
+import argparse
+import ipaddress
+
+from ..shared.commandline import number
+from .ports import LOOPBACK, Place
+
+USUAL_PORT, USUAL_STEP = 10_161, 10
+SLOWEST, FASTEST = 0.01, 1000.0
+STEP = "step"
+
+ABOUT = (
+    "Runs the cabinets of a scenario as live cabinets: each answers SNMP version 1 at its own UDP port, until Ctrl-C."
+)
+AFTER = """A tick is 0.1 s. The ports are those of loopback: the protocol has no protection, so another address is
+opened only where --bind names it. docs/STREET.md says more."""
+
+
+def speed(text: str) -> float | str:
+    """Reads a speed: a factor of real time, or the word for time that goes on by messages."""
+    if text == STEP:
+        return STEP
+    value = float(text)
+    if not SLOWEST <= value <= FASTEST:
+        raise argparse.ArgumentTypeError(f"{text} is not {STEP}, nor from {SLOWEST} to {FASTEST:g}")
+    return value
+
+
+def first_port(text: str) -> int:
+    """Reads the first of some ports, which may have a plus behind it."""
+    return number(0, 65_535)(text.removesuffix("+"))
+
+
+def first_address(text: str) -> str:
+    """Reads the first of some addresses of loopback, which may have a plus behind it."""
+    address = ipaddress.ip_address(text.removesuffix("+"))
+    if not address.is_loopback:
+        raise argparse.ArgumentTypeError(f"{text} is no address of loopback; --bind names another one")
+    return str(address)
+
+
+def bound(text: str) -> str:
+    """Reads an address."""
+    return str(ipaddress.ip_address(text))
+
+
+def parser() -> argparse.ArgumentParser:
+    """Returns the reader of the words."""
+    words = argparse.ArgumentParser(prog="arterial street", description=ABOUT, epilog=AFTER)
+    words.add_argument(
+        "--scenario", metavar="FILE", help="the scenario of the street (one standard cabinet, rounds of 1 s)"
+    )
+    words.add_argument(
+        "--ports",
+        type=first_port,
+        default=USUAL_PORT,
+        metavar="N+",
+        help="the first port; the next cabinets follow (10161+)",
+    )
+    words.add_argument(
+        "--addresses", type=first_address, metavar="A+", help="one port at this and the next addresses, as 127.0.1.1+"
+    )
+    words.add_argument(
+        "--bind", type=bound, metavar="ADDRESS", help="an address that others can reach, in place of loopback"
+    )
+    words.add_argument(
+        "--speed",
+        type=speed,
+        default=1.0,
+        metavar="N",
+        help="so many times real time (1); step: time goes on by messages",
+    )
+    words.add_argument(
+        "--step",
+        type=number(0, 864_000),
+        metavar="TICKS",
+        help="with --speed step: ticks that go by after each message (10)",
+    )
+    words.add_argument(
+        "--panel",
+        type=number(0, 65_535),
+        metavar="PORT",
+        help="a panel for the browser at this port; 0 for one that is free",
+    )
+    words.add_argument("--record", metavar="FILE", help="write the trace of the session here, its requests beside it")
+    again = words.add_mutually_exclusive_group()
+    again.add_argument(
+        "--replay", metavar="FILE", help="what this record holds happens again by the clock; then the street goes on"
+    )
+    again.add_argument(
+        "--resume", metavar="FILE", help="what this record holds happens again at once; then the street goes on"
+    )
+    words.add_argument(
+        "--as", dest="front", choices=["ntcip1202"], help="answer more than the proved profile has: docs/CLIENTS.md"
+    )
+    words.add_argument("--program", metavar="PATH", help="the program (the one that ./arterial prove has built)")
+    return words
+
+
+def first_place(given: argparse.Namespace) -> Place:
+    """Returns where the first cabinet answers."""
+    return Place(given.bind or given.addresses or LOOPBACK, given.ports)
+
+
+def is_step(given: argparse.Namespace) -> bool:
+    """Tells whether time goes on by messages."""
+    return given.speed == STEP

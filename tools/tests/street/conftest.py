@@ -1,0 +1,129 @@
+"""What the tests share: a program that has `live`, a street that answers at free ports, and messages to send to it.
+
+Where no program is named the built one is taken if it has `live`, else the model, which has the same form.
+"""
+
+import os
+import pathlib
+import re
+import signal
+import socket
+import subprocess
+import sys
+import threading
+
+import pytest
+
+TOP = pathlib.Path(__file__).resolve().parents[3]
+sys.dont_write_bytecode = True
+sys.path += [str(TOP), str(TOP / "tools")]
+
+SECONDS = 60
+"""How long anything may take."""
+ASC, OWN = (1, 3, 6, 1, 4, 1, 1206, 4, 2, 1), (1, 3, 6, 1, 4, 1, 32473, 1)
+CONTROL, STATUS = (*ASC, 4, 14, 0), (*ASC, 4, 10, 0)
+CLOCK, COUNTER, VERSION = (*OWN, 2, 1, 0), (*OWN, 2, 2, 0), (*OWN, 1, 10, 0)
+
+
+def has_live(program):
+    """Tells whether a program has the word `live`."""
+    text = b'{"version":1,"rounds":1,"ticks":1,"cabinets":[{}]}\n'
+    return program.is_file() and subprocess.run([program, "live"], input=text, capture_output=True).returncode == 0
+
+
+def program_here():
+    """Returns the program that the tests are about."""
+    named = pathlib.Path(os.environ.get("ARTERIAL_PROGRAM", TOP / "crates/arterial/out/arterial"))
+    return named if has_live(named) else TOP / "model/program"
+
+
+PROGRAM = program_here()
+IS_MODEL = PROGRAM == TOP / "model/program"
+
+
+class Running:
+    """A street that runs, and the software that talks with it."""
+
+    def __init__(self, words):
+        command = [sys.executable, "-B", TOP / "tools/streettools", "street", "--program", PROGRAM, *map(str, words)]
+        self.street = subprocess.Popen(command, stderr=subprocess.PIPE, text=True, cwd=TOP)
+        self.said, self.more = [], threading.Event()
+        self.reader = threading.Thread(target=self.read)
+        self.reader.start()
+        self.port = int(self.told(r"answers? at [0-9.]+:(\d+)")[1])
+        self.socket = socket.socket(socket.AF_INET, socket.SOCK_DGRAM)
+        self.socket.settimeout(SECONDS)
+
+    def read(self):
+        """Keeps what the street says."""
+        for line in self.street.stderr:
+            self.said.append(line.rstrip("\n"))
+            self.more.set()
+        self.more.set()
+
+    def told(self, pattern):
+        """Waits until the street says something, and returns what was found in it."""
+        for _ in range(10 * SECONDS):
+            found = next(filter(None, (re.search(pattern, line) for line in self.said)), None)
+            if found:
+                return found
+            if self.street.poll() is not None and not self.reader.is_alive():
+                break
+            self.more.wait(0.1)
+            self.more.clear()
+        raise AssertionError(f"not told: {pattern}; {self.said}")
+
+    def send(self, octets, cabinet=1):
+        """Sends a datagram."""
+        self.socket.sendto(octets, ("127.0.0.1", self.port + cabinet - 1))
+
+    def ask(self, octets, cabinet=1):
+        """Sends a datagram and returns the reply."""
+        self.send(octets, cabinet)
+        return self.socket.recv(65_536)
+
+    def end(self, number=signal.SIGINT):
+        """Ends the street, and returns its exit status."""
+        self.street.send_signal(number)
+        return self.ended()
+
+    def ended(self):
+        """Waits until the street ends, and returns its exit status."""
+        status = self.street.wait(SECONDS)
+        self.reader.join(SECONDS)
+        self.street.stderr.close()
+        return status
+
+
+@pytest.fixture
+def street():
+    """Starts streets, with the words given to each."""
+    made = []
+
+    def start(*words):
+        made.append(Running(words))
+        return made[-1]
+
+    yield start
+    for it in made:
+        it.socket.close()
+        if it.street.poll() is None:
+            it.street.kill()
+            it.ended()
+
+
+def free_ports(count):
+    """Returns the first of so many ports that are free one behind the other."""
+    for first in range(20_000 + os.getpid() % 5000, 60_000, count):
+        held = []
+        try:
+            for port in range(first, first + count):
+                held.append(socket.socket(socket.AF_INET, socket.SOCK_DGRAM))
+                held[-1].bind(("127.0.0.1", port))
+            return first
+        except OSError:
+            continue
+        finally:
+            for it in held:
+                it.close()
+    raise AssertionError("no ports are free")

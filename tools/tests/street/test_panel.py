@@ -1,0 +1,225 @@
+"""The panel in a real browser, and what pages may and may not ask of it."""
+
+import asyncio
+import json
+import re
+import time
+import urllib.error
+import urllib.request
+
+import pytest
+from streettools.cabinet.messages import SET, message, reply_of
+
+from .conftest import CONTROL, SECONDS, VERSION
+from .test_agents import get, written
+
+aiohttp = pytest.importorskip("aiohttp")
+
+TRAIN = {
+    "version": 1,
+    "rounds": 9,
+    "ticks": 10,
+    "cabinets": [{"cells": [["preempt", 1, 13, "0206"], ["preempt", 1, 10, 5]]}],
+}
+"""Preempt 1 dwells on phases 2 and 6 for 5 s at the least."""
+
+
+@pytest.fixture
+def browser():
+    """A browser without a window; the test is skipped where there is none."""
+    webdriver = pytest.importorskip("selenium.webdriver")
+    from selenium.common.exceptions import WebDriverException
+    from selenium.webdriver.chrome.service import Service
+
+    options = webdriver.ChromeOptions()
+    for word in (
+        "--headless=new",
+        "--no-sandbox",
+        "--disable-gpu",
+        "--disable-dev-shm-usage",
+        "--window-size=1200,1400",
+    ):
+        options.add_argument(word)
+    try:
+        made = webdriver.Chrome(options=options, service=Service("/usr/bin/chromedriver"))
+    except WebDriverException:
+        pytest.skip("no chromium with its driver here")
+    made.implicitly_wait(10)
+    yield made
+    made.quit()
+
+
+@pytest.fixture
+def panel(street, tmp_path):
+    """Starts a street with a panel; returns it, and the panel's address."""
+
+    def start(*words):
+        running = street("--ports", 0, "--panel", 0, "--scenario", written(tmp_path, TRAIN), *words)
+        return running, running.told(r"panel at (http://[0-9.:]+/)")[1]
+
+    return start
+
+
+def awaited(browser, name, wanted):
+    """Waits until an element of the page says something, and returns all that it says."""
+    until = time.monotonic() + SECONDS
+    while time.monotonic() < until:
+        text = browser.find_element("id", name).text
+        if re.search(wanted, text):
+            return text
+        time.sleep(0.1)
+    raise AssertionError(f"{name} says {text!r}, not {wanted}")
+
+
+def test_a_held_detector_brings_a_green(panel, browser):
+    _, address = panel("--speed", 20)
+    browser.get(f"{address}#1")
+    awaited(browser, "box-2", "green")
+    browser.find_element("id", "pause").click()
+    awaited(browser, "pause", "Go on")
+    browser.find_element("id", "hold-4").click()
+    awaited(browser, "calls-4", "vehicle")
+    browser.find_element("id", "pause").click()
+    awaited(browser, "box-4", "green")
+    assert browser.find_element("id", "hold-4").get_attribute("aria-pressed") == "true"
+    browser.find_element("id", "hold-4").click()
+    awaited(browser, "box-2", "green")
+
+
+def test_a_held_preempt_is_shown_in_the_rings(panel, browser):
+    _, address = panel("--speed", 20)
+    browser.get(f"{address}#1")
+    browser.find_element("id", "hold-4").click()
+    awaited(browser, "box-4", "green")
+    browser.find_element("id", "preempt-1").click()
+    awaited(browser, "facts", "preempt 1, dwell")
+    awaited(browser, "box-2", "green")
+    assert "red" in browser.find_element("id", "box-4").text
+    browser.find_element("id", "preempt-1").click()
+    awaited(browser, "facts", "free")
+
+
+def test_a_push_button_brings_a_walk_and_vehicles_come_by_chance(panel, browser):
+    _, address = panel("--speed", 5)
+    browser.get(f"{address}#1")
+    awaited(browser, "box-2", "green")
+    browser.find_element("id", "push-8").click()
+    awaited(browser, "box-8", "walk")
+    rate = browser.find_element("id", "rate-4")
+    browser.execute_script("arguments[0].value = 3600; arguments[0].dispatchEvent(new Event('change'))", rate)
+    awaited(browser, "calls-4", "vehicle")
+
+
+def test_messages_of_management_software_are_told_by_their_names(panel, browser):
+    running, address = panel()
+    browser.get(address)
+    awaited(browser, "cards", "Cabinet 1")
+    running.ask(message(SET, 1, [(CONTROL, 255)]))
+    running.ask(message(SET, 2, [(CONTROL, 256)]))
+    awaited(browser, "messages", "badValue")
+    browser.get(f"{address}#1")
+    browser.refresh()
+    text = awaited(browser, "messages", "badValue")
+    time.sleep(1)
+    assert browser.find_element("id", "messages").text.count("badValue") == 1
+    assert "Set systemPatternControl.0 = 255 systemPatternControl.0 = 255" in text
+    assert "Set systemPatternControl.0 = 256 badValue at 1" in text
+
+
+def test_time_is_paused_and_stepped(panel, browser):
+    running, address = panel("--speed", 5)
+    browser.get(address)
+    awaited(browser, "time", r"00:00:0[1-9]")
+    browser.find_element("id", "pause").click()
+    awaited(browser, "pause", "Go on")
+    stands = browser.find_element("id", "time").text
+    time.sleep(1)
+    assert browser.find_element("id", "time").text == stands
+    browser.find_element("id", "second").click()
+    seconds = float(stands[-4:]) + 60 * int(stands[3:5])
+    awaited(browser, "time", re.escape(f"{(seconds + 1) % 60:04.1f}") + "$")
+
+
+def test_a_page_says_that_the_street_has_ended(panel, browser):
+    running, address = panel()
+    browser.get(address)
+    awaited(browser, "cards", "Cabinet 1")
+    assert running.end() == 0
+    awaited(browser, "ending", "The street has ended")
+
+
+def test_a_page_without_pointer_or_colour_has_names_for_all(panel, browser):
+    _, address = panel()
+    browser.get(f"{address}#1")
+    awaited(browser, "box-1", "red")
+    unnamed = browser.execute_script(
+        "return [...document.querySelectorAll('button, input, select')].filter((it) => "
+        "!(it.textContent.trim() || it.getAttribute('aria-label') || (it.labels && it.labels.length))).length"
+    )
+    assert unnamed == 0
+    assert browser.execute_script(
+        "return [...document.querySelectorAll('.lamp')].every("
+        "(it) => it.textContent.trim() && it.getAttribute('aria-label'))"
+    )
+
+
+def test_another_site_gets_nothing(panel):
+    _, address = panel()
+    for headers in ({"Host": "other.example"}, {"Host": "127.0.0.1.other.example"}):
+        with pytest.raises(urllib.error.HTTPError) as fault:
+            urllib.request.urlopen(urllib.request.Request(address, headers=headers))
+        assert fault.value.code == 403
+
+    async def with_origin(origin):
+        async with aiohttp.ClientSession() as session:
+            async with session.ws_connect(f"{address}feed", headers={"Origin": origin}) as socket:
+                return await socket.receive_json()
+
+    with pytest.raises(aiohttp.WSServerHandshakeError):
+        asyncio.run(with_origin("http://other.example"))
+    assert asyncio.run(with_origin(address.rstrip("/")))["facts"][0]["phases"] == [1, 2, 3, 4, 5, 6, 7, 8]
+
+
+WRONG = [
+    "", "[]", "{", "null", '{"do":"input"}', '{"do":"step","ticks":0}', '{"do":"step","ticks":true}',
+    '{"do":"speed","speed":-1}', '{"do":"speed","speed":1e9}', "[" * 500, "x" * 3000,
+    '{"do":"input","kind":"veh","cabinet":2,"place":4,"on":true}', '{"do":"rate","cabinet":1,"phase":4,"rate":3601}',
+    '{"do":"input","kind":"tick 1\\nveh","cabinet":1,"place":4,"on":true}',
+]  # fmt: skip
+
+
+def test_two_hundred_pages_that_ask_for_nonsense_and_go_away_leave_it_answering(panel):
+    running, address = panel()
+
+    async def crowd():
+        async with aiohttp.ClientSession(connector=aiohttp.TCPConnector(limit=0)) as session:
+            made = [
+                await session.ws_connect(f"{address}feed", headers={"Origin": address.rstrip("/")}) for _ in range(200)
+            ]
+            for number, socket in enumerate(made):
+                await socket.send_str(WRONG[number % len(WRONG)])
+            for socket in made[::2]:
+                await socket.close()
+            return await made[1].receive_json()
+
+    assert asyncio.run(crowd())["cabinets"]["1"][1] == "R" * 16
+    assert reply_of(running.ask(get(5, VERSION))).number == 5
+    assert running.end() == 0
+
+
+def test_what_pages_ask_is_recorded(panel, tmp_path):
+    running, address = panel("--record", tmp_path / "kept.trace", "--speed", 10)
+
+    async def held():
+        async with aiohttp.ClientSession() as session:
+            async with session.ws_connect(f"{address}feed", headers={"Origin": address.rstrip("/")}) as socket:
+                await socket.send_json({"do": "input", "kind": "veh", "cabinet": 1, "place": 4, "on": True})
+                await socket.send_json({"do": "input", "kind": "ped", "cabinet": 1, "place": 8})
+                while not (await socket.receive_json()).get("inputs"):
+                    pass
+
+    asyncio.run(held())
+    assert running.end() == 0
+    scenario = json.loads((tmp_path / "kept.trace").read_bytes().split(b"\n", 1)[0][2:])
+    told = [{name: it for name, it in item.items() if name != "round"} for item in scenario["inputs"]]
+    assert told == [{"cabinet": 1, "veh": 4, "on": True}, {"cabinet": 1, "ped": 8}]
