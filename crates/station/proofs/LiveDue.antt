@@ -1,19 +1,18 @@
 -- From what an answer to `live` tells to the answer that an input is due.
-use Rattle.std.proofs.Common.{◌≡◌, ◌<◌, ◌≤◌, ◌⊎◌, inl, inr, ℕ, List, Option, Some, None, IfSome, length, refl, sym, ap, ◌∙◌, subst, arith}
+use Rattle.std.proofs.Common.{◌≡◌, ◌≤◌, ◌⊎◌, inl, inr, ℕ, List, Option, Some, None, IfSome, length, refl, ap, ◌∙◌, subst, arith}
 use Rattle.std.specs.Option.{option_map}
 use Rattle.scenario_data.specs.Causes.{Limit as LimitCause, Names}
 use Rattle.scenario_data.specs.Content.{ScenarioContent}
 use Rattle.scenario_data.specs.declared.refusal.Refusal.{Refusal}
 use Rattle.scenario_data.specs.declared.refusal.Refusal.TheVariants.{Syntax, Field, Limit, Broken}
-use Rattle.scenario_read.specs.Answers.{IsScenario, IsFirstFault}
 use Rattle.scenario_read.proofs.OneAnswer.{no-fault-beside, one-scenario}
 use Rattle.session_words.specs.Lines.{first_line}
-use Rattle.session_laws.specs.Dialogue.{early_load, early_priority, early_path, order_fault, IsByRounds, IsOrderFault}
+use Rattle.session_laws.specs.Dialogue.{early_priority, early_path, order_fault, IsByRounds, IsOrderFault}
 use Rattle.station.specs.declared.status.Status.{Status}
 use Rattle.station.specs.declared.status.Status.TheVariants.{Done, Usage, Scenario, NotATrace, Overlap as BrokenOverlap, ReadFault, WriteFault, NoMemory}
 use Rattle.station.specs.Io.{io}
-use Rattle.station.specs.Answers.{IsShort, IsLengthRefusal, NamesFault}
-use Rattle.station.specs.Lived.{IsBase, IsSession, IsNoBase, IsFirstLineFault, IsLineRefused, IsLiveDue, Lived, LiveAnswer}
+use Rattle.station.specs.Answers.{IsShort}
+use Rattle.station.specs.Lived.{IsBase, IsSession, IsFirstLineFault, IsLineRefused, IsLiveDue, Lived, LiveAnswer}
 
 -- a scenario by rounds has no fault of order
 none_named : (refusal : Refusal) → Names refusal None → ⊥

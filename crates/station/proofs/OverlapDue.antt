@@ -1,5 +1,5 @@
 -- From what an answer to `overlaps` tells to the answer that an input is due.
-use Rattle.std.proofs.Common.{◌≡◌, ◌≤◌, ◌⊎◌, inl, inr, ℕ, List, Option, Some, None, IfSome, subst, refl, sym, ap}
+use Rattle.std.proofs.Common.{◌≡◌, ◌⊎◌, inl, inr, ℕ, List, Option, Some, None, IfSome, subst, refl, sym, ap}
 use Rattle.overlap_run.specs.declared.faults.OverlapFault.{OverlapFault}
 use Rattle.overlap_report.specs.declared.asking.Asked.{Asked}
 use Rattle.overlap_report.specs.Overlaps.{TellsOverlap, BreaksRule}

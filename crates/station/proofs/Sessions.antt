@@ -62,8 +62,7 @@ line_behind : (left ahead behind : Option (List ℕ)) (lines : List (List ℕ)) 
     → AreAhead left behind (lines ++ line ∷ [])
 line_behind None ahead behind lines line are gives = tt
 line_behind (Some input) ahead behind lines line (rest, told, are) gives =
-    let (later, so, cut) = subst (λ (o : Option (List ℕ)). GivesLine o behind line) told gives in
-    (
+    let (later, so, cut) = subst (λ (o : Option (List ℕ)). GivesLine o behind line) told gives in (
       later,
       so,
       are ∙ ap (λ (bytes : List ℕ). lines ++ whole_lines bytes) cut.whole ∙ ap (λ (ls : List (List ℕ)). lines ++ ls) (whole_lines-cut line later cut.lacks)

@@ -5,10 +5,10 @@ use Rattle.trace_check.specs.declared.faults.TraceFault.{TraceFault}
 use Rattle.command_words.specs.declared.command.Command.{Command}
 use Rattle.command_words.specs.declared.command.Command.TheVariants.{Run, Check, Generate, Survey, Band, Respond, Overlaps, Live, Help, Version}
 use Rattle.command_words.specs.declared.command.Overlap.{Overlap}
-use Rattle.command_words.specs.Words.{IsRun, IsCheck, IsGenerate, IsSurvey, IsBand, IsRespond, IsOverlaps, IsLive, IsHelp, IsVersion, AskFor, IsCommand}
+use Rattle.command_words.specs.Words.{IsRun, IsCheck, IsOverlaps, IsLive, AskFor, IsCommand}
 use Rattle.overlap_run.specs.declared.faults.OverlapFault.{OverlapFault}
 use Rattle.station.specs.declared.status.Status.{Status}
-use Rattle.station.specs.declared.status.Status.TheVariants.{Done, Usage, Scenario, NotATrace, Overlap as BrokenOverlap, ReadFault, WriteFault, NoMemory}
+use Rattle.station.specs.declared.status.Status.TheVariants.{Usage, Scenario, NotATrace, Overlap as BrokenOverlap, ReadFault, NoMemory}
 use Rattle.station.specs.Io.{Io}
 use Rattle.station.specs.Answers.{StopsShort}
 use Rattle.station.specs.Lived.{LivesShort}

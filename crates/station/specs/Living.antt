@@ -1,5 +1,5 @@
 -- What stands between two answers of `live`.
-use Rattle.std.specs.Prelude.{◌≡◌, ◌⊎◌, ℕ, Bool, true, false, List, [], ◌∷◌, ◌++◌, Option, Some, None, IfSome}
+use Rattle.std.specs.Prelude.{◌≡◌, ◌⊎◌, ℕ, Bool, true, false, List, ◌∷◌, ◌++◌, Option, Some, None, IfSome}
 use Rattle.io_edge.specs.Edge.{Appends}
 use Rattle.whole_run.specs.Bytes.{AppendsFront}
 use Rattle.scenario_data.specs.Content.{ScenarioContent}

@@ -1,5 +1,5 @@
 -- What an answer to `overlaps` tells of the input and the output.
-use Rattle.std.specs.Prelude.{◌≡◌, ◌≤◌, ◌⊎◌, ℕ, List, Option, IfSome}
+use Rattle.std.specs.Prelude.{◌≡◌, ◌⊎◌, ℕ, List, Option, IfSome}
 use Rattle.io_edge.specs.Edge.{Appends}
 use Rattle.whole_run.specs.Bytes.{AppendsFront}
 use Rattle.command_words.specs.declared.command.Overlap.{Overlap}

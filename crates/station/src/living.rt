@@ -185,7 +185,12 @@ fn opened<K: Sink>(
         Err(NoMemory) => return Err(Status::NoMemory),
     };
     match tell(sink, answer.as_slice()) {
-        Status::Done => Ok(Dialogue { alloc, reader, session, answer }),
+        Status::Done => Ok(Dialogue {
+            alloc,
+            reader,
+            session,
+            answer,
+        }),
         status => Err(status),
     }
 }

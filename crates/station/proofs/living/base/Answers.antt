@@ -5,7 +5,6 @@ use Rattle.scenario_data.specs.Content.{scenario_content}
 use Rattle.scenario_read.specs.Answers.{IsScenario, IsFirstFault}
 use Rattle.scenario_checked.proofs.Ranges.{runs}
 use Rattle.session_laws.specs.Dialogue.{IsOrderFault}
-use Rattle.station.specs.Lived.{IsFirstLineFault}
 use Rattle.station.proofs.Refusals.{line_refused}
 use Rattle.station.proofs.living.base.Goals as goal
 
@@ -35,6 +34,6 @@ pub returns-in-Err-Refused-by_rounds-clause-refused : goal.returns-in-Err-Refuse
 returns-in-Err-Refused-by_rounds-clause-refused g c = λ r e.
     let same : c.in-Err-Refused-by_rounds.refusal ≡ r = cc in
     let order : IsOrderFault (scenario_content c.in-Ok-read.scenario) r =
-        c.by_rounds.ensures.refused r (c.in-Err-Refused-by_rounds.is ∙ ap Err (c.in-Err-Refused-by_rounds.field-0-is ∙ ap Refused same)) in
+    c.by_rounds.ensures.refused r (c.in-Err-Refused-by_rounds.is ∙ ap Err (c.in-Err-Refused-by_rounds.field-0-is ∙ ap Refused same)) in
     line_refused _ c.in-Ok.line.items c.deref.result.now r c.in-Ok.ensures.line c.deref.ensures.value c.in-Ok.ensures.short
     (inr (scenario_content c.in-Ok-read.scenario, c.in-Ok-read.ensures.scenario, order))

@@ -1,5 +1,4 @@
-use Rattle.std.proofs.Common.{◌≡◌, ◌∙◌, refl, sym, ap, subst, List, ℕ, Option, Err}
-use Rattle.io_edge.specs.Edge.{Rises}
+use Rattle.std.proofs.Common.{◌≡◌, refl, sym, ap, subst, List, ℕ, Option, Err}
 use Rattle.scenario_data.specs.Content.{scenario_content}
 use Rattle.scenario_data.specs.declared.refusal.Refusal.{Refusal}
 use Rattle.whole_run.proofs.Handed.{rises_later}
@@ -40,7 +39,7 @@ returns-clause-answered g c =
     let ahead : Option (List ℕ) = unread c.in-Ok-opened.dialogue.reader (g.S.Source.left c.base.new.source) in
     let same : ahead ≡ behind = ap (λ r. unread r (g.S.Source.left c.base.new.source)) c.in-Ok-opened.ensures.reader in
     let is : IsAnswering left ahead (g.K.Sink.written c.args.sink.now) (g.K.Sink.written c.opened.new.sink) s opened_session =
-        at_opening s left ahead _ _ (ahead_at_first left ahead behind s c.in-Ok-base.ensures.opened same) c.in-Ok-opened.ensures.written in
+    at_opening s left ahead _ _ (ahead_at_first left ahead behind s c.in-Ok-base.ensures.opened same) c.in-Ok-opened.ensures.written in
     let can = c.in-Ok-base.ensures.runnable in
     live_answer c.go_on.result _ _ _ _ _ _
     (ends_lived left _ behind _ _ s c.in-Ok-base.ensures.opened

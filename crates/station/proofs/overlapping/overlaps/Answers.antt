@@ -1,4 +1,4 @@
-use Rattle.std.proofs.Common.{inl, inr, ◌≡◌, ◌⊎◌, ℕ, List, IfSome, Err, refl, sym, ap, subst}
+use Rattle.std.proofs.Common.{inr, ◌≡◌, ℕ, List, IfSome, Err, refl, sym, ap, subst}
 use Rattle.io_edge.specs.Edge.{Rises}
 use Rattle.overlap_run.specs.declared.faults.OverlapFault.{OverlapFault}
 use Rattle.overlap_report.specs.declared.asking.Asked.{Asked}
@@ -7,7 +7,7 @@ use Rattle.trace_check.specs.declared.faults.TraceFault.{TraceFault}
 use Rattle.trace_laws.specs.Faults.{FirstFault}
 use Rattle.station.specs.declared.status.Status.TheVariants.{NotATrace, Overlap as BrokenOverlap}
 use Rattle.station.specs.Checked.{IsNoTrace}
-use Rattle.station.specs.Overlapped.{asked_by, IsTextRead}
+use Rattle.station.specs.Overlapped.{asked_by}
 use Rattle.station.proofs.CheckDue.{too_long_text}
 use Rattle.station.proofs.OverlapDue.{of_input, read_so, told_overlap, DueOrNone, due_told, due_no_trace, due_broken, due_none_left}
 use Rattle.station.proofs.overlapping.overlaps.Goals as goal

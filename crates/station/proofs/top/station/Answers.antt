@@ -1,6 +1,6 @@
 use Rattle.std.proofs.Common.{map, string_bytes}
 use Rattle.command_words.specs.declared.command.Command.TheVariants.{Check}
-use Rattle.station.proofs.Telling.{one_command, no_command, none_found, never_usage, found_answers, none_answers, found_unread}
+use Rattle.station.proofs.Telling.{one_command, never_usage, found_answers, none_answers, found_unread}
 use Rattle.station.proofs.top.station.Goals as goal
 
 pub answer-requires-clause-asked : goal.answer-requires-clause-asked

@@ -1,4 +1,4 @@
-use Rattle.std.proofs.Common.{◌≡◌, ◌∙◌, ℕ, List, refl, sym, subst, arith}
+use Rattle.std.proofs.Common.{◌∙◌, ℕ, List, refl, sym, subst, arith}
 use Rattle.io_edge.specs.Edge.{Appends}
 use Rattle.whole_run.proofs.Handed.{rises_later}
 use Rattle.session_words.specs.Unread.{unread}
@@ -33,7 +33,7 @@ returns-in_default g c = record {
       let behind = unread c.next.new.self.reader (g.S.Source.left c.next.new.source) in
       let ahead = unread c.lines.self.reader (g.S.Source.left c.lines.source) in
       let next : AnswersNext c.in-Ok.over s now c.next.new.self.session ahead behind text =
-          subst (λ (t : List ℕ). AnswersNext c.in-Ok.over s now c.next.new.self.session ahead behind t) (sym c.as_slice.ensures.value) (c.in-Ok.ensures.next s now still) in
+      subst (λ (t : List ℕ). AnswersNext c.in-Ok.over s now c.next.new.self.session ahead behind t) (sym c.as_slice.ensures.value) (c.in-Ok.ensures.next s now still) in
       told_ends c.tell.result text _ _ _ left old _ _ s c.in_default.not-Done (rises_later _ _ _ c.lines.invariant.writes_kept) c.tell.ensures.tells
       (λ front. answer_short s now c.next.new.self.session left ahead behind old _ _ text c.in-Ok.over so next front);
   reads = record { kept = omega (arith, c.lines.invariant.reads_kept, c.in-Ok.ensures.kept); done = λ is. absurd (c.in_default.not-Done is) };
@@ -47,7 +47,7 @@ returns-then-over-clause-ends g c = λ left old s h stands is.
     let behind = unread c.next.new.self.reader (g.S.Source.left c.next.new.source) in
     let ahead = unread c.lines.self.reader (g.S.Source.left c.lines.source) in
     let next : AnswersNext c.in-Ok.over s now c.next.new.self.session ahead behind text =
-        subst (λ (t : List ℕ). AnswersNext c.in-Ok.over s now c.next.new.self.session ahead behind t) (sym c.as_slice.ensures.value) (c.in-Ok.ensures.next s now still) in
+    subst (λ (t : List ℕ). AnswersNext c.in-Ok.over s now c.next.new.self.session ahead behind t) (sym c.as_slice.ensures.value) (c.in-Ok.ensures.next s now still) in
     answer_whole s now c.next.new.self.session left ahead behind old _ _ text c.in-Ok.over so next c.if-over.true c.in-Done.ensures.tells
 
 pub lines-preserved : goal.lines-preserved
