@@ -34,7 +34,7 @@ def traces() -> list[tuple[str, str, list[str]]]:
     for page in pages.pages():
         scenario = None
         for block in pages.blocks(page):
-            lines = [re.split(r"\s{3,}", line)[0] for _, line in block]
+            lines = [re.split(r"\s{3,}", line.strip())[0] for _, line in block]
             if lines[0].startswith("{"):
                 scenario = "".join(lines)
             elif lines[0].startswith("S {"):
