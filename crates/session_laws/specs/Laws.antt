@@ -1,4 +1,4 @@
--- What a session is worth: it is a run, by its own journals, of the scenario that results; and no answer waits for a later request.
+-- What a session is worth: it is a run, by its own journals, of the scenario that results; and no answer depends on a later request.
 use Rattle.std.specs.Prelude.{◌≡◌, ℕ, List, ◌++◌, length}
 use Rattle.scenario_data.specs.Content.{ScenarioContent}
 use Rattle.run_definition.specs.Lines.{rest_lines, run_lines}

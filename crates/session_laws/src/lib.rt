@@ -21,7 +21,7 @@ pub fn sessions_are_runs()
     any_order_is_safe();
 }
 
-/// An answer waits for no later request: whatever is asked later, the answers to the scenario and to these requests
+/// An answer depends on no later request: whatever is asked later, the answers to the scenario and to these requests
 /// stand first.
 pub fn answers_need_no_more()
     ensures { (s : ScenarioContent) (lines : List (List ℕ)) (more : List (List ℕ)) → NeedsNoMore s lines more }

@@ -46,7 +46,7 @@ pub record RunsWhole (workers : ℕ) (left ends old new : Option (List ℕ)) : T
   pub kept : TellsAllKept scenario journals (run_text scenario journals)
 
 -- it stopped short while it wrote: the source was read to its end, its bytes are a scenario, and a front of such a text was appended, and
--- not all of it: by the actual journals of the rounds that were closed and serial ones for those that are left; and where some are left,
+-- not all of it: by some journals of the rounds that were closed and serial ones for those that are left; and where some are left,
 -- nothing was written beyond the lines of the closed ones
 pub record StopsShort (workers : ℕ) (left ends old new : Option (List ℕ)) : Type 0 where
   pub scenario : ScenarioContent
