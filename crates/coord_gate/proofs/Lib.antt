@@ -1,2 +1,2 @@
-mod Walks
+mod Members
 mod Plans

@@ -23,7 +23,7 @@ use Rattle.tick_context.proofs.InStep.{counter-next, no-zero}
 use Rattle.tick_context.proofs.Passed.{after, lasts-after}
 
 -- what a history has come to after so many ticks more
-after-last : (k : ℕ) (past : Past)
+pub after-last : (k : ℕ) (past : Past)
     → with_moment (after k past) (next_moment (after k past)) ≡ after k (with_moment past (next_moment past))
 after-last zero past = refl
 after-last (suc k) past = after-last k (with_moment past (next_moment past))
