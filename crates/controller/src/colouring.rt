@@ -88,7 +88,11 @@ impl Controller {
             return true;
         }
         let [first, second] = self.context.frame.on;
-        if clearing.minus(PhaseSet::of(first)).minus(PhaseSet::of(second)).is_empty() {
+        if clearing
+            .minus(PhaseSet::of(first))
+            .minus(PhaseSet::of(second))
+            .is_empty()
+        {
             self.keeps_colour(first) && self.keeps_colour(second)
         } else {
             false

@@ -255,7 +255,11 @@ impl Controller {
         let [first, second] = self.context.frame.on;
         let lit = self.shown.green.union(self.shown.clearing);
         let busy = lit.union(self.signalling);
-        if busy.minus(PhaseSet::of(first)).minus(PhaseSet::of(second)).is_empty() {
+        if busy
+            .minus(PhaseSet::of(first))
+            .minus(PhaseSet::of(second))
+            .is_empty()
+        {
             let one = self.place_left(tick_inputs, first);
             one.min(self.place_left(tick_inputs, second))
         } else {

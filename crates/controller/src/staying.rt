@@ -112,7 +112,11 @@ impl Controller {
         }
         let [first, second] = self.context.frame.on;
         let green = self.shown.green;
-        if green.minus(PhaseSet::of(first)).minus(PhaseSet::of(second)).is_empty() {
+        if green
+            .minus(PhaseSet::of(first))
+            .minus(PhaseSet::of(second))
+            .is_empty()
+        {
             self.stays(tick_inputs, first) && self.stays(tick_inputs, second)
         } else {
             false
