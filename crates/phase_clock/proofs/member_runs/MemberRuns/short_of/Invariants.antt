@@ -1,7 +1,7 @@
 use Rattle.std.proofs.Common.{◌≡◌, ◌<◌, ◌≤◌, ℕ, false, not, nat_le}
 use Rattle.sig_types.specs.PhaseSet.{has}
-use Rattle.phase_clock.specs.Tally.{count_of}
-use Rattle.phase_clock.proofs.tally.Tally.short_of.Given as goal
+use Rattle.phase_clock.specs.MemberRuns.{count_of}
+use Rattle.phase_clock.proofs.member_runs.MemberRuns.short_of.Given as goal
 
 abbrev pub invariant-loop-number : goal.invariant-loop-number
 invariant-loop-number l = record {
