@@ -142,9 +142,6 @@ pub(crate) fn respond_at(alloc: Global, object: &Value) -> Result<Option<Respond
 {
     match object.get("respond") {
         None => Ok(None),
-        Some(value) => match respond_in(alloc, value) {
-            Ok(respond) => Ok(Some(respond)),
-            Err(fail) => Err(fail),
-        },
+        Some(value) => Ok(Some(respond_in(alloc, value)?)),
     }
 }

@@ -80,10 +80,8 @@ pub(crate) fn text_of(value: &Value, least: usize, most: usize) -> Result<&str, 
     if !is_printable(text.as_bytes()) {
         return Err(Unfit::Wrong);
     }
-    match in_range(text.len(), least, most) {
-        Ok(()) => Ok(text.as_str()),
-        Err(unfit) => Err(unfit),
-    }
+    in_range(text.len(), least, most)?;
+    Ok(text.as_str())
 }
 
 /// The word of standard tables.
@@ -165,10 +163,8 @@ pub fn list_of(value: &Value, least: usize, most: usize) -> Result<&Vec<Value>, 
     let Value::Array(items) = value else {
         return Err(Unfit::Wrong);
     };
-    match in_range(items.len(), least, most) {
-        Ok(()) => Ok(items),
-        Err(unfit) => Err(unfit),
-    }
+    in_range(items.len(), least, most)?;
+    Ok(items)
 }
 
 /// The items of a list of any length.
