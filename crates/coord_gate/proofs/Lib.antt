@@ -1,2 +1,2 @@
-mod Members
+mod Kept
 mod Plans

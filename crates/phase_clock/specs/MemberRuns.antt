@@ -14,7 +14,7 @@ HasNone runs = (p : ℕ) → has runs.members p ≡ false
 abbrev pub count_of : MemberRuns → ℕ → ℕ → ℕ
 count_of runs last p = if has runs.members p then last - get_or runs.since (p - 1) 0 else 0
 
--- after that many steps the runs counts the last moments in a row at which number p passes the test
+-- after that many steps the run of number p is the last moments in a row at which it passes the test
 pub record MemberRunsStand (runs : MemberRuns) (steps : ℕ) (p : ℕ) (test : Moment → Bool) (past : List Moment) : Type 0 where
   pub inside : has runs.members p ≡ true → get_or runs.since (p - 1) 0 + in_a_row test past ≡ steps
   pub outside : has runs.members p ≡ false → in_a_row test past ≡ 0

@@ -2,7 +2,7 @@ use Rattle.std.proofs.Common.{◌≡◌, ◌+◌, ◌-◌, nat_le, get_or, true}
 use Rattle.sig_types.specs.Phases.{is_phase}
 use Rattle.sig_tables.proofs.Below.{phase-is}
 use Rattle.sig_types.proofs.Members.{one-less}
-use Rattle.coord_gate.proofs.Members.{kept-more, kept-end}
+use Rattle.coord_gate.proofs.Kept.{kept-more, kept-end}
 use Rattle.coord_gate.proofs.members.in_time.Goals as goal
 
 pub members-smaller : goal.members-smaller

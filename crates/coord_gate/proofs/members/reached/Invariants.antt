@@ -1,6 +1,6 @@
 use Rattle.std.proofs.Common.{◌-◌, nat_le, get_or, length}
 use Rattle.sig_types.specs.PhaseSet.{phases_of}
-use Rattle.coord_gate.proofs.Members.{KeptOrLeft}
+use Rattle.coord_gate.proofs.Kept.{KeptOrLeft}
 use Rattle.coord_gate.proofs.members.reached.Given as goal
 
 abbrev pub invariant-members : goal.invariant-members

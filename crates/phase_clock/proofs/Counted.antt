@@ -1,4 +1,4 @@
--- The counts of a runs are those of looking back.
+-- The runs of members that are kept are those of looking back.
 use Rattle.std.proofs.Common.{◌≡◌, ◌+◌, ◌-◌, ℕ, Bool, true, false, if◌then◌else◌, List, [], ◌∷◌, get_or, refl, sym, ◌∙◌, arith}
 use Rattle.std.proofs.lemmas.Bool.{false≢true}
 use Rattle.sig_types.specs.PhaseSet.{has}
