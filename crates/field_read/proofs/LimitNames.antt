@@ -6,7 +6,6 @@ use Rattle.scenario_data.specs.declared.refusal.Refusal.TheVariants.{Limit as Li
 use Rattle.scenario_data.specs.Causes.{Cause}
 use Rattle.scenario_data.specs.Content.{ScenarioContent}
 use Rattle.scenario_read.specs.Paths.{Named}
-use Rattle.scenario_read.specs.Kinds.{each}
 use Rattle.scenario_read.specs.Fields.{object_of}
 use Rattle.scenario_read.proofs.Elsewhere.{AllElsewhere, joined, at-elsewhere, Good, list-good, whole-good, flag-good, none-chosen, object-elsewhere, object-good, first-elsewhere, no-word}
 use Rattle.scenario_checked.proofs.InnerNames.{inner-good}
