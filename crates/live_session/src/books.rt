@@ -19,7 +19,7 @@ use crate::lines::{put_frame, put_frames, put_journal, put_replies};
 use cab_book::{Answered, Book};
 use master_rounds::rounds_are_short;
 use round_run::{books_follow_acts, bring_beginning};
-use sig_types::{Field, Frame, NoMemory, Octets, Way, pass_of};
+use sig_types::{Field, Frame, NoMemory, Octets, Way};
 use std::alloc::Global;
 
 /// The lines of what each cabinet shows before any tick are appended.
@@ -164,7 +164,7 @@ fn receive_frame(
     books_follow_acts();
     let (way, octets) = frame;
     let before = book.replies().len();
-    book.bring_frame(pass_of(way), octets)?;
+    book.bring_frame(way, octets)?;
     put_replies(alloc, out, cab, replies_from(book, before))
 }
 

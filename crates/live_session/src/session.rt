@@ -10,7 +10,7 @@ ghost use Rattle.session_laws.specs.Dialogue.{answer_text};
 
 use crate::books::{begin_books, hear, journal_books, open_books, receive, tick_books};
 use crate::lines::{put_dot, put_line, put_notes, put_refusal};
-use cab_book::Way as Engine;
+use cab_book::Engine;
 use round_run::{ClosedLoop, books_follow_acts};
 use scenario_data::Scenario;
 use session_words::{Request, Untaken, read_request};
@@ -41,7 +41,7 @@ impl Session {
         ensures stands { IfOk result (λ session. SessionStands session (scenario_content scenario) opened_session) }
         ensures text { OnOk result (out.new.items ≡ out.old.items ++ answer_text (Lines (open_lines (scenario_content scenario)))) }
     {
-        let closed_loop = ClosedLoop::open(alloc, Engine::Registers, &scenario)?;
+        let closed_loop = ClosedLoop::open(alloc, Engine::Controller, &scenario)?;
         open_books(alloc, out, &closed_loop.books)?;
         let mut session = Session {
             scenario,
