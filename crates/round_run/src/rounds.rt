@@ -90,10 +90,7 @@ impl ClosedLoop {
             Ok(replies) => replies,
             Err(NoMemory) => return Err(NoMemory),
         };
-        match self
-            .master_rounds
-            .end(alloc, done + 1, s, replies.as_slice())
-        {
+        match self.master_rounds.end(alloc, done + 1, replies.as_slice()) {
             Ok(()) => Ok(()),
             Err(NoMemory) => Err(NoMemory),
         }
