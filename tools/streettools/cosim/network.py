@@ -48,8 +48,8 @@ class Link(NamedTuple):
 
 
 class Edge(NamedTuple):
-    """A directed edge: where it leads, its lanes, metres, metres a second, priority, and its heading at the end in degrees
-    from north, clockwise."""
+    """A directed edge: where it leads, its lanes, metres, metres a second, priority, and its headings at its end and at its
+    start, in degrees from north, clockwise."""
 
     name: str
     start: str
@@ -59,6 +59,7 @@ class Edge(NamedTuple):
     speed: float
     priority: int
     heading: float
+    leaving: float
 
 
 class Stage(NamedTuple):
@@ -159,6 +160,7 @@ def read_edges(root: xml.Element, found: Network) -> None:
             max(float(lane.get("speed")) for lane in lanes),
             int(edge.get("priority", 0)),
             heading(shape),
+            (heading(" ".join(reversed(shape.split()))) + 180) % 360,
         )
 
 
