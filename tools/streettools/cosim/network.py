@@ -18,8 +18,8 @@ from typing import NamedTuple
 from ..shared.status import Status
 from .faults import Fault
 
-OWN_LOGIC = ("railCrossing", "railSignal")
-"""Kinds of signals that SUMO switches by the trains themselves; no cabinet has them."""
+OF_TRAINS = ("rail_crossing", "rail_signal")
+"""Kinds of junctions whose signals SUMO switches by the trains themselves; no cabinet has them."""
 STRAIGHT, LEFT, RIGHT, TURN, CROSSING = "s", "l", "r", "t", "c"
 TURNS = {"s": STRAIGHT, "l": LEFT, "L": LEFT, "r": RIGHT, "R": RIGHT, "t": TURN}
 
@@ -192,8 +192,9 @@ def read_links(root: xml.Element, found: Network) -> None:
     """Reads the links that have signals, and the paths that cross."""
     places = places_of(root, found)
     links = defaultdict(list)
+    of_trains = {it.get("id") for it in root.iter("junction") if it.get("type") in OF_TRAINS}
     for way in root.iter("connection"):
-        if "tl" not in way.attrib:
+        if "tl" not in way.attrib or way.get("tl") in of_trains:
             continue
         start, end = (f"{way.get(side)}_{way.get(side + 'Lane')}" for side in ("from", "to"))
         is_crossing = way.get("to") in found.crossings
@@ -204,12 +205,9 @@ def read_links(root: xml.Element, found: Network) -> None:
 
 
 def read_programs(root: xml.Element, found: Network) -> None:
-    """Reads the first program of each signal; signals that trains switch are left out."""
+    """Reads the first program of each signal."""
     for logic in root.iter("tlLogic"):
         signal, kind = logic.get("id"), logic.get("type", "static")
-        if kind in OWN_LOGIC:
-            found.links.pop(signal, None)
-            continue
         stages = [Stage(float(it.get("duration")), it.get("state"), it.get("name", "")) for it in logic.iter("phase")]
         params = {it.get("key"): it.get("value") for it in logic.iter("param")}
         found.programs.setdefault(signal, Program(kind, tuple(stages), params))
