@@ -62,6 +62,13 @@ class Edge(NamedTuple):
     leaving: float
 
 
+class Part(NamedTuple):
+    """A part of a way: metres, and the limit in metres a second."""
+
+    metres: float
+    speed: float
+
+
 class Stage(NamedTuple):
     """A phase of a program: seconds, its state of all links, its name."""
 
@@ -81,7 +88,8 @@ class Program(NamedTuple):
 @dataclass
 class Network:
     """All that is kept of a network. `foes` and `yields` have pairs of places in the matrix of each junction: paths
-    that cross or join, and who gives way to whom where both have a green that yields."""
+    that cross or join, and who gives way to whom where both have a green that yields. `inner` is the way over a junction
+    from an edge to an edge."""
 
     path: pathlib.Path
     edges: dict[str, Edge] = field(default_factory=dict)
@@ -90,6 +98,7 @@ class Network:
     yields: dict[str, set[tuple[int, int]]] = field(default_factory=dict)
     crossings: dict[str, tuple[str, ...]] = field(default_factory=dict)
     lanes: dict[str, float] = field(default_factory=dict)
+    inner: dict[tuple[str, str], Part] = field(default_factory=dict)
     programs: dict[str, Program] = field(default_factory=dict)
 
     def conflicts(self, signal: str) -> Iterator[tuple[Link, Link]]:
@@ -136,6 +145,7 @@ def read(path: pathlib.Path) -> Network:
     found = Network(path)
     read_edges(root, found)
     read_links(root, found)
+    read_inner(root, found)
     read_programs(root, found)
     return found
 
@@ -202,6 +212,19 @@ def read_links(root: xml.Element, found: Network) -> None:
         signal = way.get("tl")
         links[signal].append(Link(signal, int(way.get("linkIndex")), *places[start, end], start, end, turn))
     found.links = {signal: sorted(rows, key=lambda it: it.index) for signal, rows in sorted(links.items())}
+
+
+def read_inner(root: xml.Element, found: Network) -> None:
+    """Reads the ways over junctions, which may be of two lanes, one behind the other."""
+    parts = {it.get("id"): Part(float(it.get("length")), float(it.get("speed"))) for it in root.iter("lane")}
+    ways = [(it, it.get("via")) for it in root.iter("connection") if it.get("via")]
+    behind = {f"{it.get('from')}_{it.get('fromLane')}": via for it, via in ways}
+    for way, via in ways:
+        key = way.get("from"), way.get("to")
+        if key[0] in found.edges and key[1] in found.edges and key not in found.inner:
+            chain = [parts[it] for it in (via, behind.get(via)) if it]
+            metres = sum(it.metres for it in chain)
+            found.inner[key] = Part(metres, metres / sum(it.metres / it.speed for it in chain))
 
 
 def read_programs(root: xml.Element, found: Network) -> None:

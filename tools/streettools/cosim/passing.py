@@ -13,7 +13,7 @@ from typing import NamedTuple
 
 from .halts import Halt
 from .mapping import Map
-from .network import CROSSING, Network
+from .network import CROSSING, Network, Part
 from .records import Kind, Movement, Passage, QueueSample, Trip
 from .signals import GREEN
 
@@ -33,14 +33,14 @@ class Served(NamedTuple):
 
 
 class Way(NamedTuple):
-    """A turn of a vehicle: what serves it, the edges on the way there, when it came onto them and when it passed the
-    stop line (None where it didn't), and the metres on the way."""
+    """A turn of a vehicle: what serves it, the edges on the way there, when it began that way and when it passed the
+    stop line (None where it didn't), and the parts of the way: edges, and the junctions before them."""
 
     served: Served
     edges: tuple[str, ...]
     entered: float
     passed: float | None
-    metres: float
+    parts: tuple[Part, ...]
 
 
 class Routes:
@@ -56,6 +56,18 @@ class Routes:
                     served = Served(signal.id, signal.cabinet, movement.name, movement.phase, link.index)
                     self.turns.setdefault((link.approach, link.end.rpartition("_")[0]), served)
 
+    def parts(self, edges: list[str]) -> list[Part]:
+        """Returns the parts of a way along some edges, with the junctions between them."""
+        parts = [self.own(edges[0])]
+        for one, other in zip(edges, edges[1:]):
+            parts += [it for it in [self.network.inner.get((one, other))] if it]
+            parts.append(self.own(other))
+        return parts
+
+    def own(self, edge: str) -> Part:
+        """Returns an edge as a part of a way."""
+        return Part(self.network.edges[edge].length, self.network.edges[edge].speed)
+
     def ways(self, edges: list[str], exits: list[float | None], depart: float, start: float) -> Iterator[Way]:
         """Yields the turns of a route over mapped signals, in order; `exits` are when each edge was left, `start` is the place
         on the first edge where the vehicle began."""
@@ -63,9 +75,12 @@ class Routes:
         for k, (edge, end) in enumerate(zip(edges, edges[1:])):
             if (edge, end) not in self.turns:
                 continue
-            own = tuple(edges[first : k + 1])
-            metres = sum(self.network.edges[it].length for it in own) - (start if first == 0 else 0)
-            yield Way(self.turns[edge, end], own, entered, exits[k], metres)
+            parts = self.parts(edges[max(first - 1, 0) : k + 1])
+            if first == 0:
+                parts[0] = Part(max(parts[0].metres - start, 0.0), parts[0].speed)
+            else:
+                del parts[0]
+            yield Way(self.turns[edge, end], tuple(edges[first : k + 1]), entered, exits[k], tuple(parts))
             if exits[k] is None:
                 return
             first, entered = k + 1, exits[k]
@@ -123,12 +138,9 @@ class Traffic:
         for way in self.ways.get(vehicle, ()):
             if way.passed is None:
                 continue
-            whole = sum(self.network.edges[it].length for it in way.edges)
-            free = sum(
-                self.network.edges[it].length / min(self.network.edges[it].speed * factor, most) for it in way.edges
-            )
-            served_stops = sum(self.stops.get((vehicle, it), 0.0) for it in way.edges)
-            arrived = min(way.entered + free * way.metres / whole + served_stops, way.passed)
+            free = sum(it.metres / min(it.speed * factor, most) for it in way.parts)
+            at_stops = sum(self.stops.get((vehicle, it), 0.0) for it in way.edges)
+            arrived = min(way.entered + free + at_stops, way.passed)
             served = way.served
             found.append(
                 Passage(
