@@ -71,7 +71,8 @@ class Trip(NamedTuple):
 
 
 class QueueSample(NamedTuple):
-    """How many vehicles of a movement stood before its stop line at a second."""
+    """How many vehicles of a movement stood before its stop line at a second. The number holds until the next sample
+    of the movement, and is 0 before its first."""
 
     cabinet: int
     movement: str
