@@ -10,6 +10,8 @@ from .queues_volumes import Saturation
 
 NEVER = float("-inf")
 ALWAYS = float("inf")
+EXACT = 1e-9
+"""Sums of seconds are as exact as this."""
 
 
 class Passed(NamedTuple):
@@ -22,7 +24,7 @@ class Passed(NamedTuple):
 
 class StopLine:
     """The stop line of a movement. `queue` has those who have reached the line and haven't passed it, in their order:
-    when each reached it, and its number. It is open from `opens` on, up to `open_until`."""
+    when each reached it, and its number. It is open from `opens` on, up to and with `open_until`."""
 
     __slots__ = ("gap", "lost", "use", "lanes", "queue", "ready", "turn", "last", "open_until")
 
@@ -59,11 +61,11 @@ class StopLine:
     def discharged(self, until: float) -> list[Passed]:
         """Returns those who pass before a second, as far as the line is open; they leave the queue."""
         queue, ready, passed = self.queue, self.ready, []
-        end = min(until, self.open_until)
+        end = self.open_until + EXACT
         while queue:
             arrived, vehicle = queue[0]
             at = max(arrived, ready[self.turn], self.last)
-            if at >= end:
+            if at >= until or at > end:
                 break
             queue.popleft()
             passed.append(Passed(vehicle, arrived, at))

@@ -104,7 +104,7 @@ class Street:
     def discharge(self, step: int, until: float) -> None:
         """Lets pass who can, at all stop lines."""
         for place, line in enumerate(self.lines):
-            if line.queue and line.open_until > until - self.size:
+            if line.queue and line.open_until >= until - self.size:
                 self.passed(place, step, until)
 
     def passed(self, place: int, step: int, until: float) -> None:

@@ -17,8 +17,6 @@ from .records import Kind, Movement, Passage, QueueSample, Study, Trip
 
 STOPPED = 2.0
 """Who waits as long as this has stopped; who waits less has slowed down."""
-SAMPLED = 5.0
-"""Queues are told every so many seconds."""
 MOST_TICKS, MOST_ROUNDS = 55_296_000, 86_400
 
 
@@ -142,27 +140,21 @@ def person_trips(ran: Ran) -> list[Trip]:
 
 
 def samples(ran: Ran) -> list[QueueSample]:
-    """Returns how many vehicles stood at each stop line, every few seconds."""
+    """Returns how many vehicles stood at each stop line, whenever that changed."""
     flows = ran.volumes.flows
-    reached: list[list[float]] = [[] for _ in flows]
-    left: list[list[float]] = [[] for _ in flows]
+    changes: list[list[tuple[float, int]]] = [[] for _ in flows]
     for vehicle, told in zip(ran.demand.vehicles, ran.street.passages):
         for place, (arrived, released) in zip(vehicle.way.flows, told):
-            reached[place].append(arrived)
-            left[place].append(released)
-    count = int(ran.street.steps.seconds / SAMPLED)
+            if arrived < released:
+                changes[place] += ((arrived, 1), (released, -1))
     found = []
-    for it, line, came, gone in zip(flows, ran.street.lines, reached, left):
-        came = sorted(came + [at for at, _ in line.queue])
-        gone.sort()
-        one = other = 0
-        for place in range(1, count + 1):
-            at = place * SAMPLED
-            while one < len(came) and came[one] <= at:
-                one += 1
-            while other < len(gone) and gone[other] <= at:
-                other += 1
-            found.append(QueueSample(it.cabinet, it.name, at, one - other))
+    for it, line, rows in zip(flows, ran.street.lines, changes):
+        rows += [(at, 1) for at, _ in line.queue]
+        rows.sort()
+        count = 0
+        for at, change in rows:
+            count += change
+            found.append(QueueSample(it.cabinet, it.name, at, count))
     return found
 
 
