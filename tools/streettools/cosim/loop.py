@@ -31,7 +31,7 @@ MOST_ROUNDS = 86_400
 @dataclass(frozen=True)
 class Given:
     """What a run is of: SUMO's configuration, map, network, scenario; step and length in seconds; the seed; whether buses
-    ask for priority."""
+    ask for priority; from which second on trips count."""
 
     config: Config
     street: Map
@@ -41,6 +41,7 @@ class Given:
     seconds: float
     seed: int | None = None
     priority: bool = True
+    warm: float = 0.0
 
     def ticks(self) -> int:
         """Returns the ticks of a step."""

@@ -7,7 +7,7 @@ from dataclasses import dataclass
 from typing import Any
 
 from ..shared.status import Status
-from . import drive
+from . import drive, report
 from .checks import check
 from .drive import Start
 from .faults import Fault
@@ -20,7 +20,7 @@ from .persons import Crossed
 from .records import Kind, Movement, Passage, Study, Trip, save
 from .session import Session
 
-TRACE, STUDY = "session.trace", "study.json"
+TRACE, STUDY, REPORT = "session.trace", "study.json", "report"
 
 
 @dataclass
@@ -100,10 +100,14 @@ def done(
         trips=trips + persons_of(loop.buttons.crossed),
         queues=traffic.queues(loop.halts.found, movements, seconds),
         seconds=seconds,
+        warm=given.warm,
         requests=loop.priority.done,
         title=given.config.path.stem,
     )
     save(study, out / STUDY)
+    value = report.collect(study)
+    (out / f"{REPORT}.json").write_text(report.json_text(value), encoding="utf-8")
+    (out / f"{REPORT}.txt").write_text(report.text(value), encoding="utf-8")
     return Done(study, loop.times, fault, loop.priority.refusals)
 
 

@@ -12,7 +12,7 @@ from .drive import read_config
 from .faults import Fault
 from .loop import Given
 from .mapping import read_map
-from .run import TRACE, Done, read_scenario, run
+from .run import REPORT, TRACE, Done, read_scenario, run
 
 EXAMPLES = """\
 examples:
@@ -62,7 +62,7 @@ def given_of(words: argparse.Namespace) -> Given:
     seconds = words.seconds or (config.end - config.begin if config.end else scenario["rounds"] * scenario["ticks"] / 10)
     if words.warm >= seconds:
         raise Fault(f"--warm {words.warm} is no less than the {seconds:g} seconds of the run")
-    return Given(config, street, known, scenario, words.step, seconds, words.seed, not words.no_priority)
+    return Given(config, street, known, scenario, words.step, seconds, words.seed, not words.no_priority, words.warm)
 
 
 def tell(done: Done, given: Given, out: pathlib.Path) -> None:
@@ -98,4 +98,5 @@ def main(words: list[str]) -> int:
     tell(done, given, out)
     if done.fault is not None:
         raise done.fault
+    print((out / f"{REPORT}.txt").read_text(encoding="utf-8"), end="")
     return Status.DONE

@@ -1,7 +1,8 @@
 """The same street under SUMO's own controllers, with the times of a scenario: NEMA in two rings, and actuated stages.
 
-NEMA has the pattern in command as the cabinets open; where that is none it runs free. Neither has walk times: a crossing
-has way with its phase. Persons' clearance, preempts and priority are not there at all.
+NEMA has the pattern in command as the cabinets open; where that is none it runs free. Neither has walk times, preempts or
+priority. Under actuated stages a crossing has way with its phase; under NEMA it is always red, since SUMO 1.15 dies of a
+phase that gives way to a crossing.
 """
 
 import pathlib
@@ -27,14 +28,17 @@ NEMA, ACTUATED = "nema", "actuated"
 LOOP = 15
 
 
-def states(signal: MappedSignal, network: Network, phases: set[int], letter: str | None = None) -> str:
-    """Returns the state in which some phases have way, or show a letter."""
+def states(
+    signal: MappedSignal, network: Network, phases: set[int], letter: str | None = None, has_walks: bool = True
+) -> str:
+    """Returns the state in which some phases have way, or show a letter to vehicles."""
     links = {link.name: link.index for link in network.links[signal.id]}
     shown = ["r"] * (1 + max(links.values()))
     for movement in signal.movements:
-        if phases & set(movement.phases()):
-            for name in movement.links:
-                shown[links[name]] = ("r" if movement.walk else letter) if letter else "g" if movement.yields else "G"
+        if not phases & set(movement.phases()) or movement.walk and (letter or not has_walks):
+            continue
+        for name in movement.links:
+            shown[links[name]] = letter or ("g" if movement.yields else "G")
     return "".join(shown)
 
 
@@ -80,7 +84,8 @@ def nema(signal: MappedSignal, network: Network, tables: Tables, pattern: int) -
         yellow, red = tables.phase(phase, 8) / 10, tables.phase(phase, 9) / 10
         split = tables.split(tables.pattern(pattern, 4), phase, 3) - yellow - red if pair else tables.phase(phase, 6)
         times = {"minDur": tables.phase(phase, 4), "maxDur": split, "vehext": tables.phase(phase, 5) / 10}
-        rows.append(stage(99, states(signal, network, {phase}), name=phase, yellow=yellow, red=red, **times))
+        state = states(signal, network, {phase}, has_walks=False)
+        rows.append(stage(99, state, name=phase, yellow=yellow, red=red, **times))
     offset = tables.pattern(pattern, 3) if pair else 0
     return {"id": signal.id, "type": "NEMA", "programID": "arterial", "offset": offset}, rows
 
