@@ -16,14 +16,23 @@ from .conftest import PROGRAM, STREET, change, cosim, needs_sumo, run_tee
 pytestmark = needs_sumo
 
 
+LINES = """<routes>
+    <vType id="bus" vClass="bus" length="12" accel="1.2" decel="2.5" sigma="0.5"/>
+    <vType id="train" vClass="rail" length="100" maxSpeed="22.22"/>
+    <vType id="walker" vClass="pedestrian"/>
+    <trip id="bus-east.0" type="bus" depart="0" from="e0" to="e4" departLane="1" departSpeed="max"/>
+    <trip id="train.0" type="train" depart="5" from="rail-far" to="rail-gone" departSpeed="max"/>
+    <person id="over-main.0" type="walker" depart="10" departPos="290"><walk edges="n1 up1"/></person>
+    <person id="over-side.0" type="walker" depart="10" departPos="250"><walk edges="e2 e3"/></person>
+</routes>
+"""
+
+
 @pytest.fixture(scope="module")
 def street(tmp_path_factory) -> pathlib.Path:
     """Returns the folder of a run of 120 s, in steps of 1 s, with buses, persons and a train that come early."""
     folder = tmp_path_factory.mktemp("street")
-    text = (STREET / "lines.rou.xml").read_text()
-    text = text.replace('begin="60"', 'begin="0"').replace('begin="240"', 'begin="10"').replace("exp(0.0083)", "exp(0.05)")
-    routes = sorted(text.split("<personFlow"), key=lambda it: "over-" in it)
-    (folder / "lines.rou.xml").write_text("<personFlow".join(routes))
+    (folder / "lines.rou.xml").write_text(LINES)
     for name in ("street.net.xml", "cars.rou.xml", "stops.add.xml", "street.sumocfg"):
         (folder / name).write_bytes((STREET / name).read_bytes())
     words = ["--sumo", folder / "street.sumocfg", "--map", STREET / "street.map.toml", "--scenario", STREET / "east.json"]
@@ -111,12 +120,15 @@ def test_steps_of_a_tenth_of_a_second(tee):
 
 
 def test_an_error_of_sumo_ends_the_run_and_what_was_recorded_is_kept(tee):
-    change(tee / "tee.rou.xml", "</routes>", '<trip id="lost" depart="30" from="in-east" to="nowhere"/></routes>')
-    change(tee / "tee.rou.xml", 'begin="0" end="3600" period="exp(0.138889)"', 'begin="0" end="29" period="exp(0.138889)"')
+    """A trip to an edge that isn't there is read at second 20, behind the one before it."""
+    trips = [("fine", 20, "out-east"), ("lost", 30, "nowhere")]
+    rows = [f'<trip id="{name}" depart="{second}" from="in-east" to="{end}"/>' for name, second, end in trips]
+    (tee / "tee.rou.xml").write_text(f"<routes>{''.join(rows)}</routes>")
     change(tee / "tee.sumocfg", "</input>", '<route-steps value="1"/></input>')
     ran = run_tee(tee)
-    assert ran.status == 1 and "SUMO ended by an error: The to edge 'nowhere'" in ran.said[-1]
-    assert (tee / "out/session.trace").read_bytes().startswith(b"S {")
+    assert ran.status == 1 and ran.said[-1].startswith("cosim: SUMO ended by an error: The edge 'nowhere'")
+    trace = (tee / "out/session.trace").read_bytes()
+    assert trace.startswith(b"S {") and subprocess.run([PROGRAM, "check"], input=trace).returncode == 0
 
 
 def test_a_configuration_that_sumo_refuses_is_one_line(tee):

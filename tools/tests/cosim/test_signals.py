@@ -6,6 +6,7 @@ import subprocess
 import pytest
 
 from streettools.cosim import detectors, network
+from streettools.cosim.checks import together_in
 from streettools.cosim.faults import Conflict
 from streettools.cosim.mapping import Overlap, read_map
 from streettools.cosim.overlaps import OverlapLight
@@ -77,7 +78,28 @@ def test_the_watch_finds_each_pair_of_crossing_links_that_both_have_way(one, oth
         state = ["r"] * size
         state[a.index], state[b.index] = one, other
         with pytest.raises(Conflict, match=f"links {a.index} .* and {b.index} .* cross, and both have way"):
-            Watch(known, ["t"]).look(Shown({"t": "".join(state)}), 1.0)
+            Watch(known, ["t"], lambda a, b: False).look(Shown({"t": "".join(state)}), 1.0)
+
+
+def test_a_link_that_yields_may_be_on_beside_its_foe_only_where_their_phases_may():
+    """The right turn out of the stem (g) yields to the crossing beside it, which has its phase; not to the main street."""
+    known = network.read(TEE / "tee.net.xml")
+    street = read_map(TEE / "tee.map.toml")
+    together = together_in(street, {"cabinets": [{}]})
+    by_name = {link.name: link.index for link in known.links["t"]}
+    places = {it.name: [by_name[name] for name in it.links] for it in street.signals[0].movements}
+
+    def state(**letters: str) -> str:
+        shown = ["r"] * len(by_name)
+        for name, letter in letters.items():
+            for place in places[name.replace("_", " ")]:
+                shown[place] = letter
+        return "".join(shown)
+
+    Watch(known, ["t"], together).look(Shown({"t": state(NBR="g", ped_E="G")}), 1.0)
+    for letters in ({"NBR": "G", "ped_E": "G"}, {"NBL": "g", "EBT": "G"}, {"NBL": "g", "WBT": "y"}):
+        with pytest.raises(Conflict):
+            Watch(known, ["t"], together).look(Shown({"t": state(**letters)}), 1.0)
 
 
 def test_the_watch_lets_links_be_on_that_do_not_cross():
@@ -86,7 +108,7 @@ def test_the_watch_lets_links_be_on_that_do_not_cross():
     size = len(known.links["t"])
     for i, j in itertools.combinations(range(size), 2):
         if frozenset((i, j)) not in crossing:
-            Watch(known, ["t"]).look(Shown({"t": "".join("G" if k in (i, j) else "r" for k in range(size))}), 1.0)
+            Watch(known, ["t"], lambda a, b: False).look(Shown({"t": "".join("G" if k in (i, j) else "r" for k in range(size))}), 1.0)
 
 
 FRAME = b"F 1 %d RGRRRGRRRRRRRRRR DWDDDFDDDDDDDDDD C1 0 0 0"
