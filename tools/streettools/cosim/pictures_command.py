@@ -30,8 +30,8 @@ def parser() -> argparse.ArgumentParser:
     """Returns the reader of the command's words."""
     words = argparse.ArgumentParser(
         prog="cosim draw",
-        description="Draws a run with traffic: vehicles' paths over the bands, the Purdue coordination diagram, the split "
-        "monitor, queues over time.",
+        description="Draws a run with traffic: vehicles' paths over the bands, the Purdue coordination diagram, "
+        "the split monitor, queues over time.",
         epilog=EXAMPLES,
         formatter_class=argparse.RawDescriptionHelpFormatter,
         allow_abbrev=False,
@@ -42,7 +42,7 @@ def parser() -> argparse.ArgumentParser:
     words.add_argument("--cabinet", type=number(1, 64), default=1, metavar="N", help="the cabinet (1); not of paths")
     words.add_argument("--movement", metavar="NAME,..", help="the movements (purdue: the two busiest; queues: all)")
     words.add_argument("--cabinets", type=numbers, metavar="N,N,..", help="the cabinets of paths, in order (all)")
-    words.add_argument("--travel", type=travel, metavar="S,S,..", help="seconds from each cabinet to the next, for paths")
+    words.add_argument("--travel", type=travel, metavar="S,S,..", help="seconds from each cabinet to the next (paths)")
     words.add_argument("--from", dest="first", type=float, metavar="S", help="the first second (where counting begins)")
     words.add_argument("--to", dest="last", type=float, metavar="S", help="the last second")
     words.add_argument("--start", type=daytime, metavar="TIME", help="the time of day at second 0, as 07:00:00")

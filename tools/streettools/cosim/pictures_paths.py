@@ -24,7 +24,7 @@ def path_of(trip: Trip, heights: dict[int, float]) -> tuple[int, Points] | None:
     passed = [it for it in trip.passages if it.cabinet in heights]
     if len(passed) < 2:
         return None
-    points = [point for it in passed for point in ((it.arrived, heights[it.cabinet]), (it.released, heights[it.cabinet]))]
+    points = [(at, heights[it.cabinet]) for it in passed for at in (it.arrived, it.released)]
     return int(heights[passed[-1].cabinet] < heights[passed[0].cabinet]), points
 
 
@@ -36,7 +36,8 @@ def draw_paths(axes: Any, study: Study, heights: dict[int, float], view: View) -
         if path and path[1][0][0] < view.end and path[1][-1][0] > view.start:
             found[path[0]].append(path[1])
     for way, (paths, name) in enumerate(zip(found, ("outbound", "inbound"))):
-        axes.add_collection(LineCollection(paths, colors=TURNS[way], linewidths=0.6, alpha=0.8, zorder=3, gid=f"{name}-paths"))
+        look = {"colors": TURNS[way], "linewidths": 0.6, "alpha": 0.8, "zorder": 3, "gid": f"{name}-paths"}
+        axes.add_collection(LineCollection(paths, **look))
 
 
 def corners_of(study: Study, cabinets: list[int], travel: list[int], view: View) -> list[coordination.Corner]:
@@ -63,14 +64,22 @@ def draw(study: Study, cabinets: list[int], travel: list[int], view: View, path:
     pictures.time_axis(axes, 10 * view.start, 10 * view.end, view.began)
     for corner, height in zip(corners, heights):
         coordination.draw_corner(axes, corner, height, 0.13 * spacing)
-    coordination.draw_bands(axes, coordination.ways(corners, travel), heights, round(10 * view.start), round(10 * view.end))
+    found = coordination.ways(corners, travel)
+    coordination.draw_bands(axes, found, heights, round(10 * view.start), round(10 * view.end))
     draw_paths(axes, study, dict(zip(cabinets, heights)), view)
     axes.set_ylim(heights[0] - 0.3 * spacing, heights[-1] + 0.3 * spacing)
     axes.set_yticks(heights, [pictures.escaped(it) for it in labels])
     axes.tick_params(axis="y", length=0)
     axes.spines["left"].set_visible(False)
-    keys = [Patch(color=pictures.GREEN, label="green"), Patch(color=pictures.YELLOW, label="yellow"), Patch(color=coordination.STOP, label="red")]
-    for colour, name in zip(TURNS, ("outbound", "inbound")):
-        keys += [Patch(color=colour, alpha=0.25, label=f"{name} band"), Line2D([], [], color=colour, linewidth=0.8, label=f"vehicles {name}")]
-    pictures.legend(drawn, keys)
+    pictures.legend(drawn, keys())
     pictures.save(drawn, path)
+
+
+def keys() -> list[Patch | Line2D]:
+    """Returns what explains the colours and the lines."""
+    colours = {"green": pictures.GREEN, "yellow": pictures.YELLOW, "red": coordination.STOP}
+    found: list[Patch | Line2D] = [Patch(color=colour, label=text) for text, colour in colours.items()]
+    for colour, name in zip(TURNS, ("outbound", "inbound")):
+        found.append(Patch(color=colour, alpha=0.25, label=f"{name} band"))
+        found.append(Line2D([], [], color=colour, linewidth=0.8, label=f"vehicles {name}"))
+    return found

@@ -6,7 +6,7 @@ from matplotlib.lines import Line2D
 from matplotlib.patches import Patch
 
 from ..look import pictures
-from .pictures_seen import Turn, View, turns
+from .pictures_seen import Turn, View, label, room, turns
 from .records import Movement, Study
 
 
@@ -26,6 +26,11 @@ def greens(seen: list[Turn], view: View) -> list[tuple[float, float]]:
     return [(10 * start, 10 * end) for start, end in spans if start < end]
 
 
+def named(movement: Movement) -> str:
+    """Returns the label of a movement."""
+    return f"{movement.name}\nphase {', '.join(map(str, movement.phases()))}"
+
+
 def draw_movement(axes: Any, study: Study, movement: Movement, view: View) -> None:
     """Draws the queue of a movement over its greens."""
     seconds, numbers = steps(study, movement, view)
@@ -34,17 +39,18 @@ def draw_movement(axes: Any, study: Study, movement: Movement, view: View) -> No
     pictures.bars(axes, spans, 0, top, f"{movement.name}-green", facecolor=pictures.GREEN, alpha=0.18, linewidth=0)
     axes.step(seconds, numbers, where="post", color=pictures.INK, linewidth=0.9, gid=f"{movement.name}-queue")
     axes.set_ylim(0, top)
-    axes.set_ylabel(f"{movement.name}\nphase {', '.join(map(str, movement.phases()))}", rotation=0, ha="right", va="center")
+    label(axes, named(movement))
     axes.yaxis.get_major_locator().set_params(integer=True, nbins=4)
 
 
 def draw(study: Study, movements: list[Movement], view: View, path: str) -> None:
     """Draws the queues of some movements of a cabinet, and writes them."""
     title = f"Queues, cabinet {movements[0].cabinet}: vehicles before the stop line"
-    drawn, all_axes = pictures.figure(1.1 + 0.95 * len(movements), title, len(movements))
+    labels = room([named(it) for it in movements])
+    drawn, all_axes = pictures.figure(1.1 + 0.95 * len(movements), title, len(movements), labels=labels)
     for axes, it in zip(all_axes, movements):
         draw_movement(axes, study, it, view)
     pictures.time_axis(all_axes[-1], 10 * view.start, 10 * view.end, view.began)
-    keys = [Line2D([], [], color=pictures.INK, label="vehicles in the queue"), Patch(color=pictures.GREEN, alpha=0.18, label="green")]
-    pictures.legend(drawn, keys)
+    line = Line2D([], [], color=pictures.INK, label="vehicles in the queue")
+    pictures.legend(drawn, [line, Patch(color=pictures.GREEN, alpha=0.18, label="green")])
     pictures.save(drawn, path)

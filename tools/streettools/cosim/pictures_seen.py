@@ -1,8 +1,9 @@
 """What the pictures of a street with traffic share: the colours of a phase over time, and which movements are drawn."""
 
 import pathlib
-from typing import NamedTuple
+from typing import Any, NamedTuple
 
+from ..look import pictures
 from ..sweep.faults import Fault
 from .movements import is_of_persons
 from .records import Movement, Study
@@ -76,6 +77,17 @@ def chosen(study: Study, cabinet: int, names: list[str] | None) -> list[Movement
         if name not in known:
             raise Fault(f"cabinet {cabinet} has no movement {name}: {', '.join(known)}")
     return [known[it] for it in names] if names else [it for it in there if not is_of_persons(it)]
+
+
+def label(axes: Any, text: str) -> None:
+    """Writes a label left of the numbers of an axis."""
+    axes.set_ylabel(pictures.escaped(text), rotation=0, ha="right", va="center")
+    axes.yaxis.set_label_coords(-0.035, 0.5)
+
+
+def room(labels: list[str]) -> list[str]:
+    """Returns labels as wide as they are with the numbers of the axis beside them."""
+    return ["\n".join(f"{line}{' ' * 8}" for line in it.split("\n")) for it in labels]
 
 
 def busiest(study: Study, movements: list[Movement], count: int) -> list[Movement]:

@@ -9,10 +9,16 @@ from ..shared.cabinet import changes, mode_of, opened
 from ..shared.course import Course, Ended, Input
 from ..shared.lines import Frame
 from ..sweep.faults import Fault
-from .pictures_seen import View
+from .pictures_seen import View, label, room
 from .records import Study
 
-COLOURS = {"gap": "#2f9e53", "force-off": "#c9302c", "maximum": "#7b1d1a", "yield": "#1c7ed6", "split filled": "#e8590c"}
+COLOURS = {
+    "gap": "#2f9e53",
+    "force-off": "#c9302c",
+    "maximum": "#7b1d1a",
+    "yield": "#1c7ed6",
+    "split filled": "#e8590c",
+}
 OTHER = "#868e96"
 NAMES = {"gap": "gap-out", "maximum": "max-out", "force-off": "force-off", "yield": "yield of a coordinated phase"}
 
@@ -78,13 +84,14 @@ def draw_phase(axes: Any, splits: list[Split], phase: int) -> None:
     """Draws the services of a phase: a dot each, and a line for what the split gives."""
     for ending in dict.fromkeys(it.ending for it in splits):
         shown = [it for it in splits if it.ending == ending]
-        axes.plot([it.start for it in shown], [it.length for it in shown], ".", color=COLOURS.get(ending, OTHER), markersize=4,
-                  gid=f"phase-{phase}-{ending.replace(' ', '-')}")  # fmt: skip
+        group = f"phase-{phase}-{ending.replace(' ', '-')}"
+        look = {"color": COLOURS.get(ending, OTHER), "markersize": 4, "gid": group}
+        axes.plot([it.start for it in shown], [it.length for it in shown], ".", **look)
     given = [it for it in splits if it.given is not None]
-    axes.plot([it.start for it in given], [it.given for it in given], color=pictures.INK, linewidth=0.8, drawstyle="steps-post",
-              gid=f"phase-{phase}-split")  # fmt: skip
+    look = {"color": pictures.INK, "linewidth": 0.8, "drawstyle": "steps-post", "gid": f"phase-{phase}-split"}
+    axes.plot([it.start for it in given], [it.given for it in given], **look)
     axes.set_ylim(0, 1.15 * max((max(it.length, it.given or 0) for it in splits), default=1))
-    axes.set_ylabel(f"phase {phase}", rotation=0, ha="right", va="center")
+    label(axes, f"phase {phase}")
 
 
 def draw(study: Study, number: int, view: View, path: str) -> None:
@@ -94,12 +101,19 @@ def draw(study: Study, number: int, view: View, path: str) -> None:
     if not phases:
         raise Fault(f"no phase of cabinet {number} was served in this time")
     title = f"Split monitor, cabinet {number}: seconds of green, yellow and red clearance, by the begin of green"
-    drawn, all_axes = pictures.figure(1.1 + 0.95 * len(phases), title, len(phases))
+    labels = room([f"phase {it}" for it in phases])
+    drawn, all_axes = pictures.figure(1.1 + 0.95 * len(phases), title, len(phases), labels=labels)
     for axes, phase in zip(all_axes, phases):
         draw_phase(axes, [it for it in splits if it.phase == phase], phase)
     pictures.time_axis(all_axes[-1], 10 * view.start, 10 * view.end, view.began)
-    endings = [it for it in (*COLOURS, "other") if it in {one.ending if one.ending in COLOURS else "other" for one in splits}]
-    keys = [Line2D([], [], color=COLOURS.get(it, OTHER), marker=".", linestyle="", label=NAMES.get(it, it)) for it in endings]
-    keys.append(Line2D([], [], color=pictures.INK, linewidth=0.8, label="split of the pattern"))
-    pictures.legend(drawn, keys)
+    pictures.legend(drawn, keys(splits))
     pictures.save(drawn, path)
+
+
+def keys(splits: list[Split]) -> list[Line2D]:
+    """Returns what explains the dots and the line."""
+    seen = {it.ending if it.ending in COLOURS else "other" for it in splits}
+    dots = [(NAMES.get(it, it), COLOURS.get(it, OTHER)) for it in (*COLOURS, "other") if it in seen]
+    return [Line2D([], [], color=colour, marker=".", linestyle="", label=text) for text, colour in dots] + [
+        Line2D([], [], color=pictures.INK, linewidth=0.8, label="split of the pattern")
+    ]

@@ -1,4 +1,8 @@
-"""A session of the program for one caller who waits for each answer (docs/LIVE.md): inputs, then ticks, step by step."""
+"""A session of the program for one caller who waits for each answer (docs/LIVE.md): inputs, then ticks.
+
+Nothing is recorded but the dialogue as it was, and that only where it is asked for: a step costs little else than the
+way through two pipes.
+"""
 
 import json
 import os

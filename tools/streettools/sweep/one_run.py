@@ -118,8 +118,8 @@ class Runner:
     def queued(self, built: Built) -> list[Any]:
         """Runs a variant with the vehicles of its volumes, and returns its measures."""
         try:
-            until = time.monotonic() + self.seconds
-            ran = queued.run(self.program, built.scenario, built.queued, self.start, until, self.looks)
+            terms = queued.Terms(self.start, time.monotonic() + self.seconds, self.looks)
+            ran = queued.run(self.program, built.scenario, built.queued, terms)
         except Fault as fault:
             if fault.status is Status.REFUSED:
                 raise

@@ -48,18 +48,27 @@ def queued_of(table: dict[str, Any], seed: int | None, fetch: Callable[[str], by
     return Queued(replace(volumes, factor=volumes.factor * table.get("factor", 1)), 1 if seed is None else seed)
 
 
-def run(program: Path, scenario: dict[str, Any], queued: Queued, start: int, until: float, keeps_trace: bool) -> queues_study.Ran:
-    """Runs a variant, whose first `start` ticks aren't counted; TimeoutError where it isn't done by a time of the
-    clock."""
+@dataclass(frozen=True)
+class Terms:
+    """How a variant is run: the ticks at the beginning that aren't counted, the time of the clock at which it has to be
+    done, whether its trace is kept."""
+
+    start: int
+    until: float
+    keeps_trace: bool
+
+
+def run(program: Path, scenario: dict[str, Any], queued: Queued, terms: Terms) -> queues_study.Ran:
+    """Runs a variant; TimeoutError where it isn't done in time."""
     seconds, step = queues_study.seconds_of(scenario, None), scenario["ticks"]
     if step not in STEPS:
         raise Fault(f"volumes go with rounds of {', '.join(map(str, STEPS))} ticks, and the scenario has {step}")
 
     def advance(_: int) -> None:
-        if time.monotonic() > until:
+        if time.monotonic() > terms.until:
             raise TimeoutError
 
-    asked = queues_study.Asked(seconds, step, queued.seed, start / 10, keeps_trace=keeps_trace)
+    asked = queues_study.Asked(seconds, step, queued.seed, terms.start / 10, keeps_trace=terms.keeps_trace)
     return queues_study.run(str(program), queued.volumes, scenario, asked, advance)
 
 

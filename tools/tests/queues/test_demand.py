@@ -82,8 +82,8 @@ def test_without_dispersion_everybody_drives_exactly_the_time_of_travel():
 
 @pytest.mark.parametrize(("alpha", "seconds"), [(0.35, 20.0), (0.25, 40.0), (0.5, 30.0)])
 def test_platoons_spread_as_robertsons_recurrence_says(alpha, seconds):
-    """q'(t + beta T) = F q(t) + (1 - F) q'(t + beta T - 1), with F = 1 / (1 + alpha beta T), beta = 1 / (1 + alpha) and T in
-    steps: so 1 - (1 - F)^(k + 1) of a platoon has come k steps after the first can be there. Here a step is 0.1 s."""
+    """q'(t + beta T) = F q(t) + (1 - F) q'(t + beta T - 1), with F = 1 / (1 + alpha beta T), beta = 1 / (1 + alpha) and
+    T in steps: so 1 - (1 - F)^(k + 1) of a platoon has come k steps after the first can be there. Here a step is 0.1 s."""
     draw, beta = random.Random(1), 1 / (1 + alpha)
     drawn = [travel(draw, Onward(2, "EB", seconds, 1.0, alpha)) for _ in range(20_000)]
     assert min(drawn) >= beta * seconds - 1e-9

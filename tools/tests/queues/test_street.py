@@ -1,4 +1,4 @@
-"""A street of queues under signals of fixed times: nobody is lost, nobody passes on red, platoons come when they are due."""
+"""A street of queues under signals of fixed times: nobody is lost or passes on red, platoons come when they are due."""
 
 from itertools import pairwise
 
