@@ -18,8 +18,8 @@ from typing import NamedTuple
 from ..shared.status import Status
 from .faults import Fault
 
-OWN_LOGIC = ("railCrossing", "railSignal")
-"""Kinds of signals that SUMO switches by the trains themselves; no cabinet has them."""
+OF_TRAINS = ("rail_crossing", "rail_signal")
+"""Kinds of junctions whose signals SUMO switches by the trains themselves; no cabinet has them."""
 STRAIGHT, LEFT, RIGHT, TURN, CROSSING = "s", "l", "r", "t", "c"
 TURNS = {"s": STRAIGHT, "l": LEFT, "L": LEFT, "r": RIGHT, "R": RIGHT, "t": TURN}
 
@@ -48,8 +48,8 @@ class Link(NamedTuple):
 
 
 class Edge(NamedTuple):
-    """A directed edge: where it leads, its lanes, metres, metres a second, priority, and its heading at the end in degrees
-    from north, clockwise."""
+    """A directed edge: where it leads, its lanes, metres, metres a second, priority, and its headings at its end and at its
+    start, in degrees from north, clockwise."""
 
     name: str
     start: str
@@ -59,6 +59,14 @@ class Edge(NamedTuple):
     speed: float
     priority: int
     heading: float
+    leaving: float
+
+
+class Part(NamedTuple):
+    """A part of a way: metres, and the limit in metres a second."""
+
+    metres: float
+    speed: float
 
 
 class Stage(NamedTuple):
@@ -80,7 +88,8 @@ class Program(NamedTuple):
 @dataclass
 class Network:
     """All that is kept of a network. `foes` and `yields` have pairs of places in the matrix of each junction: paths
-    that cross or join, and who gives way to whom where both have a green that yields."""
+    that cross or join, and who gives way to whom where both have a green that yields. `inner` is the way over a junction
+    from an edge to an edge."""
 
     path: pathlib.Path
     edges: dict[str, Edge] = field(default_factory=dict)
@@ -89,6 +98,7 @@ class Network:
     yields: dict[str, set[tuple[int, int]]] = field(default_factory=dict)
     crossings: dict[str, tuple[str, ...]] = field(default_factory=dict)
     lanes: dict[str, float] = field(default_factory=dict)
+    inner: dict[tuple[str, str], Part] = field(default_factory=dict)
     programs: dict[str, Program] = field(default_factory=dict)
 
     def conflicts(self, signal: str) -> Iterator[tuple[Link, Link]]:
@@ -135,6 +145,7 @@ def read(path: pathlib.Path) -> Network:
     found = Network(path)
     read_edges(root, found)
     read_links(root, found)
+    read_inner(root, found)
     read_programs(root, found)
     return found
 
@@ -159,6 +170,7 @@ def read_edges(root: xml.Element, found: Network) -> None:
             max(float(lane.get("speed")) for lane in lanes),
             int(edge.get("priority", 0)),
             heading(shape),
+            (heading(" ".join(reversed(shape.split()))) + 180) % 360,
         )
 
 
@@ -190,8 +202,9 @@ def read_links(root: xml.Element, found: Network) -> None:
     """Reads the links that have signals, and the paths that cross."""
     places = places_of(root, found)
     links = defaultdict(list)
+    of_trains = {it.get("id") for it in root.iter("junction") if it.get("type") in OF_TRAINS}
     for way in root.iter("connection"):
-        if "tl" not in way.attrib:
+        if "tl" not in way.attrib or way.get("tl") in of_trains:
             continue
         start, end = (f"{way.get(side)}_{way.get(side + 'Lane')}" for side in ("from", "to"))
         is_crossing = way.get("to") in found.crossings
@@ -201,13 +214,23 @@ def read_links(root: xml.Element, found: Network) -> None:
     found.links = {signal: sorted(rows, key=lambda it: it.index) for signal, rows in sorted(links.items())}
 
 
+def read_inner(root: xml.Element, found: Network) -> None:
+    """Reads the ways over junctions, which may be of two lanes, one behind the other."""
+    parts = {it.get("id"): Part(float(it.get("length")), float(it.get("speed"))) for it in root.iter("lane")}
+    ways = [(it, it.get("via")) for it in root.iter("connection") if it.get("via")]
+    behind = {f"{it.get('from')}_{it.get('fromLane')}": via for it, via in ways}
+    for way, via in ways:
+        key = way.get("from"), way.get("to")
+        if key[0] in found.edges and key[1] in found.edges and key not in found.inner:
+            chain = [parts[it] for it in (via, behind.get(via)) if it]
+            metres = sum(it.metres for it in chain)
+            found.inner[key] = Part(metres, metres / sum(it.metres / it.speed for it in chain))
+
+
 def read_programs(root: xml.Element, found: Network) -> None:
-    """Reads the first program of each signal; signals that trains switch are left out."""
+    """Reads the first program of each signal."""
     for logic in root.iter("tlLogic"):
         signal, kind = logic.get("id"), logic.get("type", "static")
-        if kind in OWN_LOGIC:
-            found.links.pop(signal, None)
-            continue
         stages = [Stage(float(it.get("duration")), it.get("state"), it.get("name", "")) for it in logic.iter("phase")]
         params = {it.get("key"): it.get("value") for it in logic.iter("param")}
         found.programs.setdefault(signal, Program(kind, tuple(stages), params))
