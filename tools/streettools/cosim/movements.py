@@ -47,11 +47,15 @@ class Count:
     def add(self, other: "Count") -> None:
         """Puts another movement to this one: queues of several have no greatest in common, so the greatest of one
         stands."""
-        for name in ("vehicles", "delay", "stops", "on_green", "queued", "left", "greens", "failures", "green_time", "time"):
+        for name in SUMS:
             setattr(self, name, getattr(self, name) + getattr(other, name))
         self.delays += other.delays
         self.queue_time = max(self.queue_time, other.queue_time)
         self.queue_greatest = max(self.queue_greatest, other.queue_greatest)
+
+
+SUMS = ("vehicles", "delay", "stops", "on_green", "queued", "left", "greens", "failures", "green_time", "time")
+"""What is added where several movements are counted together."""
 
 
 def merged(spans: list[Spans]) -> Spans:

@@ -1,4 +1,4 @@
-"""What a file of volumes must keep to fit a scenario: each movement has a phase that is there, each phase has somebody."""
+"""What volumes must keep to fit a scenario: each movement has a phase that is there, each phase has somebody."""
 
 import difflib
 from typing import Any
@@ -73,11 +73,12 @@ def names_are_known(volumes: Volumes) -> None:
             continue
         there = approaches.get((onward.cabinet, onward.approach))
         if there is None:
-            raise Fault(f"volumes: {told(it)} goes to {onward.cabinet} {onward.approach}, and there is no such approach")
+            where = f"{onward.cabinet} {onward.approach}"
+            raise Fault(f"volumes: {told(it)} goes to {where}, and there is no such approach")
         if not sum(other.volume for other in there):
             raise Fault(
-                f"volumes: approach {onward.approach} of cabinet {onward.cabinet} has no volumes, which are the shares of "
-                "those who come from elsewhere"
+                f"volumes: approach {onward.approach} of cabinet {onward.cabinet} has no volumes, "
+                "which are the shares of those who come from elsewhere"
             )
     for it in (*volumes.flows, *volumes.crossings):
         if it.profile is not None and it.profile not in volumes.profiles:

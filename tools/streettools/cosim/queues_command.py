@@ -29,7 +29,7 @@ def parser() -> argparse.ArgumentParser:
     """Returns the reader of the command's words."""
     words = argparse.ArgumentParser(
         prog="cosim queues",
-        description="Runs a scenario's cabinets with traffic that waits in queues: delay, stops, queues, split failures.",
+        description="Runs a scenario's cabinets with vehicles that wait in queues: delay, stops, split failures.",
         epilog=EXAMPLES,
         formatter_class=argparse.RawDescriptionHelpFormatter,
         allow_abbrev=False,
@@ -37,12 +37,12 @@ def parser() -> argparse.ArgumentParser:
     words.add_argument("volumes", help="who comes, and where they go: a file in TOML")
     words.add_argument("--scenario", required=True, metavar="FILE", help="the cabinets: a scenario")
     words.add_argument("--seconds", type=number(1, 5_529_600), metavar="S", help="how long (as the scenario says)")
-    words.add_argument("--warm", type=number(0, 5_529_600), default=0, metavar="S", help="who comes before is not counted")
-    words.add_argument("--step", choices=STEPS, default="1", help="seconds of a step (1): how often detectors are looked at")
+    words.add_argument("--warm", type=number(0, 5_529_600), default=0, metavar="S", help="nobody before is counted (0)")
+    words.add_argument("--step", choices=STEPS, default="1", help="seconds from look to look of the detectors (1)")
     words.add_argument("--seed", type=number(0, 4_294_967_295), default=1, metavar="N", help="draws who comes (1)")
-    words.add_argument("--keep-inputs", action="store_true", help="keeps the detectors and push buttons of the scenario, too")
+    words.add_argument("--keep-inputs", action="store_true", help="keeps the scenario's detectors and buttons, too")
     words.add_argument("--json", action="store_true", help="writes the report as JSON")
-    words.add_argument("-o", "--out", metavar="DIR", help="a folder for report.txt, report.json, session.trace, study.json")
+    words.add_argument("-o", "--out", metavar="DIR", help="a folder for the report, session.trace and study.json")
     words.add_argument("--program", metavar="FILE", help="the program to run in place of the proved one")
     return words
 

@@ -1,4 +1,4 @@
-"""What the detectors of a street tell its cabinets: vehicle calls by phase, from those who wait and those who drive by."""
+"""What the detectors of a street tell its cabinets: calls by phase, from those who wait and those who drive by."""
 
 from .queues_lines import StopLine
 from .queues_volumes import Flow

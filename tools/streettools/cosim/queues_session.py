@@ -1,10 +1,15 @@
-"""A session of the program for one caller who waits for each answer (docs/LIVE.md): inputs, then ticks, step by step."""
+"""A session of the program for one caller who waits for each answer (docs/LIVE.md): inputs, then ticks.
+
+Nothing is recorded but the dialogue as it was, and that only where it is asked for: a step costs little else than the
+way through two pipes.
+"""
 
 import json
 import os
 import subprocess
 from typing import Any
 
+from ..shared.status import Status
 from ..sweep.faults import Fault
 
 LISTS = ("inputs", "loads", "priority", "frames", "faults")
@@ -21,6 +26,12 @@ def scenario_of(scenario: dict[str, Any], rounds: int, keeps: bool) -> dict[str,
     if "inputs" in made and not keeps:
         made["inputs"] = [it for it in made["inputs"] if "preempt" in it]
     return made
+
+
+def ended(said: str, status: int) -> Fault:
+    """Returns what the end of a program says: a scenario that it refused, or something that went wrong."""
+    refused = Status.REFUSED if status == Status.REFUSED else Status.FILE
+    return Fault(said or f"the program ended with status {status}", refused)
 
 
 class Cabinets:
@@ -82,8 +93,7 @@ class Cabinets:
         """Returns why the program has ended."""
         self.process.stdin.close()
         said = self.process.stderr.read().decode(errors="replace").strip()
-        self.process.wait()
-        return Fault(said or f"the program ended with status {self.process.returncode}")
+        return ended(said, self.process.wait())
 
     def close(self) -> None:
         """Ends the session, whose last round is over."""
@@ -94,8 +104,8 @@ class Cabinets:
         self.process.stdout.close()
         said = self.process.stderr.read().decode(errors="replace").strip()
         self.process.stderr.close()
-        if self.process.wait():
-            raise Fault(said or f"the program ended with status {self.process.returncode}")
+        if status := self.process.wait():
+            raise ended(said, status)
 
     def kill(self) -> None:
         """Ends the program where it still runs."""

@@ -72,9 +72,11 @@ def session_of(scenario: dict[str, Any], asked: Asked) -> tuple[dict[str, Any], 
     return scenario_of(scenario, rounds, asked.keeps_inputs), Steps(round(asked.seconds * 10) // asked.step, asked.step)
 
 
-def run(
-    program: str, volumes: Volumes, scenario: dict[str, Any], asked: Asked, advance: Callable[[int], None]
-) -> Ran:
+Advance = Callable[[int], None]
+"""Is told each step that is done."""
+
+
+def run(program: str, volumes: Volumes, scenario: dict[str, Any], asked: Asked, advance: Advance) -> Ran:
     """Runs the street."""
     queues_checks.check(volumes, scenario, asked.seconds)
     demand = demand_of(volumes, asked.seed, queues_checks.starts_at(scenario), asked.seconds)
@@ -119,7 +121,8 @@ def vehicle_trips(ran: Ran) -> list[Trip]:
             reaches = told[-1][1] + vehicle.travels[len(told) - 1] if told else vehicle.entry
             lost += max(0.0, seconds - reaches)
         arrive = told[-1][1] if is_there else None
-        found.append(Trip(str(number + 1), vehicle.way.route, Kind.CAR, tuple(passages), vehicle.entry, arrive, lost, stops))
+        name, route = str(number + 1), vehicle.way.route
+        found.append(Trip(name, route, Kind.CAR, tuple(passages), vehicle.entry, arrive, lost, stops))
     return found
 
 

@@ -144,10 +144,10 @@ def table(rows: Iterable[Value], heads: dict[str, str]) -> str:
     cells = [list(heads.values())] + [[cell(row[name]) for name in heads] for row in given]
     widths = [max(len(row[place]) for row in cells) for place in range(len(heads))]
     left = [all(isinstance(row[name], str) or row[name] is None for row in given) for name in heads]
-    lines = (
-        "  ".join(it.ljust(width) if is_left else it.rjust(width) for it, width, is_left in zip(row, widths, left)).rstrip()
-        for row in cells
-    )
+    lines = []
+    for row in cells:
+        placed = (it.ljust(width) if is_left else it.rjust(width) for it, width, is_left in zip(row, widths, left))
+        lines.append("  ".join(placed).rstrip())
     return "\n".join(lines) + "\n"
 
 

@@ -27,7 +27,9 @@ def line_of(count: int, lanes: int = 1, saturation: Saturation = Saturation()) -
         (1, 1900, 2, 2, 38, 20),
     ],
 )
-def test_a_green_discharges_what_saturation_flow_gives_in_its_effective_length(lanes, flow_rate, lost, yellow, green, due):
+def test_a_green_discharges_what_saturation_flow_gives_in_its_effective_length(
+    lanes, flow_rate, lost, yellow, green, due
+):
     line = line_of(100, lanes, Saturation(flow_rate, lost, yellow))
     line.opens(100.0)
     line.closes(100.0 + green)
