@@ -167,12 +167,14 @@ def do(job: Job) -> Result:
 
 
 def jobs_of(comparison: Comparison, program: str | None, out: pathlib.Path, keep: bool) -> list[Job]:
-    """Returns all runs of a comparison, seed by seed; files that can't be read are told before anything runs."""
+    """Returns all runs of a comparison, seed by seed; what is wrong with one of them is told before anything runs."""
     drive.module()
-    needs = any(it.controller == CABINETS for it in comparison.plans)
-    path = found(program) if needs else None
+    path = found(program)
     for plan in comparison.plans:
-        given_of(comparison, plan, None)
+        given = given_of(comparison, plan, None)
+        run.preflight(given, path)
+        if plan.controller != CABINETS:
+            yardsticks.programs(given, plan.controller)
     return [
         Job(comparison, plan, seed, path if plan.controller == CABINETS else None, out / f"{number:02}-{seed}", keep)
         for seed in comparison.seeds

@@ -57,6 +57,15 @@ def movements_of(street: Map) -> list[Movement]:
     ]
 
 
+def preflight(given: Given, program: pathlib.Path) -> None:
+    """Refuses a scenario that the program refuses, and a map that doesn't fit, without a run."""
+    session = Session(program, given.for_session())
+    try:
+        check(given.street, given.network, given.scenario)
+    finally:
+        session.end()
+
+
 def run(given: Given, program: pathlib.Path, out: pathlib.Path, progress: Callable[[int], object]) -> Done:
     """Runs SUMO and a session side by side, and writes what came of it into a folder, which is there. What is wrong is
     told before SUMO starts; a run that ends before its time keeps what it has recorded."""
