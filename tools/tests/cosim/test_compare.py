@@ -4,7 +4,10 @@ import json
 
 import pytest
 
-from .conftest import STREET, TEE, cosim, needs_sumo
+from streettools.cosim import comparing
+from streettools.cosim.faults import Fault
+
+from .conftest import PROGRAM, STREET, TEE, cosim, needs_sumo
 
 HEAD = f"""sumo = "{TEE / 'tee.sumocfg'}"
 map = "{TEE / 'tee.map.toml'}"
@@ -67,8 +70,17 @@ def test_sumos_nema_controller_runs_the_same_street(tmp_path):
     ],
 )
 @needs_sumo
-def test_a_file_that_cant_be_taken_is_one_line(tmp_path, text, line):
+def test_a_file_that_cant_be_taken_is_refused(tmp_path, text, line):
     path = tmp_path / "plans.toml"
     path.write_text(text)
+    with pytest.raises(Fault) as raised:
+        comparing.jobs_of(comparing.read_comparison(path), str(PROGRAM), tmp_path / "out", False)
+    assert line in str(raised.value) and "\n" not in str(raised.value)
+
+
+@needs_sumo
+def test_a_refusal_is_one_line_of_the_command(tmp_path):
+    path = tmp_path / "plans.toml"
+    path.write_text(HEAD + plan("one"))
     ran = cosim("compare", path, "-o", tmp_path / "out")
-    assert ran.status == 2 and len(ran.said) == 1 and line in ran.said[0]
+    assert ran.status == 2 and len(ran.said) == 1 and not (tmp_path / "out").exists()
