@@ -27,6 +27,7 @@ class Word:
 TOOLS = (
     Word("look", "pictures, a timing report and an event log of a trace"),
     Word("cabinet", "a live cabinet that answers SNMP version 1 on loopback"),
+    Word("cosim", "traffic in the loop: SUMO's vehicles, or queues, under the cabinets"),
     Word("street", "the cabinets of a scenario as live cabinets, each at its own port"),
     Word("plan", "a timing sheet as a scenario, and its refusals in words"),
     Word("sweep", "many plans over many scenarios, on one machine or several"),

@@ -7,8 +7,9 @@ import subprocess
 from dataclasses import dataclass
 from pathlib import Path
 
-from . import drawn
+from . import drawn, queued
 from .faults import Fault
+from .queued import Queued
 from .study import Base, BaseKind, Fetch, Street, Study, street_of
 from .values import Option
 from .variants import Variant
@@ -19,11 +20,13 @@ SHARED = ("inputs", "loads", "priority", "frames", "faults")
 
 @dataclass(frozen=True)
 class Built:
-    """A variant that was made: its scenario as text and as a value, and the street of its bands."""
+    """A variant that was made: its scenario as text and as a value, the street of its bands, and who comes where
+    the study has volumes."""
 
     text: bytes
     scenario: dict
     street: Street | None
+    queued: Queued | None = None
 
 
 class Builder:
@@ -83,7 +86,9 @@ class Builder:
             scenario["faults"] = [*scenario.get("faults", ()), *faults]
         street = street_of(document["street"]) if "street" in document else None
         if drawing is None:
-            return Built(json.dumps(scenario, separators=(",", ":")).encode(), scenario, street)
+            table = document.get("volumes")
+            came = queued.queued_of(table, variant.seed, self.fetch) if table else None
+            return Built(json.dumps(scenario, separators=(",", ":")).encode(), scenario, street, came)
         words, values = drawing
         short = json.dumps({name: it for name, it in scenario.items() if name != "inputs"}, separators=(",", ":"))
         scenario["inputs"] = values

@@ -38,6 +38,9 @@ class Column:
             case Scope.PHASE:
                 parts = [it for (cabinet, phase), it in counts.phases.items()
                          if self.cabinet in (None, cabinet) and self.phase in (None, phase)]  # fmt: skip
+            case Scope.TRAFFIC:
+                parts = [it for (cabinet, phase), it in counts.traffic.items()
+                         if self.cabinet in (None, cabinet) and self.phase in (None, phase)]  # fmt: skip
         return self.measure.value(parts) if parts else None
 
 
@@ -54,7 +57,7 @@ def column_of(words: Any) -> Column:
             f"study: measures: there is no {name}"
             + (f": is {near} meant?" if near else "; ./arterial sweep measures lists them")
         )
-    is_phase, is_street = measure.scope is Scope.PHASE, measure.scope is Scope.STREET
+    is_phase, is_street = measure.scope in (Scope.PHASE, Scope.TRAFFIC), measure.scope is Scope.STREET
     if (phase or each == "phase") and not is_phase:
         raise Fault(f"study: measures: {name} is not one of a phase")
     if is_street and (cabinet or each):
@@ -74,9 +77,9 @@ def names(columns: Iterable[Column]) -> list[str]:
     return [it.name() for it in columns if not it.each]
 
 
-def needing_street(columns: Iterable[Column]) -> str | None:
-    """Returns the first measure of a street."""
-    return next((it.measure.name for it in columns if it.measure.scope is Scope.STREET), None)
+def needing(columns: Iterable[Column], scope: Scope) -> str | None:
+    """Returns the first measure of a scope: of a street, or of traffic."""
+    return next((it.measure.name for it in columns if it.measure.scope is scope), None)
 
 
 def spread_out(columns: Iterable[Column], phases: dict[int, list[int]]) -> tuple[Column, ...]:

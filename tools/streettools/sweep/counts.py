@@ -4,6 +4,8 @@ from collections import Counter
 from collections.abc import Iterable
 from dataclasses import dataclass, field
 
+from ..cosim.movements import Count
+
 
 @dataclass(slots=True)
 class Spread:
@@ -77,8 +79,9 @@ class StreetCounts:
 
 @dataclass(slots=True)
 class RunCounts:
-    """What is counted of a run."""
+    """What is counted of a run; `traffic` has the vehicles of each cabinet and phase, where a study has volumes."""
 
     phases: dict[tuple[int, int], PhaseCounts]
     cabinets: dict[int, CabinetCounts]
     street: StreetCounts
+    traffic: dict[tuple[int, int], Count] = field(default_factory=dict)

@@ -23,11 +23,14 @@ def is_of(value: Any, kind: Any) -> bool:
 
 
 class Given:
-    """A table of a study. What was asked for is known; `end` refuses the rest."""
+    """A table of a study, or of the file that a class beneath this one names in `FILE`. What was asked for is known;
+    `end` refuses the rest."""
+
+    FILE = "study"
 
     def __init__(self, table: Any, place: str) -> None:
         if not is_of(table, dict):
-            raise Fault(f"study: {place} has to be a table")
+            raise Fault(f"{self.FILE}: {place} has to be a table")
         self.table, self.place, self.known = table, place, []
 
     def at(self, name: str) -> str:
@@ -36,7 +39,7 @@ class Given:
 
     def refuse(self, name: str, words: str) -> Fault:
         """Returns the refusal of what stands at a name."""
-        return Fault(f"study: {self.at(name)} {words}")
+        return Fault(f"{self.FILE}: {self.at(name)} {words}")
 
     def take(self, name: str, kind: Any, default: Any = None) -> Any:
         """Returns what stands at a name, the default where nothing does."""
@@ -66,7 +69,7 @@ class Given:
         there = [it for it in names if it in self.table]
         if len(there) != 1:
             raise Fault(
-                f"study: {self.place or 'the study'} needs one of {', '.join(names)}"
+                f"{self.FILE}: {self.place or f'the {self.FILE}'} needs one of {', '.join(names)}"
                 + (", and has several" if there else "")
             )
         return there[0]
@@ -74,7 +77,7 @@ class Given:
     def each(self, name: str, read: Callable[["Given"], Any]) -> list[Any]:
         """Returns what is read of each table in a list of tables."""
         rows = self.take(name, list, [])
-        return [read(Given(row, f"{self.at(name)}[{index}]")) for index, row in enumerate(rows)]
+        return [read(type(self)(row, f"{self.at(name)}[{index}]")) for index, row in enumerate(rows)]
 
     def end(self) -> None:
         """Refuses names that nobody asked for."""

@@ -16,6 +16,7 @@ class Scope(enum.Enum):
     PHASE = "phase"
     CABINET = "cabinet"
     STREET = "street"
+    TRAFFIC = "phase with vehicles of the table volumes"
 
 
 @dataclass(frozen=True)
@@ -231,4 +232,56 @@ STREET = [
         ),
     )
 ]
-ALL = {it.name: it for it in (*PHASE, *CABINET, *STREET)}
+def rate(part: str, whole: str, scale: float = 1.0) -> Callable[[list[Any]], Value]:
+    """Returns a sum as a part of another, to three places."""
+
+    def value(parts: list[Any]) -> Value:
+        of = sum(getattr(it, whole) for it in parts)
+        return round(sum(getattr(it, part) for it in parts) / of / scale, 3) if of else None
+
+    return value
+
+
+TRAFFIC = [
+    Measure("vehicles", Scope.TRAFFIC, "vehicles", "vehicles that passed the stop line", count("vehicles")),
+    Measure("delay_mean", Scope.TRAFFIC, "s", "mean delay of a vehicle at the stop line", rate("delay", "vehicles")),
+    Measure(
+        "delay_hours",
+        Scope.TRAFFIC,
+        "h",
+        "delay of all vehicles at the stop line together",
+        lambda parts: round(sum(it.delay for it in parts) / 3600, 3),
+    ),
+    Measure("stops_mean", Scope.TRAFFIC, "stops", "stops of a vehicle at the stop line", rate("stops", "vehicles")),
+    Measure(
+        "on_green_share",
+        Scope.TRAFFIC,
+        "share",
+        "share of the vehicles that reached the stop line on green",
+        share("on_green", "vehicles"),
+    ),
+    Measure(
+        "queue_mean",
+        Scope.TRAFFIC,
+        "vehicles",
+        "mean number of vehicles in the queue; of several queues together",
+        lambda parts: round(sum(it.queued for it in parts) / parts[0].queue_time, 3) if parts[0].queue_time else None,
+    ),
+    Measure(
+        "queue_greatest",
+        Scope.TRAFFIC,
+        "vehicles",
+        "greatest number of vehicles in a queue",
+        lambda parts: max(it.queue_greatest for it in parts),
+    ),
+    Measure("queue_left", Scope.TRAFFIC, "vehicles", "vehicles in the queue at the end of the run", count("left")),
+    Measure(
+        "split_failures",
+        Scope.TRAFFIC,
+        "greens",
+        "greens that left somebody behind who stood there as they began",
+        count("failures"),
+    ),
+]
+"""Measures of vehicles that wait in queues (cosim.movements.Count)."""
+ALL = {it.name: it for it in (*PHASE, *CABINET, *STREET, *TRAFFIC)}

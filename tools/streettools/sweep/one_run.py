@@ -5,13 +5,15 @@ import hashlib
 import io
 import subprocess
 import time
-from dataclasses import dataclass
+from dataclasses import dataclass, replace
 from pathlib import Path
 from typing import Any
 
+from ..cosim.movements import Count
 from ..shared.course import Course
 from ..shared.lines import NotATrace
-from . import bands, sights
+from ..shared.status import Status
+from . import bands, queued, sights
 from .building import Builder, Built
 from .choice import Column
 from .counts import RunCounts, StreetCounts
@@ -22,6 +24,8 @@ from .tally import CabinetTally
 from .variants import Variant
 
 
+Traffic = dict[tuple[int, int], Count]
+"""The vehicles of each cabinet and phase."""
 PAUSES = (0, 1, 5)
 """So many seconds before each try of a run."""
 
@@ -69,6 +73,9 @@ class Runner:
         self.start = builder.study.start
         scopes = {(it.measure.scope, it.measure.name) for it in columns}
         self.street = any(scope is Scope.STREET for scope, _ in scopes)
+        self.traffic = any(scope is Scope.TRAFFIC for scope, _ in scopes)
+        self.looks = check or bool(own) or any(scope is not Scope.TRAFFIC for scope, _ in scopes)
+        """Whether traces are looked at where vehicles wait in queues."""
         self.planned = any(name in ("band_outbound", "band_inbound") for _, name in scopes)
 
     def row(self, variant: Variant) -> list[Any]:
@@ -78,6 +85,8 @@ class Runner:
         try:
             built = self.made(variant)
             name = hashlib.sha256(built.text).hexdigest()[:16]
+            if built.queued:
+                return [Outcome.DONE.value, None, name, *self.queued(built)]
             trace, refusal = self.trace(built)
             if trace is None:
                 return [Outcome.REFUSED.value, refusal, name, *blank]
@@ -106,6 +115,23 @@ class Runner:
             raise Failed(f"check: {checked.stderr.decode(errors='replace').strip()}")
         return ran.stdout, None
 
+    def queued(self, built: Built) -> list[Any]:
+        """Runs a variant with the vehicles of its volumes, and returns its measures."""
+        try:
+            terms = queued.Terms(self.start, time.monotonic() + self.seconds, self.looks)
+            ran = queued.run(self.program, built.scenario, built.queued, terms)
+        except Fault as fault:
+            if fault.status is Status.REFUSED:
+                raise
+            raise Failed(str(fault)) from None
+        except TimeoutError:
+            raise Failed(f"live was not done in {self.seconds:g} s") from None
+        scenario = queued.scenario_of(ran.trace) if self.looks else built.scenario
+        if self.check and (checked := self.ran(["check"], ran.trace)).returncode:
+            raise Failed(f"check: {checked.stderr.decode(errors='replace').strip()}")
+        traffic = queued.counted(ran) if self.traffic else {}
+        return self.measured(replace(built, scenario=scenario), ran.trace, traffic)
+
     def ran(self, words: list[str], given: bytes) -> subprocess.CompletedProcess:
         """Runs the program. Where it can't be started or is killed, as on a machine without memory, it is tried
         again."""
@@ -124,9 +150,10 @@ class Runner:
             fault = f"the program was ended by signal {-ran.returncode}"
         raise Failed(fault)
 
-    def measured(self, built: Built, trace: bytes) -> list[Any]:
-        """Returns the measures of a run."""
-        counts = self.counted(built, trace) if self.columns else None
+    def measured(self, built: Built, trace: bytes | None, traffic: Traffic | None = None) -> list[Any]:
+        """Returns the measures of a run; there is no trace where nothing asks for it."""
+        counts = self.counted(built, trace) if self.columns and trace is not None else RunCounts({}, {}, StreetCounts())
+        counts.traffic = traffic or {}
         found = [it.value(counts) for it in self.columns]
         for function in self.own:
             try:

@@ -17,11 +17,14 @@ from .values import Kind, Option
 from .variants import Variant, Variants
 
 HERE = Path(__file__).resolve().parents[1]
+QUEUED = ("__init__", "queues_*", "movements", "records")
+"""The modules of the model of queues."""
 
 
 def modules() -> dict[str, str]:
     """Returns the text of each module that a run needs, by its path within the package."""
-    files = [HERE / "__init__.py", *sorted((HERE / "shared").glob("*.py")), *sorted((HERE / "sweep").glob("*.py"))]
+    folders = [("shared", "*.py"), ("sweep", "*.py"), *(("cosim", f"{name}.py") for name in QUEUED)]
+    files = [HERE / "__init__.py", *(it for folder, name in folders for it in sorted((HERE / folder).glob(name)))]
     return {str(it.relative_to(HERE)): it.read_text(encoding="utf-8") for it in files}
 
 
@@ -62,10 +65,12 @@ class Prepared:
         """Returns the keys of the runs, by the hashes of the tools and of the program."""
         study = self.study
         file = hash_of(self.fetch(study.base.file)) if study.base.file else study.base.words
+        came = hash_of(self.fetch(study.tables["volumes"]["file"])) if "volumes" in study.tables else None
         puts = [[it.name, [repr(put) for put in it.puts]] for it in study.parameters]
         measured = [[it.name() for it in self.columns], [repr(it) for it in study.own]]
         return Keys(
-            self, hash_of([tools, program, check, study.base.kind, file, study.tables, study.start, puts, measured])
+            self,
+            hash_of([tools, program, check, study.base.kind, file, came, study.tables, study.start, puts, measured]),
         )
 
 

@@ -5,10 +5,11 @@ from collections.abc import Callable
 from dataclasses import dataclass, field
 from typing import Any
 
-from . import choice, drawn
+from . import choice, drawn, queued
 from .choice import Column
 from .faults import Fault
 from .given import NUMBER, Given
+from .measures import Scope
 from .own import Own, own_of
 from .targets import Put, put_of
 from .values import Kind, Option, Values, values_of
@@ -66,7 +67,7 @@ class Study:
     columns: tuple[Column, ...]
     own: tuple[Own, ...]
     tables: dict[str, dict]
-    """The tables `traffic`, `line` and `street`, as far as they are there."""
+    """The tables `traffic`, `line`, `street` and `volumes`, as far as they are there."""
 
     def is_drawn(self) -> bool:
         """Tells whether random samples are drawn."""
@@ -142,20 +143,25 @@ def street_of(table: dict) -> Street:
     return found
 
 
-def tables_of(given: Given) -> dict[str, dict]:
+def tables_of(given: Given, fetch: Fetch) -> dict[str, dict]:
     """Reads the tables beside the scenario, as they are."""
-    found = {name: table for name in ("traffic", "line", "street") if (table := given.take(name, dict)) is not None}
+    names = ("traffic", "line", "street", "volumes")
+    found = {name: table for name in names if (table := given.take(name, dict)) is not None}
     drawn.check_traffic(Given(found.get("traffic", {}), "traffic"))
     drawn.check_line(Given(found.get("line", {}), "line"))
     if "street" in found:
         street_of(found["street"])
+    if "volumes" in found:
+        queued.check_volumes(Given(found["volumes"], "volumes"), fetch)
+        if found.get("traffic", {}).get("flow"):
+            raise Fault("study: traffic.flow and volumes don't go together: each tells what the detectors see")
     return found
 
 
 def study_of(document: dict[str, Any], fetch: Fetch) -> Study:
     """Reads a study; `fetch` gives the files that it names."""
     given = Given(document, "")
-    tables = tables_of(given)
+    tables = tables_of(given, fetch)
     own = tuple(given.each("own", lambda it: own_of(it, fetch)))
     found = Study(
         title=given.take("title", str, ""),
@@ -182,12 +188,12 @@ def check(study: Study) -> None:
         raise Fault(f"study: two columns of the table would be called {twice}")
     if study.samples > 1 and not study.is_drawn():
         raise Fault("study: samples goes with a parameter that is random, and there is none")
-    drawing = (
-        "flow" in study.tables.get("traffic", {}) or "line" in study.tables or study.base.kind is BaseKind.GENERATE
-    )
-    if study.seeds and not drawing:
-        raise Fault("study: seeds go with traffic.flow, with line, or with generate: nothing here is drawn")
-    if "street" not in study.tables and (needs := choice.needing_street(study.columns)):
+    drawing = "flow" in study.tables.get("traffic", {}) or {"line", "volumes"} & set(study.tables)
+    if study.seeds and not (drawing or study.base.kind is BaseKind.GENERATE):
+        raise Fault("study: seeds go with traffic.flow, volumes, line, or generate: nothing here is drawn")
+    if "street" not in study.tables and (needs := choice.needing(study.columns, Scope.STREET)):
         raise Fault(f"study: {needs} needs the table street, which tells the times of travel")
+    if "volumes" not in study.tables and (needs := choice.needing(study.columns, Scope.TRAFFIC)):
+        raise Fault(f"study: {needs} needs the table volumes, which tells who comes")
     if not study.columns and not study.own:
         raise Fault("study: measures is missing (./arterial sweep measures lists them)")

@@ -10,7 +10,7 @@ from .given import NUMBER, Given
 
 STEP = re.compile(r"([a-z_]+)|\[(\d+)\]")
 PATH = re.compile(r"[a-z_]+(\[\d+\])*(\.[a-z_]+(\[\d+\])*)*")
-PARTS = ("traffic", "line", "street")
+PARTS = ("traffic", "line", "street", "volumes")
 """The tables of a study, beside the scenario, that a path may begin with."""
 CELLS = {"phase": 2, "sequence": 2, "unit": 1, "pattern": 2, "split": 3, "preempt": 2}
 """How many numbers a cell has between the name of its table and its value."""
@@ -20,6 +20,7 @@ OPTIONAL = {
     "master": ("clock", "poll_every", "clock_every", "pattern_every", "retries", "schedule"),
     "traffic": ("factor",),
     "line": ("lose",),
+    "volumes": ("factor",),
 }
 """Names that may be put though they aren't there: where they are absent the scenario has a value for them."""
 

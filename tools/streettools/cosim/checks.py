@@ -1,0 +1,153 @@
+"""What is asked of a map before anything runs: by the network, by the tables of the cabinets."""
+
+import itertools
+from collections.abc import Callable, Iterator
+from typing import Any
+
+from ..shared.tables import Tables
+from .faults import Fault
+from .mapping import Map, MappedMovement, MappedSignal
+from .network import Link, Network
+
+
+def tables_of(scenario: dict[str, Any]) -> list[Tables]:
+    """Returns the tables with which the cabinets of a scenario open."""
+    return [Tables(it.get("base", "std8"), it.get("cells", ())) for it in scenario["cabinets"]]
+
+
+def check(street: Map, network: Network, scenario: dict[str, Any]) -> None:
+    """Refuses a map that doesn't fit the network or the cabinets. The scenario has been taken by the program."""
+    tables = tables_of(scenario)
+    check_signals(street, network, len(tables))
+    for signal in street.signals:
+        check_links(street, signal, network)
+        check_overlaps(street, signal, tables[signal.cabinet - 1])
+        check_conflicts(street, signal, network, tables[signal.cabinet - 1])
+    for cabinet, known in enumerate(tables, 1):
+        check_phases(street, cabinet, known)
+    for item in street.preempts:
+        if item.cabinet > len(tables):
+            raise refused(street, f"preempt {item.number}", f"the scenario has no cabinet {item.cabinet}")
+        if missing := next((it for it in item.edges if it not in network.edges), None):
+            raise refused(street, f"preempt {item.number}", f"the network has no edge {missing}")
+
+
+def refused(street: Map, place: str, words: str) -> Fault:
+    """Returns a refusal of something in a map."""
+    return Fault(f"{street.path}: {place}: {words}")
+
+
+def check_signals(street: Map, network: Network, cabinets: int) -> None:
+    """Each signal of the network is in the map once, each cabinet has a signal."""
+    named = [it.id for it in street.signals] + list(street.own)
+    if twice := next((it for it in named if named.count(it) > 1), None):
+        raise refused(street, f"signal {twice}", "stands in the map twice")
+    for name in named:
+        if name not in network.links:
+            raise refused(street, f"signal {name}", f"{network.path.name} has none of this name: a map of another network?")
+    for name in network.links:
+        if name not in named:
+            raise refused(street, f"signal {name}", "has no cabinet (own = [..] names signals that SUMO switches)")
+    for signal in street.signals:
+        if signal.cabinet > cabinets:
+            raise refused(street, f"signal {signal.id}", f"the scenario has no cabinet {signal.cabinet}")
+    for cabinet in range(1, cabinets + 1):
+        if cabinet not in [it.cabinet for it in street.signals]:
+            raise Fault(f"{street.path}: cabinet {cabinet} of the scenario has no signal")
+
+
+def check_links(street: Map, signal: MappedSignal, network: Network) -> None:
+    """Each link of the signal has one movement, and each link of the map is one of the network."""
+    known = {link.name: link for link in network.links[signal.id]}
+    served: dict[str, str] = {}
+    for movement in signal.movements:
+        for name in movement.links:
+            if name not in known:
+                raise refused(
+                    street,
+                    f"signal {signal.id}: movement {movement.name}",
+                    f"{network.path.name} has no link {name} there: a map of another network?",
+                )
+            if name in served:
+                raise refused(street, f"signal {signal.id}", f"link {name} has movements {served[name]} and {movement.name}")
+            served[name] = movement.name
+    for name, link in known.items():
+        if name not in served:
+            raise refused(street, f"signal {signal.id}", f"link {link.index} ({name}) has no phase")
+    for lane in itertools.chain.from_iterable(it.lanes for it in signal.detectors):
+        if lane not in network.lanes:
+            raise refused(street, f"signal {signal.id}", f"a detector is on lane {lane}, which {network.path.name} hasn't")
+
+
+def check_phases(street: Map, cabinet: int, tables: Tables) -> None:
+    """Each enabled phase of a cabinet has a link or is named as idle, and each phase of the map is enabled."""
+    signals = [it for it in street.signals if it.cabinet == cabinet]
+    enabled = tables.enabled()
+    place = f"signal {signals[0].id}"
+    served = {phase for it in signals for movement in it.movements for phase in movement.phases()}
+    idle = {phase for it in signals for phase in it.idle}
+    called = {it.phase for signal in signals for it in signal.detectors}
+    if strange := sorted((served | idle | called) - set(enabled)):
+        raise refused(street, place, f"phase {strange[0]} is not enabled in cabinet {cabinet}")
+    if bare := sorted(set(enabled) - served - idle):
+        raise refused(street, place, f"phase {bare[0]} of cabinet {cabinet} has no link (idle = [..] names phases without traffic)")
+    if both := sorted(served & idle):
+        raise refused(street, place, f"phase {both[0]} is idle, and has a link")
+
+
+def check_overlaps(street: Map, signal: MappedSignal, tables: Tables) -> None:
+    """The overlaps keep the rules of `arterial overlaps` by the tables with which the cabinet opens."""
+    for movement in signal.movements:
+        overlap, place = movement.overlap, f"signal {signal.id}: movement {movement.name}"
+        if overlap is None:
+            continue
+        if overlap.yellow < 30:
+            raise refused(street, place, "the yellow change of an overlap is 3.0 s at least (30 ticks)")
+        for phase in overlap.parents:
+            if phase not in tables.enabled() or overlap.parents.count(phase) > 1:
+                raise refused(street, place, f"parent {phase} is not enabled, or stands twice")
+            if overlap.trail + overlap.yellow + overlap.red > tables.clearance(phase):
+                raise refused(street, place, f"trail, yellow and red take longer than phase {phase} clears in")
+
+
+def may_be_on(one: int, other: int, tables: Tables) -> bool:
+    """Tells whether two phases may be on at once."""
+    return one == other or other in tables.phase(one, 23)
+
+
+def movement_of(signal: MappedSignal, link: Link) -> MappedMovement:
+    """Returns the movement of a link."""
+    return next(it for it in signal.movements if link.name in it.links)
+
+
+def clashes(signal: MappedSignal, network: Network, tables: Tables) -> Iterator[tuple[Link, Link, int, int]]:
+    """Yields pairs of links whose paths cross, neither of which gives way, with phases that may be on at once."""
+    for a, b in network.conflicts(signal.id):
+        one, other = movement_of(signal, a), movement_of(signal, b)
+        if (one.yields and network.gives_way(a, b)) or (other.yields and network.gives_way(b, a)):
+            continue
+        for p, q in itertools.product(one.phases(), other.phases()):
+            if may_be_on(p, q, tables):
+                yield a, b, p, q
+
+
+def together_in(street: Map, scenario: dict[str, Any]) -> Callable[[Link, Link], bool]:
+    """Returns what tells whether two links of a signal have phases that may be on at once."""
+    tables = tables_of(scenario)
+    signals = {it.id: it for it in street.signals}
+
+    def together(a: Link, b: Link) -> bool:
+        signal = signals[a.signal]
+        own = tables[signal.cabinet - 1]
+        pairs = itertools.product(movement_of(signal, a).phases(), movement_of(signal, b).phases())
+        return any(may_be_on(p, q, own) for p, q in pairs)
+
+    return together
+
+
+def check_conflicts(street: Map, signal: MappedSignal, network: Network, tables: Tables) -> None:
+    """No two links whose paths cross have one phase, or two that may be on at once, unless one of them yields."""
+    for a, b, p, q in clashes(signal, network, tables):
+        one, other = movement_of(signal, a).name, movement_of(signal, b).name
+        on = f"both have phase {p}" if p == q else f"phases {p} and {q} may be on at once"
+        raise refused(street, f"signal {signal.id}", f"{one} ({a.name}) and {other} ({b.name}) cross, and {on} (yields = true lets one give way)")

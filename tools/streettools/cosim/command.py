@@ -1,0 +1,62 @@
+"""The command `./arterial cosim`: its words, one module for each, and what it says where something is wrong."""
+
+import importlib
+import pathlib
+from collections.abc import Callable
+
+from ..shared.commandline import say
+from ..shared.program import NoProgram
+from ..shared.status import Status
+from .faults import Fault
+
+HERE = pathlib.Path(__file__).resolve().parent
+WORDS = {
+    "run": ("run_command", "SUMO drives the detectors, the cabinets drive SUMO's signals"),
+    "map": ("map_command", "writes which link of a network has which phase"),
+    "compare": ("compare_command", "several plans over the same seeds, side by side"),
+    "queues": ("queues_command", "traffic by volumes and queues, without SUMO"),
+    "draw": ("pictures_command", "pictures of a run: arrivals, paths over bands, splits, queues"),
+}
+"""The words of the command: the module of each, which has `main(words) -> int`, and what it does in half a line."""
+
+USAGE = "usage: arterial cosim WORD .. (--help of each word says more; docs/COSIM.md)"
+
+
+def known() -> dict[str, str]:
+    """Returns the words that this checkout has, with what they do."""
+    return {name: does for name, (module, does) in WORDS.items() if (HERE / f"{module}.py").is_file()}
+
+
+def usage() -> str:
+    """Returns the command's help."""
+    lines = [f"    {name:8} {does}" for name, does in known().items()]
+    return "\n".join([USAGE, "", "Traffic in the loop: vehicles and persons meet the cabinets of a session.", "", *lines])
+
+
+def guarded(does: Callable[[list[str]], int], words: list[str]) -> int:
+    """Does what the words ask for; a fault is one line and its status."""
+    try:
+        return does(words)
+    except Fault as fault:
+        say("cosim", fault)
+        return fault.status
+    except NoProgram as fault:
+        say("cosim", f"{fault}; ./arterial prove makes one, --program names another")
+        return Status.NO_PROGRAM
+    except BrokenPipeError:
+        return Status.FILE
+    except OSError as fault:
+        say("cosim", f"{fault.filename}: {fault.strerror}" if fault.filename else fault)
+        return Status.FILE
+
+
+def main(words: list[str]) -> int:
+    """Does what the words ask for, and returns the exit status."""
+    if not words or words[0] in ("-h", "--help"):
+        print(usage())
+        return Status.DONE if words else Status.REFUSED
+    if words[0] not in known():
+        say("cosim", f"no word {words[0]}: {', '.join(known())}")
+        return Status.REFUSED
+    module = importlib.import_module(f".{WORDS[words[0]][0]}", __package__)
+    return guarded(module.main, words[1:])

@@ -1,0 +1,239 @@
+"""A comparison: several plans over the same seeds, as a TOML file says it, and how they differ."""
+
+import pathlib
+import shutil
+import statistics
+from collections.abc import Callable
+from concurrent.futures import ProcessPoolExecutor
+from concurrent.futures.process import BrokenProcessPool
+from dataclasses import dataclass
+from typing import Any
+
+from ..shared.program import found
+from ..shared.status import Status
+from . import drive, network, run, yardsticks
+from .drive import read_config
+from .faults import Fault
+from .given import NUMBER, Given, read_toml
+from .loop import Given as RunGiven
+from .loop import Times
+from .mapping import read_map
+from .totals import Mean, Total, counted, mean_of, totals_of
+
+CABINETS = "cabinets"
+CONTROLLERS = (CABINETS, *yardsticks.MAKERS)
+
+
+@dataclass(frozen=True)
+class Plan:
+    """A plan that is compared: its name, its scenario (offsets in seconds put into the pattern in command, where they are
+    given), who switches the signals, whether buses ask for priority."""
+
+    name: str
+    scenario: pathlib.Path
+    offsets: tuple[int, ...]
+    controller: str
+    priority: bool
+
+
+@dataclass(frozen=True)
+class Comparison:
+    """A whole comparison; `against` is the plan with which the others are compared."""
+
+    config: pathlib.Path
+    map: pathlib.Path
+    seeds: tuple[int, ...]
+    step: float
+    seconds: float
+    warm: float
+    routes: tuple[str, ...]
+    against: str
+    plans: tuple[Plan, ...]
+
+
+@dataclass(frozen=True)
+class Job:
+    """A run of a comparison: a plan under a seed, the program (None where SUMO's own controllers run), its folder."""
+
+    comparison: Comparison
+    plan: Plan
+    seed: int
+    program: pathlib.Path | None
+    out: pathlib.Path
+    keep: bool
+
+
+@dataclass
+class Result:
+    """What a run came to: totals by group, times."""
+
+    totals: dict[str, Total]
+    times: Times
+
+
+def read_comparison(path: pathlib.Path) -> Comparison:
+    """Reads a comparison; files are named from its folder."""
+    given, folder = read_toml(path), path.parent
+
+    def plan_of(row: Given) -> Plan:
+        controller = row.take("controller", str, CABINETS)
+        if controller not in CONTROLLERS:
+            raise row.refuse("controller", f"is {controller}, and has to be {', '.join(CONTROLLERS)}")
+        return Plan(
+            row.need("name", str),
+            folder / row.need("scenario", str),
+            row.numbers("offsets", 255),
+            controller,
+            row.take("priority", bool, True),
+        )
+
+    seeds = given.numbers("seeds") or (1, 2, 3)
+    plans = given.each("plan", plan_of)
+    names = [it.name for it in plans]
+    if len(plans) < 2 or len(set(names)) < len(names):
+        raise given.refuse("plan", "has to stand there twice or more, each with a name of its own")
+    step, against = given.take("step", NUMBER, 1), given.take("against", str, names[0])
+    if step not in (0.1, 1):
+        raise given.refuse("step", "has to be 0.1 or 1")
+    if against not in names:
+        raise given.refuse("against", f"is {against}, and no plan has this name")
+    if len(set(seeds)) < len(seeds):
+        raise given.refuse("seeds", "has one twice")
+    found_one = Comparison(
+        folder / given.need("sumo", str),
+        folder / given.need("map", str),
+        seeds,
+        float(step),
+        given.within("seconds", NUMBER, 1, 86_400, 3600),
+        given.within("warm", NUMBER, 0, 43_200, 0),
+        given.texts("routes"),
+        against,
+        plans,
+    )
+    given.end()
+    if 2 * found_one.warm >= found_one.seconds:
+        raise given.refuse("warm", "leaves nothing: it is taken from the beginning and from the end")
+    return found_one
+
+
+def scenario_of(plan: Plan) -> dict[str, Any]:
+    """Returns a plan's scenario, with its offsets put in."""
+    scenario = run.read_scenario(plan.scenario)
+    if not plan.offsets:
+        return scenario
+    cabinets = scenario.get("cabinets", [])
+    if len(plan.offsets) != len(cabinets):
+        raise Fault(f"plan {plan.name}: {len(plan.offsets)} offsets for {len(cabinets)} cabinets")
+    made = []
+    for setup, offset in zip(cabinets, plan.offsets):
+        pattern = setup.get("pattern", 0)
+        if not 1 <= pattern <= 48:
+            raise Fault(f"plan {plan.name}: offsets need a pattern in command, and {plan.scenario} has a cabinet without one")
+        made.append(setup | {"cells": [*setup.get("cells", ()), ["pattern", pattern, 3, offset]]})
+    return scenario | {"cabinets": made}
+
+
+def given_of(comparison: Comparison, plan: Plan, seed: int | None) -> RunGiven:
+    """Reads all files of a run."""
+    config = read_config(comparison.config)
+    return RunGiven(
+        config,
+        read_map(comparison.map),
+        network.read(config.network),
+        scenario_of(plan),
+        comparison.step,
+        comparison.seconds,
+        seed,
+        plan.priority,
+        comparison.warm,
+    )
+
+
+def do(job: Job) -> Result:
+    """Does a run, and returns what it came to; one that ended before its time is a fault."""
+    given = given_of(job.comparison, job.plan, job.seed)
+    job.out.mkdir(parents=True, exist_ok=True)
+    if job.program is None:
+        trips, times = yardsticks.run(given, job.plan.controller, job.out, lambda count: None)
+    else:
+        done = run.run(given, job.program, job.out, lambda count: None)
+        if done.fault or done.study is None:
+            raise Fault(f"plan {job.plan.name}, seed {job.seed}: {done.fault or 'nothing was recorded'}")
+        trips, times = done.study.trips, done.times
+    if not job.keep:
+        shutil.rmtree(job.out)
+    kept = counted(trips, given.warm, given.seconds)
+    return Result(totals_of(kept, job.comparison.routes), times)
+
+
+def jobs_of(comparison: Comparison, program: str | None, out: pathlib.Path, keep: bool) -> list[Job]:
+    """Returns all runs of a comparison, seed by seed; what is wrong with one of them is told before anything runs."""
+    drive.module()
+    path = found(program)
+    for plan in comparison.plans:
+        given = given_of(comparison, plan, None)
+        run.preflight(given, path)
+        if plan.controller != CABINETS:
+            yardsticks.programs(given, plan.controller)
+    return [
+        Job(comparison, plan, seed, path if plan.controller == CABINETS else None, out / f"{number:02}-{seed}", keep)
+        for seed in comparison.seeds
+        for number, plan in enumerate(comparison.plans, 1)
+    ]
+
+
+def do_all(jobs: list[Job], workers: int, progress: Callable[[int], object]) -> list[Result]:
+    """Does all runs, each in a process of its own, and returns what they came to in their order."""
+    with ProcessPoolExecutor(max_workers=workers, max_tasks_per_child=1) as pool:
+        waiting = [pool.submit(do, job) for job in jobs]
+        for it in waiting:
+            it.add_done_callback(lambda done: progress(1))
+        try:
+            return [it.result() for it in waiting]
+        except BrokenProcessPool:
+            dead = next(job for job, it in zip(jobs, waiting) if it.exception() is not None)
+            raise Fault(f"SUMO died under plan {dead.plan.name}, seed {dead.seed}, or a plan beside it", Status.FILE) from None
+        except BaseException:
+            pool.shutdown(cancel_futures=True)
+            raise
+
+
+@dataclass
+class Row:
+    """A plan's numbers in one group: how many trips a run has, delay and stops with their intervals, and how much more
+    these are than those of the plan that stands against (None for that plan itself)."""
+
+    plan: str
+    group: str
+    trips: float
+    delay: Mean
+    stops: Mean
+    more_delay: Mean | None
+    more_stops: Mean | None
+
+
+def rows_of(comparison: Comparison, jobs: list[Job], results: list[Result]) -> list[Row]:
+    """Returns the table of a comparison: plans paired by seed, group by group."""
+    totals = {(job.plan.name, job.seed): result.totals for job, result in zip(jobs, results)}
+    groups = list(dict.fromkeys(group for result in results for group in result.totals))
+    rows = []
+    for group in groups:
+        base = [totals[comparison.against, seed].get(group) for seed in comparison.seeds]
+        for plan in comparison.plans:
+            own = [totals[plan.name, seed].get(group) for seed in comparison.seeds]
+            if None in own:
+                continue
+            is_base = plan.name == comparison.against or None in base
+            pairs = list(zip(own, base))
+            rows.append(
+                Row(
+                    plan.name,
+                    group,
+                    statistics.fmean(it.trips for it in own),
+                    mean_of([it.delay for it in own]),
+                    mean_of([it.stops for it in own]),
+                    None if is_base else mean_of([a.delay - b.delay for a, b in pairs]),
+                    None if is_base else mean_of([a.stops - b.stops for a, b in pairs]),
+                )
+            )
+    return rows

@@ -1,0 +1,110 @@
+"""Which phase a link has by the approaches' compass and turns, after NEMA: phase 2 drives along the main street, 6 against
+it, 4 and 8 on the side street, 5, 1, 7 and 3 are the left turns of 2, 6, 4 and 8; right turns go with the straight ones.
+
+An approach that has none opposite takes its left turns along with its own phase, as the stem of a T does. A left turn
+that shares its lane with another movement goes with the phase of that lane, and yields.
+"""
+
+from collections import defaultdict
+from dataclasses import dataclass
+
+from .network import CROSSING, LEFT, RIGHT, TURN, Link, Network
+
+WAYS = "NESW"
+BETWEEN = 90
+STRAIGHT_PHASES, LEFT_PHASES = (2, 8, 6, 4), (5, 3, 1, 7)
+"""Phases of the ways by quarter turns to the right from the way of phase 2."""
+LETTER = {LEFT: "L", RIGHT: "R", TURN: "U"}
+
+
+@dataclass
+class Told:
+    """What could be told of a link: its movement's name, and its phase, None where it is to be asked for, with why."""
+
+    link: Link
+    name: str
+    phase: int | None
+    why: str = ""
+
+
+def way_of(heading: float) -> int:
+    """Returns the way nearest to a heading: 0 north, 1 east, 2 south, 3 west."""
+    return round(heading / BETWEEN) % 4
+
+
+def main_way(network: Network, approaches: list[str]) -> int:
+    """Returns the way of phase 2: along the street with the greater priority, lanes and speed, eastbound or northbound."""
+    weight: dict[int, tuple] = {}
+    for axis in (1, 0):
+        own = [network.edges[it] for it in approaches if way_of(network.edges[it].heading) % 2 == axis]
+        weight[axis] = max(((it.priority, it.lanes * it.speed) for it in own), default=(-100, 0.0))
+        weight[axis] = (weight[axis], len(own))
+    return 0 if weight[0] > weight[1] else 1
+
+
+class Compass:
+    """A signal's approaches by their compass."""
+
+    def __init__(self, network: Network, signal: str, main: int | None) -> None:
+        self.network, self.links = network, network.links[signal]
+        self.approaches = sorted({it.approach for it in self.links if it.turn != CROSSING})
+        self.main = main_way(network, self.approaches) if main is None else main
+        self.ways: dict[int, list[str]] = defaultdict(list)
+        for edge in self.approaches:
+            self.ways[way_of(network.edges[edge].heading)].append(edge)
+        self.turns: dict[str, set[str]] = defaultdict(set)
+        for it in self.links:
+            self.turns[it.start].add(it.turn)
+
+    def straight(self, way: int) -> int:
+        """Returns the phase that drives a way."""
+        return STRAIGHT_PHASES[(way - self.main) % 4]
+
+    def told(self) -> list[Told]:
+        """Returns what can be told of each link."""
+        return [self.crossing(it) if it.turn == CROSSING else self.turn(it) for it in self.links]
+
+    def turn(self, link: Link) -> Told:
+        """Tells of a link of vehicles."""
+        way = way_of(self.network.edges[link.approach].heading)
+        own = self.ways[way]
+        place = "" if len(own) == 1 else str(own.index(link.approach) + 1)
+        name = f"{WAYS[way]}B{place}{LETTER.get(link.turn, 'T')}"
+        if len(own) > 1:
+            return Told(link, name, None, f"{' and '.join(own)} both drive {WAYS[way]}")
+        is_left = link.turn in (LEFT, TURN)
+        has_opposite = bool(self.ways.get((way + 2) % 4))
+        if is_left and has_opposite and self.turns[link.start] <= {LEFT, TURN}:
+            return Told(link, name, LEFT_PHASES[(way - self.main) % 4])
+        return Told(link, name, self.straight(way))
+
+    def crossing(self, link: Link) -> Told:
+        """Tells of a crossing: it is walked along with the traffic that has it on its right."""
+        crossed = self.network.crossings[link.end.rpartition("_")[0]]
+        edges = [self.network.edges[it] for it in crossed if it in self.network.edges]
+        coming = [it for it in edges if it.end == link.junction]
+        if coming:
+            arm = (way_of(coming[0].heading) + 2) % 4
+        elif edges:
+            arm = way_of(edges[0].leaving)
+        else:
+            return Told(link, f"ped {link.index}", None, "it crosses no edge that is known")
+        beside = (arm - 1) % 4
+        way = beside if self.ways.get(beside) else (beside + 2) % 4
+        if not self.ways.get(way):
+            return Told(link, f"ped {WAYS[arm]}", None, f"no traffic drives beside the crossing on the {WAYS[arm]} side")
+        return Told(link, f"ped {WAYS[arm]}", self.straight(way))
+
+
+def by_nema(network: Network, signal: str) -> list[Told]:
+    """Tells of each link by SUMO's own NEMA logic: its phase is the one whose state gives it way."""
+    stages = network.programs[signal].stages
+    compass = Compass(network, signal, None)
+    found = []
+    for told in compass.told():
+        phases = [it.name for it in stages if it.state[told.link.index] in "Gg" and it.name.isdigit()]
+        own = sorted({int(it) for it in phases})
+        told.phase = own[0] if len(own) == 1 else None
+        told.why = "" if len(own) == 1 else f"NEMA phases {own} give it way" if own else "no NEMA phase gives it way"
+        found.append(told)
+    return found

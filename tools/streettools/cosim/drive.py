@@ -1,0 +1,134 @@
+"""SUMO itself: found, started with the files of a run, stepped, closed. `libsumo` is taken where it is there, else TraCI,
+which takes several times as long.
+"""
+
+import contextlib
+import importlib
+import os
+import pathlib
+import sys
+import xml.etree.ElementTree as xml
+from collections.abc import Iterator
+from dataclasses import dataclass
+from typing import Any
+
+from ..shared.status import Status
+from .faults import Fault
+
+TOOLS = "/usr/share/sumo/tools"
+TRIPS, ROUTES, STOPS, LOG = "tripinfo.xml", "vehroutes.xml", "stops.xml", "sumo.log"
+PACKAGES = "apt-get install -y sumo sumo-tools"
+
+
+def module() -> Any:
+    """Returns SUMO's module for Python; where there is none the fault says what to install."""
+    home = os.environ.get("SUMO_HOME", "")
+    for path in ([f"{home}/tools"] if home else []) + [TOOLS]:
+        if path not in sys.path:
+            sys.path.append(path)
+    for name in ("libsumo", "traci"):
+        with contextlib.suppress(ImportError):
+            return importlib.import_module(name)
+    raise Fault(f"SUMO is missing: {PACKAGES}", Status.FILE)
+
+
+@dataclass(frozen=True)
+class Config:
+    """A configuration of SUMO, as far as it is known here: its network, additional files, first and last second (None
+    where it names none)."""
+
+    path: pathlib.Path
+    network: pathlib.Path
+    additional: tuple[pathlib.Path, ...]
+    begin: float
+    end: float | None
+
+
+def read_config(path: pathlib.Path) -> Config:
+    """Reads a configuration."""
+    try:
+        root = xml.parse(path).getroot()
+    except OSError as fault:
+        raise Fault(f"{path}: {fault.strerror or fault}", Status.FILE) from None
+    except xml.ParseError as fault:
+        raise Fault(f"{path}: no XML: {fault}") from None
+    values = {it.tag: it.get("value") for it in root.iter() if it.get("value") is not None}
+    network = values.get("net-file") or values.get("net") or values.get("n")
+    if not network:
+        raise Fault(f"{path}: no configuration of SUMO: net-file is missing")
+    files = values.get("additional-files") or values.get("additional") or values.get("a") or ""
+    additional = tuple(path.parent / it.strip() for it in files.split(",") if it.strip())
+    try:
+        begin, end = float(values.get("begin", 0)), float(values.get("end", -1))
+    except ValueError:
+        raise Fault(f"{path}: begin and end have to be seconds") from None
+    return Config(path, path.parent / network, additional, begin, end if end > 0 else None)
+
+
+@dataclass(frozen=True)
+class Start:
+    """How a run of SUMO starts: its configuration, what is added to it, step and length in seconds, the seed (None: that of
+    the configuration), and the folder for what it writes."""
+
+    config: Config
+    added: tuple[pathlib.Path, ...]
+    step: float
+    seconds: float
+    seed: int | None
+    out: pathlib.Path
+
+    def words(self) -> list[str]:
+        """Returns SUMO's command line."""
+        additional = ",".join(map(str, (*self.config.additional, *self.added)))
+        words = ["sumo", "-c", self.config.path, "--step-length", self.step]
+        words += ["--end", self.config.begin + self.seconds + self.step]
+        words += ["--additional-files", additional] if additional else []
+        words += ["--seed", self.seed] if self.seed is not None else []
+        words += ["--tripinfo-output", self.out / TRIPS, "--tripinfo-output.write-unfinished"]
+        words += ["--vehroute-output", self.out / ROUTES, "--vehroute-output.exit-times"]
+        words += ["--vehroute-output.write-unfinished", "--stop-output", self.out / STOPS]
+        words += ["--no-step-log", "--no-warnings", "--duration-log.disable", "--xml-validation", "never"]
+        return [str(word) for word in words]
+
+
+@contextlib.contextmanager
+def quiet(log: pathlib.Path) -> Iterator[None]:
+    """Lets what SUMO itself writes to standard error go to a file, while Python's own still comes out."""
+    sys.stderr.flush()
+    kept, own = os.dup(2), sys.stderr
+    with open(log, "wb") as out, open(os.dup(kept), "w", buffering=1, encoding="utf-8") as shown:
+        os.dup2(out.fileno(), 2)
+        sys.stderr = shown
+        try:
+            yield
+        finally:
+            sys.stderr = own
+            os.dup2(kept, 2)
+            os.close(kept)
+
+
+def told(log: pathlib.Path, fault: BaseException) -> str:
+    """Returns what SUMO said of an error, in a line."""
+    with contextlib.suppress(OSError):
+        errors = [it for it in log.read_text(errors="replace").splitlines() if it.startswith("Error:")]
+        if errors:
+            return errors[0].removeprefix("Error:").strip()
+    return " ".join(str(fault).split()) or type(fault).__name__
+
+
+@contextlib.contextmanager
+def running(sumo: Any, start: Start) -> Iterator[None]:
+    """Runs SUMO for the block. An error of SUMO is a fault that has its words; what it wrote is kept."""
+    log = start.out / LOG
+    errors = tuple(
+        it for it in (getattr(sumo, name, None) for name in ("TraCIException", "FatalTraCIError")) if it is not None
+    )
+    with quiet(log):
+        try:
+            sumo.start(start.words())
+            yield
+        except errors as fault:
+            raise Fault(f"SUMO ended by an error: {told(log, fault)}", Status.FILE) from None
+        finally:
+            with contextlib.suppress(*errors):
+                sumo.close()

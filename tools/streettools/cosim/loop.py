@@ -1,0 +1,168 @@
+"""SUMO and the cabinets side by side: each step of SUMO is told to the cabinets, and what they show then is what SUMO's
+vehicles see in the next.
+"""
+
+import math
+import pathlib
+import time
+from collections.abc import Callable
+from dataclasses import dataclass
+from typing import Any
+
+from ..shared.session_record import LISTS
+from ..shared.status import Status
+from ..street.record import Room
+from .checks import together_in
+from .detectors import Areas, Detectors
+from .drive import Config
+from .faults import Fault
+from .halts import Halts
+from .mapping import Map
+from .network import Network
+from .persons import Buttons
+from .preempts import Preempts
+from .priority import Priority
+from .session import Session
+from .signals import Signals, Watch
+from .watched import Watched
+
+TICKS_A_SECOND = 10
+MOST_ROUNDS = 86_400
+
+
+@dataclass(frozen=True)
+class Given:
+    """What a run is of: SUMO's configuration, map, network, scenario; step and length in seconds; the seed; whether buses
+    ask for priority; from which second on trips count."""
+
+    config: Config
+    street: Map
+    network: Network
+    scenario: dict[str, Any]
+    step: float
+    seconds: float
+    seed: int | None = None
+    priority: bool = True
+    warm: float = 0.0
+
+    def ticks(self) -> int:
+        """Returns the ticks of a step."""
+        return round(self.step * TICKS_A_SECOND)
+
+    def steps(self) -> int:
+        """Returns how many steps the run has."""
+        return math.floor(self.seconds / self.step + 1e-9)
+
+    def for_session(self) -> dict[str, Any]:
+        """Returns the scenario with as many rounds as the run needs, and what comes in them."""
+        rounds = math.ceil(self.steps() * self.ticks() / self.scenario["ticks"])
+        if rounds > MOST_ROUNDS:
+            raise Fault(f"the run needs {rounds} rounds of {self.scenario['ticks']} ticks, and a session has {MOST_ROUNDS}")
+        made = self.scenario | {"rounds": rounds}
+        for name in LISTS:
+            if isinstance(made.get(name), list):
+                made[name] = [it for it in made[name] if not is_later(it, rounds)]
+        return made
+
+
+def is_later(item: Any, rounds: int) -> bool:
+    """Tells whether an item of a scenario comes behind so many rounds; what is wrong with it is for the program to say."""
+    number = item.get("round") if isinstance(item, dict) else None
+    return isinstance(number, int) and number > rounds
+
+
+@dataclass
+class Times:
+    """Seconds of the wall clock: of the whole loop, in SUMO, waiting for the cabinets."""
+
+    whole: float = 0.0
+    sumo: float = 0.0
+    cabinets: float = 0.0
+    steps: int = 0
+
+
+class Loop:
+    """A run while SUMO and a session are open."""
+
+    def __init__(self, given: Given, sumo: Any, session: Session, areas: Areas) -> None:
+        self.given, self.sumo, self.session = given, sumo, session
+        street, network = given.street, given.network
+        names = [it.id for it in street.signals]
+        self.signals, self.halts = Signals(street, network), Halts(network, names)
+        self.watch = Watch(network, names, together_in(street, given.scenario))
+        self.detectors = Detectors(street, areas, sumo)
+        self.buttons = Buttons(street, network, sumo)
+        self.priority = Priority(street, network, given.scenario.get("community", "public"))
+        self.preempts = Preempts(street)
+        self.watched = Watched(self.preempts.names() | (self.priority.names() if given.priority else set()))
+        self.room = Room(given.scenario)
+        self.times = Times()
+        self.second = 0.0
+        self.is_slow = any(it.walk for signal in street.signals for it in signal.movements)
+
+    def run(self, progress: Callable[[int], object]) -> None:
+        """Takes all steps. A conflict, an error of SUMO, a record that is full ends it as a fault."""
+        self.signals.show(self.sumo, self.session.opened, 0)
+        begun = time.perf_counter()
+        a_second = max(round(1 / self.given.step), 1)
+        try:
+            for step in range(self.given.steps()):
+                is_whole = (step + 1) % a_second == 0
+                self.step(step, is_whole)
+                if is_whole:
+                    progress(1)
+        finally:
+            self.times.whole = time.perf_counter() - begun
+            self.priority.end()
+            self.buttons.end()
+
+    def step(self, step: int, is_whole: bool) -> None:
+        """Takes a step of SUMO, then that of the cabinets."""
+        start = time.perf_counter()
+        self.sumo.simulationStep()
+        stepped = time.perf_counter()
+        self.second = round((step + 1) * self.given.step, 1)
+        requests = self.requests(is_whole)
+        asked = time.perf_counter()
+        lines = self.session.tick(self.given.ticks(), requests)
+        came = time.perf_counter()
+        if lines:
+            self.priority.heard(lines)
+        self.signals.show(self.sumo, lines, (step + 1) * self.given.ticks())
+        self.watch.look(self.sumo, self.second)
+        self.times.sumo += stepped - start
+        self.times.cabinets += came - asked
+        self.times.steps += 1
+
+    def requests(self, is_whole: bool) -> list[bytes]:
+        """Returns what the cabinets are told before the ticks; slow things are looked at once a second."""
+        requests = list(self.detectors.changes())
+        if self.watched.names:
+            self.watched.step(self.sumo)
+            requests += self.preempts.look(self.sumo, self.watched)
+        if is_whole:
+            self.halts.look(self.sumo, self.second)
+            if self.is_slow:
+                requests += self.buttons.look(self.sumo, self.signals, self.second)
+            if self.given.priority:
+                requests += self.priority.look(self.sumo, self.watched, self.second)
+            if self.room.is_used(self.session.record):
+                raise Fault(f"second {self.second:.0f}: the record is full: a trace holds no more", Status.FULL)
+        return requests
+
+
+def types_of(sumo: Any) -> dict[str, tuple[str, float]]:
+    """Returns the class and the greatest speed of each type of vehicles."""
+    return {
+        it: (sumo.vehicletype.getVehicleClass(it), sumo.vehicletype.getMaxSpeed(it)) for it in sumo.vehicletype.getIDList()
+    }
+
+
+def built_areas(street: Map, network: Network, out: pathlib.Path) -> tuple[Areas, tuple[pathlib.Path, ...]]:
+    """Returns the detectors that the tool builds, and the files that have them."""
+    areas = Areas(street, network)
+    if not areas.rows:
+        return areas, ()
+    path = out / "detectors.add.xml"
+    areas.write(path)
+    return areas, (path.resolve(),)

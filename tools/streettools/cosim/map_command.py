@@ -1,0 +1,60 @@
+"""`./arterial cosim map`: a map of a network, and the questions that are left."""
+
+import argparse
+import pathlib
+
+from ..shared import files
+from ..shared.commandline import say
+from ..shared.status import Status
+from . import network
+from .compass import WAYS
+from .drive import read_config
+from .map_making import LENGTH, Maker
+
+EXAMPLES = """\
+examples:
+  ./arterial cosim map street.net.xml -o map.toml              by the approaches' compass and turns
+  ./arterial cosim map street.sumocfg --main E -o map.toml     phase 2 drives east at each signal
+  ./arterial cosim map street.net.xml --phase 'c0 SB2T=8'      answers a question that was asked
+
+Where a network has SUMO's NEMA logic, its phases are taken. What can't be told stands as "?" in the map, and is asked for
+on standard error; `run` refuses a map with a question left. docs/COSIM.md says how a map is written."""
+
+
+def answer(text: str) -> tuple[tuple[str, str], int]:
+    """Reads an answer: a signal, a movement, its phase."""
+    place, _, phase = text.rpartition("=")
+    signal, _, movement = place.partition(" ")
+    if not (signal and movement and phase.isdigit() and 1 <= int(phase) <= 16):
+        raise argparse.ArgumentTypeError(f"{text}: as in 'c0 EBL=5'")
+    return (signal, movement), int(phase)
+
+
+def parser() -> argparse.ArgumentParser:
+    """Returns the reader of the words."""
+    words = argparse.ArgumentParser(
+        prog="cosim map",
+        description="Writes a map from a network of SUMO: which link has which phase, and detectors before the stop lines.",
+        epilog=EXAMPLES,
+        formatter_class=argparse.RawDescriptionHelpFormatter,
+        allow_abbrev=False,
+    )
+    words.add_argument("network", type=pathlib.Path, help="the network (*.net.xml), or a configuration that names it")
+    words.add_argument("-o", "--out", metavar="MAP", help="the map to write (standard output)")
+    words.add_argument("--main", choices=list(WAYS), help="the way in which phase 2 drives, at each signal")
+    words.add_argument("--phase", type=answer, action="append", default=[], metavar="'SIGNAL MOVEMENT=N'")
+    words.add_argument("--length", type=float, default=LENGTH, metavar="M", help="metres of a detector (15)")
+    return words
+
+
+def main(given: list[str]) -> int:
+    """Writes a map, and says what is left to be asked."""
+    words = parser().parse_args(given)
+    path = read_config(words.network).network if words.network.suffix == ".sumocfg" else words.network
+    maker = Maker(network.read(path), None if words.main is None else WAYS.index(words.main), dict(words.phase), words.length)
+    text = maker.text(path.name)
+    with files.output(words.out) as out:
+        out.write(text)
+    for it in maker.questions:
+        say("cosim", f"signal {it.signal}: which phase has {it.movement}? {it.why} (--phase '{it.signal} {it.movement}=N')")
+    return Status.REFUSED if maker.questions else Status.DONE

@@ -1,0 +1,167 @@
+"""What is recorded of a street with traffic, whoever drives it: trips, passages of stop lines, queues.
+
+SUMO's runs and the model of queues both hand a `Study` to the report and the pictures. All times are seconds from the
+start of the run, so tick T of the trace is second T / 10; distances are metres.
+"""
+
+import enum
+import json
+import pathlib
+from collections.abc import Iterator
+from dataclasses import dataclass, field
+from typing import Any, NamedTuple
+
+FORM = 1
+"""The form of the file that keeps a study."""
+
+
+class Kind(enum.StrEnum):
+    """Who is under way."""
+
+    CAR = "car"
+    BUS = "bus"
+    TRAIN = "train"
+    EMERGENCY = "emergency"
+    PERSON = "person"
+
+
+class Movement(NamedTuple):
+    """A movement at an intersection: its cabinet (from 1), a name that is its own there (as `EBT`, `NBL`, or
+    `ped 4`), and the phase that serves it, None where an overlap does; `parents` are the phases of that overlap."""
+
+    cabinet: int
+    name: str
+    phase: int | None
+    parents: tuple[int, ...] = ()
+
+    def phases(self) -> tuple[int, ...]:
+        """Returns the phases under which the movement may have way."""
+        return self.parents if self.phase is None else (self.phase,)
+
+
+class Passage(NamedTuple):
+    """A vehicle at one stop line. `arrived` is the second at which it would have passed the line had nothing held it
+    on its way there, `released` the second at which it passed; `delay` is what lies between, never below 0. `stopped`
+    tells that it stood on the approach, `on_green` that its movement had green at `arrived`. `phase` is the one of the
+    movement, None under an overlap."""
+
+    cabinet: int
+    movement: str
+    phase: int | None
+    arrived: float
+    released: float
+    delay: float
+    stopped: bool
+    on_green: bool
+
+
+class Trip(NamedTuple):
+    """A whole way of a vehicle or a person. `route` is the name of the flow, the line or the route; `depart` is when
+    it wanted to start, `arrive` when it was there, None if it was still under way at the end; `delay` is the time lost
+    against driving freely, with the wait to get in; `stops` is how often it stood."""
+
+    vehicle: str
+    route: str
+    kind: Kind
+    passages: tuple[Passage, ...]
+    depart: float
+    arrive: float | None
+    delay: float
+    stops: int
+
+
+class QueueSample(NamedTuple):
+    """How many vehicles of a movement stood before its stop line at a second. The number holds until the next sample
+    of the movement, and is 0 before its first."""
+
+    cabinet: int
+    movement: str
+    second: float
+    vehicles: int
+
+
+class Request(NamedTuple):
+    """A priority request of a vehicle: the cabinet, the request's number there, its phase; when it was made, and when
+    it was taken back, None if the run ended before."""
+
+    vehicle: str
+    cabinet: int
+    number: int
+    phase: int
+    made: float
+    cancelled: float | None
+
+
+@dataclass
+class Study:
+    """A street with its traffic: how many cabinets, their movements, the trace, and what was recorded over `seconds`.
+    Trips that started before `warm` are kept, and are for the report to leave out."""
+
+    cabinets: int
+    movements: list[Movement]
+    trace: pathlib.Path
+    trips: list[Trip]
+    queues: list[QueueSample]
+    seconds: float
+    warm: float = 0.0
+    requests: list[Request] = field(default_factory=list)
+    title: str = ""
+
+    @property
+    def passages(self) -> Iterator[Passage]:
+        """Yields each passage of each trip."""
+        for trip in self.trips:
+            yield from trip.passages
+
+    def movement(self, cabinet: int, name: str) -> Movement:
+        """Returns a movement by its cabinet and its name."""
+        return next(it for it in self.movements if (it.cabinet, it.name) == (cabinet, name))
+
+
+def written(study: Study) -> dict[str, Any]:
+    """Returns a study as what JSON has; the trace is named as its file is."""
+    return {
+        "form": FORM,
+        "title": study.title,
+        "cabinets": study.cabinets,
+        "seconds": study.seconds,
+        "warm": study.warm,
+        "trace": study.trace.name,
+        "movements": study.movements,
+        "trips": study.trips,
+        "queues": study.queues,
+        "requests": study.requests,
+    }
+
+
+def read(document: dict[str, Any], folder: pathlib.Path) -> Study:
+    """Returns the study that `written` gave; the trace stands in the folder."""
+
+    def trip(row: list[Any]) -> Trip:
+        vehicle, route, kind, passages, *rest = row
+        return Trip(vehicle, route, Kind(kind), tuple(Passage(*it) for it in passages), *rest)
+
+    def movement(row: list[Any]) -> Movement:
+        return Movement(*row[:3], tuple(row[3]))
+
+    return Study(
+        cabinets=document["cabinets"],
+        movements=[movement(row) for row in document["movements"]],
+        trace=folder / document["trace"],
+        trips=[trip(row) for row in document["trips"]],
+        queues=[QueueSample(*row) for row in document["queues"]],
+        seconds=document["seconds"],
+        warm=document["warm"],
+        requests=[Request(*row) for row in document["requests"]],
+        title=document["title"],
+    )
+
+
+def save(study: Study, path: pathlib.Path) -> None:
+    """Writes a study beside its trace."""
+    path.write_text(json.dumps(written(study), separators=(",", ":")) + "\n", encoding="utf-8")
+
+
+def load(path: pathlib.Path) -> Study:
+    """Reads a study from the file that keeps it."""
+    return read(json.loads(path.read_text(encoding="utf-8")), path.parent)

@@ -1,0 +1,102 @@
+"""`./arterial cosim run`: its words, and what it says of a run."""
+
+import argparse
+import pathlib
+
+from ..shared.commandline import number, say
+from ..shared.progress import bar
+from ..shared.program import found
+from ..shared.status import Status
+from . import network
+from .drive import read_config
+from .faults import Fault
+from .loop import Given
+from .mapping import read_map
+from .run import REPORT, TRACE, Done, read_scenario, run
+
+EXAMPLES = """\
+examples:
+  ./arterial cosim run --sumo street.sumocfg --map map.toml --scenario street.json -o out/
+  ./arterial cosim run --sumo street.sumocfg --map map.toml --scenario street.json --step 1 --seed 7 -o out/
+  ./arterial check out/session.trace                the trace of the cabinets
+  ./look coordination out/session.trace             and its pictures
+
+A step of SUMO is 0.1 s or 1 s. The folder gets session.trace, what SUMO writes (tripinfo.xml, vehroutes.xml, stops.xml,
+sumo.log), study.json and the report. docs/COSIM.md says how a map is written."""
+
+
+def step_of(text: str) -> float:
+    """Reads a step."""
+    if text not in ("0.1", "1", "1.0"):
+        raise argparse.ArgumentTypeError(f"{text} is not 0.1 or 1")
+    return float(text)
+
+
+def parser() -> argparse.ArgumentParser:
+    """Returns the reader of the words."""
+    words = argparse.ArgumentParser(
+        prog="cosim run",
+        description="Runs SUMO under the cabinets of a scenario: its detectors, persons, buses and trains call them.",
+        epilog=EXAMPLES,
+        formatter_class=argparse.RawDescriptionHelpFormatter,
+        allow_abbrev=False,
+    )
+    words.add_argument("--sumo", type=pathlib.Path, required=True, metavar="CONFIG", help="SUMO's configuration (*.sumocfg)")
+    words.add_argument("--map", type=pathlib.Path, required=True, metavar="MAP", help="the map: which link has which phase")
+    words.add_argument("--scenario", type=pathlib.Path, required=True, metavar="FILE", help="the cabinets")
+    words.add_argument("-o", "--out", type=pathlib.Path, required=True, metavar="FOLDER", help="where all is written")
+    words.add_argument("--step", type=step_of, default=0.1, metavar="S", help="a step of SUMO: 0.1 or 1 second (0.1)")
+    words.add_argument("--seconds", type=number(1, 86_400), metavar="S", help="the length (SUMO's end, else the scenario's)")
+    words.add_argument("--seed", type=number(0, 2**31 - 1), metavar="N", help="the seed of SUMO (that of its configuration)")
+    words.add_argument("--warm", type=number(0, 86_400), default=0, metavar="S", help="trips that start sooner don't count (0)")
+    words.add_argument("--no-priority", action="store_true", help="buses don't ask")
+    words.add_argument("--program", metavar="FILE", help="the program to run in place of the proved one")
+    return words
+
+
+def given_of(words: argparse.Namespace) -> Given:
+    """Reads all files that the words name."""
+    config = read_config(words.sumo)
+    scenario = read_scenario(words.scenario)
+    street, known = read_map(words.map), network.read(config.network)
+    seconds = words.seconds or (config.end - config.begin if config.end else scenario["rounds"] * scenario["ticks"] / 10)
+    if words.warm >= seconds:
+        raise Fault(f"--warm {words.warm} is no less than the {seconds:g} seconds of the run")
+    return Given(config, street, known, scenario, words.step, seconds, words.seed, not words.no_priority, words.warm)
+
+
+def tell(done: Done, given: Given, out: pathlib.Path) -> None:
+    """Says what a run came to."""
+    times = done.times
+    if times.whole:
+        say(
+            "cosim",
+            f"{times.steps * given.step / times.whole:.0f} simulated seconds in one;"
+            f" {times.sumo / times.whole:.0%} of the time in SUMO, {times.cabinets / times.whole:.0%} for the cabinets",
+        )
+    if done.refusals:
+        say("cosim", f"{done.refusals} priority requests were refused by the cabinets")
+    if done.study is None:
+        say("cosim", "nothing was recorded: no round was over")
+    else:
+        say("cosim", f"{out / TRACE} and the report beside it: {done.study.seconds:g} s, {len(done.study.trips)} trips")
+
+
+def main(words: list[str]) -> int:
+    """Runs, and returns the exit status."""
+    given_words = parser().parse_args(words)
+    program = found(given_words.program)
+    given = given_of(given_words)
+    out = given_words.out
+    out.mkdir(parents=True, exist_ok=True)
+    shown = bar(int(given.seconds), "s", smoothing=0.05)
+    try:
+        done = run(given, program, out, shown.update if shown is not None else lambda count: None)
+    finally:
+        if shown is not None:
+            shown.close()
+    tell(done, given, out)
+    if done.fault is not None:
+        raise done.fault
+    print((out / f"{REPORT}.txt").read_text(encoding="utf-8"), end="")
+    return Status.DONE

@@ -1,0 +1,139 @@
+"""The signals of SUMO by what the cabinets show, and the watch over paths that cross."""
+
+from collections.abc import Callable, Iterable
+from typing import Any, NamedTuple
+
+from .faults import Conflict
+from .mapping import Map, MappedMovement, MappedSignal
+from .network import Link, Network
+from .overlaps import OverlapLight
+
+COLOUR = {"G": "G", "Y": "y", "C": "r", "R": "r"}
+"""SUMO's letters for colours: red clearance is red to a driver."""
+GREEN = "Gg"
+RED = "rR"
+YIELDING = "gy"
+"""Letters of who gives way; yellow is told from that of a green with way by the phases alone."""
+Together = Callable[[Link, Link], bool]
+"""Tells whether two links have phases that may be on at once."""
+
+
+class Light:
+    """A signal of SUMO, and what it shows."""
+
+    def __init__(self, signal: MappedSignal, network: Network) -> None:
+        self.id = signal.id
+        self.state = ""
+        self.overlaps = {it.name: OverlapLight(it.overlap) for it in signal.movements if it.overlap}
+        places = {link.name: link.index for link in network.links[signal.id]}
+        self.parts: list[tuple[MappedMovement, list[int]]] = [
+            (it, [places[name] for name in it.links]) for it in signal.movements
+        ]
+        self.size = 1 + max(places.values())
+        self.known: dict[tuple[str, ...], str] = {}
+
+    def letter(self, movement: MappedMovement, vehicles: str, walks: str, overlaps: dict[str, str]) -> str:
+        """Returns SUMO's letter for a movement."""
+        if movement.walk:
+            return "G" if walks[movement.phase - 1] == "W" else "r"
+        shown = overlaps[movement.name] if movement.overlap else vehicles[movement.phase - 1]
+        letter = COLOUR[shown]
+        return "g" if letter == "G" and movement.yields else letter
+
+    def wanted(self, vehicles: str, walks: str, tick: int) -> str:
+        """Returns the state of all links at a tick."""
+        overlaps = {name: it.at(tick) for name, it in self.overlaps.items()}
+        key = (vehicles, walks, *overlaps.values())
+        if key not in self.known:
+            letters = ["r"] * self.size
+            for movement, places in self.parts:
+                for place in places:
+                    letters[place] = self.letter(movement, vehicles, walks, overlaps)
+            self.known[key] = "".join(letters)
+        return self.known[key]
+
+
+class Crossing(NamedTuple):
+    """Two links whose paths cross; where both have way one may yield, `g` to SUMO: which of them may, if any."""
+
+    a: Link
+    b: Link
+    a_yields: bool
+    b_yields: bool
+
+
+class Watch:
+    """The look for two links whose paths cross and that both have way, by what SUMO has in force. A link may yield to another
+    only where SUMO lets it give way there, and where the two are of phases that may be on at once (`together`)."""
+
+    def __init__(self, network: Network, signals: Iterable[str], together: Together) -> None:
+        self.crossing = {name: [] for name in signals}
+        for name, rows in self.crossing.items():
+            for a, b in network.conflicts(name):
+                may = together(a, b)
+                rows.append(Crossing(a, b, may and network.gives_way(a, b), may and network.gives_way(b, a)))
+        self.sound: dict[str, set[str]] = {name: set() for name in self.crossing}
+        self.last: dict[str, str] = {}
+        self.history: dict[str, list[tuple[float, str]]] = {name: [] for name in self.crossing}
+
+    def look(self, sumo: Any, second: float) -> None:
+        """Looks at all signals; a conflict is raised. What changed is kept."""
+        for name in self.crossing:
+            state = sumo.trafficlight.getRedYellowGreenState(name)
+            if state != self.last.get(name):
+                self.last[name] = state
+                self.history[name].append((second, state))
+                if state not in self.sound[name]:
+                    self.judge(name, state, second)
+
+    def judge(self, name: str, state: str, second: float) -> None:
+        """Raises a conflict where a state has one."""
+        for a, b, a_yields, b_yields in self.crossing[name]:
+            one, other = state[a.index], state[b.index]
+            if one in RED or other in RED or one in YIELDING and a_yields or other in YIELDING and b_yields:
+                continue
+            raise Conflict(
+                f"second {second:.1f}: signal {name} shows {state}: links {a.index} ({a.name}) and {b.index} ({b.name})"
+                " cross, and both have way"
+            )
+        self.sound[name].add(state)
+
+
+class Signals:
+    """All signals that cabinets have."""
+
+    def __init__(self, street: Map, network: Network) -> None:
+        self.lights: dict[int, list[Light]] = {}
+        for signal in street.signals:
+            self.lights.setdefault(signal.cabinet, []).append(Light(signal, network))
+        self.shown: dict[int, tuple[str, str]] = {}
+        self.always = [(cabinet, it) for cabinet, lights in self.lights.items() for it in lights if it.overlaps]
+
+    def take(self, lines: list[bytes]) -> set[int]:
+        """Takes the F lines of an answer; returns the cabinets that have changed."""
+        changed = set()
+        for line in lines:
+            if line[:2] == b"F ":
+                _, cabinet, tick, vehicles, walks, _ = line.decode("ascii").split(" ", 5)
+                number = int(cabinet)
+                self.shown[number] = vehicles, walks
+                changed.add(number)
+                for light in self.lights[number]:
+                    for overlap in light.overlaps.values():
+                        overlap.changed(int(tick), vehicles)
+        return changed
+
+    def show(self, sumo: Any, lines: list[bytes], tick: int) -> None:
+        """Sets the signals to what the cabinets show at a tick, behind the answer to it."""
+        changed = self.take(lines)
+        due = [(cabinet, light) for cabinet in changed for light in self.lights[cabinet]]
+        due += [it for it in self.always if it[0] not in changed]
+        for cabinet, light in due:
+            state = light.wanted(*self.shown[cabinet], tick)
+            if state != light.state:
+                light.state = state
+                sumo.trafficlight.setRedYellowGreenState(light.id, state)
+
+    def walks(self, cabinet: int, phase: int) -> bool:
+        """Tells whether a phase shows walk."""
+        return self.shown[cabinet][1][phase - 1] == "W"

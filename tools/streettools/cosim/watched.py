@@ -1,0 +1,25 @@
+"""Vehicles of certain classes or types, as buses and trains, while they are under way."""
+
+from typing import Any
+
+
+class Watched:
+    """Which vehicles of the classes and types that are asked for are under way, with class and type of each."""
+
+    def __init__(self, names: set[str]) -> None:
+        self.names = names
+        self.kinds: dict[str, tuple[str, str]] = {}
+
+    def step(self, sumo: Any) -> None:
+        """Takes who has come and who has gone in a step."""
+        for vehicle in sumo.simulation.getDepartedIDList():
+            kinds = sumo.vehicle.getVehicleClass(vehicle), sumo.vehicle.getTypeID(vehicle).partition("@")[0]
+            if not self.names.isdisjoint(kinds):
+                self.kinds[vehicle] = kinds
+        if self.kinds:
+            for vehicle in sumo.simulation.getArrivedIDList():
+                self.kinds.pop(vehicle, None)
+
+    def of(self, names: tuple[str, ...]) -> list[str]:
+        """Returns those of these classes or types."""
+        return [vehicle for vehicle, kinds in self.kinds.items() if kinds[0] in names or kinds[1] in names]
