@@ -1,7 +1,7 @@
 """What is asked of a map before anything runs: by the network, by the tables of the cabinets."""
 
 import itertools
-from collections.abc import Iterator
+from collections.abc import Callable, Iterator
 from typing import Any
 
 from ..shared.tables import Tables
@@ -10,9 +10,14 @@ from .mapping import Map, MappedMovement, MappedSignal
 from .network import Link, Network
 
 
+def tables_of(scenario: dict[str, Any]) -> list[Tables]:
+    """Returns the tables with which the cabinets of a scenario open."""
+    return [Tables(it.get("base", "std8"), it.get("cells", ())) for it in scenario["cabinets"]]
+
+
 def check(street: Map, network: Network, scenario: dict[str, Any]) -> None:
     """Refuses a map that doesn't fit the network or the cabinets. The scenario has been taken by the program."""
-    tables = [Tables(it.get("base", "std8"), it.get("cells", ())) for it in scenario["cabinets"]]
+    tables = tables_of(scenario)
     check_signals(street, network, len(tables))
     for signal in street.signals:
         check_links(street, signal, network)
@@ -124,6 +129,20 @@ def clashes(signal: MappedSignal, network: Network, tables: Tables) -> Iterator[
         for p, q in itertools.product(one.phases(), other.phases()):
             if may_be_on(p, q, tables):
                 yield a, b, p, q
+
+
+def together_in(street: Map, scenario: dict[str, Any]) -> Callable[[Link, Link], bool]:
+    """Returns what tells whether two links of a signal have phases that may be on at once."""
+    tables = tables_of(scenario)
+    signals = {it.id: it for it in street.signals}
+
+    def together(a: Link, b: Link) -> bool:
+        signal = signals[a.signal]
+        own = tables[signal.cabinet - 1]
+        pairs = itertools.product(movement_of(signal, a).phases(), movement_of(signal, b).phases())
+        return any(may_be_on(p, q, own) for p, q in pairs)
+
+    return together
 
 
 def check_conflicts(street: Map, signal: MappedSignal, network: Network, tables: Tables) -> None:

@@ -9,8 +9,10 @@ from collections.abc import Callable
 from dataclasses import dataclass
 from typing import Any
 
+from ..shared.session_record import LISTS
 from ..shared.status import Status
 from ..street.record import Room
+from .checks import together_in
 from .detectors import Areas, Detectors
 from .drive import Config
 from .faults import Fault
@@ -52,11 +54,21 @@ class Given:
         return math.floor(self.seconds / self.step + 1e-9)
 
     def for_session(self) -> dict[str, Any]:
-        """Returns the scenario with as many rounds as the run needs."""
+        """Returns the scenario with as many rounds as the run needs, and what comes in them."""
         rounds = math.ceil(self.steps() * self.ticks() / self.scenario["ticks"])
         if rounds > MOST_ROUNDS:
             raise Fault(f"the run needs {rounds} rounds of {self.scenario['ticks']} ticks, and a session has {MOST_ROUNDS}")
-        return self.scenario | {"rounds": max(rounds, self.scenario["rounds"])}
+        made = self.scenario | {"rounds": rounds}
+        for name in LISTS:
+            if isinstance(made.get(name), list):
+                made[name] = [it for it in made[name] if not is_later(it, rounds)]
+        return made
+
+
+def is_later(item: Any, rounds: int) -> bool:
+    """Tells whether an item of a scenario comes behind so many rounds; what is wrong with it is for the program to say."""
+    number = item.get("round") if isinstance(item, dict) else None
+    return isinstance(number, int) and number > rounds
 
 
 @dataclass
@@ -75,10 +87,11 @@ class Loop:
     def __init__(self, given: Given, sumo: Any, session: Session, areas: Areas) -> None:
         self.given, self.sumo, self.session = given, sumo, session
         street, network = given.street, given.network
-        self.signals, self.watch = Signals(street, network), Watch(network, [it.id for it in street.signals])
+        names = [it.id for it in street.signals]
+        self.signals, self.halts = Signals(street, network), Halts(network, names)
+        self.watch = Watch(network, names, together_in(street, given.scenario))
         self.detectors = Detectors(street, areas, sumo)
         self.buttons = Buttons(street, network, sumo)
-        self.halts = Halts(network, [it.id for it in street.signals])
         self.priority = Priority(street, network, given.scenario.get("community", "public"))
         self.preempts = Preempts(street)
         self.watched = Watched(self.preempts.names() | (self.priority.names() if given.priority else set()))

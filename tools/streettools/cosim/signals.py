@@ -1,17 +1,21 @@
 """The signals of SUMO by what the cabinets show, and the watch over paths that cross."""
 
-from collections.abc import Iterable
-from typing import Any
+from collections.abc import Callable, Iterable
+from typing import Any, NamedTuple
 
 from .faults import Conflict
 from .mapping import Map, MappedMovement, MappedSignal
-from .network import Network
+from .network import Link, Network
 from .overlaps import OverlapLight
 
 COLOUR = {"G": "G", "Y": "y", "C": "r", "R": "r"}
 """SUMO's letters for colours: red clearance is red to a driver."""
 GREEN = "Gg"
 RED = "rR"
+YIELDING = "gy"
+"""Letters of who gives way; yellow is told from that of a green with way by the phases alone."""
+Together = Callable[[Link, Link], bool]
+"""Tells whether two links have phases that may be on at once."""
 
 
 class Light:
@@ -49,16 +53,25 @@ class Light:
         return self.known[key]
 
 
-class Watch:
-    """The look for two links whose paths cross and that both have way, by what SUMO has in force."""
+class Crossing(NamedTuple):
+    """Two links whose paths cross; where both have way one may yield, `g` to SUMO: which of them may, if any."""
 
-    def __init__(self, network: Network, signals: Iterable[str]) -> None:
-        self.crossing = {
-            name: [
-                (a, b, network.gives_way(a, b), network.gives_way(b, a)) for a, b in network.conflicts(name)
-            ]
-            for name in signals
-        }
+    a: Link
+    b: Link
+    a_yields: bool
+    b_yields: bool
+
+
+class Watch:
+    """The look for two links whose paths cross and that both have way, by what SUMO has in force. A link may yield to another
+    only where SUMO lets it give way there, and where the two are of phases that may be on at once (`together`)."""
+
+    def __init__(self, network: Network, signals: Iterable[str], together: Together) -> None:
+        self.crossing = {name: [] for name in signals}
+        for name, rows in self.crossing.items():
+            for a, b in network.conflicts(name):
+                may = together(a, b)
+                rows.append(Crossing(a, b, may and network.gives_way(a, b), may and network.gives_way(b, a)))
         self.sound: dict[str, set[str]] = {name: set() for name in self.crossing}
         self.last: dict[str, str] = {}
         self.history: dict[str, list[tuple[float, str]]] = {name: [] for name in self.crossing}
@@ -75,11 +88,9 @@ class Watch:
 
     def judge(self, name: str, state: str, second: float) -> None:
         """Raises a conflict where a state has one."""
-        for a, b, first_yields, second_yields in self.crossing[name]:
+        for a, b, a_yields, b_yields in self.crossing[name]:
             one, other = state[a.index], state[b.index]
-            if one in RED or other in RED:
-                continue
-            if (one == "g" and first_yields) or (other == "g" and second_yields):
+            if one in RED or other in RED or one in YIELDING and a_yields or other in YIELDING and b_yields:
                 continue
             raise Conflict(
                 f"second {second:.1f}: signal {name} shows {state}: links {a.index} ({a.name}) and {b.index} ({b.name})"

@@ -14,6 +14,7 @@ from typing import Any
 from ..shared.plans import coordinated
 from ..shared.tables import Tables
 from . import drive
+from .checks import together_in
 from .drive import Start
 from .faults import Fault
 from .halts import Halts
@@ -129,7 +130,8 @@ def run(given: Given, controller: str, out: pathlib.Path, progress: Callable[[in
     path = out / "programs.add.xml"
     write(given, controller, path)
     names = [it.id for it in given.street.signals]
-    watch, halts, times = Watch(given.network, names), Halts(given.network, names), Times()
+    watch = Watch(given.network, names, together_in(given.street, given.scenario))
+    halts, times = Halts(given.network, names), Times()
     begun = time.perf_counter()
     with drive.running(sumo, Start(given.config, (path.resolve(),), given.step, given.seconds, given.seed, out)):
         a_second = max(round(1 / given.step), 1)

@@ -1,0 +1,168 @@
+"""Maps that the tool writes: the numbering of NEMA, what can't be told, what is refused of a map."""
+
+import pathlib
+import shutil
+import subprocess
+import tomllib
+
+import pytest
+
+from .conftest import STREET, TEE, change, cosim, needs_sumo, run_tee
+
+NEMA = {"EBL": 5, "EBT": 2, "WBL": 1, "WBT": 6, "NBL": 7, "NBT": 4, "SBL": 3, "SBT": 8}
+"""The usual numbers: phase 2 eastbound, left turns opposite to their straight ways, 4 northbound."""
+BESIDE = {"ped S": 2, "ped N": 6, "ped E": 4, "ped W": 8}
+"""Persons walk along with the traffic that has them on its right."""
+
+
+def phases(text: str, signal: str) -> dict[str, int]:
+    """Returns the phases of a signal's movements in a map."""
+    (found,) = [it for it in tomllib.loads(text)["signal"] if it["id"] == signal]
+    return {it["name"]: it["phase"] for it in found["movement"]}
+
+
+def test_a_street_gets_the_phases_of_nema():
+    ran = cosim("map", STREET / "street.net.xml", "--main", "E")
+    assert ran.status == 0 and not ran.said
+    for signal in ("c0", "c1", "c2", "c3"):
+        found = phases(ran.out, signal)
+        assert {name: found[name] for name in NEMA} == NEMA
+        assert {name: found[name] for name in BESIDE} == BESIDE
+        assert {name: found[name] for name in ("EBR", "WBR", "NBR", "SBR")} == {"EBR": 2, "WBR": 6, "NBR": 4, "SBR": 8}
+
+
+def test_the_main_street_may_be_named():
+    found = phases(cosim("map", STREET / "street.net.xml", "--main", "N").out, "c0")
+    assert (found["NBT"], found["SBT"], found["NBL"], found["SBL"]) == (2, 6, 5, 1)
+
+
+def test_the_stem_of_a_t_is_one_phase_and_partners_are_idle():
+    """docs/SCENARIO.md: the stem is phase 4, and its partner 8 has no traffic."""
+    text = cosim("map", TEE / "tee.net.xml").out
+    found = phases(text, "t")
+    assert (found["NBL"], found["NBR"], found["EBT"], found["WBT"], found["WBL"]) == (4, 4, 2, 6, 1)
+    assert tomllib.loads(text)["signal"][0]["idle"] == [3, 5, 7, 8]
+
+
+def test_the_maps_that_stand_here_are_those_that_the_tool_writes():
+    assert (STREET / "street.map.toml").read_text().startswith(cosim("map", STREET / "street.net.xml", "--main", "E").out)
+    assert (TEE / "tee.map.toml").read_text() == cosim("map", TEE / "tee.net.xml").out
+
+
+FIVE = {
+    "n": '<nodes><node id="c" x="0" y="0" type="traffic_light"/><node id="w" x="-200" y="0"/><node id="e" x="200" y="0"/>'
+    '<node id="s" x="0" y="-200"/><node id="far" x="-180" y="-80"/></nodes>',
+    "e": "<edges>"
+    + "".join(f'<edge id="{it}" from="{it}" to="c"/><edge id="to-{it}" from="c" to="{it}"/>' for it in ("w", "e", "s", "far"))
+    + "</edges>",
+}
+
+
+@pytest.fixture
+def five(tmp_path: pathlib.Path) -> pathlib.Path:
+    """Returns a network in which two approaches drive nearly the same way."""
+    for name, text in FIVE.items():
+        (tmp_path / f"{name}.xml").write_text(text)
+    files = [f"--{kind}-files={tmp_path / name}.xml" for kind, name in (("node", "n"), ("edge", "e"))]
+    words = ["netconvert", *files, f"--output-file={tmp_path / 'five.net.xml'}", "--no-turnarounds", "--no-warnings"]
+    subprocess.run(words, check=True, capture_output=True)
+    return tmp_path / "five.net.xml"
+
+
+@needs_sumo
+def test_what_cant_be_told_is_asked_for_and_can_be_answered(five):
+    ran = cosim("map", five)
+    assert ran.status == 2
+    asked = [line for line in ran.said if "far and w both drive E" in line]
+    assert asked and all(line.startswith("cosim: signal c: which phase has EB") for line in asked)
+    assert '"?"' in ran.out
+    answers = [word for line in asked for word in ("--phase", line.rpartition("--phase '")[2].removesuffix("=N')") + "=2")]
+    assert '"?"' not in cosim("map", five, *answers).out
+
+
+@needs_sumo
+def test_a_network_with_sumos_own_nema_logic_gives_its_phases(tee):
+    """Here the logic numbers the street the other way round: 6 eastbound."""
+    text = (tee / "tee.net.xml").read_text()
+    start, end = text.index("<tlLogic"), text.index("</tlLogic>")
+    size = len(text[start:end].partition('state="')[2].partition('"')[0])
+    links = {"WBT": (0, 1), "WBL": (2,), "NB": (3, 4), "EB": (5, 6, 7)}
+    rows = [("2", links["WBT"]), ("5", links["WBL"]), ("8", links["NB"]), ("6", links["EB"])]
+    stages = ""
+    for name, places in rows:
+        state = "".join("G" if it in places else "r" for it in range(size))
+        stages += f'<phase duration="9" minDur="5" maxDur="9" vehext="2" yellow="3" red="1" name="{name}" state="{state}"/>'
+    (tee / "tee.net.xml").write_text(
+        text[:start] + f'<tlLogic id="t" type="NEMA" programID="0" offset="0">{stages}' + text[end:]
+    )
+    found = phases(cosim("map", tee / "tee.net.xml").out, "t")
+    assert (found["EBT"], found["WBT"], found["WBL"], found["NBL"]) == (6, 2, 5, 8)
+
+
+def refused(folder: pathlib.Path) -> str:
+    """Returns the one line with which a run is refused before anything ran."""
+    ran = run_tee(folder)
+    assert ran.status == 2 and len(ran.said) == 1, ran
+    assert not (folder / "out/session.trace").exists()
+    return ran.said[0]
+
+
+def without_movement(text: str, name: str) -> str:
+    """Returns a map without one of its movements."""
+    head, _, tail = text.partition(f'[[signal.movement]]\nname = "{name}"')
+    return head + tail[tail.index("[[") :]
+
+
+@needs_sumo
+def test_a_link_without_a_phase_is_refused(tee):
+    path = tee / "tee.map.toml"
+    path.write_text(without_movement(path.read_text(), "WBL"))
+    assert "(in-west_3 out-south_1) has no phase" in refused(tee)
+
+
+@needs_sumo
+def test_a_phase_without_a_link_is_refused(tee):
+    change(tee / "tee.map.toml", "idle = [3, 5, 7, 8]", "idle = [3, 7, 8]")
+    assert "phase 5 of cabinet 1 has no link" in refused(tee)
+
+
+@needs_sumo
+def test_two_conflicting_links_on_one_phase_are_refused(tee):
+    change(tee / "tee.map.toml", 'name = "WBL"\nphase = 1', 'name = "WBL"\nphase = 2')
+    change(tee / "tee.map.toml", "idle = [3, 5, 7, 8]", "idle = [1, 3, 5, 7, 8]")
+    change(tee / "tee.map.toml", "[[signal.detector]]\nphase = 1", "[[signal.detector]]\nphase = 2")
+    line = refused(tee)
+    assert "WBL (in-west_3 out-south_1)" in line and "cross, and both have phase 2" in line
+
+
+@needs_sumo
+def test_conflicting_links_on_phases_that_may_be_on_at_once_are_refused(tee):
+    change(tee / "tee.map.toml", 'name = "WBL"\nphase = 1', 'name = "WBL"\nphase = 5')
+    change(tee / "tee.map.toml", "idle = [3, 5, 7, 8]", "idle = [1, 3, 7, 8]")
+    change(tee / "tee.map.toml", "[[signal.detector]]\nphase = 1", "[[signal.detector]]\nphase = 5")
+    line = refused(tee)
+    assert "may be on at once" in line and "WBL" in line and "EB" in line
+
+
+@needs_sumo
+def test_a_map_for_another_network_is_refused(tee):
+    shutil.copy(STREET / "street.map.toml", tee / "tee.map.toml")
+    assert "a map of another network?" in refused(tee)
+
+
+@needs_sumo
+def test_a_question_left_in_a_map_is_refused(tee):
+    change(tee / "tee.map.toml", 'name = "EBT"\nphase = 2', 'name = "EBT"\nphase = "?"')
+    assert "still to be said" in refused(tee)
+
+
+@needs_sumo
+def test_an_unknown_name_in_a_map_is_refused(tee):
+    change(tee / "tee.map.toml", "cabinet = 1", "cabinet = 1\ncabinets = 1")
+    assert "cabinets is unknown: is cabinet meant?" in refused(tee)
+
+
+@needs_sumo
+def test_a_session_that_is_refused_is_told_by_the_programs_line(tee):
+    change(tee / "tee.json", "{}", '{"cells": [["phase", 2, 8, 10]]}')
+    assert refused(tee) == "cosim: scenario: cabinet 1 breaks rule 10 at row 2"

@@ -1,0 +1,42 @@
+"""What is read of a network, beside what SUMO itself says of it: its default programs, which its netconvert makes."""
+
+import itertools
+
+import pytest
+
+from streettools.cosim import network
+
+from .conftest import STREET, TEE
+
+NETWORKS = [STREET / "street.net.xml", TEE / "tee.net.xml"]
+
+
+@pytest.mark.parametrize("path", NETWORKS, ids=lambda it: it.stem)
+def test_programs_of_sumo_give_no_two_crossing_paths_way_unless_one_gives_way(path):
+    known = network.read(path)
+    for signal, program in known.programs.items():
+        for stage, (a, b) in itertools.product(program.stages, known.conflicts(signal)):
+            if stage.state[a.index] in "Gg" and stage.state[b.index] in "Gg":
+                assert known.gives_way(a, b) or known.gives_way(b, a), (signal, stage, a, b)
+
+
+@pytest.mark.parametrize("path", NETWORKS, ids=lambda it: it.stem)
+def test_links_that_are_never_on_together_are_those_that_cross(path):
+    """netconvert lets the straight ways of both streets never be green at once; each such pair is found to cross."""
+    known = network.read(path)
+    for signal, links in known.links.items():
+        crossing = {frozenset(pair) for pair in known.conflicts(signal)}
+        straight = [it for it in links if it.turn == network.STRAIGHT]
+        for a, b in itertools.combinations(straight, 2):
+            is_across = round(known.edges[a.approach].heading - known.edges[b.approach].heading) % 180 == 90
+            assert (frozenset((a, b)) in crossing) == is_across
+
+
+def test_a_rail_crossing_is_left_to_sumo():
+    assert sorted(network.read(STREET / "street.net.xml").links) == ["c0", "c1", "c2", "c3"]
+
+
+def test_the_way_over_a_junction_is_that_between_the_stop_lines():
+    """The stop lines of e0 and e1 are 280 m apart: an edge and the junction before it."""
+    known = network.read(STREET / "street.net.xml")
+    assert known.edges["e1"].length + known.inner["e0", "e1"].metres == pytest.approx(280, abs=0.1)
