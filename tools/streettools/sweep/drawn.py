@@ -89,8 +89,9 @@ def words_of(stream: Stream) -> Iterator[str]:
     cabinet, phase = json.dumps(stream.cabinet), json.dumps(stream.phase)
     if stream.kind == "ped":
         return (f'{{"cabinet":{cabinet},"ped":{phase},"round":{number}}}' for number in stream.rounds)
-    on, off, end = f'{{"cabinet":{cabinet},"on":true,"round":', f'{{"cabinet":{cabinet},"on":false,"round":', f',"veh":{phase}}}'
-    return (f"{begin}{number}{end}" for number, begin in zip(stream.rounds, itertools.cycle((on, off))))
+    begins = [f'{{"cabinet":{cabinet},"on":{on},"round":' for on in ("true", "false")]
+    end = f',"veh":{phase}}}'
+    return (f"{begin}{number}{end}" for number, begin in zip(stream.rounds, itertools.cycle(begins)))
 
 
 def in_order(streams: list[Stream]) -> list[str]:
