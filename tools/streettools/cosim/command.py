@@ -15,7 +15,7 @@ WORDS = {
     "map": ("map_command", "writes which link of a network has which phase"),
     "compare": ("compare_command", "several plans over the same seeds, side by side"),
     "queues": ("queues_command", "traffic by volumes and queues, without SUMO"),
-    "draw": ("pictures_command", "vehicles' paths, arrivals in the cycle, splits, queues, from the folder of a run"),
+    "draw": ("pictures_command", "pictures of a run: arrivals, paths over bands, splits, queues"),
 }
 """The words of the command: the module of each, which has `main(words) -> int`, and what it does in half a line."""
 

@@ -20,7 +20,7 @@ movements = [
   { name = "SBT", phase = 4, volume = 200 },
 ]
 crossings = [{ phase = 4, persons = 120 }]
-partners = [1, 3, 5, 7]
+idle = [1, 3, 5, 7]
 """
 
 

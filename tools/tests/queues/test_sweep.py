@@ -22,7 +22,7 @@ movements = [
   { name = "NBT", phase = 8, volume = 200 },
   { name = "SBT", phase = 4, volume = 200 },
 ]
-partners = [1, 3, 5, 7]
+idle = [1, 3, 5, 7]
 """
 FILES = {"one.json": json.dumps(SCENARIO).encode(), "one.volumes.toml": VOLUMES}
 STUDY = {
@@ -91,7 +91,7 @@ def test_measures_of_vehicles_need_volumes():
 
 
 def test_volumes_that_do_not_fit_the_scenario_are_a_refused_row():
-    files = FILES | {"one.volumes.toml": VOLUMES.replace(b"partners = [1, 3, 5, 7]", b"")}
+    files = FILES | {"one.volumes.toml": VOLUMES.replace(b"idle = [1, 3, 5, 7]", b"")}
     study = prepared(STUDY | {"seeds": [1], "vary": []}, files.__getitem__, program_here())
     outcome, words, *_ = study.runner(False, 600).row(study.variants.at(0))
     assert outcome == "refused" and words.startswith("volumes: phase 1 of cabinet 1 has no movement")

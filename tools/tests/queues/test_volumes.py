@@ -29,7 +29,7 @@ movements = [
   { name = "SBT", phase = 4, volume = 90 },
 ]
 crossings = [{ phase = 4, persons = 20 }]
-partners = [1, 3, 5, 7]
+idle = [1, 3, 5, 7]
 [[cabinet]]
 number = 2
 movements = [
@@ -38,7 +38,7 @@ movements = [
   { name = "NBT", phase = 8, volume = 100 },
   { name = "SBT", phase = 4, volume = 90 },
 ]
-partners = [1, 3, 5, 7]
+idle = [1, 3, 5, 7]
 """
 
 
@@ -55,7 +55,7 @@ def test_what_is_said_is_read_and_what_holds_around_it_is_taken_where_nothing_is
     assert east.saturation == Saturation(1900, 2.0, 2.0) and north.saturation == Saturation(1700, 2.0, 2.0)
     assert north.headway == 1.5 and north.detectors == Detectors(False, 3.0, 0.5) and north.onward is None
     assert read.profiles["day"].rates(7 * 3600 - 60, 120) == [(60, 0.5), (120, 1.0)]
-    assert read.crossings[0].phase == 4 and (1, 3) in read.partners
+    assert read.crossings[0].phase == 4 and (1, 3) in read.idle
     check(read, SCENARIO, 60)
 
 
@@ -70,8 +70,8 @@ def changed(one: str, other: str, count: int = 1) -> str:
     [
         (changed('name = "SBT", phase = 4,', 'name = "SBT",'), "volumes: movement SBT of cabinet 1 has no phase"),
         (
-            changed("partners = [1, 3, 5, 7]", "partners = [1, 3, 5]"),
-            "volumes: phase 7 of cabinet 1 has no movement and no crossing (partners lists phases without traffic)",
+            changed("idle = [1, 3, 5, 7]", "idle = [1, 3, 5]"),
+            "volumes: phase 7 of cabinet 1 has no movement and no crossing (idle lists phases without traffic)",
         ),
         (changed("volume = 600", "volume = -1"), "volumes: cabinet[0].movements[0].volume is -1, and has to be 0 to 100000"),
         (changed("phase = 6", "phase = 9"), "volumes: WBT of cabinet 1: phase 9 is not enabled in cabinet 1"),
