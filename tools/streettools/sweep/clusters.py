@@ -21,6 +21,7 @@ SETTINGS = {
     "distributed.comm.timeouts.tcp": "120s",
     "distributed.scheduler.allowed-failures": 3,
     "distributed.worker.memory.terminate": 0.95,
+    "distributed.worker.profile.enabled": False,
     "distributed.nanny.pre-spawn-environ": {"MALLOC_TRIM_THRESHOLD_": 65536, "OMP_NUM_THREADS": 1},
 }
 
