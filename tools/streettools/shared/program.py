@@ -2,12 +2,15 @@
 """
 
 import os
+from collections.abc import Callable
 
 HERE = os.path.dirname(os.path.dirname(os.path.dirname(os.path.realpath(__file__))))
 """The folder that has the package: `tools` of a checkout, or the one of an installation, which has the program beside
 it."""
 OWN, FINDER = os.path.join(HERE, "arterial"), os.path.join(HERE, "proved")
 """The program of an installation, and the script that finds the one of a checkout."""
+MODEL = os.path.join(os.path.dirname(HERE), "model", "program")
+"""The model of a checkout: the same commands in plain Python, with which the program is compared (model/README.md)."""
 FIND = 'found=$("$0" 2>/dev/null) && exec "$found" "$@"; exit 125'
 """A shell script that runs the program which another script finds."""
 NONE_HERE = (125,)
@@ -16,6 +19,10 @@ NONE_HERE = (125,)
 
 class NoProgram(Exception):
     """There is no program that can be run, in words."""
+
+
+class NotProved(NoProgram):
+    """There is no program that was proved in this checkout from the sources that stand in it."""
 
 
 class Refused(Exception):
@@ -38,6 +45,18 @@ def found(name: str | None = None):
     return path
 
 
+def answering(name: str | None, tell: Callable[[str], None]):
+    """Returns the path of the program as `found` does. In a checkout in which none was proved yet it is that of the model,
+    which answers the same, and is slower; that is told."""
+    try:
+        return found(name)
+    except NotProved as fault:
+        if not os.path.isfile(MODEL):
+            raise
+        tell(f"{fault}; until then the model in plain Python answers")
+        return found(MODEL)
+
+
 def command(*words: str) -> list[str]:
     """Returns the command that runs the program with these words. In a checkout the program is found as the command
     runs, which takes a while: it ends with a status of NONE_HERE where none was proved."""
@@ -55,7 +74,8 @@ def usual() -> str:
 
         asked = subprocess.run([FINDER], capture_output=True, text=True)
         if asked.returncode:
-            raise NoProgram(asked.stderr.strip())
+            fault = NotProved if asked.returncode in NONE_HERE else NoProgram
+            raise fault(asked.stderr.strip())
         return asked.stdout.rstrip("\n")
     import shutil
 
