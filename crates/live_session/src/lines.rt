@@ -12,7 +12,7 @@ ghost use Rattle.cab_book.specs.Happenings.{replies_in};
 ghost use Rattle.run_definition.specs.Lines.{shown_line, frame_lines, load_lines, reply_lines};
 ghost use Rattle.round_run.specs.Lines.{answer_lines};
 ghost use Rattle.session_laws.specs.Dialogue.{dot, answer_text};
-ghost use Rattle.session_laws.specs.Told.{Refuses};
+ghost use Rattle.session_laws.specs.Answers.{NotTaken};
 
 use cab_book::{Answered, Book};
 use cabinet_history::{Load, Reply};
@@ -186,7 +186,7 @@ pub fn put_dot(out: &mut Vec<u8>) -> Result<(), NoMemory>
 
 /// Appends the answer that says why a request can't be taken.
 pub fn put_refusal(out: &mut Vec<u8>, untaken: Untaken) -> Result<(), NoMemory>
-    ensures { OnOk result (out.new.items ≡ out.old.items ++ answer_text (Refuses untaken)) }
+    ensures { OnOk result (out.new.items ≡ out.old.items ++ answer_text (NotTaken untaken)) }
 {
     put(out, b"? ")?;
     put(out, word_of(untaken).as_bytes())?;

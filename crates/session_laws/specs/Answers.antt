@@ -1,5 +1,5 @@
--- What a session answers: lines of a trace, or why a request can't be taken. The lines are those that a run has: what an item gives, the
--- journals at the end of a round, the head of the next one.
+-- What a session answers: lines of a trace, or why a request can't be taken. The lines are those that a run has: what
+-- an item gives, the journals at the end of a round, the head of the next one.
 use Rattle.std.specs.Prelude.{ℕ, ◌+◌, ◌==◌, nat_le, if◌then◌else◌, List, [], ◌∷◌, ◌++◌, length, Result, Ok, Err}
 use Rattle.trace_text.specs.declared.lines.Line.{Line}
 use Rattle.trace_text.specs.declared.lines.Line.TheVariants.{J, Z}
@@ -43,7 +43,8 @@ abbrev pub each_journal : ScenarioContent → ℕ → List CabinetState → List
 each_journal s first [] steps = []
 each_journal s first (t ∷ ts) steps = J first (runs_of (journal_by s first t steps)) ∷ each_journal s (first + 1) ts steps
 
--- what stands behind a round after which so many are closed, and the cabinets have come to this: the next round begins, or the end
+-- what stands behind a round after which so many are closed, and the cabinets have come to this: the next round
+-- begins, or the end
 abbrev pub next_lines : ScenarioContent → ℕ → List CabinetState → List Line
 next_lines s closed ts = if closed == s.rounds then Z closed ∷ [] else begin_lines s (closed + 1) ts
 
@@ -58,8 +59,8 @@ step_lines s h step =
     each_step s 1 (states_after s h.closed) h.steps step ++ (if is_last s h step then end_lines s h (steps_with h step) else [])
 
 -- the lines of the end of the input: the ticks that are left in the round, its journals, and the end
-abbrev pub leave_lines : ScenarioContent → SessionHistory → List Line
-leave_lines s h =
+abbrev pub end_of_input_lines : ScenarioContent → SessionHistory → List Line
+end_of_input_lines s h =
     each_step s 1 (states_after s h.closed) h.steps (Ticks (ticks_left s h))
     ++ (each_journal s 1 (states_after s h.closed) (steps_to_end s h) ++ Z (length h.closed + 1) ∷ [])
 
@@ -84,11 +85,11 @@ taken s h line = with_room_for h (request_of (length s.cabinets) (ticks_left s h
 -- an answer
 pub data Answer : Type 0 where
   Lines : (lines : List Line) → Answer
-  Refuses : (untaken : Untaken) → Answer
+  NotTaken : (untaken : Untaken) → Answer
 
 abbrev pub answer_by : ScenarioContent → SessionHistory → Result Request Untaken → Answer
 answer_by s h (Ok request) = Lines (step_lines s h (step_of request))
-answer_by s h (Err untaken) = Refuses untaken
+answer_by s h (Err untaken) = NotTaken untaken
 
 abbrev pub next_by : ScenarioContent → SessionHistory → Result Request Untaken → SessionHistory
 next_by s h (Ok request) = with_step s h (step_of request)
@@ -101,9 +102,10 @@ answer_to s h line = answer_by s h (taken s h line)
 abbrev pub next_session : ScenarioContent → SessionHistory → List ℕ → SessionHistory
 next_session s h line = next_by s h (taken s h line)
 
--- the answers to these lines and to the end of the input behind them; of what stands behind the last round nothing is answered
+-- the answers to these lines and to the end of the input behind them; of what stands behind the last round nothing is
+-- answered
 abbrev pub answers_from : ScenarioContent → SessionHistory → List (List ℕ) → List Answer
-answers_from s h [] = Lines (leave_lines s h) ∷ []
+answers_from s h [] = Lines (end_of_input_lines s h) ∷ []
 answers_from s h (line ∷ lines) =
     answer_to s h line
     ∷ (if is_over s (next_session s h line) then [] else answers_from s (next_session s h line) lines)
