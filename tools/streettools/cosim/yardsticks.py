@@ -1,8 +1,8 @@
 """The same street under SUMO's own controllers, with the times of a scenario: NEMA in two rings, and actuated stages.
 
-NEMA has the pattern in command as the cabinets open; where that is none it runs free. Neither has walk times, preempts or
-priority. Under actuated stages a crossing has way with its phase; under NEMA it is always red, since SUMO 1.15 dies of a
-phase that gives way to a crossing.
+NEMA has the pattern in command as the cabinets open; where that is none it runs free. Neither has walk times,
+preempts or priority. Under actuated stages a crossing has way with its phase; under NEMA it is always red, since SUMO
+1.15 dies of a phase that gives way to a crossing.
 """
 
 import itertools
@@ -133,7 +133,9 @@ def programs(given: Given, controller: str) -> xml.ElementTree:
     return xml.ElementTree(root)
 
 
-def run(given: Given, controller: str, out: pathlib.Path, progress: Callable[[int], object]) -> tuple[list[Trip], Times]:
+def run(
+    given: Given, controller: str, out: pathlib.Path, progress: Callable[[int], object]
+) -> tuple[list[Trip], Times]:
     """Runs SUMO under its own controller, and returns the trips. The watch over crossing paths looks, too."""
     sumo = drive.module()
     path = out / "programs.add.xml"

@@ -44,7 +44,8 @@ def test_a_plan_differs_from_itself_by_nothing_and_sumos_controllers_run_beside_
 @needs_sumo
 def test_sumos_nema_controller_runs_the_same_street(tmp_path):
     """In step with the same pattern the delays of all vehicles are near each other."""
-    text = (STREET / "yardsticks.toml").read_text().replace("[1, 2, 3]", "[1]").replace("3600", "150").replace("300", "20")
+    text = (STREET / "yardsticks.toml").read_text()
+    text = text.replace("[1, 2, 3]", "[1]").replace("3600", "150").replace("300", "20")
     for name in ("cars.sumocfg", "street.map.toml", "east.json"):
         text = text.replace(f'"{name}"', f'"{STREET / name}"')
     (tmp_path / "plans.toml").write_text("[[plan]]".join(text.split("[[plan]]")[:3]))
