@@ -44,7 +44,8 @@ def check_signals(street: Map, network: Network, cabinets: int) -> None:
         raise refused(street, f"signal {twice}", "stands in the map twice")
     for name in named:
         if name not in network.links:
-            raise refused(street, f"signal {name}", f"{network.path.name} has none of this name: a map of another network?")
+            words = f"{network.path.name} has none of this name: a map of another network?"
+            raise refused(street, f"signal {name}", words)
     for name in network.links:
         if name not in named:
             raise refused(street, f"signal {name}", "has no cabinet (own = [..] names signals that SUMO switches)")
@@ -69,14 +70,16 @@ def check_links(street: Map, signal: MappedSignal, network: Network) -> None:
                     f"{network.path.name} has no link {name} there: a map of another network?",
                 )
             if name in served:
-                raise refused(street, f"signal {signal.id}", f"link {name} has movements {served[name]} and {movement.name}")
+                words = f"link {name} has movements {served[name]} and {movement.name}"
+                raise refused(street, f"signal {signal.id}", words)
             served[name] = movement.name
     for name, link in known.items():
         if name not in served:
             raise refused(street, f"signal {signal.id}", f"link {link.index} ({name}) has no phase")
     for lane in itertools.chain.from_iterable(it.lanes for it in signal.detectors):
         if lane not in network.lanes:
-            raise refused(street, f"signal {signal.id}", f"a detector is on lane {lane}, which {network.path.name} hasn't")
+            words = f"a detector is on lane {lane}, which {network.path.name} hasn't"
+            raise refused(street, f"signal {signal.id}", words)
 
 
 def check_phases(street: Map, cabinet: int, tables: Tables) -> None:
@@ -90,7 +93,8 @@ def check_phases(street: Map, cabinet: int, tables: Tables) -> None:
     if strange := sorted((served | idle | called) - set(enabled)):
         raise refused(street, place, f"phase {strange[0]} is not enabled in cabinet {cabinet}")
     if bare := sorted(set(enabled) - served - idle):
-        raise refused(street, place, f"phase {bare[0]} of cabinet {cabinet} has no link (idle = [..] names phases without traffic)")
+        words = f"phase {bare[0]} of cabinet {cabinet} has no link (idle = [..] names phases without traffic)"
+        raise refused(street, place, words)
     if both := sorted(served & idle):
         raise refused(street, place, f"phase {both[0]} is idle, and has a link")
 
@@ -150,4 +154,5 @@ def check_conflicts(street: Map, signal: MappedSignal, network: Network, tables:
     for a, b, p, q in clashes(signal, network, tables):
         one, other = movement_of(signal, a).name, movement_of(signal, b).name
         on = f"both have phase {p}" if p == q else f"phases {p} and {q} may be on at once"
-        raise refused(street, f"signal {signal.id}", f"{one} ({a.name}) and {other} ({b.name}) cross, and {on} (yields = true lets one give way)")
+        words = f"{one} ({a.name}) and {other} ({b.name}) cross, and {on} (yields = true lets one give way)"
+        raise refused(street, f"signal {signal.id}", words)

@@ -30,7 +30,8 @@ def known() -> dict[str, str]:
 def usage() -> str:
     """Returns the command's help."""
     lines = [f"    {name:8} {does}" for name, does in known().items()]
-    return "\n".join([USAGE, "", "Traffic in the loop: vehicles and persons meet the cabinets of a session.", "", *lines])
+    about = "Traffic in the loop: vehicles and persons meet the cabinets of a session."
+    return "\n".join([USAGE, "", about, "", *lines])
 
 
 def guarded(does: Callable[[list[str]], int], words: list[str]) -> int:

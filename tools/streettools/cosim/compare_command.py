@@ -15,9 +15,9 @@ examples:
   ./arterial cosim compare scenarios/sumo/street/offsets.toml -o out/
   ./arterial cosim compare scenarios/sumo/street/bus.toml -o out/ --workers 4 --keep
 
-All plans run over the same seeds, so that they meet the same vehicles. A difference is taken seed by seed; its interval of
-95 % is Student's over the seeds. The folder gets comparison.txt and comparison.json. docs/COSIM.md says how the file is
-written."""
+All plans run over the same seeds, so that they meet the same vehicles. A difference is taken seed by seed; its
+interval of 95 % is Student's over the seeds. The folder gets comparison.txt and comparison.json. docs/COSIM.md says
+how the file is written."""
 HEADS = ("plan", "trips", "delay", "stops", "more delay", "more stops")
 
 
@@ -46,8 +46,8 @@ def shown(mean: Mean | None) -> str:
 def text_of(comparison: Comparison, rows: list[Row]) -> str:
     """Returns the table as text, group by group."""
     lines = [
-        f"{len(comparison.seeds)} seeds, {comparison.seconds:g} s each, steps of {comparison.step:g} s; delay in seconds, with the"
-        " wait to get in;",
+        f"{len(comparison.seeds)} seeds, {comparison.seconds:g} s each, steps of {comparison.step:g} s;"
+        " delay in seconds, with the wait to get in;",
         f"means with intervals of 95 %; more: than under {comparison.against}, paired by seed",
     ]
     for group in dict.fromkeys(it.group for it in rows):
@@ -58,7 +58,8 @@ def text_of(comparison: Comparison, rows: list[Row]) -> str:
         widths = [max(len(row[k]) for row in cells) for k in range(len(HEADS))]
         lines += ["", group]
         for row in cells:
-            lines.append("  " + "  ".join([row[0].ljust(widths[0]), *(it.rjust(w) for it, w in zip(row[1:], widths[1:]))]))
+            numbers = (it.rjust(width) for it, width in zip(row[1:], widths[1:]))
+            lines.append("  " + "  ".join([row[0].ljust(widths[0]), *numbers]))
     return "\n".join(lines) + "\n"
 
 
@@ -104,7 +105,8 @@ def main(given: list[str]) -> int:
     rows = rows_of(comparison, jobs, results)
     text = text_of(comparison, rows)
     (words.out / "comparison.txt").write_text(text, encoding="utf-8")
-    (words.out / "comparison.json").write_text(json.dumps(document_of(comparison, rows), indent=1) + "\n", encoding="utf-8")
+    document = json.dumps(document_of(comparison, rows), indent=1)
+    (words.out / "comparison.json").write_text(document + "\n", encoding="utf-8")
     print(text, end="")
     tell(comparison, jobs, results)
     return Status.DONE
@@ -116,4 +118,5 @@ def tell(comparison: Comparison, jobs: list, results: list) -> None:
     if own:
         whole, steps = sum(it.whole for it in own), sum(it.steps for it in own)
         share = sum(it.cabinets for it in own) / whole
-        say("cosim", f"{steps * comparison.step / whole:.0f} simulated seconds in one, {share:.0%} of the time for the cabinets")
+        fast = f"{steps * comparison.step / whole:.0f} simulated seconds in one"
+        say("cosim", f"{fast}, {share:.0%} of the time for the cabinets")

@@ -26,8 +26,8 @@ CONTROLLERS = (CABINETS, *yardsticks.MAKERS)
 
 @dataclass(frozen=True)
 class Plan:
-    """A plan that is compared: its name, its scenario (offsets in seconds put into the pattern in command, where they are
-    given), who switches the signals, whether buses ask for priority."""
+    """A plan that is compared: its name, its scenario (offsets in seconds put into the pattern in command, where they
+    are given), who switches the signals, whether buses ask for priority."""
 
     name: str
     scenario: pathlib.Path
@@ -128,7 +128,8 @@ def scenario_of(plan: Plan) -> dict[str, Any]:
     for setup, offset in zip(cabinets, plan.offsets):
         pattern = setup.get("pattern", 0)
         if not 1 <= pattern <= 48:
-            raise Fault(f"plan {plan.name}: offsets need a pattern in command, and {plan.scenario} has a cabinet without one")
+            words = f"offsets need a pattern in command, and {plan.scenario} has a cabinet without one"
+            raise Fault(f"plan {plan.name}: {words}")
         made.append(setup | {"cells": [*setup.get("cells", ()), ["pattern", pattern, 3, offset]]})
     return scenario | {"cabinets": made}
 
@@ -167,12 +168,14 @@ def do(job: Job) -> Result:
 
 
 def jobs_of(comparison: Comparison, program: str | None, out: pathlib.Path, keep: bool) -> list[Job]:
-    """Returns all runs of a comparison, seed by seed; files that can't be read are told before anything runs."""
+    """Returns all runs of a comparison, seed by seed; what is wrong with one of them is told before anything runs."""
     drive.module()
-    needs = any(it.controller == CABINETS for it in comparison.plans)
-    path = found(program) if needs else None
+    path = found(program)
     for plan in comparison.plans:
-        given_of(comparison, plan, None)
+        given = given_of(comparison, plan, None)
+        run.preflight(given, path)
+        if plan.controller != CABINETS:
+            yardsticks.programs(given, plan.controller)
     return [
         Job(comparison, plan, seed, path if plan.controller == CABINETS else None, out / f"{number:02}-{seed}", keep)
         for seed in comparison.seeds
@@ -190,7 +193,8 @@ def do_all(jobs: list[Job], workers: int, progress: Callable[[int], object]) -> 
             return [it.result() for it in waiting]
         except BrokenProcessPool:
             dead = next(job for job, it in zip(jobs, waiting) if it.exception() is not None)
-            raise Fault(f"SUMO died under plan {dead.plan.name}, seed {dead.seed}, or a plan beside it", Status.FILE) from None
+            words = f"SUMO died under plan {dead.plan.name}, seed {dead.seed}, or a plan beside it"
+            raise Fault(words, Status.FILE) from None
         except BaseException:
             pool.shutdown(cancel_futures=True)
             raise

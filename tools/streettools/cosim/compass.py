@@ -1,5 +1,6 @@
-"""Which phase a link has by the approaches' compass and turns, after NEMA: phase 2 drives along the main street, 6 against
-it, 4 and 8 on the side street, 5, 1, 7 and 3 are the left turns of 2, 6, 4 and 8; right turns go with the straight ones.
+"""Which phase a link has by the approaches' compass and turns, after NEMA: phase 2 drives along the main street, 6
+against it, 4 and 8 on the side street, 5, 1, 7 and 3 are the left turns of 2, 6, 4 and 8; right turns go with the
+straight ones.
 
 An approach that has none opposite takes its left turns along with its own phase, as the stem of a T does. A left turn
 that shares its lane with another movement goes with the phase of that lane, and yields.
@@ -33,7 +34,8 @@ def way_of(heading: float) -> int:
 
 
 def main_way(network: Network, approaches: list[str]) -> int:
-    """Returns the way of phase 2: along the street with the greater priority, lanes and speed, eastbound or northbound."""
+    """Returns the way of phase 2: along the street with the greater priority, lanes and speed, eastbound or
+    northbound."""
     weight: dict[int, tuple] = {}
     for axis in (1, 0):
         own = [network.edges[it] for it in approaches if way_of(network.edges[it].heading) % 2 == axis]
@@ -92,7 +94,8 @@ class Compass:
         beside = (arm - 1) % 4
         way = beside if self.ways.get(beside) else (beside + 2) % 4
         if not self.ways.get(way):
-            return Told(link, f"ped {WAYS[arm]}", None, f"no traffic drives beside the crossing on the {WAYS[arm]} side")
+            why = f"no traffic drives beside the crossing on the {WAYS[arm]} side"
+            return Told(link, f"ped {WAYS[arm]}", None, why)
         return Told(link, f"ped {WAYS[arm]}", self.straight(way))
 
 

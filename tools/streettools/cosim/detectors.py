@@ -1,7 +1,7 @@
 """The detectors of SUMO: which of them call which phase, and what of it has changed.
 
-An area is on while a vehicle is in it. A loop is on while a vehicle is over it; one that was crossed between two looks is
-told as on and off.
+An area is on while a vehicle is in it. A loop is on while a vehicle is over it; one that was crossed between two
+looks is told as on and off.
 """
 
 import pathlib
@@ -28,7 +28,8 @@ class Areas:
                 for lane in detector.lanes:
                     name = f"arterial {signal.cabinet} {detector.phase} {number} {lane}"
                     self.names.setdefault((signal.cabinet, detector.phase), []).append(name)
-                    self.rows.append({"id": name, "lane": lane} | place(network.lanes[lane], detector.length, detector.setback))
+                    where = place(network.lanes[lane], detector.length, detector.setback)
+                    self.rows.append({"id": name, "lane": lane} | where)
 
     def write(self, path: pathlib.Path) -> None:
         """Writes SUMO's additional file."""
@@ -62,7 +63,7 @@ class Detectors:
                     kind.setdefault((signal.cabinet, detector.phase), []).append(name)
         self.keys = sorted({*self.areas, *self.loops})
         self.on = dict.fromkeys(self.keys, False)
-        self.words = {key: {on: b"veh %d %d %b" % (*key, b"on" if on else b"off") for on in (True, False)} for key in self.keys}
+        self.words = {key: {True: b"veh %d %d on" % key, False: b"veh %d %d off" % key} for key in self.keys}
         self.in_area = sumo.lanearea.getLastStepVehicleNumber
         self.over_loop = sumo.inductionloop.getLastStepVehicleNumber
         self.data = sumo.inductionloop.getVehicleData

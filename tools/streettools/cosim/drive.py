@@ -1,5 +1,5 @@
-"""SUMO itself: found, started with the files of a run, stepped, closed. `libsumo` is taken where it is there, else TraCI,
-which takes several times as long.
+"""SUMO itself: found, started with the files of a run, stepped, closed. `libsumo` is taken where it is there, else
+TraCI, which takes several times as long.
 """
 
 import contextlib
@@ -67,8 +67,8 @@ def read_config(path: pathlib.Path) -> Config:
 
 @dataclass(frozen=True)
 class Start:
-    """How a run of SUMO starts: its configuration, what is added to it, step and length in seconds, the seed (None: that of
-    the configuration), and the folder for what it writes."""
+    """How a run of SUMO starts: its configuration, what is added to it, step and length in seconds, the seed (None:
+    that of the configuration), and the folder for what it writes."""
 
     config: Config
     added: tuple[pathlib.Path, ...]

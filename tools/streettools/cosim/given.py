@@ -10,7 +10,15 @@ from ..shared.status import Status
 from .faults import Fault
 
 NUMBER = (int, float)
-KINDS = {int: "a whole number", str: "a text", list: "a list", dict: "a table", bool: "true or false", NUMBER: "a number"}
+KINDS = {
+    int: "a whole number",
+    str: "a text",
+    list: "a list",
+    dict: "a table",
+    bool: "true or false",
+    NUMBER: "a number",
+    (int, str): "a whole number",
+}
 
 
 def is_of(value: Any, kind: Any) -> bool:

@@ -31,7 +31,8 @@ def approaches(network: Network, signals: Iterable[str]) -> dict[str, list[str]]
                 continue
             chain = [link.approach]
             while True:
-                before = [it for it in inward.get(network.edges[chain[0]].start, ()) if not is_back(network, it, chain[0])]
+                coming = inward.get(network.edges[chain[0]].start, ())
+                before = [it for it in coming if not is_back(network, it, chain[0])]
                 if len(before) != 1 or before[0] in signalled or before[0] in chain:
                     break
                 chain.insert(0, before[0])

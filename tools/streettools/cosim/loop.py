@@ -32,8 +32,8 @@ MOST_ROUNDS = 86_400
 
 @dataclass(frozen=True)
 class Given:
-    """What a run is of: SUMO's configuration, map, network, scenario; step and length in seconds; the seed; whether buses
-    ask for priority; from which second on trips count."""
+    """What a run is of: SUMO's configuration, map, network, scenario; step and length in seconds; the seed; whether
+    buses ask for priority; from which second on trips count."""
 
     config: Config
     street: Map
@@ -57,7 +57,8 @@ class Given:
         """Returns the scenario with as many rounds as the run needs, and what comes in them."""
         rounds = math.ceil(self.steps() * self.ticks() / self.scenario["ticks"])
         if rounds > MOST_ROUNDS:
-            raise Fault(f"the run needs {rounds} rounds of {self.scenario['ticks']} ticks, and a session has {MOST_ROUNDS}")
+            words = f"the run needs {rounds} rounds of {self.scenario['ticks']} ticks"
+            raise Fault(f"{words}, and a session has {MOST_ROUNDS}")
         made = self.scenario | {"rounds": rounds}
         for name in LISTS:
             if isinstance(made.get(name), list):
@@ -66,7 +67,8 @@ class Given:
 
 
 def is_later(item: Any, rounds: int) -> bool:
-    """Tells whether an item of a scenario comes behind so many rounds; what is wrong with it is for the program to say."""
+    """Tells whether an item of a scenario comes behind so many rounds; what is wrong with it is for the program to
+    say."""
     number = item.get("round") if isinstance(item, dict) else None
     return isinstance(number, int) and number > rounds
 
@@ -153,9 +155,8 @@ class Loop:
 
 def types_of(sumo: Any) -> dict[str, tuple[str, float]]:
     """Returns the class and the greatest speed of each type of vehicles."""
-    return {
-        it: (sumo.vehicletype.getVehicleClass(it), sumo.vehicletype.getMaxSpeed(it)) for it in sumo.vehicletype.getIDList()
-    }
+    types = sumo.vehicletype
+    return {it: (types.getVehicleClass(it), types.getMaxSpeed(it)) for it in types.getIDList()}
 
 
 def built_areas(street: Map, network: Network, out: pathlib.Path) -> tuple[Areas, tuple[pathlib.Path, ...]]:

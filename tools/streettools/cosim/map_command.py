@@ -17,8 +17,8 @@ examples:
   ./arterial cosim map street.sumocfg --main E -o map.toml     phase 2 drives east at each signal
   ./arterial cosim map street.net.xml --phase 'c0 SB2T=8'      answers a question that was asked
 
-Where a network has SUMO's NEMA logic, its phases are taken. What can't be told stands as "?" in the map, and is asked for
-on standard error; `run` refuses a map with a question left. docs/COSIM.md says how a map is written."""
+Where a network has SUMO's NEMA logic, its phases are taken. What can't be told stands as "?" in the map, and is asked
+for on standard error; `run` refuses a map with a question left. docs/COSIM.md says how a map is written."""
 
 
 def answer(text: str) -> tuple[tuple[str, str], int]:
@@ -34,7 +34,7 @@ def parser() -> argparse.ArgumentParser:
     """Returns the reader of the words."""
     words = argparse.ArgumentParser(
         prog="cosim map",
-        description="Writes a map from a network of SUMO: which link has which phase, and detectors before the stop lines.",
+        description="Writes a map from a network of SUMO: which link has which phase, detectors before stop lines.",
         epilog=EXAMPLES,
         formatter_class=argparse.RawDescriptionHelpFormatter,
         allow_abbrev=False,
@@ -51,10 +51,12 @@ def main(given: list[str]) -> int:
     """Writes a map, and says what is left to be asked."""
     words = parser().parse_args(given)
     path = read_config(words.network).network if words.network.suffix == ".sumocfg" else words.network
-    maker = Maker(network.read(path), None if words.main is None else WAYS.index(words.main), dict(words.phase), words.length)
+    main_way = None if words.main is None else WAYS.index(words.main)
+    maker = Maker(network.read(path), main_way, dict(words.phase), words.length)
     text = maker.text(path.name)
     with files.output(words.out) as out:
         out.write(text)
     for it in maker.questions:
-        say("cosim", f"signal {it.signal}: which phase has {it.movement}? {it.why} (--phase '{it.signal} {it.movement}=N')")
+        how = f"--phase '{it.signal} {it.movement}=N'"
+        say("cosim", f"signal {it.signal}: which phase has {it.movement}? {it.why} ({how})")
     return Status.REFUSED if maker.questions else Status.DONE

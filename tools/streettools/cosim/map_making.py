@@ -52,10 +52,12 @@ def rows_of(told: list[Told]) -> list[Row]:
 
 
 class Maker:
-    """Makes a map. `main` is the way of phase 2 (0 north, 1 east ..), None where each signal's is looked for; `answers` has
-    phases by signal and movement."""
+    """Makes a map. `main` is the way of phase 2 (0 north, 1 east ..), None where each signal's is looked for;
+    `answers` has phases by signal and movement."""
 
-    def __init__(self, network: Network, main: int | None, answers: dict[tuple[str, str], int], length: float = LENGTH) -> None:
+    def __init__(
+        self, network: Network, main: int | None, answers: dict[tuple[str, str], int], length: float = LENGTH
+    ) -> None:
         self.network, self.main, self.answers, self.length = network, main, answers, length
         self.questions: list[Question] = []
         self.used: set[tuple[str, str]] = set()
@@ -100,12 +102,13 @@ class Maker:
             lines += ["", *self.movement(row)]
         for phase in sorted(it for it in served if it is not None):
             if lanes := lanes_of(row for row in rows if row.phase == phase and not row.walk):
-                lines += ["", "[[signal.detector]]", f"phase = {phase}", listed("lanes", lanes), f"length = {self.length:g}"]
+                lines += ["", "[[signal.detector]]", f"phase = {phase}", listed("lanes", lanes)]
+                lines.append(f"length = {self.length:g}")
         return "\n".join(lines) + "\n"
 
     def let_yield(self, signal: str, rows: list[Row]) -> None:
-        """Lets movements yield whose paths cross those of others that may be on at once, where SUMO has them give way; where it
-        hasn't, asks."""
+        """Lets movements yield whose paths cross those of others that may be on at once, where SUMO has them give
+        way; where it hasn't, asks."""
         of = {link: row for row in rows for link in row.links}
         for a, b in self.network.conflicts(signal):
             one, other = of[a], of[b]
@@ -118,7 +121,8 @@ class Maker:
             elif self.network.gives_way(b, a) and not other.walk:
                 other.yields = True
             else:
-                self.questions.append(Question(signal, one.name, f"it crosses {other.name}, and SUMO lets neither give way"))
+                why = f"it crosses {other.name}, and SUMO lets neither give way"
+                self.questions.append(Question(signal, one.name, why))
 
     def movement(self, row: Row) -> list[str]:
         """Returns the lines of a movement."""

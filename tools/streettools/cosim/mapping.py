@@ -23,8 +23,8 @@ class Overlap:
 
 @dataclass(frozen=True)
 class MappedMovement:
-    """A movement: its name, the links of it, its phase or its overlap. Where it `yields` its green gives way, as that of
-    a right turn over a crossing; a `walk` is a crossing of pedestrians."""
+    """A movement: its name, the links of it, its phase or its overlap. Where it `yields` its green gives way, as that
+    of a right turn over a crossing; a `walk` is a crossing of pedestrians."""
 
     name: str
     links: tuple[str, ...]

@@ -48,8 +48,8 @@ class Link(NamedTuple):
 
 
 class Edge(NamedTuple):
-    """A directed edge: where it leads, its lanes, metres, metres a second, priority, and its headings at its end and at its
-    start, in degrees from north, clockwise."""
+    """A directed edge: where it leads, its lanes, metres, metres a second, priority, and its headings at its end and
+    at its start, in degrees from north, clockwise."""
 
     name: str
     start: str
@@ -88,8 +88,8 @@ class Program(NamedTuple):
 @dataclass
 class Network:
     """All that is kept of a network. `foes` and `yields` have pairs of places in the matrix of each junction: paths
-    that cross or join, and who gives way to whom where both have a green that yields. `inner` is the way over a junction
-    from an edge to an edge."""
+    that cross or join, and who gives way to whom where both have a green that yields. `inner` is the way over a
+    junction from an edge to an edge."""
 
     path: pathlib.Path
     edges: dict[str, Edge] = field(default_factory=dict)
@@ -192,10 +192,15 @@ def places_of(root: xml.Element, found: Network) -> dict[tuple[str, str], tuple[
         order = [way for lane in junction.get("incLanes", "").split() if lane[:1] != ":" for way in ways[lane]]
         order += sorted(crossings[name], key=lambda way: int(edge_of(way[1]).rpartition("c")[2]))
         places.update({way: (name, place) for place, way in enumerate(order)})
-        rows = {int(row.get("index")): (row.get("foes")[::-1], row.get("response")[::-1]) for row in junction.iter("request")}
-        found.foes[name] = {(a, b) for a, (foes, _) in rows.items() for b, it in enumerate(foes) if it == "1" and a < b}
-        found.yields[name] = {(a, b) for a, (_, row) in rows.items() for b, it in enumerate(row) if it == "1"}
+        foes, yields = (pairs(junction, kind) for kind in ("foes", "response"))
+        found.foes[name], found.yields[name] = {(a, b) for a, b in foes if a < b}, yields
     return places
+
+
+def pairs(junction: xml.Element, kind: str) -> set[tuple[int, int]]:
+    """Returns the pairs of places in a junction's matrix; SUMO writes a row from its last place to its first."""
+    rows = [(int(row.get("index")), row.get(kind)[::-1]) for row in junction.iter("request")]
+    return {(a, b) for a, row in rows for b, it in enumerate(row) if it == "1"}
 
 
 def read_links(root: xml.Element, found: Network) -> None:

@@ -69,8 +69,8 @@ class Routes:
         return Part(self.network.edges[edge].length, self.network.edges[edge].speed)
 
     def ways(self, edges: list[str], exits: list[float | None], depart: float, start: float) -> Iterator[Way]:
-        """Yields the turns of a route over mapped signals, in order; `exits` are when each edge was left, `start` is the place
-        on the first edge where the vehicle began."""
+        """Yields the turns of a route over mapped signals, in order; `exits` are when each edge was left, `start` is
+        the place on the first edge where the vehicle began."""
         first, entered = 0, depart
         for k, (edge, end) in enumerate(zip(edges, edges[1:])):
             if (edge, end) not in self.turns:
@@ -158,7 +158,8 @@ class Traffic:
 
     def queues(self, halts: list[Halt], movements: list[Movement], seconds: float) -> list[QueueSample]:
         """Returns how many stood before each stop line, at each second at which it changed."""
-        standing: dict[tuple[int, str], dict[float, int]] = {(it.cabinet, it.name): defaultdict(int) for it in movements}
+        standing: dict[tuple[int, str], dict[float, int]]
+        standing = {(it.cabinet, it.name): defaultdict(int) for it in movements}
         for halt in halts:
             way = next((it for it in self.ways.get(halt.vehicle, ()) if is_on(it, halt)), None)
             if way:

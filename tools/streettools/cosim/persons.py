@@ -57,7 +57,8 @@ class Buttons:
             for movement in (it for it in signal.movements if it.walk):
                 for link in (links[name] for name in movement.links):
                     near = tuple(sorted(it for it in known if it.startswith(f":{link.junction}_w")))
-                    self.crossings.append(Crossing(signal.cabinet, movement.name, movement.phase, edge_of(link.end), near))
+                    row = signal.cabinet, movement.name, movement.phase
+                    self.crossings.append(Crossing(*row, edge_of(link.end), near))
 
     def look(self, sumo: Any, signals: Signals, second: float) -> Iterator[bytes]:
         """Yields the requests of buttons that are pressed, and keeps who waits and who goes."""

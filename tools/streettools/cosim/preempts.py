@@ -1,5 +1,5 @@
-"""Trains and fire engines: the inputs of preempts. An input is on while a vehicle of the kind is on one of its edges, and
-until its end has left the last of them.
+"""Trains and fire engines: the inputs of preempts. An input is on while a vehicle of the kind is on one of its edges,
+and until its end has left the last of them.
 """
 
 from collections.abc import Iterator

@@ -78,7 +78,8 @@ class Priority:
             yield self.given(asking, bus, second)
 
     def ahead(self, sumo: Any, vehicle: str, bus: MappedBus) -> tuple[int, int, float] | None:
-        """Returns the cabinet and phase before which a bus asks, and in how many seconds it comes; None where it needn't."""
+        """Returns the cabinet and phase before which a bus asks, and in how many seconds it comes; None where it
+        needn't."""
         for signal, index, distance, _ in sumo.vehicle.getNextTLS(vehicle):
             if signal not in self.cabinets:
                 continue

@@ -25,7 +25,8 @@ TRACE, STUDY, REPORT = "session.trace", "study.json", "report"
 
 @dataclass
 class Done:
-    """What came of a run: the study (None where nothing was recorded), times, and the fault that ended it before its time."""
+    """What came of a run: the study (None where nothing was recorded), times, and the fault that ended it before its
+    time."""
 
     study: Study | None
     times: Times
@@ -41,7 +42,7 @@ def read_scenario(path: pathlib.Path) -> dict[str, Any]:
         raise Fault(f"{path}: {fault.strerror}", Status.FILE) from None
     except (ValueError, RecursionError):
         raise Fault(f"{path}: scenario: not JSON") from None
-    if not isinstance(found, dict) or not isinstance(found.get("ticks"), int) or not isinstance(found.get("rounds"), int):
+    if not isinstance(found, dict) or not all(isinstance(found.get(name), int) for name in ("ticks", "rounds")):
         raise Fault(f"{path}: a scenario has ticks and rounds (docs/SCENARIO.md)")
     if not 1 <= found["ticks"] <= 600:
         raise Fault(f"{path}: scenario: limit ticks")
@@ -55,6 +56,15 @@ def movements_of(street: Map) -> list[Movement]:
         for it in street.signals
         for row in it.movements
     ]
+
+
+def preflight(given: Given, program: pathlib.Path) -> None:
+    """Refuses a scenario that the program refuses, and a map that doesn't fit, without a run."""
+    session = Session(program, given.for_session())
+    try:
+        check(given.street, given.network, given.scenario)
+    finally:
+        session.end()
 
 
 def run(given: Given, program: pathlib.Path, out: pathlib.Path, progress: Callable[[int], object]) -> Done:
@@ -90,7 +100,8 @@ def done(
     """Writes what was recorded."""
     if not session.save(out / TRACE):
         return Done(None, loop.times, fault)
-    trips, traffic = read_traffic(given.street, given.network, loop.watch.history, loop.halts.found, types, out, given.config.begin)
+    halts, begin = loop.halts.found, given.config.begin
+    trips, traffic = read_traffic(given.street, given.network, loop.watch.history, halts, types, out, begin)
     movements = movements_of(given.street)
     seconds = loop.second
     study = Study(
@@ -135,7 +146,7 @@ def persons_of(crossed: list[Crossed]) -> list[Trip]:
     found = []
     for person, own in rows.items():
         passages = tuple(
-            Passage(it.cabinet, it.movement, it.phase, it.arrived, it.released, round(it.released - it.arrived, 2), it.stood, it.on_walk)
+            Passage(*it[1:6], round(it.released - it.arrived, 2), it.stood, it.on_walk)
             for it in own
             if it.released is not None
         )

@@ -41,14 +41,16 @@ def parser() -> argparse.ArgumentParser:
         formatter_class=argparse.RawDescriptionHelpFormatter,
         allow_abbrev=False,
     )
-    words.add_argument("--sumo", type=pathlib.Path, required=True, metavar="CONFIG", help="SUMO's configuration (*.sumocfg)")
-    words.add_argument("--map", type=pathlib.Path, required=True, metavar="MAP", help="the map: which link has which phase")
-    words.add_argument("--scenario", type=pathlib.Path, required=True, metavar="FILE", help="the cabinets")
-    words.add_argument("-o", "--out", type=pathlib.Path, required=True, metavar="FOLDER", help="where all is written")
+    path = {"type": pathlib.Path, "required": True}
+    words.add_argument("--sumo", **path, metavar="CONFIG", help="SUMO's configuration (*.sumocfg)")
+    words.add_argument("--map", **path, metavar="MAP", help="the map: which link has which phase")
+    words.add_argument("--scenario", **path, metavar="FILE", help="the cabinets")
+    words.add_argument("-o", "--out", **path, metavar="FOLDER", help="where all is written")
     words.add_argument("--step", type=step_of, default=0.1, metavar="S", help="a step of SUMO: 0.1 or 1 second (0.1)")
-    words.add_argument("--seconds", type=number(1, 86_400), metavar="S", help="the length (SUMO's end, else the scenario's)")
-    words.add_argument("--seed", type=number(0, 2**31 - 1), metavar="N", help="the seed of SUMO (that of its configuration)")
-    words.add_argument("--warm", type=number(0, 86_400), default=0, metavar="S", help="trips that start sooner don't count (0)")
+    of_day = number(0, 86_400)
+    words.add_argument("--seconds", type=number(1, 86_400), metavar="S", help="the length (SUMO's, or the scenario's)")
+    words.add_argument("--seed", type=number(0, 2**31 - 1), metavar="N", help="SUMO's seed (that of its configuration)")
+    words.add_argument("--warm", type=of_day, default=0, metavar="S", help="trips that start sooner don't count (0)")
     words.add_argument("--no-priority", action="store_true", help="buses don't ask")
     words.add_argument("--program", metavar="FILE", help="the program to run in place of the proved one")
     return words
@@ -59,7 +61,8 @@ def given_of(words: argparse.Namespace) -> Given:
     config = read_config(words.sumo)
     scenario = read_scenario(words.scenario)
     street, known = read_map(words.map), network.read(config.network)
-    seconds = words.seconds or (config.end - config.begin if config.end else scenario["rounds"] * scenario["ticks"] / 10)
+    whole = config.end - config.begin if config.end else scenario["rounds"] * scenario["ticks"] / 10
+    seconds = words.seconds or whole
     if words.warm >= seconds:
         raise Fault(f"--warm {words.warm} is no less than the {seconds:g} seconds of the run")
     return Given(config, street, known, scenario, words.step, seconds, words.seed, not words.no_priority, words.warm)

@@ -63,8 +63,9 @@ class Crossing(NamedTuple):
 
 
 class Watch:
-    """The look for two links whose paths cross and that both have way, by what SUMO has in force. A link may yield to another
-    only where SUMO lets it give way there, and where the two are of phases that may be on at once (`together`)."""
+    """The look for two links whose paths cross and that both have way, by what SUMO has in force. A link may yield to
+    another only where SUMO lets it give way there, and where the two are of phases that may be on at once
+    (`together`)."""
 
     def __init__(self, network: Network, signals: Iterable[str], together: Together) -> None:
         self.crossing = {name: [] for name in signals}

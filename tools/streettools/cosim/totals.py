@@ -36,11 +36,13 @@ class Mean(NamedTuple):
 
 
 def point(freedom: int) -> float:
-    """Returns the two-sided point of 95 % of Student's distribution: by the table, and behind it by a series in one over the
-    degrees of freedom, which is right to 0.001 there."""
+    """Returns the two-sided point of 95 % of Student's distribution: by the table, and behind it by a series in one
+    over the degrees of freedom, which is right to 0.001 there."""
     if freedom <= len(T95):
         return T95[freedom - 1]
-    return NORMAL + (NORMAL**3 + NORMAL) / (4 * freedom) + (5 * NORMAL**5 + 16 * NORMAL**3 + 3 * NORMAL) / (96 * freedom**2)
+    first = (NORMAL**3 + NORMAL) / 4
+    second = (5 * NORMAL**5 + 16 * NORMAL**3 + 3 * NORMAL) / 96
+    return NORMAL + first / freedom + second / freedom**2
 
 
 def mean_of(values: list[float]) -> Mean:
@@ -65,7 +67,8 @@ def counted(trips: Iterable[Trip], warm: float, seconds: float) -> list[Trip]:
 
 
 def totals_of(trips: list[Trip], routes: Iterable[str]) -> dict[str, Total]:
-    """Returns what trips come to: of all vehicles, of named routes, of buses, of persons; groups without trips are left out."""
+    """Returns what trips come to: of all vehicles, of named routes, of buses, of persons; groups without trips are
+    left out."""
     groups = {ALL: [it for it in trips if it.kind is not Kind.PERSON]}
     groups |= {name: [it for it in trips if it.route == name] for name in routes}
     groups[BUSES] = [it for it in trips if it.kind is Kind.BUS]

@@ -1,10 +1,11 @@
 """The same street under SUMO's own controllers, with the times of a scenario: NEMA in two rings, and actuated stages.
 
-NEMA has the pattern in command as the cabinets open; where that is none it runs free. Neither has walk times, preempts or
-priority. Under actuated stages a crossing has way with its phase; under NEMA it is always red, since SUMO 1.15 dies of a
-phase that gives way to a crossing.
+NEMA has the pattern in command as the cabinets open; where that is none it runs free. Neither has walk times,
+preempts or priority. Under actuated stages a crossing has way with its phase; under NEMA it is always red, since SUMO
+1.15 dies of a phase that gives way to a crossing.
 """
 
+import itertools
 import pathlib
 import time
 import xml.etree.ElementTree as xml
@@ -48,10 +49,14 @@ def stage(duration: float, state: str, **more: Any) -> tuple[str, dict[str, Any]
     return "phase", {"duration": duration, "state": state} | more
 
 
-def rings(tables: Tables, served: set[int], pattern: int) -> list[list[int]]:
-    """Returns the phases of both rings in their order; 0 stands for one without traffic."""
+def rings(tables: Tables, pattern: int) -> list[list[list[int]]]:
+    """Returns the phases of both rings in their order, side by side."""
     sequence = tables.pattern(pattern, 5) if pattern else 1
-    return [[it if it in served else 0 for it in tables.sequence(sequence, ring)] for ring in (1, 2)]
+    found = []
+    for ring in (1, 2):
+        phases = tables.sequence(sequence, ring)
+        found.append([list(own) for _, own in itertools.groupby(phases, lambda it: min(tables.side(it)))])
+    return found
 
 
 def served_by(signal: MappedSignal) -> set[int]:
@@ -63,14 +68,17 @@ def nema(signal: MappedSignal, network: Network, tables: Tables, pattern: int) -
     """Returns SUMO's NEMA program of a signal: its attributes, and its parts."""
     served = served_by(signal)
     pair = coordinated(tables, pattern) if pattern and tables.pattern(pattern, 2) else None
-    own = rings(tables, served, pattern if pair else 0)
-    ends = [ring[1::2] for ring in own]
+    own = rings(tables, pattern if pair else 0)
+    if any(served.isdisjoint(side) for ring in own for side in ring):
+        raise Fault(f"signal {signal.id}: SUMO's NEMA controller needs a phase with traffic on each side of both rings")
+    ends = [[[it for it in side if it in served][-1] for side in ring] for ring in own]
+    orders = [",".join(str(it if it in served else 0) for side in ring for it in side) for ring in own]
     params = {
         "detector-length": LOOP,
         "detector-length-leftTurnLane": LOOP,
         "total-cycle-length": tables.pattern(pattern, 2) if pair else 90,
-        "ring1": ",".join(map(str, own[0])),
-        "ring2": ",".join(map(str, own[1])),
+        "ring1": orders[0],
+        "ring2": orders[1],
         "barrierPhases": f"{ends[0][-1]},{ends[1][-1]}",
         "coordinate-mode": "true" if pair else "false",
         "coordinatePhases": ",".join(map(str, pair or (ends[0][0], ends[1][0]))),
@@ -95,8 +103,9 @@ def actuated(signal: MappedSignal, network: Network, tables: Tables, pattern: in
     """Returns SUMO's actuated program of a signal: phases of both rings in pairs, one after another."""
     served = served_by(signal)
     rows = []
-    for pair in zip(*rings(tables, served, 0)):
-        on = {it for it in pair if it}
+    orders = [[it for side in ring for it in side] for ring in rings(tables, 0)]
+    for pair in zip(*orders):
+        on = served & set(pair)
         if not on:
             continue
         least = max(tables.phase(it, 4) for it in on)
@@ -110,8 +119,8 @@ def actuated(signal: MappedSignal, network: Network, tables: Tables, pattern: in
 MAKERS = {NEMA: nema, ACTUATED: actuated}
 
 
-def write(given: Given, controller: str, path: pathlib.Path) -> None:
-    """Writes the programs of all signals as an additional file of SUMO."""
+def programs(given: Given, controller: str) -> xml.ElementTree:
+    """Returns the programs of all signals as an additional file of SUMO."""
     root = xml.Element("additional")
     for signal in given.street.signals:
         setup = given.scenario["cabinets"][signal.cabinet - 1]
@@ -121,14 +130,16 @@ def write(given: Given, controller: str, path: pathlib.Path) -> None:
         for tag, words in rows:
             xml.SubElement(element, tag, {key: str(value) for key, value in words.items()})
     xml.indent(root)
-    xml.ElementTree(root).write(path, encoding="unicode")
+    return xml.ElementTree(root)
 
 
-def run(given: Given, controller: str, out: pathlib.Path, progress: Callable[[int], object]) -> tuple[list[Trip], Times]:
+def run(
+    given: Given, controller: str, out: pathlib.Path, progress: Callable[[int], object]
+) -> tuple[list[Trip], Times]:
     """Runs SUMO under its own controller, and returns the trips. The watch over crossing paths looks, too."""
     sumo = drive.module()
     path = out / "programs.add.xml"
-    write(given, controller, path)
+    programs(given, controller).write(path, encoding="unicode")
     names = [it.id for it in given.street.signals]
     watch = Watch(given.network, names, together_in(given.street, given.scenario))
     halts, times = Halts(given.network, names), Times()

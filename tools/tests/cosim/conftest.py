@@ -1,4 +1,5 @@
-"""What the tests share: a program that has `live`, the command, the streets of scenarios/sumo, networks made on the spot.
+"""What the tests share: a program that has `live`, the command, the streets of scenarios/sumo, networks made on the
+spot.
 
 Where no program is named the built one is taken if it has `live`, else the model, which has the same form.
 """

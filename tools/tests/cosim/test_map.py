@@ -45,16 +45,17 @@ def test_the_stem_of_a_t_is_one_phase_and_partners_are_idle():
 
 
 def test_the_maps_that_stand_here_are_those_that_the_tool_writes():
-    assert (STREET / "street.map.toml").read_text().startswith(cosim("map", STREET / "street.net.xml", "--main", "E").out)
+    made = cosim("map", STREET / "street.net.xml", "--main", "E").out
+    assert made and (STREET / "street.map.toml").read_text().startswith(made)
     assert (TEE / "tee.map.toml").read_text() == cosim("map", TEE / "tee.net.xml").out
 
 
+PLACES = {"w": (-200, 0), "e": (200, 0), "s": (0, -200), "far": (-180, -80)}
+NODES = [f'<node id="{name}" x="{x}" y="{y}"/>' for name, (x, y) in PLACES.items()]
+EDGES = [f'<edge id="{it}" from="{it}" to="c"/><edge id="to-{it}" from="c" to="{it}"/>' for it in PLACES]
 FIVE = {
-    "n": '<nodes><node id="c" x="0" y="0" type="traffic_light"/><node id="w" x="-200" y="0"/><node id="e" x="200" y="0"/>'
-    '<node id="s" x="0" y="-200"/><node id="far" x="-180" y="-80"/></nodes>',
-    "e": "<edges>"
-    + "".join(f'<edge id="{it}" from="{it}" to="c"/><edge id="to-{it}" from="c" to="{it}"/>' for it in ("w", "e", "s", "far"))
-    + "</edges>",
+    "n": f"<nodes><node id='c' x='0' y='0' type='traffic_light'/>{''.join(NODES)}</nodes>",
+    "e": f"<edges>{''.join(EDGES)}</edges>",
 }
 
 
@@ -76,7 +77,8 @@ def test_what_cant_be_told_is_asked_for_and_can_be_answered(five):
     asked = [line for line in ran.said if "far and w both drive E" in line]
     assert asked and all(line.startswith("cosim: signal c: which phase has EB") for line in asked)
     assert '"?"' in ran.out
-    answers = [word for line in asked for word in ("--phase", line.rpartition("--phase '")[2].removesuffix("=N')") + "=2")]
+    places = [line.rpartition("--phase '")[2].removesuffix("=N')") for line in asked]
+    answers = [word for place in places for word in ("--phase", f"{place}=2")]
     assert '"?"' not in cosim("map", five, *answers).out
 
 
@@ -91,7 +93,8 @@ def test_a_network_with_sumos_own_nema_logic_gives_its_phases(tee):
     stages = ""
     for name, places in rows:
         state = "".join("G" if it in places else "r" for it in range(size))
-        stages += f'<phase duration="9" minDur="5" maxDur="9" vehext="2" yellow="3" red="1" name="{name}" state="{state}"/>'
+        times = 'duration="9" minDur="5" maxDur="9" vehext="2" yellow="3" red="1"'
+        stages += f'<phase {times} name="{name}" state="{state}"/>'
     (tee / "tee.net.xml").write_text(
         text[:start] + f'<tlLogic id="t" type="NEMA" programID="0" offset="0">{stages}' + text[end:]
     )

@@ -35,7 +35,8 @@ def street(tmp_path_factory) -> pathlib.Path:
     (folder / "lines.rou.xml").write_text(LINES)
     for name in ("street.net.xml", "cars.rou.xml", "stops.add.xml", "street.sumocfg"):
         (folder / name).write_bytes((STREET / name).read_bytes())
-    words = ["--sumo", folder / "street.sumocfg", "--map", STREET / "street.map.toml", "--scenario", STREET / "east.json"]
+    words = ["--sumo", folder / "street.sumocfg", "--map", STREET / "street.map.toml"]
+    words += ["--scenario", STREET / "east.json"]
     ran = cosim("run", *words, "--seconds", 120, "--step", 1, "--seed", 3, "-o", folder / "out")
     assert ran.status == 0, ran
     return folder / "out"
@@ -59,7 +60,8 @@ def test_trips_are_those_that_sumo_tells(street):
     assert set(trips) == set(told) and len(trips) > 50
     for name, it in trips.items():
         assert it.stops == int(told[name].get("waitingCount"))
-        assert it.delay == pytest.approx(float(told[name].get("timeLoss")) + float(told[name].get("departDelay")), abs=0.01)
+        due = sum(float(told[name].get(it)) for it in ("timeLoss", "departDelay"))
+        assert it.delay == pytest.approx(due, abs=0.01)
 
 
 def test_delays_at_stop_lines_come_to_about_the_time_that_sumo_says_is_lost(street):
@@ -88,7 +90,8 @@ def test_a_train_is_a_preempt_on_and_off(street):
     scenario = json.loads((street / "session.trace").read_bytes().split(b"\n", 1)[0][2:])
     told = [(it["preempt"], it["on"]) for it in scenario["inputs"] if "preempt" in it]
     assert told == [(1, True), (1, False)]
-    assert any(line.split()[5].startswith("P1") for line in (street / "session.trace").read_text().splitlines() if line[:4] == "F 4 ")
+    frames = [it.split() for it in (street / "session.trace").read_text().splitlines() if it.startswith("F 4 ")]
+    assert any(frame[5].startswith("P1") for frame in frames)
 
 
 def test_persons_press_buttons_and_walk(street):

@@ -33,15 +33,17 @@ def changes_of(light: OverlapLight, trace: str, cabinet: str, ticks: int, step: 
 def right_turn() -> str:
     """Returns the trace of a scenario with a right-turn arrow."""
     scenario = (TOP / "scenarios/right-turn.json").read_bytes()
-    return subprocess.run([TOP / "model/program", "run"], input=scenario, capture_output=True, check=True).stdout.decode()
+    command = [TOP / "model/program", "run"]
+    return subprocess.run(command, input=scenario, capture_output=True, check=True).stdout.decode()
 
 
 @pytest.mark.parametrize(("trail", "yellow", "red"), [(5, 30, 10), (0, 30, 0), (3, 32, 4)])
 def test_an_overlap_changes_when_arterial_overlaps_says(right_turn, trail, yellow, red):
     words = ["--cabinet", "1", "--parents", "0203", "--trail", trail, "--yellow", yellow, "--red", red]
     command = [TOP / "model/program", "overlaps", *map(str, words)]
-    due = subprocess.run(command, input=right_turn.encode(), capture_output=True, check=True).stdout.decode().splitlines()
-    assert changes_of(OverlapLight(Overlap((2, 3), trail, yellow, red)), right_turn, "1", 1000, 1) == due
+    due = subprocess.run(command, input=right_turn.encode(), capture_output=True, check=True).stdout.decode()
+    light = OverlapLight(Overlap((2, 3), trail, yellow, red))
+    assert changes_of(light, right_turn, "1", 1000, 1) == due.splitlines()
 
 
 def test_an_overlap_looked_at_once_a_second_shows_what_it_shows_then(right_turn):
@@ -82,7 +84,8 @@ def test_the_watch_finds_each_pair_of_crossing_links_that_both_have_way(one, oth
 
 
 def test_a_link_that_yields_may_be_on_beside_its_foe_only_where_their_phases_may():
-    """The right turn out of the stem (g) yields to the crossing beside it, which has its phase; not to the main street."""
+    """The right turn out of the stem (g) yields to the crossing beside it, which has its phase; not to the main
+    street."""
     known = network.read(TEE / "tee.net.xml")
     street = read_map(TEE / "tee.map.toml")
     together = together_in(street, {"cabinets": [{}]})
@@ -108,7 +111,8 @@ def test_the_watch_lets_links_be_on_that_do_not_cross():
     size = len(known.links["t"])
     for i, j in itertools.combinations(range(size), 2):
         if frozenset((i, j)) not in crossing:
-            Watch(known, ["t"], lambda a, b: False).look(Shown({"t": "".join("G" if k in (i, j) else "r" for k in range(size))}), 1.0)
+            state = "".join("G" if k in (i, j) else "r" for k in range(size))
+            Watch(known, ["t"], lambda a, b: False).look(Shown({"t": state}), 1.0)
 
 
 FRAME = b"F 1 %d RGRRRGRRRRRRRRRR DWDDDFDDDDDDDDDD C1 0 0 0"
@@ -129,7 +133,8 @@ def test_signals_show_green_with_and_without_way_walk_and_red():
 
 
 class Loops:
-    """A SUMO with one loop and one area, whose vehicles a test sets: of a loop the times at which each left (-1: not yet)."""
+    """A SUMO with one loop and one area, whose vehicles a test sets: of a loop the times at which each left (-1: not
+    yet)."""
 
     def __init__(self) -> None:
         self.leaves: list[float] = []

@@ -7,7 +7,8 @@ from streettools.cosim.records import Kind, Trip
 
 
 @pytest.mark.parametrize(
-    ("freedom", "due"), [(1, 12.706), (2, 4.303), (9, 2.262), (30, 2.042), (40, 2.021), (60, 2.000), (120, 1.980), (1000, 1.962)]
+    ("freedom", "due"),
+    [(1, 12.706), (2, 4.303), (9, 2.262), (30, 2.042), (40, 2.021), (60, 2.000), (120, 1.980), (1000, 1.962)],
 )
 def test_points_of_students_distribution_are_those_of_the_tables(freedom, due):
     assert totals.point(freedom) == pytest.approx(due, abs=0.001)

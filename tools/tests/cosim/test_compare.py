@@ -1,0 +1,87 @@
+"""Comparisons over the same seeds, beside SUMO's own controllers, and what is refused of their files."""
+
+import json
+
+import pytest
+
+from streettools.cosim import comparing
+from streettools.cosim.faults import Fault
+
+from .conftest import PROGRAM, STREET, TEE, cosim, needs_sumo
+
+HEAD = f"""sumo = "{TEE / 'tee.sumocfg'}"
+map = "{TEE / 'tee.map.toml'}"
+seeds = [1, 2]
+seconds = 60
+warm = 5
+routes = ["east"]
+"""
+
+
+def plan(name: str, more: str = "") -> str:
+    """Returns a plan of a comparison."""
+    return f'[[plan]]\nname = "{name}"\nscenario = "{TEE / "tee.json"}"\n{more}\n'
+
+
+@needs_sumo
+def test_a_plan_differs_from_itself_by_nothing_and_sumos_controllers_run_beside_it(tmp_path):
+    path = tmp_path / "plans.toml"
+    path.write_text(HEAD + plan("one") + plan("the same") + plan("actuated", 'controller = "actuated"'))
+    ran = cosim("compare", path, "-o", tmp_path / "out")
+    assert ran.status == 0, ran
+    rows = json.loads((tmp_path / "out/comparison.json").read_text())["rows"]
+    of = {(it["plan"], it["group"]): it for it in rows}
+    assert {name for name, _ in of} == {"one", "the same", "actuated"}
+    assert of["one", "east"]["more_delay"] is None
+    assert of["the same", "east"]["more_delay"] == of["the same", "all vehicles"]["more_stops"] == [0.0, 0.0]
+    assert len({of[name, "all vehicles"]["trips"] for name in ("one", "actuated")}) == 1
+    assert "paired by seed" in ran.out and sorted(it.name for it in (tmp_path / "out").iterdir()) == [
+        "comparison.json",
+        "comparison.txt",
+    ]
+
+
+@needs_sumo
+def test_sumos_nema_controller_runs_the_same_street(tmp_path):
+    """In step with the same pattern the delays of all vehicles are near each other."""
+    text = (STREET / "yardsticks.toml").read_text()
+    text = text.replace("[1, 2, 3]", "[1]").replace("3600", "150").replace("300", "20")
+    for name in ("cars.sumocfg", "street.map.toml", "east.json"):
+        text = text.replace(f'"{name}"', f'"{STREET / name}"')
+    (tmp_path / "plans.toml").write_text("[[plan]]".join(text.split("[[plan]]")[:3]))
+    ran = cosim("compare", tmp_path / "plans.toml", "-o", tmp_path / "out")
+    assert ran.status == 0, ran
+    rows = json.loads((tmp_path / "out/comparison.json").read_text())["rows"]
+    own, nema = (it["delay"][0] for it in rows if it["group"] == "all vehicles")
+    assert nema == pytest.approx(own, rel=0.5)
+
+
+@pytest.mark.parametrize(
+    ("text", "line"),
+    [
+        (HEAD + plan("one"), "plan has to stand there twice or more"),
+        (HEAD + plan("one") + plan("one"), "each with a name of its own"),
+        (HEAD + plan("one") + plan("two", 'controller = "hand"'), "controller is hand"),
+        (HEAD + 'against = "three"\n' + plan("one") + plan("two"), "no plan has this name"),
+        (HEAD.replace("warm = 5", "warm = 30") + plan("one") + plan("two"), "warm leaves nothing"),
+        (HEAD.replace("[1, 2]", "[1, 1]") + plan("one") + plan("two"), "seeds has one twice"),
+        (HEAD + plan("one") + plan("two", 'controller = "nema"'), "a phase with traffic on each side of both rings"),
+        (HEAD + plan("one") + plan("two", "offset = [1]"), "offset is unknown: is offsets meant?"),
+        (HEAD + plan("one") + plan("two", "offsets = [1]"), "offsets need a pattern in command"),
+    ],
+)
+@needs_sumo
+def test_a_file_that_cant_be_taken_is_refused(tmp_path, text, line):
+    path = tmp_path / "plans.toml"
+    path.write_text(text)
+    with pytest.raises(Fault) as raised:
+        comparing.jobs_of(comparing.read_comparison(path), str(PROGRAM), tmp_path / "out", False)
+    assert line in str(raised.value) and "\n" not in str(raised.value)
+
+
+@needs_sumo
+def test_a_refusal_is_one_line_of_the_command(tmp_path):
+    path = tmp_path / "plans.toml"
+    path.write_text(HEAD + plan("one"))
+    ran = cosim("compare", path, "-o", tmp_path / "out")
+    assert ran.status == 2 and len(ran.said) == 1 and not (tmp_path / "out").exists()
