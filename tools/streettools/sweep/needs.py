@@ -16,6 +16,7 @@ class Needs:
         self.endings, self.waits, self.walks, self.cycles = (
             part in parts for part in (Part.ENDINGS, Part.WAITS, Part.WALKS, Part.CYCLES)
         )
+        self.inputs = self.endings or self.waits or self.walks
         self.named = {(it.cabinet, it.phase) for it in self.columns if it.measure.scope is Scope.PHASE}
         self.kept: dict[int, list[int]] = {}
 

@@ -201,7 +201,7 @@ class Runner:
         scenario = built.scenario
         trace.seek(0)
         last = scenario["rounds"] * scenario["ticks"]
-        sensed = Sensed(built.streams(), scenario["ticks"])
+        sensed = Sensed(built.streams() if self.needs.inputs else (), scenario["ticks"])
         numbers = range(1, len(scenario["cabinets"]) + 1)
         tallies = {number: CabinetTally(scenario, number, self.start, self.needs, sensed) for number in numbers}
         enabled = {number: it.cabinet.tables.enabled() for number, it in tallies.items()}
