@@ -25,7 +25,7 @@ use crate::pieces::{cut, fault_at};
 use crate::places::Place;
 use crate::rounds::check_round;
 use crate::watching::{first_seen, nothing_seen};
-use cab_book::{Book, Way};
+use cab_book::{Book, Engine};
 use round_run::ClosedLoop;
 use scenario_checked::scenarios_run;
 use scenario_data::{ReadFail, Scenario};
@@ -106,7 +106,7 @@ fn check_rest(
     ensures reads { ReadsWhole (script_of (scenario_content s.now)) start.entry result }
     ensures seen { OnOk result (RestSeen (scenario_content s.now) start.entry.left.now watched seen.new) }
 {
-    let mut closed_loop = match ClosedLoop::open(alloc, Way::LookingBack, s) {
+    let mut closed_loop = match ClosedLoop::open(alloc, Engine::Observer, s) {
         Ok(closed_loop) => closed_loop,
         Err(NoMemory) => return Err(CheckFail::NoMemory),
     };
