@@ -21,7 +21,7 @@ class PhaseDetectors:
         """Up to when those who drive by are on a detector; the last second at which one was."""
         self.is_on = False
         self.is_awake = False
-        """Whether there may be something to tell: somebody came since the last look, or it was on."""
+        """Whether there may be something to tell: somebody came or passed since the last look, or drives over it."""
 
     def watch(self, flow: Flow, line: StopLine) -> None:
         """Adds the detectors of a movement: one at the stop line sees whoever waits, one further up sees a queue that
@@ -53,5 +53,4 @@ class PhaseDetectors:
             requests.append(self.off)
         elif self.until > self.seen:
             requests += (self.on, self.off)
-        self.is_on = self.is_awake = is_on
-        self.seen = now
+        self.is_on, self.is_awake, self.seen = is_on, self.until > now, now

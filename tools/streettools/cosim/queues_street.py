@@ -113,6 +113,7 @@ class Street:
         """Lets pass who can at one stop line, and sends them on."""
         flow, seer = self.flows[place], self.seers[place]
         for vehicle, arrived, released in self.lines[place].discharged(until):
+            seer.is_awake = True
             if flow.detectors.stop:
                 seer.drove(released, flow.detectors.occupied)
             told = self.passages[vehicle]
