@@ -23,14 +23,27 @@ def with_splits(text: str, changes: list[tuple[int, Change]], aim: Street) -> st
         return None
     for number, change in changes:
         times = times_of(sheet["intersection"][number - 1], change)
-        if times is None:
+        if times is None or not put(times, change.after, aim.names.intersection(number).partners):
             return None
-        partners = aim.names.intersection(number).partners
-        for phase, time in change.after.items():
-            if str(phase) in times or phase not in partners:
-                times[str(phase)] = time
     made = tomlkit.dumps(sheet)
     return made if comes_to(made, aim) else None
+
+
+def put(times: MutableMapping, after: dict[int, int], partners: list[int]) -> bool:
+    """Puts times into the splits of a sheet, in which a name may stand for several phases; returns whether these have one
+    time still. A partner of which nothing is said gets its time by itself."""
+    left = dict(after)
+    for key, before in list(times.items()):
+        phases = [int(word) for word in key.replace(",", " ").split()]
+        new = {left.pop(phase, before) for phase in phases}
+        if len(new) > 1:
+            return False
+        if new != {before}:
+            times[key] = new.pop()
+    for phase, time in left.items():
+        if phase not in partners:
+            times[str(phase)] = time
+    return True
 
 
 def times_of(intersection: MutableMapping, change: Change) -> MutableMapping | None:

@@ -75,6 +75,8 @@ def embedded(workers: int | None, memory: int | None) -> Iterator[Cluster]:
                 memory_limit=limit,
                 host="127.0.0.1",
                 dashboard_address=None,
+                # without a dashboard the scheduler still opens a port for its health, at all addresses if it isn't told
+                scheduler_kwargs={"dashboard_address": "127.0.0.1:0"},
                 silence_logs=logging.CRITICAL,
                 local_directory=folder,
             )

@@ -157,3 +157,24 @@ def test_a_split_that_is_not_said_in_the_sheet_is_mended_in_a_sheet_that_is_writ
     ran = plan("check", "--fix", path, "-o", aim)
     assert ran.returncode == 2 and b"comments are left out" in ran.stderr
     assert plan("check", aim).returncode == 0
+
+
+def test_a_split_of_several_phases_is_said_once_and_mended_in_its_place(tmp_path):
+    pytest.importorskip("tomlkit", reason="python3-tomlkit is missing")
+    path, aim = tmp_path / "given.toml", tmp_path / "mended.toml"
+    line = 'splits = {"1 5" = 20, "2, 6" = 30, "3 7" = 15, "4 8" = 30}'
+    path.write_text(WITH_COMMENTS.split("splits = ")[0] + line + "\n")
+    ran = plan("check", "--fix", path, "-o", aim)
+    # both rings come to 95 s in a cycle of 90: 5 s less in each
+    assert ran.returncode == 2 and b"10 s of change, the least there is" in ran.stdout and ran.stderr == b""
+    assert aim.read_text().startswith("# Kept by the city") and plan("check", aim).returncode == 0
+    path.write_text(path.read_text().replace('"3 7" = 15', '"3 7" = 15, 3 = 14'))
+    ran = plan("check", path)
+    assert ran.returncode == 2 and b"splits, 3: error: this number is said twice" in ran.stdout
+
+
+@pytest.mark.parametrize("text", ["clock = 08:50\n", "schedule = [\n  {at = 7:00, pattern = 1},\n]\n"])
+def test_a_time_of_day_without_seconds_is_told(tmp_path, text):
+    (tmp_path / "given.toml").write_text(text)
+    ran = plan("check", tmp_path / "given.toml")
+    assert ran.returncode == 2 and b"; a time of day has its seconds too, as 07:30:00" in ran.stdout
