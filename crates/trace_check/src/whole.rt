@@ -67,9 +67,9 @@ fn check_rounds<'a>(
     seen: &mut Seen,
 ) -> Result<Place<'a>, CheckFail>
     requires runnable { Runnable (scenario_content s.now) }
-    requires between { Between (scenario_content s.now) 0 (opened_cabinet_states (scenario_content s.now) (scenario_content s.now).cabinets)
-        closed_loop.old }
-    ensures reads { ReadsOn (rounds_script (scenario_content s.now) 1 s.now.rounds (opened_cabinet_states (scenario_content s.now) (scenario_content s.now).cabinets))
+    requires between { Between (scenario_content s.now) 0 (opened_cabinet_states (scenario_content s.now) (scenario_content s.now).cabinets) closed_loop.old }
+    ensures reads { ReadsOn
+        (rounds_script (scenario_content s.now) 1 s.now.rounds (opened_cabinet_states (scenario_content s.now) (scenario_content s.now).cabinets))
         start.entry (Script.Says (LineRow.Z s.now.rounds) Ends) result }
     ensures seen { IfOk result (λ next. RoundsSeen (scenario_content s.now) (opened_cabinet_states (scenario_content s.now) (scenario_content s.now).cabinets)
         start.entry next watched seen.old seen.new) }
