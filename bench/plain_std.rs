@@ -72,6 +72,10 @@ pub mod plain_std {
             Ok(())
         }
 
+        pub fn reserve(&mut self, more: usize) -> Result<(), AllocError> {
+            self.0.try_reserve(more).map_err(|_| AllocError)
+        }
+
         #[inline]
         pub fn push_reserved(&mut self, item: T) {
             self.0.push(item);

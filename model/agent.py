@@ -7,6 +7,7 @@ nothing is changed.
 
 from dataclasses import dataclass, replace
 from enum import IntEnum
+from typing import Union
 
 from model.cells import Cell, misfit
 from model.cells import Value as CellValue
@@ -98,9 +99,9 @@ class Finish:
     load: int
 
 
-Order = Command | SetClock | Request | Cancel
-LoadCall = Begin | Part | Verify | Finish
-Wish = list[Order] | LoadCall | Fault | None
+Order = Union[Command, SetClock, Request, Cancel]
+LoadCall = Union[Begin, Part, Verify, Finish]
+Wish = Union[list[Order], LoadCall, Fault, None]
 """What a Set asks for; None for Get and GetNext."""
 
 MOST_ID, MOST_PARTS, LAST_FREE, FLASH = 2**31 - 1, 60_000, 254, 255

@@ -5,8 +5,9 @@ docs/SCENARIO.md, "Cells".
 
 from dataclasses import dataclass
 from enum import Enum
+from typing import Union
 
-Value = int | bytes
+Value = Union[int, bytes]
 """A number, or a list of phases as octets."""
 
 MOST_OCTETS = 16
@@ -48,7 +49,7 @@ class Octets:
     """A cell that holds a list of at most 16 octets."""
 
 
-Holds = Numbers | Octets
+Holds = Union[Numbers, Octets]
 BYTE, WORD = Numbers(0, 255), Numbers(0, 65535)
 
 ROWS = {Table.PHASE: 16, Table.SEQUENCE: 16, Table.UNIT: 0, Table.PATTERN: 48, Table.SPLIT: 32, Table.PREEMPT: 8}

@@ -5,6 +5,7 @@ RFC 1157; docs/DEFINITIONS.md, "Messages (RFC 1157, ITU-T X.690)"; docs/CLIENTS.
 
 from dataclasses import dataclass, field
 from enum import Enum
+from typing import Union
 
 from model import ber
 from model.ber import Unreadable, demand
@@ -12,7 +13,7 @@ from model.names import Oid
 
 MOST_COMMUNITY, MOST_VALUE, MOST_BINDS, MOST_OCTETS = 32, 64, 32, 1472
 
-Value = int | bytes | None | Oid
+Value = Union[int, bytes, None, Oid]
 """An INTEGER, an OCTET STRING, NULL or an OBJECT IDENTIFIER."""
 
 

@@ -7,6 +7,7 @@ ones stand in one list in lexicographic order.
 import bisect
 from dataclasses import dataclass
 from enum import Enum
+from typing import Union
 
 from model.cells import COLUMNS, ROWS, SUBS, Cell, Table
 
@@ -79,7 +80,7 @@ class RequestState:
     number: int
 
 
-Name = Scalar | Cell | Index | GroupName | RequestState
+Name = Union[Scalar, Cell, Index, GroupName, RequestState]
 
 ENTRIES: dict[Table, Oid] = {
     Table.PHASE: ASC + (1, 2, 1),

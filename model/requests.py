@@ -6,6 +6,7 @@ docs/LIVE.md, "Requests" and "What can't be taken".
 import re
 from collections.abc import Callable
 from dataclasses import dataclass
+from typing import Union
 
 from model.scenario import Button, Detector, Input, PreemptInput, Stream
 
@@ -41,7 +42,7 @@ class Framed:
     octets: bytes
 
 
-Request = Tick | Given | Framed
+Request = Union[Tick, Given, Framed]
 
 
 @dataclass(frozen=True)

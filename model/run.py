@@ -7,6 +7,7 @@ through the lines answers with the journal: `run` with the serial one, `check` w
 from collections import defaultdict
 from collections.abc import Generator, Iterator
 from dataclasses import dataclass
+from typing import Optional, Union
 
 from model.cabinet import FIELDS, TICKS, Cabinet
 from model.controller import Controller
@@ -38,7 +39,7 @@ class JournalDue:
         return dict(taken) == dict(self.serial())
 
 
-Due = Generator[bytes | JournalDue, Runs | None, None]
+Due = Generator[Union[bytes, JournalDue], Optional[Runs], None]
 
 
 class Round:

@@ -5,7 +5,7 @@ docs/SCENARIO.md, "Names" to "The rules of tables".
 
 from dataclasses import dataclass
 from enum import Enum
-from typing import Any
+from typing import Any, Union
 
 from model.orders import Drift
 from model.tables import Tables
@@ -34,7 +34,7 @@ class PreemptInput:
     on: bool
 
 
-Input = Detector | Button | PreemptInput
+Input = Union[Detector, Button, PreemptInput]
 
 
 class Stream(Enum):

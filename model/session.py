@@ -115,7 +115,7 @@ class Session:
         """Yields the lines that answer a line without its newline."""
         try:
             request = request_of(line, Bounds(len(self.run.cabinets), self.left))
-            if isinstance(request, Given | Framed) and self.brought == MOST_BROUGHT:
+            if isinstance(request, (Given, Framed)) and self.brought == MOST_BROUGHT:
                 raise NotTaken("full")
         except NotTaken as fault:
             yield b"? " + str(fault).encode()

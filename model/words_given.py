@@ -5,6 +5,7 @@ docs/arterial.1. They stand exactly in this order; numbers are decimal digits wi
 
 import re
 from dataclasses import dataclass
+from typing import Union
 
 MOST_ROUNDS_OF_ALL = 100_000
 
@@ -62,7 +63,7 @@ class Overlaps:
     red: int
 
 
-Command = Run | Check | Live | Respond | Band | Generate | Survey | Overlaps
+Command = Union[Run, Check, Live, Respond, Band, Generate, Survey, Overlaps]
 ALONE: dict[str, Command] = {"run": Run(), "check": Check(), "live": Live(), "respond": Respond(), "band": Band()}
 
 

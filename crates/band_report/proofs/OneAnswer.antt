@@ -1,19 +1,15 @@
 -- Bytes ask of bands, and are told of in one way, or have a first fault, and never both.
-use Rattle.std.proofs.Common.{◌≡◌, ◌≤◌, ◌<◌, ◌+◌, ◌-◌, ℕ, List, [], ◌∷◌, Bool, true, false, Option, Some, None, sym, ap, ◌∙◌, subst, refl, arith}
+use Rattle.std.proofs.Common.{◌≡◌, ◌≤◌, ◌<◌, ◌+◌, ◌-◌, ℕ, List, true, false, Option, Some, None, sym, ap, ◌∙◌, subst, refl, arith}
 use Rattle.serde_json.specs.Data.{Data}
 use Rattle.scenario_data.specs.declared.refusal.Refusal.{Refusal}
 use Rattle.scenario_data.specs.declared.refusal.Refusal.TheVariants.{Syntax, Field, Limit, Broken}
-use Rattle.scenario_data.specs.Causes.{Cause}
-use Rattle.scenario_read.specs.Faults.{first_cause}
 use Rattle.scenario_read.specs.Answers.{SameFault}
+use Rattle.scenario_read.proofs.OneAnswer.{one-value, IsFirstOf, none-beside, one-first}
 use Rattle.band_report.specs.declared.band.Band.{Band}
 use Rattle.band_report.specs.Street.{Passage}
 use Rattle.band_report.specs.Bands.{is_open, first_closed, IsBand, IsGreatest, IsReport}
 use Rattle.band_report.specs.Asked.{band_faults}
 use Rattle.band_report.specs.Told.{two_lines, TellsOf, AsksOfBands, TellsBands, IsFirstBandFault}
-
-one-value : (o : Option Data) (d e : Data) → o ≡ Some d → o ≡ Some e → d ≡ e
-one-value o d e p q = cc
 
 same-band : (a b : Band) → a.start ≡ b.start → a.width ≡ b.width → a.before ≡ b.before → a.after ≡ b.after → a ≡ b
 same-band a b start width before after =
@@ -66,38 +62,14 @@ one-text bytes a b (d, r, none, x) (e, s, clean, y) =
 pub asks : (bytes text : List ℕ) → TellsBands bytes text → AsksOfBands bytes
 asks bytes text (d, r, none, x) = (d, r, none)
 
-none-first : (causes : List Cause) (cause : Cause) → causes ≡ [] → first_cause causes ≡ Some cause → ⊥
-none-first [] cause none first = absurd (cc)
-none-first (c ∷ causes) cause none first = absurd (cc)
-
-clash : (d e : Data) (o : Option Data) (cause : Cause) → o ≡ Some d → o ≡ Some e → band_faults d ≡ [] → first_cause (band_faults e) ≡ Some cause → ⊥
-clash d e o cause r s none first = none-first (band_faults e) cause (subst (λ (v : Data). band_faults v ≡ []) (one-value o d e r s) none) first
+first-of : (bytes : List ℕ) (refusal : Refusal) → IsFirstBandFault bytes refusal → IsFirstOf band_faults bytes refusal
+first-of bytes Syntax h = h
+first-of bytes (Field path) h = h
+first-of bytes (Limit path) h = h
+first-of bytes (Broken cabinet rule row) h = h
 
 pub no-fault-beside : (bytes : List ℕ) (refusal : Refusal) → AsksOfBands bytes → IsFirstBandFault bytes refusal → ⊥
-no-fault-beside bytes Syntax s h = h s.0 s.1
-no-fault-beside bytes (Field path) s h = clash s.0 h.0 _ _ s.1.1 h.1.1 s.2 h.2
-no-fault-beside bytes (Limit path) s h = clash s.0 h.0 _ _ s.1.1 h.1.1 s.2 h.2
-no-fault-beside bytes (Broken cabinet rule row) s h = clash s.0 h.0 _ _ s.1.1 h.1.1 s.2 h.2
-
-same-first : (d e : Data) (a b : Cause) (o : Option Data) → o ≡ Some d → o ≡ Some e → first_cause (band_faults d) ≡ Some a → first_cause (band_faults e) ≡ Some b → a ≡ b
-same-first d e a b o r s p q =
-    let same : first_cause (band_faults d) ≡ first_cause (band_faults e) = ap (λ (v : Data). first_cause (band_faults v)) (one-value o d e r s) in
-    cc
+no-fault-beside bytes refusal s h = none-beside band_faults bytes s.0 refusal s.1 s.2 (first-of bytes refusal h)
 
 pub one-fault : (bytes : List ℕ) (a b : Refusal) → IsFirstBandFault bytes a → IsFirstBandFault bytes b → SameFault a b
-one-fault bytes Syntax Syntax h k = tt
-one-fault bytes Syntax (Field path) h k = absurd (h k.0 k.1)
-one-fault bytes Syntax (Limit path) h k = absurd (h k.0 k.1)
-one-fault bytes Syntax (Broken cabinet rule row) h k = absurd (h k.0 k.1)
-one-fault bytes (Field path) Syntax h k = absurd (k h.0 h.1)
-one-fault bytes (Field path) (Field other) h k = let e = same-first h.0 k.0 _ _ _ h.1.1 k.1.1 h.2 k.2 in cc
-one-fault bytes (Field path) (Limit other) h k = let e = same-first h.0 k.0 _ _ _ h.1.1 k.1.1 h.2 k.2 in absurd (cc)
-one-fault bytes (Field path) (Broken cabinet rule row) h k = let e = same-first h.0 k.0 _ _ _ h.1.1 k.1.1 h.2 k.2 in absurd (cc)
-one-fault bytes (Limit path) Syntax h k = absurd (k h.0 h.1)
-one-fault bytes (Limit path) (Field other) h k = let e = same-first h.0 k.0 _ _ _ h.1.1 k.1.1 h.2 k.2 in absurd (cc)
-one-fault bytes (Limit path) (Limit other) h k = let e = same-first h.0 k.0 _ _ _ h.1.1 k.1.1 h.2 k.2 in cc
-one-fault bytes (Limit path) (Broken cabinet rule row) h k = let e = same-first h.0 k.0 _ _ _ h.1.1 k.1.1 h.2 k.2 in absurd (cc)
-one-fault bytes (Broken cabinet rule row) Syntax h k = absurd (k h.0 h.1)
-one-fault bytes (Broken cabinet rule row) (Field other) h k = let e = same-first h.0 k.0 _ _ _ h.1.1 k.1.1 h.2 k.2 in absurd (cc)
-one-fault bytes (Broken cabinet rule row) (Limit other) h k = let e = same-first h.0 k.0 _ _ _ h.1.1 k.1.1 h.2 k.2 in absurd (cc)
-one-fault bytes (Broken cabinet rule row) (Broken c r w) h k = let e = same-first h.0 k.0 _ _ _ h.1.1 k.1.1 h.2 k.2 in (cc, cc, cc)
+one-fault bytes a b h k = one-first band_faults bytes a b (first-of bytes a h) (first-of bytes b k)

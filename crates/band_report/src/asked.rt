@@ -173,12 +173,7 @@ pub(crate) fn asked_in(alloc: Global, value: &Value) -> Result<Asked, ReadFail>
     ensures few { IfOk result (λ a. length a.scenario.cabinets.items ≤ 64) }
     ensures fits { IfOk result (λ a. misfit_of (scenario_content a.scenario).cabinets a.section a.pattern (length a.travel.items) ≡ None) }
 {
-    let asked = match named_in(alloc, value) {
-        Ok(asked) => asked,
-        Err(fail) => return Err(fail),
-    };
-    match fitting(alloc, &asked) {
-        Ok(()) => Ok(asked),
-        Err(fail) => Err(fail),
-    }
+    let asked = named_in(alloc, value)?;
+    fitting(alloc, &asked)?;
+    Ok(asked)
 }

@@ -49,10 +49,7 @@ fn two_lines(
 fn report_of(alloc: Global, value: &Value) -> Result<Vec<u8>, ReadFail>
     ensures { Answers result (band_faults (view value.now)) (λ text. TellsOf (view value.now) text.items) }
 {
-    let asked = match asked_in(alloc, value) {
-        Ok(asked) => asked,
-        Err(fail) => return Err(fail),
-    };
+    let asked = asked_in(alloc, value)?;
     let (section, pattern) = (asked.section, asked.pattern);
     let outbound = match greatest(
         alloc,

@@ -7,6 +7,8 @@ use Rattle.std.proofs.Math.Seq.{get_or-append_seam}
 use Rattle.sig_types.specs.declared.frame.Field.{Field}
 use Rattle.sig_types.specs.declared.frame.Frame.{Frame}
 use Rattle.sig_types.specs.declared.streams.Streams.{Streams}
+use Rattle.sig_types.specs.declared.streams.Stream.{Stream}
+use Rattle.sig_types.specs.Passes.{number_of}
 use Rattle.sig_types.specs.Items.{Item, Ticked, items_of}
 use Rattle.tick_context.specs.Told.{NamesPlace}
 use Rattle.cabinet_history.specs.declared.Reply.{Reply}
@@ -21,18 +23,22 @@ use Rattle.cab_book.specs.Stands.{CabinetStands}
 use Rattle.cab_book.specs.Happenings.{interleaved, replies_in, AreInOrder}
 use Rattle.cab_book.specs.Happened.{IsSameRound, IsWritten, behind, journal_in, written_of, answered_of}
 use Rattle.cab_book.specs.Rounds.{ArePlaced, AreShort, AreTallied, RoundStands, acts_so_far}
-use Rattle.cab_book.specs.Books.{BookStands, IsBrought, IsBroughtAtEnd, IsIgnored, IsLengthened, IgnoresWhatAsksNothing, acts_in, answered_in, cabinet_in, cabinet_history_now, journal_of, left_of, next_act, streams_in, ticks_by_end, with_last, written_in}
+use Rattle.cab_book.specs.Books.{BookStands, IsBrought, IsBroughtAtEnd, IsIgnored, IsLengthened, IgnoresWhatAsksNothing, acts_in, answered_in, cabinet_in, cabinet_history_now, journal_of, left_of, next_act, streams_in, ticks_by_end, written_in}
 use Rattle.cab_book.specs.Shares.{ticks_left}
 use Rattle.cab_book.proofs.Parts.{count-here, count-else}
 use Rattle.cab_book.proofs.Bringing.{Taken}
 use Rattle.cab_book.proofs.OnePart.{one-stays}
 
+-- `with_last`, at the place of a stream among the others
+abbrev pub with_last_at : List (List Item) → ℕ → Item → List (List Item)
+with_last_at streams place item = slice_set streams place (get_or streams place [] ++ item ∷ [])
+
 -- the stream of the pass, and another's
 pub own-stream : (streams : List (List Item)) (pass : ℕ) (item : Item) → pass < length streams
-    → get_or (with_last streams pass item) pass [] ≡ get_or streams pass [] ++ item ∷ []
+    → get_or (with_last_at streams pass item) pass [] ≡ get_or streams pass [] ++ item ∷ []
 own-stream streams pass item low = get_or-set_same streams pass (get_or streams pass [] ++ item ∷ []) [] low
 
-pub other-stream : (streams : List (List Item)) (pass p : ℕ) (item : Item) → p ≢ pass → get_or (with_last streams pass item) p [] ≡ get_or streams p []
+pub other-stream : (streams : List (List Item)) (pass p : ℕ) (item : Item) → p ≢ pass → get_or (with_last_at streams pass item) p [] ≡ get_or streams p []
 other-stream streams pass p item ne = get_or-set_other streams pass p (get_or streams pass [] ++ item ∷ []) [] ne
 
 -- a pass counts the same whether it stands before or in what follows
@@ -58,18 +64,18 @@ acts-from-same streams next before (q ∷ journal) same =
     with_item_of q i = record { pass = q; item = i }
 
 pub acts-lengthened : (streams : List (List Item)) (journal : List ℕ) (pass : ℕ) (item : Item) → pass < length streams
-    → times pass journal ≤ length (get_or streams pass []) → acts_of (with_last streams pass item) journal ≡ acts_of streams journal
-acts-lengthened streams journal pass item low few = acts-from-same streams (with_last streams pass item) [] journal same
+    → times pass journal ≤ length (get_or streams pass []) → acts_of (with_last_at streams pass item) journal ≡ acts_of streams journal
+acts-lengthened streams journal pass item low few = acts-from-same streams (with_last_at streams pass item) [] journal same
   where
-    here : (n : ℕ) → n < length (get_or streams pass []) → get_or (get_or (with_last streams pass item) pass []) n Ticked ≡ get_or (get_or streams pass []) n Ticked
+    here : (n : ℕ) → n < length (get_or streams pass []) → get_or (get_or (with_last_at streams pass item) pass []) n Ticked ≡ get_or (get_or streams pass []) n Ticked
     here n below =
         ap (λ (x : List Item). get_or x n Ticked) (own-stream streams pass item low)
         ∙ get_or_append_left (get_or streams pass []) (item ∷ []) Ticked n below
 
-    same : (p n : ℕ) → n < times p [] + times p journal → get_or (get_or (with_last streams pass item) p []) n Ticked ≡ get_or (get_or streams p []) n Ticked
+    same : (p n : ℕ) → n < times p [] + times p journal → get_or (get_or (with_last_at streams pass item) p []) n Ticked ≡ get_or (get_or streams p []) n Ticked
     same p n below = elim (eqb_tells p pass) [
       | inl (t, e) ↦
-          subst (λ (q : ℕ). get_or (get_or (with_last streams pass item) q []) n Ticked ≡ get_or (get_or streams q []) n Ticked) (sym e)
+          subst (λ (q : ℕ). get_or (get_or (with_last_at streams pass item) q []) n Ticked ≡ get_or (get_or streams q []) n Ticked) (sym e)
           (here n (omega (arith, below, few, ap (λ (q : ℕ). times q journal) e)))
       | inr (t, ne) ↦ ap (λ (x : List Item). get_or x n Ticked) (other-stream streams pass p item ne)
     ]
@@ -122,7 +128,7 @@ added left pass low = record {
 }
 
 -- the streams of a round, of which one has an item more, and what is left of them
-module _ (streams next : Streams) (pass : ℕ) (item : Item) (low : pass < 4) (longer : items_of next ≡ with_last (items_of streams) pass item) where
+module _ (streams next : Streams) (pass : ℕ) (item : Item) (low : pass < 4) (longer : items_of next ≡ with_last_at (items_of streams) pass item) where
   own-length : length (get_or (items_of next) pass []) ≡ length (get_or (items_of streams) pass []) + 1
   own-length =
       ap (λ (x : List (List Item)). length (get_or x pass [])) longer
@@ -172,7 +178,7 @@ module _ (streams next : Streams) (pass : ℕ) (item : Item) (low : pass < 4) (l
   pub acts-stay : (left : List ℕ) (old new : Happened) → AreTallied streams left old → journal_in new ≡ journal_in old → acts_so_far next new ≡ acts_so_far streams old
   acts-stay left old new tallied journal =
       ap (λ (x : List (List Item)). acts_of x (journal_in new)) longer
-      ∙ ap (acts_of (with_last (items_of streams) pass item)) journal
+      ∙ ap (acts_of (with_last_at (items_of streams) pass item)) journal
       ∙ acts-lengthened (items_of streams) (journal_in old) pass item (omega (arith, low)) (omega (arith, tallied.each pass low))
 
 -- each input has its place, also the new one
@@ -226,7 +232,7 @@ pub record Longer (old : Book) (c : Cabinet) (streams : Streams) (left : List �
   pub ticks : c.ticks + ticks_left left ≡ ticks_by_end old
 
 pub longer_by : (old : Book) (c : Cabinet) (streams : Streams) (left : List ℕ) (h : Happened) (pass : ℕ) (item : Item) → pass < 4 → c ≡ cabinet_in old
-    → items_of streams ≡ with_last (streams_in old) pass item → Taken left old.left pass 1 → IsSameRound old.happened h → Longer old c streams left h pass
+    → items_of streams ≡ with_last_at (streams_in old) pass item → Taken left old.left pass 1 → IsSameRound old.happened h → Longer old c streams left h pass
 longer_by old c streams left h pass item low cabinet longer o same =
     let acts : acts_so_far streams h ≡ acts_in old = acts-stay old.streams streams pass item low longer old.left old.happened h old.tallied same.journal in
     record {
@@ -247,18 +253,18 @@ longer_by old c streams left h pass item low cabinet longer o same =
     }
 
 -- the item is what its pass brings next
-pub brought_at_end : (old mid new : Book) (pass : ℕ) (item : Item) → pass < 4 → left_of old pass ≡ 0 → IsLengthened old mid pass item → IsBrought mid new pass
-    → IsBroughtAtEnd old new pass item
-brought_at_end old mid new pass item low none longer brought = record {
+pub brought_at_end : (old mid new : Book) (stream : Stream) (item : Item) → number_of stream < 4 → left_of old (number_of stream) ≡ 0 → IsLengthened old mid stream item → IsBrought mid new (number_of stream)
+    → IsBroughtAtEnd old new stream item
+brought_at_end old mid new stream item low none longer brought = record {
   stands = λ cabinet_history stood. brought.stands cabinet_history (longer.stands cabinet_history stood);
   streams = brought.streams ∙ longer.streams;
   journal = journal;
   acts = brought.acts
-      ∙ ap (λ (acts : List Act). acts ++ next_act mid pass ∷ []) longer.acts
-      ∙ ap (λ (i : Item). acts_in old ++ act pass i ∷ []) own;
+      ∙ ap (λ (acts : List Act). acts ++ next_act mid (number_of stream) ∷ []) longer.acts
+      ∙ ap (λ (i : Item). acts_in old ++ act (number_of stream) i ∷ []) own;
   left = left;
   ticks = brought.ticks ∙ longer.ticks;
-  one = λ one. one-stays mid new pass 1 (omega (arith, low)) brought.journal brought.others
+  one = λ one. one-stays mid new (number_of stream) 1 (omega (arith, low)) brought.journal brought.others
       (λ p high. omega (arith, longer.others p (omega (arith, low, high)), ap (times p) longer.journal, one p high));
   ignored = ignored;
 }
@@ -266,33 +272,33 @@ brought_at_end old mid new pass item low none longer brought = record {
     act : ℕ → Item → Act
     act p i = record { pass = p; item = i }
 
-    journal : journal_of new ≡ journal_of old ++ pass ∷ []
-    journal = brought.journal ∙ ap (λ (passes : List ℕ). passes ++ pass ∷ []) longer.journal
+    journal : journal_of new ≡ journal_of old ++ number_of stream ∷ []
+    journal = brought.journal ∙ ap (λ (passes : List ℕ). passes ++ number_of stream ∷ []) longer.journal
 
-    place : times pass (journal_of mid) ≡ length (get_or (streams_in old) pass [])
-    place = omega (arith, ap (times pass) longer.journal, old.tallied.each pass low, none)
+    place : times (number_of stream) (journal_of mid) ≡ length (get_or (streams_in old) (number_of stream) [])
+    place = omega (arith, ap (times (number_of stream)) longer.journal, old.tallied.each (number_of stream) low, none)
 
-    own : get_or (get_or (streams_in mid) pass []) (times pass (journal_of mid)) Ticked ≡ item
+    own : get_or (get_or (streams_in mid) (number_of stream) []) (times (number_of stream) (journal_of mid)) Ticked ≡ item
     own =
-        ap (λ (x : List (List Item)). get_or (get_or x pass []) (times pass (journal_of mid)) Ticked) longer.streams
-        ∙ ap (λ (x : List Item). get_or x (times pass (journal_of mid)) Ticked) (own-stream (streams_in old) pass item (omega (arith, low)))
-        ∙ ap (λ (n : ℕ). get_or (get_or (streams_in old) pass [] ++ item ∷ []) n Ticked) place
-        ∙ get_or-append_seam (get_or (streams_in old) pass []) item [] Ticked
+        ap (λ (x : List (List Item)). get_or (get_or x (number_of stream) []) (times (number_of stream) (journal_of mid)) Ticked) longer.streams
+        ∙ ap (λ (x : List Item). get_or x (times (number_of stream) (journal_of mid)) Ticked) (own-stream (streams_in old) (number_of stream) item (omega (arith, low)))
+        ∙ ap (λ (n : ℕ). get_or (get_or (streams_in old) (number_of stream) [] ++ item ∷ []) n Ticked) place
+        ∙ get_or-append_seam (get_or (streams_in old) (number_of stream) []) item [] Ticked
 
     left : (p : ℕ) → left_of new p ≡ left_of old p
-    left p = elim (eqb_tells p pass) [
+    left p = elim (eqb_tells p (number_of stream)) [
       | inl (t, e) ↦ subst (λ (q : ℕ). left_of new q ≡ left_of old q) (sym e) (omega (arith, brought.own, longer.own))
       | inr (t, ne) ↦ brought.others p ne ∙ longer.others p ne
     ]
 
     silence : Reply
-    silence = record { pass = pass; text = None; load = None }
+    silence = record { pass = number_of stream; text = None; load = None }
 
-    ignored : IgnoresWhatAsksNothing old new pass item
+    ignored : IgnoresWhatAsksNothing old new (number_of stream) item
     ignored cabinet_history octets stood frame asks =
         let same : cabinet_history_now mid cabinet_history ≡ cabinet_history_now old cabinet_history =
         ap (λ (x : List Act). after cabinet_history (items_in x)) longer.acts in
-        let quiet : IsIgnored mid new pass = brought.ignored cabinet_history octets (longer.stands cabinet_history stood) (own ∙ frame)
+        let quiet : IsIgnored mid new (number_of stream) = brought.ignored cabinet_history octets (longer.stands cabinet_history stood) (own ∙ frame)
         (ap (λ (h : CabinetHistory). ask_after h octets) same ∙ asks) in
         record {
           cabinet = quiet.cabinet ∙ longer.cabinet;

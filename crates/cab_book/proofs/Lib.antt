@@ -1,4 +1,5 @@
 pub mod Facts
+pub mod Numbers
 pub mod Pairs
 pub mod Runs
 pub mod Parts

@@ -1,6 +1,8 @@
 -- What a book stands for: the cabinet history at which its round began, the streams of the round, and the journal of what was taken from them.
 use Rattle.std.specs.Prelude.{ℕ, ◌+◌, ◌≡◌, ◌≢◌, ◌<◌, ◌≤◌, List, [], ◌∷◌, ◌++◌, length, replicate, get_or, None}
 use Rattle.sig_types.specs.declared.frame.Frame.{Frame}
+use Rattle.sig_types.specs.declared.streams.Stream.{Stream}
+use Rattle.sig_types.specs.Passes.{number_of}
 use Rattle.sig_types.specs.Items.{Item, Came, Ticked, items_of}
 use Rattle.cabinet_history.specs.CabinetHistory.{CabinetHistory}
 use Rattle.cabinet_history.specs.Journals.{Act, times}
@@ -94,29 +96,29 @@ pub record IsBrought (old new : Book) (pass : ℕ) : Type 0 where
   pub ticks : ticks_by_end new ≡ ticks_by_end old
   pub ignored : IgnoresWhatAsksNothing old new pass (next_act old pass).item
 
--- an item more stands at the end of the stream of a pass, and is left to be brought
-pub record IsLengthened (old new : Book) (pass : ℕ) (item : Item) : Type 0 where
+-- an item more stands at the end of a stream, and is left to be brought
+pub record IsLengthened (old new : Book) (stream : Stream) (item : Item) : Type 0 where
   pub stands : (cabinet_history : CabinetHistory) → BookStands old cabinet_history → BookStands new cabinet_history
-  pub streams : streams_in new ≡ with_last (streams_in old) pass item
+  pub streams : streams_in new ≡ with_last (streams_in old) stream item
   pub journal : journal_of new ≡ journal_of old
   pub acts : acts_in new ≡ acts_in old
-  pub own : left_of new pass ≡ left_of old pass + 1
-  pub others : (p : ℕ) → p ≢ pass → left_of new p ≡ left_of old p
+  pub own : left_of new (number_of stream) ≡ left_of old (number_of stream) + 1
+  pub others : (p : ℕ) → p ≢ number_of stream → left_of new p ≡ left_of old p
   pub ticks : ticks_by_end new ≡ ticks_by_end old
   pub cabinet : cabinet_in new ≡ cabinet_in old
   pub written : written_in new ≡ written_in old
   pub answered : answered_in new ≡ answered_in old
 
--- an item more stands at the end of the stream of a pass, and was brought at once
-pub record IsBroughtAtEnd (old new : Book) (pass : ℕ) (item : Item) : Type 0 where
+-- an item more stands at the end of a stream, and was brought at once
+pub record IsBroughtAtEnd (old new : Book) (stream : Stream) (item : Item) : Type 0 where
   pub stands : (cabinet_history : CabinetHistory) → BookStands old cabinet_history → BookStands new cabinet_history
-  pub streams : streams_in new ≡ with_last (streams_in old) pass item
-  pub journal : journal_of new ≡ journal_of old ++ pass ∷ []
-  pub acts : acts_in new ≡ acts_in old ++ record { pass = pass; item = item } ∷ []
+  pub streams : streams_in new ≡ with_last (streams_in old) stream item
+  pub journal : journal_of new ≡ journal_of old ++ number_of stream ∷ []
+  pub acts : acts_in new ≡ acts_in old ++ record { pass = number_of stream; item = item } ∷ []
   pub left : (p : ℕ) → left_of new p ≡ left_of old p
   pub ticks : ticks_by_end new ≡ ticks_by_end old
   pub one : IsOnePart old → IsOnePart new
-  pub ignored : IgnoresWhatAsksNothing old new pass item
+  pub ignored : IgnoresWhatAsksNothing old new (number_of stream) item
 
 -- of a book nothing has changed but the room that there is for what happens
 pub record HasOnlyRoom (old new : Book) : Type 0 where

@@ -3,6 +3,10 @@ use Rattle.std.specs.Prelude.{ℕ, ◌+◌, ◌≡◌, ◌≤◌, ◌<◌, List,
 use Rattle.sig_types.specs.declared.frame.Field.{Field}
 use Rattle.tick_context.specs.Told.{NamesPlace}
 use Rattle.sig_types.specs.declared.streams.Streams.{Streams}
+use Rattle.sig_types.specs.declared.streams.Stream.{Stream}
+use Rattle.sig_types.specs.declared.streams.Stream.TheVariants.{Inputs, Ticks}
+use Rattle.sig_types.specs.declared.notes.Way.TheVariants.{Poll, Load, Prio}
+use Rattle.sig_types.specs.Passes.{number_of, pass_of}
 use Rattle.sig_types.specs.Items.{Item, items_of}
 use Rattle.cabinet_history.specs.CabinetHistory.{CabinetHistory, after}
 use Rattle.cabinet_history.specs.Journals.{Act, times, acts_of, items_in}
@@ -12,9 +16,9 @@ use Rattle.cab_book.specs.Stands.{CabinetStands}
 use Rattle.cab_book.specs.Shares.{ticks_left, ticks_brought}
 use Rattle.cab_book.specs.Happened.{IsWritten, HasRoom, journal_in}
 
--- some streams with an item more at the end of that of a pass
-abbrev pub with_last : List (List Item) → ℕ → Item → List (List Item)
-with_last streams pass item = slice_set streams pass (get_or streams pass [] ++ item ∷ [])
+-- the items of all streams, with an item more at the end of one stream
+abbrev pub with_last : List (List Item) → Stream → Item → List (List Item)
+with_last streams stream item = slice_set streams (number_of stream) (get_or streams (number_of stream) [] ++ item ∷ [])
 
 -- each input has its place
 abbrev pub ArePlaced : Streams → Type 0
@@ -35,15 +39,15 @@ AreShort streams = (p : ℕ) → length (get_or (items_of streams) p []) ≤ 429
 -- of each stream, what is left and what the journal has brought are all its items; of ticks so are those of passes 4 to 7 together
 pub record AreTallied (streams : Streams) (left : List ℕ) (h : Happened) : Type 0 where
   pub each : (p : ℕ) → p < 4 → get_or left p 0 + times p (journal_in h) ≡ length (get_or (items_of streams) p [])
-  pub ticks : ticks_left left + ticks_brought (journal_in h) ≡ length (get_or (items_of streams) 4 [])
+  pub ticks : ticks_left left + ticks_brought (journal_in h) ≡ length (get_or (items_of streams) (number_of Ticks) [])
   pub others : (p : ℕ) → 8 ≤ p → get_or left p 0 + times p (journal_in h) ≡ 0
 
 -- how many frames of messages are left, and how many items in all
 abbrev pub frames_left : List ℕ → ℕ
-frames_left left = get_or left 1 0 + get_or left 2 0 + get_or left 3 0
+frames_left left = get_or left (pass_of Poll) 0 + get_or left (pass_of Load) 0 + get_or left (pass_of Prio) 0
 
 abbrev pub items_left : List ℕ → ℕ
-items_left left = get_or left 0 0 + frames_left left + ticks_left left
+items_left left = get_or left (number_of Inputs) 0 + frames_left left + ticks_left left
 
 -- there is room for what all that is left may give
 abbrev pub HasRoomFor : List ℕ → Happened → Type 0

@@ -5,6 +5,8 @@
 ghost use Rattle.std.specs.Prelude.{◌≡◌, ◌≢◌, ◌<◌, ◌≤◌, ◌+◌, ◌-◌, ◌⊎◌, ◌++◌, ◌∷◌, [], ℕ, OnOk, OnErr, IfOk, IfErr, length, replicate, map, get_or};
 ghost use Rattle.sig_tables.specs.Decide.{last_frame_of, past_at};
 ghost use Rattle.sig_types.specs.Items.{Told as ToldItem, Came, items_of, texts_of};
+ghost use Rattle.sig_types.specs.Passes.{Brings, number_of, pass_of};
+ghost use Rattle.sig_types.specs.declared.streams.Stream.TheVariants.{Inputs, Messages, Ticks};
 ghost use Rattle.tick_context.specs.Told.{NamesPlace};
 ghost use Rattle.tick_context.specs.Strides.{IsStride};
 ghost use Rattle.cabinet_history.specs.CabinetHistory.{CabinetHistory};
@@ -20,7 +22,7 @@ use crate::happened::{Answered, Happened};
 use crate::sharing::shares_of;
 use cabinet_history::Reply;
 use sig_tables::Tables;
-use sig_types::{Field, Frame, NoMemory, Octets, Streams};
+use sig_types::{Field, Frame, NoMemory, Octets, Stream, Streams, Way, pass_of};
 use std::alloc::Global;
 
 /// The streams of no round.
@@ -36,22 +38,20 @@ fn no_streams(alloc: Global) -> Streams
     }
 }
 
-/// The frames that a pass brings, 1 to 3.
-fn frames_of(streams: &Streams, pass: u32) -> &[Octets]
-    requires above { 1 ≤ pass }
-    requires within { pass ≤ 3 }
-    ensures { map Came (texts_of result.now) ≡ get_or (items_of streams.now) pass [] }
+/// The frames of a stream of messages.
+fn frames_of(streams: &Streams, way: Way) -> &[Octets]
+    ensures { map Came (texts_of result.now) ≡ get_or (items_of streams.now) (pass_of way) [] }
 {
-    match pass {
-        1 => streams.polls.as_slice(),
-        2 => streams.loads.as_slice(),
-        _ => streams.prios.as_slice(),
+    match way {
+        Way::Poll => streams.polls.as_slice(),
+        Way::Load => streams.loads.as_slice(),
+        Way::Prio => streams.prios.as_slice(),
     }
 }
 
 /// An input more stands at the end of the others. Where memory is wanting all streams are as before.
 fn push_field(streams: &mut Streams, field: Field) -> Result<(), NoMemory>
-    ensures items { OnOk result (items_of streams.new ≡ with_last (items_of streams.old) 0 (ToldItem field)) }
+    ensures items { OnOk result (items_of streams.new ≡ with_last (items_of streams.old) Inputs (ToldItem field)) }
     ensures fields { OnOk result (streams.new.fields.items ≡ streams.old.fields.items ++ field ∷ []) }
     ensures no_memory { OnErr result (items_of streams.new ≡ items_of streams.old) }
     ensures as_before { OnErr result (streams.new.fields.items ≡ streams.old.fields.items) }
@@ -62,18 +62,16 @@ fn push_field(streams: &mut Streams, field: Field) -> Result<(), NoMemory>
     }
 }
 
-/// A frame more stands at the end of those of a pass, 1 to 3. Where memory is wanting all streams are as before.
-fn push_frame(streams: &mut Streams, pass: u32, octets: Octets) -> Result<(), NoMemory>
-    requires above { 1 ≤ pass }
-    requires within { pass ≤ 3 }
-    ensures items { OnOk result (items_of streams.new ≡ with_last (items_of streams.old) pass (Came octets.items)) }
+/// A frame more stands at the end of those of its stream. Where memory is wanting all streams are as before.
+fn push_frame(streams: &mut Streams, way: Way, octets: Octets) -> Result<(), NoMemory>
+    ensures items { OnOk result (items_of streams.new ≡ with_last (items_of streams.old) (Messages way) (Came octets.items)) }
     ensures no_memory { OnErr result (items_of streams.new ≡ items_of streams.old) }
     ensures fields { streams.new.fields ≡ streams.old.fields }
 {
-    let pushed = match pass {
-        1 => streams.polls.push(octets),
-        2 => streams.loads.push(octets),
-        _ => streams.prios.push(octets),
+    let pushed = match way {
+        Way::Poll => streams.polls.push(octets),
+        Way::Load => streams.loads.push(octets),
+        Way::Prio => streams.prios.push(octets),
     };
     match pushed {
         Ok(()) => Ok(()),
@@ -98,6 +96,7 @@ pub struct Book {
     // on the heap, so that a book that is handed on moves few octets
     cabinet: Box<Cabinet>,
     streams: Streams,
+    // how many items each pass, 0 to 7, has left of the stream that it brings
     left: [u32; 8],
     happened: Happened,
     // what any next item needs: a place for an input, few ticks in all, and room for what it gives
@@ -112,7 +111,9 @@ pub struct Book {
 }
 
 impl Book {
-    ghost use Rattle.cab_book.specs.Books.{BookStands, CanBeTaken, HasOnlyRoom, IgnoresWhatAsksNothing, IsAsBefore, IsBrought, IsBroughtAtEnd, IsLengthened, IsOnePart, Replays, Shares, acts_in, next_act, tick_acts, streams_in, journal_of, left_of, cabinet_history_now, ticks_by_end, written_in, answered_in};
+    ghost use Rattle.cab_book.specs.Books.{acts_in, answered_in, cabinet_history_now, journal_of, left_of, next_act, streams_in, tick_acts, ticks_by_end, written_in};
+    ghost use Rattle.cab_book.specs.Books.{BookStands, CanBeTaken, IsOnePart, Replays, Shares};
+    ghost use Rattle.cab_book.specs.Books.{HasOnlyRoom, IgnoresWhatAsksNothing, IsAsBefore, IsBrought, IsBroughtAtEnd, IsLengthened};
 
     /// The book of a cabinet before its first round.
     pub fn new(alloc: Global, cabinet: Cabinet) -> Result<Book, NoMemory>
@@ -171,8 +172,8 @@ impl Book {
         Ok(())
     }
 
-    /// How many items of a pass are left in the round: 0 brings inputs, 1 to 3 the frames of the three streams of messages, 4 ticks, and
-    /// 5 to 7 too where these were shared.
+    /// How many items a pass has left in the round: a pass from 0 to 7 brings those of the stream `Stream::of_pass`, 5 to 7 only where
+    /// the ticks were shared. Any other number is no pass and has none.
     pub fn left(&self, pass: u32) -> u32
         ensures { result ≡ left_of self.now pass }
     {
@@ -197,10 +198,10 @@ impl Book {
         ensures ignored { IgnoresWhatAsksNothing self.old self.new pass (next_act self.old pass).item }
         ensures replays { (first : Book) → Replays first self.old → Replays first self.new }
     {
-        match pass {
-            0 => self.hear(),
-            1..=3 => self.receive(pass),
-            _ => self.tick(pass),
+        match Stream::of_pass(pass) {
+            Stream::Inputs => self.hear(),
+            Stream::Messages(way) => self.receive(way),
+            Stream::Ticks => self.tick(pass),
         }
     }
 
@@ -288,9 +289,9 @@ impl Book {
     /// as before.
     pub fn bring_input(&mut self, field: Field) -> Result<(), NoMemory>
         requires place { NamesPlace field }
-        requires none { left_of self.old 0 ≡ 0 }
-        requires few { length (get_or (streams_in self.old) 0 []) < 2147483648 }
-        ensures brought { OnOk result (IsBroughtAtEnd self.old self.new 0 (ToldItem field)) }
+        requires none { left_of self.old (number_of Inputs) ≡ 0 }
+        requires few { length (get_or (streams_in self.old) (number_of Inputs) []) < 2147483648 }
+        ensures brought { OnOk result (IsBroughtAtEnd self.old self.new Inputs (ToldItem field)) }
         ensures no_memory { OnErr result (IsAsBefore self.old self.new) }
     {
         match self.add_input(field) {
@@ -301,21 +302,19 @@ impl Book {
         Ok(())
     }
 
-    /// A frame comes behind all others of its pass, 1 to 3, which were brought, and is brought at once: its reply is the last. Where
-    /// memory is wanting the book is as before.
-    pub fn bring_frame(&mut self, pass: u32, octets: Octets) -> Result<(), NoMemory>
-        requires above { 1 ≤ pass }
-        requires within { pass ≤ 3 }
-        requires none { left_of self.old pass ≡ 0 }
-        requires few { length (get_or (streams_in self.old) pass []) < 2147483648 }
-        ensures brought { OnOk result (IsBroughtAtEnd self.old self.new pass (Came octets.items)) }
+    /// A frame comes behind all others of its stream, which were brought, and is brought at once: its reply is the last. Where memory
+    /// is wanting the book is as before.
+    pub fn bring_frame(&mut self, way: Way, octets: Octets) -> Result<(), NoMemory>
+        requires none { left_of self.old (pass_of way) ≡ 0 }
+        requires few { length (get_or (streams_in self.old) (pass_of way) []) < 2147483648 }
+        ensures brought { OnOk result (IsBroughtAtEnd self.old self.new (Messages way) (Came octets.items)) }
         ensures no_memory { OnErr result (IsAsBefore self.old self.new) }
     {
-        match self.add_frame(pass, octets) {
+        match self.add_frame(way, octets) {
             Ok(()) => {}
             Err(NoMemory) => return Err(NoMemory),
         }
-        self.receive(pass);
+        self.receive(way);
         Ok(())
     }
 
@@ -335,8 +334,8 @@ impl Book {
     /// An input comes behind all others of the round, and is left to be brought. Where memory is wanting the book is as before.
     fn add_input(&mut self, field: Field) -> Result<(), NoMemory>
         requires place { NamesPlace field }
-        requires few { length (get_or (streams_in self.old) 0 []) < 2147483648 }
-        ensures added { OnOk result (IsLengthened self.old self.new 0 (ToldItem field)) }
+        requires few { length (get_or (streams_in self.old) (number_of Inputs) []) < 2147483648 }
+        ensures added { OnOk result (IsLengthened self.old self.new Inputs (ToldItem field)) }
         ensures no_memory { OnErr result (IsAsBefore self.old self.new) }
     {
         match self.reserve_one() {
@@ -351,30 +350,28 @@ impl Book {
         Ok(())
     }
 
-    /// A frame comes behind all others of its pass, 1 to 3, and is left to be brought. Where memory is wanting the book is as before.
-    fn add_frame(&mut self, pass: u32, octets: Octets) -> Result<(), NoMemory>
-        requires above { 1 ≤ pass }
-        requires within { pass ≤ 3 }
-        requires few { length (get_or (streams_in self.old) pass []) < 2147483648 }
-        ensures added { OnOk result (IsLengthened self.old self.new pass (Came octets.items)) }
+    /// A frame comes behind all others of its stream, and is left to be brought. Where memory is wanting the book is as before.
+    fn add_frame(&mut self, way: Way, octets: Octets) -> Result<(), NoMemory>
+        requires few { length (get_or (streams_in self.old) (pass_of way) []) < 2147483648 }
+        ensures added { OnOk result (IsLengthened self.old self.new (Messages way) (Came octets.items)) }
         ensures no_memory { OnErr result (IsAsBefore self.old self.new) }
     {
         match self.reserve_one() {
             Ok(()) => {}
             Err(NoMemory) => return Err(NoMemory),
         }
-        match push_frame(&mut self.streams, pass, octets) {
+        match push_frame(&mut self.streams, way, octets) {
             Ok(()) => {}
             Err(NoMemory) => return Err(NoMemory),
         }
-        self.left[pass as usize] += 1;
+        self.left[pass_of(way) as usize] += 1;
         Ok(())
     }
 
     /// The cabinet hears the next input from the street.
     fn hear(&mut self)
-        requires { 0 < left_of self.old 0 }
-        ensures { IsBrought self.old self.new 0 }
+        requires { 0 < left_of self.old (number_of Inputs) }
+        ensures { IsBrought self.old self.new (number_of Inputs) }
     {
         let place = self.streams.fields.len() - self.left[0] as usize;
         self.cabinet.hear(self.streams.fields[place]);
@@ -382,10 +379,9 @@ impl Book {
         self.left[0] -= 1;
     }
 
-    /// The cabinet has its next tick, which a pass of 4 to 7 brings.
+    /// The cabinet has its next tick, which this pass brings.
     fn tick(&mut self, pass: u32)
-        requires above { 4 ≤ pass }
-        requires within { pass ≤ 7 }
+        requires ticks { Brings pass Ticks }
         requires some { 0 < left_of self.old pass }
         ensures { IsBrought self.old self.new pass }
     {
@@ -394,14 +390,13 @@ impl Book {
         self.left[pass as usize] -= 1;
     }
 
-    /// The next frame of a pass, 1 to 3, comes to the cabinet.
-    fn receive(&mut self, pass: u32)
-        requires above { 1 ≤ pass }
-        requires within { pass ≤ 3 }
-        requires some { 0 < left_of self.old pass }
-        ensures { IsBrought self.old self.new pass }
+    /// The next frame of a stream of messages comes to the cabinet.
+    fn receive(&mut self, way: Way)
+        requires some { 0 < left_of self.old (pass_of way) }
+        ensures { IsBrought self.old self.new (pass_of way) }
     {
-        let frames = frames_of(&self.streams, pass);
+        let pass = pass_of(way);
+        let frames = frames_of(&self.streams, way);
         let octets = next_of(frames, self.left[pass as usize]);
         let Told { text, load } = self.cabinet.receive(octets);
         self.happened.add_reply(Reply { pass, text, load });

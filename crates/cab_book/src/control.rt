@@ -8,12 +8,13 @@ use sig_tables::{Shown, Tables};
 use sig_types::{Field, Frame, NoMemory, Request};
 use std::alloc::Global;
 
-/// How the frames of a cabinet come about: by what a controller keeps from tick to tick, or by looking back over all that was
-/// seen.
+/// The engine that gives the frames of a cabinet.
 #[derive(Clone, Copy, PartialEq, Eq)]
-pub enum Way {
-    Registers,
-    LookingBack,
+pub enum Engine {
+    /// A controller, which keeps registers from tick to tick.
+    Controller,
+    /// An observer, which looks back over all that was seen.
+    Observer,
 }
 
 /// A controller, or an observer.
@@ -30,14 +31,14 @@ impl Control {
     ghost use Rattle.tick_context.specs.Modes.{is_flash};
     ghost use Rattle.tick_context.specs.Told.{CanRun, NamesPlace};
     ghost use Rattle.tick_context.specs.Strides.{IsStride, is_told, ticks_more};
-    ghost use Rattle.cab_book.specs.declared.control.Way.{Way};
+    ghost use Rattle.cab_book.specs.declared.control.Engine.{Engine};
     ghost use Rattle.cab_book.specs.Controls.{ControlStands, tick_count};
 
     /// A cabinet that is opened with these tables, in Start, with a pattern in command, 0 to 255, and a clock in ticks of the
     /// day. Only an observer takes memory.
     pub fn open(
         alloc: Global,
-        way: Way,
+        engine: Engine,
         tables: Tables,
         command: u8,
         clock: u32,
@@ -45,11 +46,11 @@ impl Control {
         requires tables { CanRun tables }
         requires of_day { clock < 864000 }
         ensures stands { IfOk result (λ control. ControlStands control (opening tables command clock)) }
-        ensures memory { IfErr result (λ _. way ≡ Way.LookingBack) }
+        ensures memory { IfErr result (λ _. engine ≡ Engine.Observer) }
     {
-        match way {
-            Way::Registers => Ok(Control::Registers(Controller::open(tables, command, clock))),
-            Way::LookingBack => match Observer::open(alloc, tables, command, clock) {
+        match engine {
+            Engine::Controller => Ok(Control::Registers(Controller::open(tables, command, clock))),
+            Engine::Observer => match Observer::open(alloc, tables, command, clock) {
                 Ok(observer) => Ok(Control::LookingBack(observer)),
                 Err(NoMemory) => Err(NoMemory),
             },

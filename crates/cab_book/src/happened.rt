@@ -2,12 +2,14 @@
 //! the frames as came before it. Room for the whole round is taken at its start, and for an item that comes behind, with it.
 
 ghost use Rattle.std.specs.Prelude.{◌≡◌, ◌≤◌, ◌<◌, ◌+◌, ℕ, [], ◌∷◌, IfOk, OnOk, option_to_list, vec_capacity};
+ghost use Rattle.sig_types.specs.Passes.{number_of};
+ghost use Rattle.sig_types.specs.declared.streams.Stream.TheVariants.{Inputs};
 ghost use Rattle.cabinet_history.specs.Journals.{runs_of, times};
 ghost use Rattle.cab_book.specs.Shares.{read_journal};
 
 use crate::journal::Journal;
 use cabinet_history::Reply;
-use sig_types::{Frame, NoMemory};
+use sig_types::{Frame, NoMemory, Stream};
 use std::alloc::{AllocError, Global};
 
 /// A reply, and behind how many of the frames of its round that have a line it came.
@@ -94,11 +96,11 @@ impl Happened {
     /// An input was heard. It takes no memory.
     pub fn add_input(&mut self)
         requires room { HasRoom self.old 0 0 1 }
-        requires few { times 0 (journal_in self.old) < 4294967295 }
-        ensures goes { HappenedGoesOn self.old self.new 0 [] [] }
+        requires few { times (number_of Inputs) (journal_in self.old) < 4294967295 }
+        ensures goes { HappenedGoesOn self.old self.new (number_of Inputs) [] [] }
         ensures room { (ticks frames items : ℕ) → HasRoom self.old ticks frames (items + 1) → HasRoom self.new ticks frames items }
     {
-        self.journal.add(0);
+        self.journal.add(Stream::Inputs.number());
     }
 
     /// A pass brought so many ticks, of which the last gave this frame with its number, or none has a line. It takes no memory.

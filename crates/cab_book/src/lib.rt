@@ -15,6 +15,6 @@ mod sharing;
 
 pub use book::Book;
 pub use cabinet::{Cabinet, Told};
-pub use control::{Control, Way};
+pub use control::{Control, Engine};
 pub use happened::Answered;
 pub use journal::Journal;

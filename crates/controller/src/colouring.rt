@@ -5,8 +5,8 @@ ghost use Rattle.std.specs.Prelude.{◌≡◌, ◌<◌, ◌≤◌, ℕ, IsTrue, 
 use crate::Controller;
 use crate::by_colour::ByColour;
 use ring_barrier::Changes;
-use sig_types::{Colour, Frame};
-use tick_context::{TickInputs, TickState, lone};
+use sig_types::{Colour, Frame, PhaseSet};
+use tick_context::{TickInputs, TickState};
 
 /// The frame of a tick, the phases by its colours, and whether every phase keeps the colour and the signal that it had.
 #[derive(Clone, Copy)]
@@ -88,7 +88,11 @@ impl Controller {
             return true;
         }
         let [first, second] = self.context.frame.on;
-        if clearing.minus(lone(first)).minus(lone(second)).is_empty() {
+        if clearing
+            .minus(PhaseSet::of(first))
+            .minus(PhaseSet::of(second))
+            .is_empty()
+        {
             self.keeps_colour(first) && self.keeps_colour(second)
         } else {
             false

@@ -4,8 +4,8 @@
 ghost use Rattle.std.specs.Prelude.{◌≡◌, ◌<◌, ◌≤◌, ◌+◌, ◌&&◌, ◌⊎◌, ℕ, true, not, Option, None, Some, []};
 
 use crate::Controller;
-use sig_types::Colour;
-use tick_context::{TickInputs, is_coord, lone};
+use sig_types::{Colour, PhaseSet};
+use tick_context::{TickInputs, is_coord};
 
 impl Controller {
     ghost use Rattle.sig_types.specs.Phases.{is_phase, is_in};
@@ -255,7 +255,11 @@ impl Controller {
         let [first, second] = self.context.frame.on;
         let lit = self.shown.green.union(self.shown.clearing);
         let busy = lit.union(self.signalling);
-        if busy.minus(lone(first)).minus(lone(second)).is_empty() {
+        if busy
+            .minus(PhaseSet::of(first))
+            .minus(PhaseSet::of(second))
+            .is_empty()
+        {
             let one = self.place_left(tick_inputs, first);
             one.min(self.place_left(tick_inputs, second))
         } else {

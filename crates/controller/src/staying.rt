@@ -4,7 +4,7 @@ ghost use Rattle.std.specs.Prelude.{◌≡◌, ◌<◌, ◌≤◌, ◌&&◌, [],
 
 use crate::Controller;
 use sig_types::PhaseSet;
-use tick_context::{TickInputs, lone};
+use tick_context::TickInputs;
 
 impl Controller {
     ghost use Rattle.sig_types.specs.declared.frame.Mode.TheVariants.{Free};
@@ -48,8 +48,8 @@ impl Controller {
         let [first, second] = self.context.frame.on;
         if self
             .signalling
-            .minus(lone(first))
-            .minus(lone(second))
+            .minus(PhaseSet::of(first))
+            .minus(PhaseSet::of(second))
             .is_empty()
         {
             self.walks_on(first) && self.walks_on(second)
@@ -112,7 +112,11 @@ impl Controller {
         }
         let [first, second] = self.context.frame.on;
         let green = self.shown.green;
-        if green.minus(lone(first)).minus(lone(second)).is_empty() {
+        if green
+            .minus(PhaseSet::of(first))
+            .minus(PhaseSet::of(second))
+            .is_empty()
+        {
             self.stays(tick_inputs, first) && self.stays(tick_inputs, second)
         } else {
             false

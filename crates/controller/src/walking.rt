@@ -7,7 +7,7 @@ use crate::Controller;
 use call_store::{Crosswalks, walks};
 use ring_barrier::Changes;
 use sig_types::{Mode, Ped, PhaseSet};
-use tick_context::{TickInputs, TickState, greens, lone};
+use tick_context::{TickInputs, TickState, greens};
 
 impl Controller {
     ghost use Rattle.sig_types.specs.declared.frame.Colour.{Colour};
@@ -113,8 +113,8 @@ impl Controller {
         let [first, second] = self.context.frame.on;
         if self
             .signalling
-            .minus(lone(first))
-            .minus(lone(second))
+            .minus(PhaseSet::of(first))
+            .minus(PhaseSet::of(second))
             .is_empty()
         {
             self.keeps_signal(tick_state, first) && self.keeps_signal(tick_state, second)

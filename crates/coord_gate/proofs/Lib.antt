@@ -1,2 +1,2 @@
-mod Walks
+mod Kept
 mod Plans

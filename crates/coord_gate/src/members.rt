@@ -1,29 +1,10 @@
 //! Walks over the phases of a set, from the least: each member is looked at once, and no other phase is.
 
-ghost use Rattle.std.specs.Prelude.{◌≡◌, ◌<◌, ◌≤◌, ◌&&◌, ◌+◌, ◌-◌, ◌^◌, ◌==◌, not, nat_le, get_or, true, ℕ, []};
-ghost use Rattle.sig_types.specs.PhaseSet.{has, phases_of};
+ghost use Rattle.std.specs.Prelude.{◌≡◌, ◌<◌, ◌≤◌, ◌&&◌, ◌+◌, ◌-◌, ◌^◌, nat_le, get_or, ℕ};
+ghost use Rattle.sig_types.specs.PhaseSet.{has};
 ghost use Rattle.sig_tables.specs.Layout.{Has};
 
 use sig_types::PhaseSet;
-
-/// The least phase of a set that isn't empty.
-fn least_of(set: PhaseSet) -> u8
-    requires some { ¬ (phases_of set ≡ []) }
-    ensures has { has set result ≡ true }
-    ensures above { 0 < result }
-    ensures within { result ≤ 16 }
-{
-    set.first()
-}
-
-/// The phases of a set but one, 1 to 16.
-fn without(set: PhaseSet, phase: u8) -> PhaseSet
-    requires above { 0 < phase }
-    requires within { phase ≤ 16 }
-    ensures { Has result (λ p. has set p && not (p == phase)) }
-{
-    set.minus(PhaseSet::empty().with(phase))
-}
 
 /// Whether the moment of a phase, 1 to 16, has come at this counter.
 fn has_come(moments: &[u32; 16], counter: u32, phase: u8) -> bool
@@ -52,9 +33,9 @@ pub fn reached(moments: &[u32; 16], counter: u32, among: PhaseSet) -> PhaseSet
     let mut passed = PhaseSet::empty();
     let mut left = among;
     'members: while !left.is_empty() {
-        let phase = least_of(left);
+        let phase = left.least();
         passed = passed.with_if(phase, has_come(moments, counter, phase));
-        left = without(left, phase);
+        left = left.without(phase);
     }
     passed
 }
@@ -68,9 +49,9 @@ pub fn in_time(force: &[u32; 16], services: &[u32; 16], moment: u64, among: Phas
     let mut passed = PhaseSet::empty();
     let mut left = among;
     'members: while !left.is_empty() {
-        let phase = least_of(left);
+        let phase = left.least();
         passed = passed.with_if(phase, ends_in_time(force, services, moment, phase));
-        left = without(left, phase);
+        left = left.without(phase);
     }
     passed
 }

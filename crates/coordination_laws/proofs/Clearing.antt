@@ -1,5 +1,5 @@
 -- What one moment more changes of runs and latched times, whatever tables they are of.
-use Rattle.std.proofs.Common.{◌≡◌, ◌⊎◌, inl, inr, ℕ, ◌+◌, ◌==◌, true, false, if◌then◌else◌, List, ◌∷◌, refl}
+use Rattle.std.proofs.Common.{◌≡◌, ◌⊎◌, inl, inr, ℕ, ◌==◌, true, false, if◌then◌else◌, List, ◌∷◌, refl}
 use Rattle.std.proofs.lemmas.Bool.{cases_Bool}
 use Rattle.sig_types.specs.declared.frame.Colour.{Colour}
 use Rattle.sig_types.specs.declared.frame.Colour.TheVariants.{Yellow, Clear, Red}
@@ -38,19 +38,9 @@ same-signal-self Walk = refl
 same-signal-self Flash = refl
 same-signal-self Dont = refl
 
-pub signal-goes : (p : ℕ) (s : Ped) (m : Moment) (past : List Moment) → signal_of m.frame p ≡ s → signal_run p s (m ∷ past) ≡ signal_run p s past + 1
-signal-goes p s m past e = rw (e, same-signal-self s) refl
-
-pub signal-comes : (p : ℕ) (s x : Ped) (n : Moment) (past : List Moment) → signal_of n.frame p ≡ x → same_signal x s ≡ false → signal_run p s (n ∷ past) ≡ 0
-signal-comes p s x n past e f = rw (e, f) refl
-
 pub signal_latched-goes : (p : ℕ) (s : Ped) (t : Tables) (m : Moment) (past : List Moment) → signal_of m.frame p ≡ s → m.tables ≡ t
     → signal_latched p s t (m ∷ past) ≡ signal_latched p s t past
 signal_latched-goes p s t m past e same = rw (e, same-signal-self s, same) refl
-
-pub signal_latched-comes : (p : ℕ) (s x : Ped) (t : Tables) (n : Moment) (past : List Moment) → signal_of n.frame p ≡ x → same_signal x s ≡ false
-    → signal_latched p s t (n ∷ past) ≡ t
-signal_latched-comes p s x t n past e f = rw (e, f) refl
 
 pub walk-goes : (p : ℕ) (t : Tables) (past : List Moment)
     → (((signal_run p Walk past == walk_time (signal_latched p Walk t past) p) ≡ true) ×

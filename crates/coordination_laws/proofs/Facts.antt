@@ -18,19 +18,19 @@ use Rattle.sig_tables.specs.Command.{command_now}
 use Rattle.sig_tables.specs.Counting.{HasRoom, next_counter}
 use Rattle.sig_tables.specs.Counters.{correction_of, counters_since, counter_in}
 use Rattle.sig_tables.specs.Choosing.{is_in_step, are_all_red, mode_reached}
-use Rattle.sig_tables.specs.TickState.{RingTurn, ring_turn_in, ring_turn_from_start, ring_turn_of, tick_state_of}
-use Rattle.sig_tables.specs.Moves.{Moves, ring_moves}
-use Rattle.sig_types.specs.Colour.{is_start, colour_of}
+use Rattle.sig_tables.specs.TickState.{tick_state_of}
+use Rattle.sig_tables.specs.Moves.{Moves}
+use Rattle.sig_types.specs.Colour.{colour_of}
 use Rattle.sig_tables.specs.Past.{Past, Moment}
 use Rattle.sig_tables.specs.Looking.{last_frame, last_moment}
 use Rattle.sig_tables.specs.Seen.{mode_seen, moves_seen, view_seen}
-use Rattle.sig_tables.specs.Decide.{moves_of, colour_after, colours_of, next_moment}
+use Rattle.sig_tables.specs.Decide.{colour_after, colours_of, next_moment}
+use Rattle.sig_tables.proofs.Below.{enabled-phase}
 use Rattle.tick_laws.specs.Lawful.{Sound}
 use Rattle.tick_laws.specs.InStep.{NamesOn, Coordinated}
 use Rattle.tick_laws.proofs.Apart.{Holds}
-use Rattle.tick_laws.proofs.InStep.{GoesInStep, sees, step-of}
+use Rattle.tick_laws.proofs.InStep.{GoesInStep, sees, step-of, moves-are}
 use Rattle.tick_laws.proofs.Next.{next-colour}
-use Rattle.tick_laws.proofs.FrameStands.{enabled-phase}
 use Rattle.tick_laws.proofs.Modes.{same-coord}
 use Rattle.tick_laws.proofs.PatternFacts.{holds-pair, plan-serves, times-serve, window-within}
 use Rattle.coordination_laws.specs.Search.{AnyMoment}
@@ -195,12 +195,6 @@ seek-facts d past n l earlier b mode same defined apart = record {
 
 -- ---- a tick in step with the pattern
 
-ring-moves : (past : Past) (n : ℕ) → mode_seen past ≡ Coord n → (last_frame past.moments).mode ≡ Coord n → moves_seen past ≡ ring_moves (view_seen past)
-ring-moves past n mode last =
-    ap (λ (ring_turn : RingTurn). moves_of ring_turn (view_seen past))
-    (ap (λ (m : Mode). ring_turn_of past.tables past.moments m) mode
-    ∙ ap (λ (m : Mode). if is_start m then ring_turn_from_start past.tables (Coord n) else ring_turn_in past.tables (Coord n)) last)
-
 step-facts : (d : Drift) (past : Past) (n : ℕ) (l : Moment) (earlier : List Moment) → Before d past l earlier → mode_seen past ≡ Coord n → n ≡ command_now past
     → is_defined past.tables n ≡ true → is_in_step (last_frame past.moments) past.version n ≡ true → StepFacts d n (next_moment past) l earlier
 step-facts d past n l earlier b mode same defined before = record {
@@ -227,7 +221,7 @@ step-facts d past n l earlier b mode same defined before = record {
       colours = λ p e.
           subst
           (λ (moves : Moves). colour_of (next_moment past).frame p ≡ colour_after moves p past.tables past.moments (colour_of (last_frame past.moments) p))
-          (ring-moves past n mode (ap (λ (ms : List Moment). (last_frame ms).mode) b.lasting ∙ last)) (next-colour past p (enabled-phase past.tables p e));
+          (moves-are past n mode (ap (λ (ms : List Moment). (last_frame ms).mode) b.lasting ∙ last)) (next-colour past p (enabled-phase past.tables p e));
     };
     counter = refl;
   };

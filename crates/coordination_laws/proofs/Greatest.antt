@@ -1,10 +1,10 @@
 -- The greatest times so far: they bound each version's, and only grow.
 use Rattle.std.proofs.Common.{◌≡◌, ◌⊎◌, inl, inr, ℕ, ◌+◌, ◌*◌, ◌≤◌, max, Bool, true, false, if◌then◌else◌, List, [], ◌∷◌, refl, sym, ◌∙◌, ap, arith}
-use Rattle.std.proofs.lemmas.Bool.{false≢true, and_parts}
+use Rattle.std.proofs.lemmas.Bool.{false≢true}
 use Rattle.sig_types.specs.Phases.{is_in, is_phase, all_phases}
 use Rattle.sig_types.proofs.Lists.{in-cons, phase-listed}
 use Rattle.sig_tables.specs.declared.tables.Tables.{Tables}
-use Rattle.sig_tables.specs.Tables.{option, is_enabled, least_green, walk_time, pedestrian_clear_time, yellow_time, red_clear_time}
+use Rattle.sig_tables.specs.Tables.{is_enabled, least_green, walk_time, pedestrian_clear_time, yellow_time, red_clear_time}
 use Rattle.sig_tables.specs.Sums.{greatest}
 use Rattle.sig_tables.specs.Past.{Moment}
 use Rattle.sig_tables.specs.Looking.{in_a_row, begun}
@@ -114,9 +114,6 @@ pickup-grows m past = sums _ _ _ _ _ _ (clearance-grows m past) (service-grows m
     sums a b c d e f h k l = omega arith
 
 -- ---- what the search asks of them
-enabled-phase : (t : Tables) (p : ℕ) → is_enabled t p ≡ true → is_phase p ≡ true
-enabled-phase t p e = (and_parts (is_phase p) (option 0 t p) e).0
-
 pub greatest-sums : (past : List Moment) (p : ℕ) → Sums (greatest_at past p)
 greatest-sums past p = record {
   signals = upper _ _ _ (service-bounds past p);

@@ -1,5 +1,5 @@
 -- A phase outside the goal is off once the greatest service and the greatest clearance are over.
-use Rattle.std.proofs.Common.{◌≡◌, ◌≢◌, ◌⊎◌, inl, inr, ℕ, ◌+◌, ◌-◌, ◌<◌, ◌≤◌, nat_le, ◌==◌, ◌&&◌, ◌||◌}
+use Rattle.std.proofs.Common.{◌≡◌, ◌≢◌, inl, inr, ℕ, ◌+◌, ◌-◌, ◌<◌, ◌≤◌, nat_le, ◌==◌, ◌&&◌, ◌||◌}
 use Rattle.std.proofs.Common.{Bool, true, false, not, if◌then◌else◌, List, [], ◌∷◌, refl, sym, ◌∙◌, ap, subst, arith}
 use Rattle.std.proofs.lemmas.Bool.{cases_lt, both_ways, eqb-false, false≢true, and_from, and_parts}
 use Rattle.sig_types.specs.declared.frame.Colour.{Colour}
@@ -22,16 +22,13 @@ use Rattle.sig_tables.specs.View.{View, on_phase, is_open, other_ring, is_starta
 use Rattle.sig_tables.specs.Moves.{goal_moves, goal_ending_in, goal_beginning_in}
 use Rattle.sig_tables.specs.Decide.{colour_after}
 use Rattle.offset_laws.proofs.Looks.{fits}
-use Rattle.tick_laws.proofs.Runs.{run-on, run-first, run-none}
+use Rattle.tick_laws.proofs.Runs.{run-on, run-first}
 use Rattle.tick_laws.proofs.Others.{end-choice}
 use Rattle.tick_laws.proofs.Finding.{in-left, in-right}
+use Rattle.tick_laws.proofs.ForcedSignals.{signal-on, choice}
 use Rattle.coordination_laws.specs.Search.{Greatest, Sums, GreatestKeeps, OutGreen, OutStands, OutSignal, Sought, Found}
-use Rattle.coordination_laws.proofs.Clearing.{latched-goes, yellow-goes, clear-goes, signal-goes}
+use Rattle.coordination_laws.proofs.Clearing.{latched-goes, yellow-goes, clear-goes}
 use Rattle.coordination_laws.proofs.Clearing.{signal-comes, signal_latched-goes, signal_latched-comes, walk-goes, flash-goes}
-
-choice : (b : Bool) (x y : Ped) → ((b ≡ true) × ((if b then x else y) ≡ x)) ⊎ ((b ≡ false) × ((if b then x else y) ≡ y))
-choice true x y = inl (refl, refl)
-choice false x y = inr (refl, refl)
 
 -- its signal runs on, and is over with the greatest service
 pub out-signal : (g : Greatest) (t : Tables) (p ticks : ℕ) (l : Moment) (past : List Moment) (m : Moment) → Sums g → GreatestKeeps g t p → m.tables ≡ t
@@ -51,7 +48,7 @@ out-signal g t p ticks l past m sums keeps tables goes = by (signal_of l.frame p
             | inr z ↦
                 let is : signal_of m.frame p ≡ Flash = h ∙ k.1 ∙ z.1 in
                 let some : pedestrian_clear_time t p ≢ 0 = eqb-false _ _ z.0 in
-                let once : signal_run p Flash (m ∷ l ∷ past) ≡ 0 + 1 = signal-goes p Flash m (l ∷ past) is ∙ ap (λ (x : ℕ). x + 1)
+                let once : signal_run p Flash (m ∷ l ∷ past) ≡ 0 + 1 = signal-on p Flash m (l ∷ past) is ∙ ap (λ (x : ℕ). x + 1)
                 (signal-comes p Flash Walk l past e refl) in
                 let now : signal_latched p Flash t (m ∷ l ∷ past) ≡ t = signal_latched-goes p Flash t m (l ∷ past) is tables
                 ∙ signal_latched-comes p Flash Walk t l past e refl in
@@ -63,7 +60,7 @@ out-signal g t p ticks l past m sums keeps tables goes = by (signal_of l.frame p
           | inr k ↦
               let short : signal_run p Walk (l ∷ past) ≢ walk_time (signal_latched p Walk t (l ∷ past)) p = eqb-false _ _ k.0 in
               let is : signal_of m.frame p ≡ Walk = h ∙ k.1 in
-              let more : signal_run p Walk (m ∷ l ∷ past) ≡ signal_run p Walk (l ∷ past) + 1 = signal-goes p Walk m (l ∷ past) is in
+              let more : signal_run p Walk (m ∷ l ∷ past) ≡ signal_run p Walk (l ∷ past) + 1 = signal-on p Walk m (l ∷ past) is in
               let time : walk_time (signal_latched p Walk t (m ∷ l ∷ past)) p ≡ walk_time (signal_latched p Walk t (l ∷ past)) p
               = ap (λ (u : Tables). walk_time u p) (signal_latched-goes p Walk t m (l ∷ past) is tables) in
               subst (λ (x : Ped). OutSignal g t p (ticks + 1) (m ∷ l ∷ past) x) (sym is)
@@ -78,7 +75,7 @@ out-signal g t p ticks l past m sums keeps tables goes = by (signal_of l.frame p
           | inr k ↦
               let short : signal_run p Flash (l ∷ past) ≢ pedestrian_clear_time (signal_latched p Flash t (l ∷ past)) p = eqb-false _ _ k.0 in
               let is : signal_of m.frame p ≡ Flash = h ∙ k.1 in
-              let more : signal_run p Flash (m ∷ l ∷ past) ≡ signal_run p Flash (l ∷ past) + 1 = signal-goes p Flash m (l ∷ past) is in
+              let more : signal_run p Flash (m ∷ l ∷ past) ≡ signal_run p Flash (l ∷ past) + 1 = signal-on p Flash m (l ∷ past) is in
               let time : pedestrian_clear_time (signal_latched p Flash t (m ∷ l ∷ past)) p ≡ pedestrian_clear_time (signal_latched p Flash t (l ∷ past)) p
               = ap (λ (u : Tables). pedestrian_clear_time u p) (signal_latched-goes p Flash t m (l ∷ past) is tables) in
               subst (λ (x : Ped). OutSignal g t p (ticks + 1) (m ∷ l ∷ past) x) (sym is)

@@ -26,6 +26,7 @@ use Rattle.sig_tables.specs.Moves.{Moves, goal_moves, goal_beginning_in}
 use Rattle.sig_tables.specs.Seen.{mode_seen, view_seen, moves_seen}
 use Rattle.sig_tables.specs.Decide.{moves_of, colour_after, colours_of, next_moment}
 use Rattle.sig_tables.proofs.FreeTickState.{lesser-unstaged}
+use Rattle.sig_tables.proofs.Below.{enabled-phase}
 use Rattle.tick_laws.proofs.Others.{end-choice}
 use Rattle.plan_facts.specs.Goals.{GoTogether}
 use Rattle.tick_laws.specs.Lawful.{Sound}
@@ -34,7 +35,7 @@ use Rattle.tick_laws.specs.InStep.{NamesOn}
 use Rattle.tick_laws.proofs.Choices.{not-chosen, differs}
 use Rattle.tick_laws.proofs.Next.{next-colour, next-signal, mode_given, crossing_seen, walk_seen}
 use Rattle.tick_laws.proofs.Sought.{goal-goes}
-use Rattle.tick_laws.proofs.FrameStands.{FrameStands, enabled-phase}
+use Rattle.tick_laws.proofs.FrameStands.{FrameStands}
 use Rattle.coordination_laws.specs.Search.{Sought, Gives}
 use Rattle.coordination_laws.proofs.Outside.{begins-goal}
 use Rattle.coordination_laws.specs.Lasting.{SeekTick}

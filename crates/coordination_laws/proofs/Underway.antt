@@ -11,17 +11,17 @@ use Rattle.sig_tables.specs.Tables.{is_enabled, least_green, yellow_time, red_cl
 use Rattle.sig_tables.specs.Past.{Event, Moment}
 use Rattle.sig_tables.specs.Looking.{in_a_row, begun, run, signal_run, shows, signals}
 use Rattle.sig_tables.specs.Decide.{past_of}
+use Rattle.sig_tables.proofs.Below.{enabled-phase}
 use Rattle.tick_laws.proofs.Runs.{run-on}
 use Rattle.tick_laws.specs.Lawful.{Lawful}
 use Rattle.tick_laws.specs.Safe.{Within, LongYellow, EachWithin, EachLongYellow}
 use Rattle.tick_laws.specs.Walking.{WalkWithin, FlashWithin, EachWalkWithin, EachFlashWithin}
-use Rattle.tick_laws.proofs.FrameStands.{enabled-phase}
 use Rattle.tick_laws.proofs.Within.{each-within}
 use Rattle.tick_laws.proofs.Apart.{each-long}
 use Rattle.tick_laws.proofs.SignalWithin.{each-walk-within, each-flash-within}
 use Rattle.tick_laws.proofs.Serving.{lawful-served}
+use Rattle.tick_laws.proofs.ForcedSignals.{signal-on}
 use Rattle.coordination_laws.specs.Search.{AnyMoment, Runs, SignalRuns}
-use Rattle.coordination_laws.proofs.Clearing.{signal-goes}
 use Rattle.plan_facts.specs.Greatest.{greatest_time}
 use Rattle.coordination_laws.specs.Versions.{greatest_at}
 use Rattle.coordination_laws.proofs.Greatest.{was-enabled, time-bounds, begun-version, service-bounds}
@@ -49,7 +49,7 @@ any-moment opening events lawful m past e = record {
     ran p c h = let k : run p c (m ∷ past) ≡ run p c past + 1 = run-on p c m past h in omega arith
 
     signalled : (p : ℕ) (s : Ped) → signal_of m.frame p ≡ s → 1 ≤ signal_run p s (m ∷ past)
-    signalled p s h = let k : signal_run p s (m ∷ past) ≡ signal_run p s past + 1 = signal-goes p s m past h in omega arith
+    signalled p s h = let k : signal_run p s (m ∷ past) ≡ signal_run p s past + 1 = signal-on p s m past h in omega arith
 
     kept : (time : Tables → ℕ → ℕ) (test : Moment → Bool) (p : ℕ) → is_enabled m.tables p ≡ true → 1 ≤ in_a_row test (m ∷ past)
         → time (begun test m.tables (m ∷ past)) p ≤ greatest_time time p (m ∷ past)

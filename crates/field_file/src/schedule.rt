@@ -166,14 +166,8 @@ fn entries_by(alloc: Global, field: &Field, respond: &Respond) -> Result<Vec<Ent
     requires rules { RulesStand (respond_content respond.now).sections }
     ensures { IfOk result (λ found. found.items ≡ schedule_by (field_content field.now) (respond_content respond.now)) }
 {
-    let counted = match edges(alloc, &field.bank, &field.pulses, field.scenario.rounds) {
-        Ok(counted) => counted,
-        Err(NoMemory) => return Err(NoMemory),
-    };
-    match entries_of(alloc, &field.scenario, respond, &counted) {
-        Ok(found) => Ok(found),
-        Err(NoMemory) => Err(NoMemory),
-    }
+    let counted = edges(alloc, &field.bank, &field.pulses, field.scenario.rounds)?;
+    entries_of(alloc, &field.scenario, respond, &counted)
 }
 
 /// The schedule of a field file's rules, if it has any.

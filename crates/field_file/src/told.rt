@@ -65,24 +65,16 @@ fn traffic_text(
         Some(scenario) => scenario,
         None => return Ok(Vec::new(alloc)),
     };
-    let whole = match result_in(alloc, scenario, calls, schedule) {
-        Ok(whole) => whole,
-        Err(NoMemory) => return Err(NoMemory),
-    };
-    match text_of(alloc, &whole) {
-        Ok(text) => Ok(text),
-        Err(NoMemory) => Err(NoMemory),
-    }
+    let whole = result_in(alloc, scenario, calls, schedule)?;
+    text_of(alloc, &whole)
 }
 
 /// The text of a result, refused where it has too many bytes.
 fn sized(alloc: Global, text: Vec<u8>) -> Result<Vec<u8>, ReadFail>
     ensures { Answers result (bytes_faults text.items) (λ same. same.items ≡ text.items) }
 {
-    match at_most(alloc, "scenario", text.len() as u64, 16_777_216) {
-        Ok(()) => Ok(text),
-        Err(fail) => Err(fail),
-    }
+    at_most(alloc, "scenario", text.len() as u64, 16_777_216)?;
+    Ok(text)
 }
 
 /// The text of a field file's result from its value, refused at the first fault of its size.

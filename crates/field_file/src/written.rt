@@ -105,10 +105,7 @@ fn put_schedule(
 ) -> Result<(), NoMemory>
     ensures { OnOk result (object (members_view members.new.entries) ≡ with_schedule (Some schedule.now.items) (object (members_view members.old.entries))) }
 {
-    let entries = match entry_values(alloc, schedule) {
-        Ok(entries) => entries,
-        Err(NoMemory) => return Err(NoMemory),
-    };
+    let entries = entry_values(alloc, schedule)?;
     put_in_master(alloc, members, Value::Array(entries))
 }
 
@@ -123,10 +120,10 @@ fn put_traffic(
 {
     match schedule {
         None => put_inputs(alloc, members, calls),
-        Some(entries) => match put_schedule(alloc, members, entries) {
-            Ok(()) => put_inputs(alloc, members, calls),
-            Err(NoMemory) => Err(NoMemory),
-        },
+        Some(entries) => {
+            put_schedule(alloc, members, entries)?;
+            put_inputs(alloc, members, calls)
+        }
     }
 }
 
@@ -140,10 +137,10 @@ pub(crate) fn result_in(
     ensures { IfOk result (λ v. view v ≡ with_traffic calls.now.items (option_map (λ s. s.items) schedule.now) (view scenario)) }
 {
     match scenario {
-        Value::Object(mut members) => match put_traffic(alloc, &mut members, calls, schedule) {
-            Ok(()) => Ok(Value::Object(members)),
-            Err(NoMemory) => Err(NoMemory),
-        },
+        Value::Object(mut members) => {
+            put_traffic(alloc, &mut members, calls, schedule)?;
+            Ok(Value::Object(members))
+        }
         other => Ok(other),
     }
 }

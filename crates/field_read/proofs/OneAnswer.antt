@@ -1,53 +1,24 @@
 -- Bytes are one field file, or have a first fault, and never both.
-use Rattle.std.proofs.Common.{◌≡◌, ℕ, List, [], ◌∷◌, Option, Some, sym, ap, ◌∙◌, subst}
-use Rattle.serde_json.specs.Data.{Data}
+use Rattle.std.proofs.Common.{◌≡◌, ℕ, List, sym, ap, ◌∙◌}
 use Rattle.scenario_data.specs.declared.refusal.Refusal.{Refusal}
 use Rattle.scenario_data.specs.declared.refusal.Refusal.TheVariants.{Syntax, Field, Limit, Broken}
-use Rattle.scenario_data.specs.Causes.{Cause}
-use Rattle.scenario_read.specs.Faults.{first_cause}
 use Rattle.scenario_read.specs.Answers.{SameFault}
+use Rattle.scenario_read.proofs.OneAnswer.{one-value, IsFirstOf, none-beside, one-first}
 use Rattle.field_read.specs.Content.{FieldContent, field_of}
 use Rattle.field_read.specs.Checks.{file_faults}
 use Rattle.field_read.specs.Answers.{IsField, IsFirstFieldFault}
 
-one-value : (o : Option Data) (d e : Data) → o ≡ Some d → o ≡ Some e → d ≡ e
-one-value o d e p q = cc
-
-none-first : (causes : List Cause) (cause : Cause) → causes ≡ [] → first_cause causes ≡ Some cause → ⊥
-none-first [] cause none first = absurd (cc)
-none-first (c ∷ causes) cause none first = absurd (cc)
-
 pub one-field : (bytes : List ℕ) (a b : FieldContent) → IsField bytes a → IsField bytes b → a ≡ b
 one-field bytes a b (d, r, none, is) (e, s, clean, so) = is ∙ ap field_of (one-value _ d e r.1 s.1) ∙ sym so
 
-clash : (bytes : List ℕ) (d e : Data) (o : Option Data) (cause : Cause) → o ≡ Some d → o ≡ Some e → file_faults d ≡ [] → first_cause (file_faults e) ≡ Some cause → ⊥
-clash bytes d e o cause r s none first = none-first (file_faults e) cause (subst (λ v. file_faults v ≡ []) (one-value o d e r s) none) first
+first-of : (bytes : List ℕ) (refusal : Refusal) → IsFirstFieldFault bytes refusal → IsFirstOf file_faults bytes refusal
+first-of bytes Syntax h = h
+first-of bytes (Field path) h = h
+first-of bytes (Limit path) h = h
+first-of bytes (Broken cabinet rule row) h = h
 
 pub no-fault-beside : (bytes : List ℕ) (a : FieldContent) (refusal : Refusal) → IsField bytes a → IsFirstFieldFault bytes refusal → ⊥
-no-fault-beside bytes a Syntax s h = h s.0 s.1
-no-fault-beside bytes a (Field path) s h = clash bytes s.0 h.0 _ _ s.1.1 h.1.1 s.2 h.2
-no-fault-beside bytes a (Limit path) s h = clash bytes s.0 h.0 _ _ s.1.1 h.1.1 s.2 h.2
-no-fault-beside bytes a (Broken cabinet rule row) s h = clash bytes s.0 h.0 _ _ s.1.1 h.1.1 s.2 h.2
-
-same-first : (d e : Data) (a b : Cause) (o : Option Data) → o ≡ Some d → o ≡ Some e → first_cause (file_faults d) ≡ Some a → first_cause (file_faults e) ≡ Some b → a ≡ b
-same-first d e a b o r s p q =
-    let same : first_cause (file_faults d) ≡ first_cause (file_faults e) = ap (λ v. first_cause (file_faults v)) (one-value o d e r s) in
-    cc
+no-fault-beside bytes a refusal s h = none-beside file_faults bytes s.0 refusal s.1 s.2 (first-of bytes refusal h)
 
 pub one-fault : (bytes : List ℕ) (a b : Refusal) → IsFirstFieldFault bytes a → IsFirstFieldFault bytes b → SameFault a b
-one-fault bytes Syntax Syntax h k = tt
-one-fault bytes Syntax (Field path) h k = absurd (h k.0 k.1)
-one-fault bytes Syntax (Limit path) h k = absurd (h k.0 k.1)
-one-fault bytes Syntax (Broken cabinet rule row) h k = absurd (h k.0 k.1)
-one-fault bytes (Field path) Syntax h k = absurd (k h.0 h.1)
-one-fault bytes (Field path) (Field other) h k = let e = same-first h.0 k.0 _ _ _ h.1.1 k.1.1 h.2 k.2 in cc
-one-fault bytes (Field path) (Limit other) h k = let e = same-first h.0 k.0 _ _ _ h.1.1 k.1.1 h.2 k.2 in absurd (cc)
-one-fault bytes (Field path) (Broken cabinet rule row) h k = let e = same-first h.0 k.0 _ _ _ h.1.1 k.1.1 h.2 k.2 in absurd (cc)
-one-fault bytes (Limit path) Syntax h k = absurd (k h.0 h.1)
-one-fault bytes (Limit path) (Field other) h k = let e = same-first h.0 k.0 _ _ _ h.1.1 k.1.1 h.2 k.2 in absurd (cc)
-one-fault bytes (Limit path) (Limit other) h k = let e = same-first h.0 k.0 _ _ _ h.1.1 k.1.1 h.2 k.2 in cc
-one-fault bytes (Limit path) (Broken cabinet rule row) h k = let e = same-first h.0 k.0 _ _ _ h.1.1 k.1.1 h.2 k.2 in absurd (cc)
-one-fault bytes (Broken cabinet rule row) Syntax h k = absurd (k h.0 h.1)
-one-fault bytes (Broken cabinet rule row) (Field other) h k = let e = same-first h.0 k.0 _ _ _ h.1.1 k.1.1 h.2 k.2 in absurd (cc)
-one-fault bytes (Broken cabinet rule row) (Limit other) h k = let e = same-first h.0 k.0 _ _ _ h.1.1 k.1.1 h.2 k.2 in absurd (cc)
-one-fault bytes (Broken cabinet rule row) (Broken c r w) h k = let e = same-first h.0 k.0 _ _ _ h.1.1 k.1.1 h.2 k.2 in (cc, cc, cc)
+one-fault bytes a b h k = one-first file_faults bytes a b (first-of bytes a h) (first-of bytes b k)

@@ -166,14 +166,8 @@ pub fn lists_fit(alloc: Global, field: &Field) -> Result<(), ReadFail>
     requires pulses { PulsesPlaced field.now.pulses.items }
     ensures { Answers result (across_faults (field_content field.now)) (λ _. Unit {0}) }
 {
-    let marks = match marked(alloc, &field.bank) {
-        Ok(marks) => marks,
-        Err(fail) => return Err(fail),
-    };
-    match pulses_known(alloc, &marks, &field.bank, &field.pulses) {
-        Ok(()) => {}
-        Err(fail) => return Err(fail),
-    }
+    let marks = marked(alloc, &field.bank)?;
+    pulses_known(alloc, &marks, &field.bank, &field.pulses)?;
     match &field.respond {
         None => Ok(()),
         Some(respond) => rules_fit(alloc, &field.scenario, respond),

@@ -11,10 +11,11 @@ ghost use Rattle.field_read.specs.Table.{detector_shape, bank};
 ghost use Rattle.field_read.specs.Content.{detector_of, bank_of};
 ghost use Rattle.field_read.specs.Places.{steps_of};
 
-use crate::members::{known_names, list_of, whole_at};
+use crate::members::{known_names, whole_at};
 use crate::place::{Place, refuse_member};
 use detector_bank::Detector;
 use scenario_data::ReadFail;
+use scenario_read::list_of;
 use serde_json::Value;
 use std::alloc::Global;
 

@@ -1,26 +1,19 @@
 //! The members of an object: which names may stand there, and what stands at a name.
 
-ghost use Rattle.std.specs.Prelude.{◌≡◌, ◌≤◌, map, length, IfOk, OnOk};
-ghost use Rattle.serde_json.specs.View.{view, items_view, members_view};
-ghost use Rattle.scenario_read.specs.Kinds.{is_among, within, list_fits, items_in, flag, flag_fits};
+ghost use Rattle.std.specs.Prelude.{◌≡◌, ◌≤◌, map, IfOk};
+ghost use Rattle.serde_json.specs.View.{view, members_view};
+ghost use Rattle.scenario_read.specs.Kinds.{flag};
 ghost use Rattle.scenario_read.specs.Fields.{needed, held, field_faults, unknown_faults};
 ghost use Rattle.scenario_read.specs.Table.{needed_whole};
 ghost use Rattle.scenario_read.specs.Content.{number_at, flag_of};
-ghost use Rattle.scenario_read.specs.Readers.{Answers, ReadAs, names_faults};
+ghost use Rattle.scenario_read.specs.Readers.{Answers, names_faults};
 ghost use Rattle.field_read.specs.Places.{steps_of};
 
 use crate::place::{Place, refuse, refuse_member};
 use scenario_data::ReadFail;
-use scenario_read::{Unfit, whole_of};
+use scenario_read::{Unfit, flag_of, is_among, whole_of};
 use serde_json::{Map, Value};
 use std::alloc::Global;
-
-/// Whether a name is one of these.
-fn is_among(names: &[&str], name: &str) -> bool
-    ensures { result ≡ is_among (map (λ known. known.now) names.now) name.now }
-{
-    names.contains(&name)
-}
 
 /// Refuses the least name, by bytes, that is not known.
 fn known_members(
@@ -76,16 +69,6 @@ pub(crate) fn whole_at(
     }
 }
 
-/// True or false.
-fn flag_of(value: &Value) -> Result<bool, Unfit>
-    ensures { ReadAs result (flag_fits (view value.now)) (λ flag. flag ≡ flag_of (view value.now)) }
-{
-    match value {
-        Value::Bool(flag) => Ok(*flag),
-        _ => Err(Unfit::Wrong),
-    }
-}
-
 /// True or false, which must stand at a name.
 pub(crate) fn flag_at(
     alloc: Global,
@@ -102,32 +85,5 @@ pub(crate) fn flag_at(
             Err(unfit) => Err(refuse_member(alloc, place, name, unfit)),
         },
         None => Err(refuse_member(alloc, place, name, Unfit::Wrong)),
-    }
-}
-
-/// Whether a count lies within a range.
-fn in_range(count: usize, least: usize, most: usize) -> Result<(), Unfit>
-    ensures read { ReadAs result (within least most count) (λ _. Unit {0}) }
-    ensures few { OnOk result (count ≤ most) }
-{
-    if least <= count && count <= most {
-        Ok(())
-    } else {
-        Err(Unfit::Beyond)
-    }
-}
-
-/// The items of a list of least to most.
-#[tactic(auto, using(scenario_read::proofs::Lists::array_within, scenario_read::proofs::Lists::array_items))]
-pub(crate) fn list_of(value: &Value, least: usize, most: usize) -> Result<&Vec<Value>, Unfit>
-    ensures read { ReadAs result (list_fits least most (view value.now)) (λ items. items_view items.now.items ≡ items_in (view value.now)) }
-    ensures few { IfOk result (λ items. length items.now.items ≤ most) }
-{
-    let Value::Array(items) = value else {
-        return Err(Unfit::Wrong);
-    };
-    match in_range(items.len(), least, most) {
-        Ok(()) => Ok(items),
-        Err(unfit) => Err(unfit),
     }
 }

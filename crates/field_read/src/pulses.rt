@@ -11,10 +11,11 @@ ghost use Rattle.field_read.specs.Table.{pulse_shape, pulses};
 ghost use Rattle.field_read.specs.Content.{pulse_of, pulses_of};
 ghost use Rattle.field_read.specs.Places.{steps_of};
 
-use crate::members::{flag_at, known_names, list_of, whole_at};
+use crate::members::{flag_at, known_names, whole_at};
 use crate::place::{Place, refuse_member};
 use detector_bank::Pulse;
 use scenario_data::ReadFail;
+use scenario_read::list_of;
 use serde_json::Value;
 use std::alloc::Global;
 

@@ -11,11 +11,11 @@ ghost use Rattle.field_read.specs.Table.{step_shape, steps, section_shape, secti
 ghost use Rattle.field_read.specs.Content.{rule_content, respond_content, step_of, rule_of, respond_of, respond_asked};
 ghost use Rattle.field_read.specs.Places.{steps_of};
 
-use crate::members::{known_names, list_of, whole_at};
+use crate::members::{known_names, whole_at};
 use crate::place::{Place, refuse_member};
 use responsive::{Rule, Step};
 use scenario_data::ReadFail;
-use scenario_read::Unfit;
+use scenario_read::{Unfit, list_of};
 use serde_json::Value;
 use std::alloc::Global;
 
@@ -142,9 +142,6 @@ pub(crate) fn respond_at(alloc: Global, object: &Value) -> Result<Option<Respond
 {
     match object.get("respond") {
         None => Ok(None),
-        Some(value) => match respond_in(alloc, value) {
-            Ok(respond) => Ok(Some(respond)),
-            Err(fail) => Err(fail),
-        },
+        Some(value) => Ok(Some(respond_in(alloc, value)?)),
     }
 }

@@ -1,18 +1,13 @@
 -- Whether every phase is Red, colour by colour.
-use Rattle.std.proofs.Common.{◌≡◌, ◌<◌, ◌+◌, ◌-◌, ℕ, Bool, true, false, inl, inr, List, [], ◌∷◌, get_or, refl, sym, ◌∙◌, ap, arith}
+use Rattle.std.proofs.Common.{◌≡◌, ◌<◌, ◌+◌, ◌-◌, ℕ, true, false, inl, inr, List, get_or, sym, ◌∙◌, ap, arith}
 use Rattle.std.proofs.lemmas.Bool.{cases_Bool, false≢true}
 use Rattle.sig_types.specs.declared.frame.Colour.{Colour}
 use Rattle.sig_types.specs.declared.frame.Colour.TheVariants.{Green, Red}
 use Rattle.sig_types.specs.Colour.{same_colour, colour_in}
-use Rattle.sig_types.specs.Phases.{is_in, all_phases, every}
-use Rattle.sig_types.proofs.Lists.{in-head, in-tail}
-use Rattle.sig_types.proofs.Sets.{every-phase, listed-phase}
+use Rattle.sig_types.specs.Phases.{all_phases}
+use Rattle.sig_types.proofs.Sets.{every-phase, listed-phase, every-from}
 use Rattle.sig_tables.specs.Choosing.{are_all_red}
 use Rattle.sig_tables.proofs.Below.{is-above, is-within, phase-is}
-
-every-from : (test : ℕ → Bool) (xs : List ℕ) → ((q : ℕ) → is_in xs q ≡ true → test q ≡ true) → every test xs ≡ true
-every-from test [] h = refl
-every-from test (x ∷ xs) h = rw (h x (in-head x xs)) (every-from test xs (λ q i. h q (in-tail x xs q i)))
 
 pub all-red : (veh : List Colour) → ((k : ℕ) → k < 16 → same_colour (get_or veh k Green) Red ≡ true) → are_all_red veh ≡ true
 all-red veh h = every-from (λ p. same_colour (colour_in veh p) Red) all_phases (λ p i.

@@ -1,5 +1,5 @@
 -- The lists of the copies that a line keeps: those that come in rounds of one rest by 32 stand together.
-use Rattle.std.specs.Prelude.{ℕ, zero, suc, ◌≡◌, ◌≤◌, ◌+◌, ◌%◌, ◌⊎◌, All, List, [], ◌∷◌, Option}
+use Rattle.std.specs.Prelude.{ℕ, zero, suc, ◌≡◌, ◌≤◌, ◌+◌, ◌%◌, ◌⊎◌, All, List, [], ◌∷◌, ◌++◌, Option}
 use Rattle.scenario_data.specs.declared.scenario.Fault.{Fault}
 use Rattle.link_sim.specs.declared.stream_line.Late.{Late}
 use Rattle.link_sim.specs.declared.stream_line.LateList.{LateList}
@@ -15,6 +15,12 @@ on_late_list (late_list ∷ more) (suc k) = on_late_list more k
 -- the octets of the copies of what was sent before this round, of those that are due in that one
 abbrev pub listed_late : ℕ → ℕ → List LateList → List (List ℕ)
 listed_late before due late_lists = due_texts before due (on_late_list late_lists (due % 32))
+
+-- in each round behind this one those are due that were, and behind them these, by how many rounds later it is
+abbrev pub AreListedLater : ℕ → (ℕ → List (List ℕ)) → List LateList → List LateList → Type 0
+AreListedLater round copies old new =
+    (rounds : ℕ) → 1 ≤ rounds
+    → listed_late (round + 1) (round + rounds) new ≡ listed_late (round + 1) (round + rounds) old ++ copies rounds
 
 -- no copy is of a later round
 abbrev pub NoneAfter : ℕ → List LateList → Type 0

@@ -12,5 +12,7 @@ pub mod Lists
 pub mod StreamFrames
 pub mod Link
 pub mod Stands
+pub mod LinkRounds
 pub mod Sorted
 pub mod Holds
+pub mod LineRounds

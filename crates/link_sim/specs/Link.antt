@@ -1,5 +1,5 @@
 -- That the link stands for what was sent and replied so far. Rounds have the newest first.
-use Rattle.std.specs.Prelude.{ℕ, ◌≡◌, ◌+◌, List, [], ◌∷◌, length, Option, Some, None}
+use Rattle.std.specs.Prelude.{ℕ, ◌≡◌, ◌+◌, ◌<◌, List, [], ◌∷◌, length, get_or, Option, Some, None}
 use Rattle.arrayvec.specs.ArrayVec.{ArrayVec}
 use Rattle.sig_types.specs.declared.notes.Way.TheVariants.{Poll, Load, Prio}
 use Rattle.scenario_data.specs.declared.scenario.Direction.{Direction}
@@ -15,7 +15,7 @@ use Rattle.link_sim.specs.declared.lists.Lists.{Lists}
 use Rattle.link_sim.specs.Kept.{faults_in}
 use Rattle.link_sim.specs.Lists.{AreOf}
 use Rattle.link_sim.specs.Reaching.{requested, deliveries, returning}
-use Rattle.link_sim.specs.StreamFrames.{Passed, AreLines, with_round}
+use Rattle.link_sim.specs.StreamFrames.{Passed, AreLines, nothing_passed, with_round}
 
 -- the octets that are sent on a stream: of one frame or none
 abbrev pub sent_text : Option (ArrayVec ℕ) → List (List ℕ)
@@ -43,13 +43,40 @@ pub record Delivers (old new : Lines) (lists : Lists) (s : ScenarioContent) (rou
 abbrev pub answered : Answers → Passed → Passed
 answered answers past = with_round (texts_of answers.polls.items) (texts_of answers.loads.items) (texts_of answers.prios.items) past
 
+-- what arrives of a cabinet's replies: on each stream what the line back makes of those of a round and of all before
+pub record ArriveFrom (s : ScenarioContent) (cab : ℕ) (replied : Passed) (answers arrived : Answers) : Type 0 where
+  -- replies to polls and commands
+  pub polls : texts_of arrived.polls.items ≡ returning s cab Poll (texts_of answers.polls.items ∷ replied.polls)
+  -- replies to parts of downloads
+  pub loads : texts_of arrived.loads.items ≡ returning s cab Load (texts_of answers.loads.items ∷ replied.loads)
+  -- replies to priority requests
+  pub prios : texts_of arrived.prios.items ≡ returning s cab Prio (texts_of answers.prios.items ∷ replied.prios)
+
 -- a round back from a cabinet: this arrives of its replies, and the lines hold what is late
 pub record Returns (old new : Lines) (lists : Lists) (s : ScenarioContent) (round cab : ℕ) (answers arrived : Answers) : Type 0 where
-  pub polls : (past : Passed) → AreOf lists s → AreLines old (faults_in lists.faults) cab Up past → round ≡ length past.polls + 1
-      → texts_of arrived.polls.items ≡ returning s cab Poll (texts_of answers.polls.items ∷ past.polls)
-  pub loads : (past : Passed) → AreOf lists s → AreLines old (faults_in lists.faults) cab Up past → round ≡ length past.polls + 1
-      → texts_of arrived.loads.items ≡ returning s cab Load (texts_of answers.loads.items ∷ past.loads)
-  pub prios : (past : Passed) → AreOf lists s → AreLines old (faults_in lists.faults) cab Up past → round ≡ length past.polls + 1
-      → texts_of arrived.prios.items ≡ returning s cab Prio (texts_of answers.prios.items ∷ past.prios)
+  pub arrive : (past : Passed) → AreOf lists s → AreLines old (faults_in lists.faults) cab Up past → round ≡ length past.polls + 1
+      → ArriveFrom s cab past answers arrived
   pub holds : (past : Passed) → AreOf lists s → AreLines old (faults_in lists.faults) cab Up past → round ≡ length past.polls + 1
       → AreLines new (faults_in lists.faults) cab Up (answered answers past)
+
+-- the lines of so many cabinets in a direction, of which nothing went over any
+abbrev pub AreUnused : List Lines → ℕ → Direction → Type 0
+AreUnused all cabinets direction =
+    (k : ℕ) → (d : Lines) → (faults : List Fault) → k < cabinets → AreLines (get_or all k d) faults (k + 1) direction nothing_passed
+
+-- the same of each cabinet: these streams reach it, and its lines hold what is late
+abbrev pub DeliversEach : List Lines → List Lines → Lists → ScenarioContent → ℕ → List Sending → List Streams → Type 0
+DeliversEach old new lists s round sendings all =
+    (k : ℕ) → (d : Lines) → (m : Sending) → (e : Streams) → k < length old
+    → Delivers (get_or old k d) (get_or new k d) lists s round (k + 1) (get_or sendings k m) (get_or all k e)
+
+-- this arrives of the replies of each cabinet, and its lines hold what is late
+abbrev pub ReturnsEach : List Lines → List Lines → Lists → ℕ → List Answers → List Answers → Type 0
+ReturnsEach old new lists round answers all =
+    (s : ScenarioContent) (k : ℕ) → (d : Lines) → (m e : Answers) → k < length old
+    → Returns (get_or old k d) (get_or new k d) lists s round (k + 1) (get_or answers k m) (get_or all k e)
+
+-- the lines of each cabinet still hold what they held before the next round
+abbrev pub EachStays : List Lines → List Lines → List Fault → Direction → ℕ → Type 0
+EachStays old new faults direction round =
+    (k : ℕ) → (d : Lines) → k < length old → Stays (get_or old k d) (get_or new k d) faults (k + 1) direction round

@@ -7,7 +7,7 @@ ghost use Rattle.sig_types.specs.Items.{texts_of};
 ghost use Rattle.link_sim.specs.Kept.{faults_in};
 ghost use Rattle.link_sim.specs.Link.{sent_text, Stays, Delivers, Returns};
 
-use crate::{Lines, Lists};
+use crate::{Lines, Lists, StreamFrames};
 use scenario_data::Scenario;
 use sig_types::{Answers, NoMemory, Octets, Sending, Streams};
 use std::alloc::Global;
@@ -37,30 +37,24 @@ pub(crate) fn deliver(
     ensures delivers { IfOk result (λ streams. Delivers lines.old lines.new lists.now (scenario_content s.now) round cab sending.now streams) }
     ensures stays { Stays lines.old lines.new (faults_in lists.now.faults) cab Down round }
 {
-    let prios = match lists.requests(alloc, round, cab, s) {
-        Ok(prios) => prios,
-        Err(error) => return Err(error),
-    };
-    let fields = match lists.fields(alloc, round, cab, s) {
-        Ok(fields) => fields,
-        Err(error) => return Err(error),
-    };
+    let requests = lists.requests(alloc, round, cab, s)?;
+    let fields = lists.fields(alloc, round, cab, s)?;
     let polls = sent(&sending.poll);
     let loads = sent(&sending.load);
-    let arrived = match lines.carry(alloc, &lists.faults, round, polls, loads, &prios) {
-        Ok(arrived) => arrived,
-        Err(error) => return Err(error),
+    let frames = StreamFrames {
+        polls,
+        loads,
+        prios: &requests,
     };
-    match lists.with_own(arrived, round, cab, s) {
-        Ok(all) => Ok(Streams {
-            fields,
-            polls: all.polls,
-            loads: all.loads,
-            prios: all.prios,
-            ticks: s.ticks,
-        }),
-        Err(error) => Err(error),
-    }
+    let arrived = lines.carry(alloc, &lists.faults, round, &frames)?;
+    let all = lists.with_own(arrived, round, cab, s)?;
+    Ok(Streams {
+        fields,
+        polls: all.polls,
+        loads: all.loads,
+        prios: all.prios,
+        ticks: s.ticks,
+    })
 }
 
 /// What arrives of a cabinet's replies in a round. Where memory is refused, the lines stay for the same round.
@@ -74,19 +68,15 @@ pub(crate) fn bring_back(
     ensures returns { IfOk result (λ arrived. (s : ScenarioContent) (cab : ℕ) → Returns lines.old lines.new lists.now s round cab answers.now arrived) }
     ensures stays { (cab : ℕ) → Stays lines.old lines.new (faults_in lists.now.faults) cab Up round }
 {
-    match lines.carry(
-        alloc,
-        &lists.faults,
-        round,
-        &answers.polls,
-        &answers.loads,
-        &answers.prios,
-    ) {
-        Ok(arrived) => Ok(Answers {
-            polls: arrived.polls,
-            loads: arrived.loads,
-            prios: arrived.prios,
-        }),
-        Err(error) => Err(error),
-    }
+    let frames = StreamFrames {
+        polls: &answers.polls,
+        loads: &answers.loads,
+        prios: &answers.prios,
+    };
+    let arrived = lines.carry(alloc, &lists.faults, round, &frames)?;
+    Ok(Answers {
+        polls: arrived.polls,
+        loads: arrived.loads,
+        prios: arrived.prios,
+    })
 }

@@ -15,7 +15,7 @@ mod stream_line;
 
 pub use agenda::{Agenda, Due};
 pub use fault_list::FaultList;
-pub use lines::Lines;
+pub use lines::{Lines, StreamFrames};
 pub use link::Link;
 pub use lists::{Arrivals, Lists};
 use scenario_data::Direction;

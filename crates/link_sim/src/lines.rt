@@ -1,11 +1,7 @@
 //! The three lines of a cabinet in one direction, one for each stream.
 
-ghost use Rattle.std.specs.Prelude.{ℕ, ◌≡◌, ◌+◌, ◌∷◌, List, [], length, IfOk, OnOk};
-ghost use Rattle.scenario_data.specs.declared.scenario.Direction.{Direction as Towards};
+ghost use Rattle.std.specs.Prelude.{◌≡◌, List, [], IfOk, OnOk};
 ghost use Rattle.scenario_data.specs.declared.scenario.Fault.{Fault};
-ghost use Rattle.sig_types.specs.declared.notes.Way.TheVariants.{Poll, Load, Prio};
-ghost use Rattle.sig_types.specs.Items.{texts_of};
-ghost use Rattle.link_sim.specs.Carried.{carried};
 ghost use Rattle.link_sim.specs.Kept.{faults_in};
 
 use crate::{Arrivals, FaultList, Line, StreamLine};
@@ -21,6 +17,14 @@ pub struct Lines {
     prios: StreamLine,
 }
 
+/// The frames that are sent in a round on the three streams of a cabinet, in one direction.
+#[derive(Clone, Copy)]
+pub struct StreamFrames<'a> {
+    pub polls: &'a [Octets],
+    pub loads: &'a [Octets],
+    pub prios: &'a [Octets],
+}
+
 /// One line of a cabinet.
 fn line_at(cab: u32, way: Way, direction: Direction) -> Line
     ensures { result ≡ record { cab = cab; way = way; direction = direction } }
@@ -33,7 +37,8 @@ fn line_at(cab: u32, way: Way, direction: Direction) -> Line
 }
 
 impl Lines {
-    ghost use Rattle.link_sim.specs.StreamFrames.{Passed, AreLines, line_at, with_round};
+    ghost use Rattle.link_sim.specs.StreamFrames.{AreLines};
+    ghost use Rattle.link_sim.specs.LineRounds.{ArriveOver, HoldRound, StillHold};
 
     /// Lines over which nothing went.
     pub fn new(alloc: Global, cab: u32, direction: Direction) -> Lines
@@ -53,31 +58,19 @@ impl Lines {
         alloc: Global,
         faults: &FaultList,
         round: u32,
-        polls: &[Octets],
-        loads: &[Octets],
-        prios: &[Octets],
+        frames: &StreamFrames,
     ) -> Result<Arrivals, NoMemory>
-        ensures polls { IfOk result (λ out. (cab : ℕ) (direction : Towards) (past : Passed) → AreLines self.old (faults_in faults.now) cab direction past → round ≡ length past.polls + 1 → texts_of out.polls.items ≡ carried (faults_in faults.now) (line_at cab Poll direction) (texts_of polls.now ∷ past.polls)) }
-        ensures loads { IfOk result (λ out. (cab : ℕ) (direction : Towards) (past : Passed) → AreLines self.old (faults_in faults.now) cab direction past → round ≡ length past.polls + 1 → texts_of out.loads.items ≡ carried (faults_in faults.now) (line_at cab Load direction) (texts_of loads.now ∷ past.loads)) }
-        ensures prios { IfOk result (λ out. (cab : ℕ) (direction : Towards) (past : Passed) → AreLines self.old (faults_in faults.now) cab direction past → round ≡ length past.polls + 1 → texts_of out.prios.items ≡ carried (faults_in faults.now) (line_at cab Prio direction) (texts_of prios.now ∷ past.prios)) }
-        ensures holds { OnOk result ((cab : ℕ) (direction : Towards) (past : Passed) → AreLines self.old (faults_in faults.now) cab direction past → round ≡ length past.polls + 1 → AreLines self.new (faults_in faults.now) cab direction (with_round (texts_of polls.now) (texts_of loads.now) (texts_of prios.now) past)) }
-        ensures again { (cab : ℕ) (direction : Towards) (past : Passed) → AreLines self.old (faults_in faults.now) cab direction past → round ≡ length past.polls + 1 → AreLines self.new (faults_in faults.now) cab direction past }
+        ensures arrive { IfOk result (λ out. ArriveOver self.old (faults_in faults.now) round frames.now out) }
+        ensures hold { OnOk result (HoldRound self.old self.new (faults_in faults.now) round frames.now) }
+        ensures again { StillHold self.old self.new (faults_in faults.now) round }
     {
-        let polls = match self.polls.carry(alloc, faults, round, polls) {
-            Ok(out) => out,
-            Err(error) => return Err(error),
-        };
-        let loads = match self.loads.carry(alloc, faults, round, loads) {
-            Ok(out) => out,
-            Err(error) => return Err(error),
-        };
-        match self.prios.carry(alloc, faults, round, prios) {
-            Ok(prios) => Ok(Arrivals {
-                polls,
-                loads,
-                prios,
-            }),
-            Err(error) => Err(error),
-        }
+        let polls = self.polls.carry(alloc, faults, round, frames.polls)?;
+        let loads = self.loads.carry(alloc, faults, round, frames.loads)?;
+        let prios = self.prios.carry(alloc, faults, round, frames.prios)?;
+        Ok(Arrivals {
+            polls,
+            loads,
+            prios,
+        })
     }
 }

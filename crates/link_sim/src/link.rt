@@ -1,16 +1,11 @@
 //! The link as a whole: all cabinets in their order.
 
-ghost use Rattle.std.specs.Prelude.{ℕ, ◌≡◌, ◌≤◌, ◌<◌, ◌+◌, List, length, get_or, IfOk};
+ghost use Rattle.std.specs.Prelude.{ℕ, ◌≡◌, ◌≤◌, ◌<◌, length, IfOk};
 ghost use Rattle.scenario_data.specs.Content.{ScenarioContent, scenario_content};
 ghost use Rattle.scenario_data.specs.declared.scenario.Direction.TheVariants.{Down, Up};
-ghost use Rattle.sig_types.specs.declared.streams.Sending.{Sending as SendingRow};
-ghost use Rattle.sig_types.specs.declared.streams.Streams.{Streams as StreamsRow};
-ghost use Rattle.sig_types.specs.declared.streams.Answers.{Answers as AnswersRow};
-ghost use Rattle.link_sim.specs.declared.lines.Lines.{Lines as LinesRow};
 ghost use Rattle.link_sim.specs.Kept.{faults_in};
-ghost use Rattle.link_sim.specs.Link.{Stays, Delivers, Returns};
-ghost use Rattle.link_sim.specs.StreamFrames.{AreLines, nothing_passed};
-ghost use Rattle.scenario_data.specs.declared.scenario.Fault.{Fault};
+ghost use Rattle.link_sim.specs.Link.{AreUnused, DeliversEach, EachStays, ReturnsEach};
+ghost use Rattle.link_sim.specs.StreamFrames.{nothing_passed};
 
 use crate::delivery::{bring_back, deliver};
 use crate::{Lines, Lists};
@@ -36,7 +31,7 @@ fn open_lines(
 ) -> Result<Vec<Lines>, AllocError>
     requires few { cabinets ≤ 64 }
     ensures count { IfOk result (λ all. length all.items ≡ cabinets) }
-    ensures each { IfOk result (λ all. (k : ℕ) → (d : LinesRow) → (faults : List Fault) → k < cabinets → AreLines (get_or all.items k d) faults (k + 1) direction nothing_passed) }
+    ensures unused { IfOk result (λ all. AreUnused all.items cabinets direction) }
 {
     let mut all = Vec::new(alloc);
     for place in 0..cabinets {
@@ -59,16 +54,13 @@ fn deliver_all(
     requires each { length sendings.now ≡ length down.old.items }
     ensures lines { length down.new.items ≡ length down.old.items }
     ensures count { IfOk result (λ all. length all.items ≡ length down.old.items) }
-    ensures delivers { IfOk result (λ all. (k : ℕ) → (d : LinesRow) → (m : SendingRow) → (e : StreamsRow) → k < length down.old.items → Delivers (get_or down.old.items k d) (get_or down.new.items k d) lists.now (scenario_content s.now) round (k + 1) (get_or sendings.now k m) (get_or all.items k e)) }
-    ensures stays { (k : ℕ) → (d : LinesRow) → k < length down.old.items → Stays (get_or down.old.items k d) (get_or down.new.items k d) (faults_in lists.now.faults) (k + 1) Down round }
+    ensures delivers { IfOk result (λ all. DeliversEach down.old.items down.new.items lists.now (scenario_content s.now) round sendings.now all.items) }
+    ensures stays { EachStays down.old.items down.new.items (faults_in lists.now.faults) Down round }
 {
     let mut all = Vec::new(alloc);
     let mut cab = 1;
     for k in 0..down.len() {
-        let streams = match deliver(&mut down[k], lists, alloc, round, cab, s, &sendings[k]) {
-            Ok(streams) => streams,
-            Err(error) => return Err(error),
-        };
+        let streams = deliver(&mut down[k], lists, alloc, round, cab, s, &sendings[k])?;
         if all.push(streams).is_err() {
             return Err(NoMemory);
         }
@@ -88,15 +80,12 @@ fn bring_all_back(
     requires each { length answers.now ≡ length up.old.items }
     ensures lines { length up.new.items ≡ length up.old.items }
     ensures count { IfOk result (λ all. length all.items ≡ length up.old.items) }
-    ensures returns { IfOk result (λ all. (s : ScenarioContent) (k : ℕ) → (d : LinesRow) → (m e : AnswersRow) → k < length up.old.items → Returns (get_or up.old.items k d) (get_or up.new.items k d) lists.now s round (k + 1) (get_or answers.now k m) (get_or all.items k e)) }
-    ensures stays { (k : ℕ) → (d : LinesRow) → k < length up.old.items → Stays (get_or up.old.items k d) (get_or up.new.items k d) (faults_in lists.now.faults) (k + 1) Up round }
+    ensures returns { IfOk result (λ all. ReturnsEach up.old.items up.new.items lists.now round answers.now all.items) }
+    ensures stays { EachStays up.old.items up.new.items (faults_in lists.now.faults) Up round }
 {
     let mut all = Vec::new(alloc);
     for k in 0..up.len() {
-        let arrived = match bring_back(&mut up[k], lists, alloc, round, &answers[k]) {
-            Ok(arrived) => arrived,
-            Err(error) => return Err(error),
-        };
+        let arrived = bring_back(&mut up[k], lists, alloc, round, &answers[k])?;
         if all.push(arrived).is_err() {
             return Err(NoMemory);
         }
@@ -105,24 +94,19 @@ fn bring_all_back(
 }
 
 impl Link {
-    ghost use Rattle.link_sim.specs.Link.{sent_text, answered};
+    ghost use Rattle.std.specs.Prelude.{[], OnOk, OnErr};
     ghost use Rattle.link_sim.specs.Stands.{LinkStands, cabinet_count};
-    ghost use Rattle.link_sim.specs.Reaching.{deliveries, returning};
-    ghost use Rattle.link_sim.specs.StreamFrames.{Passed};
-    ghost use Rattle.sig_types.specs.Items.{items_of, texts_of};
-    ghost use Rattle.sig_types.specs.declared.notes.Way.TheVariants.{Poll, Load, Prio};
-    ghost use Rattle.std.specs.Prelude.{[], ◌∷◌, OnOk, OnErr};
+    ghost use Rattle.link_sim.specs.LinkRounds.{EachSentTo, EachHeardFrom};
+    ghost use Rattle.link_sim.specs.LinkRounds.{ReceivesItsFrames, StandsWithSent, RepliesArrive, StandsWithReplied};
 
     /// The link of a scenario before its first round.
     pub fn open(alloc: Global, s: &Scenario) -> Result<Link, NoMemory>
         requires cabinets { length s.now.cabinets.items ≤ 64 }
         ensures count { IfOk result (λ link. cabinet_count link ≡ length s.now.cabinets.items) }
-        ensures stands { IfOk result (λ link. (place : ℕ) → place < length s.now.cabinets.items → LinkStands link (scenario_content s.now) place [] [] nothing_passed) }
+        ensures stands { IfOk result (λ link. (place : ℕ) → place < length s.now.cabinets.items
+            → LinkStands link (scenario_content s.now) place [] [] nothing_passed) }
     {
-        let lists = match Lists::new(alloc, s) {
-            Ok(lists) => lists,
-            Err(error) => return Err(error),
-        };
+        let lists = Lists::new(alloc, s)?;
         let Ok(down) = open_lines(alloc, s.cabinets.len(), Direction::Down) else {
             return Err(NoMemory);
         };
@@ -145,9 +129,11 @@ impl Link {
         requires each { length sendings.now ≡ cabinet_count self.old }
         ensures kept { cabinet_count self.new ≡ cabinet_count self.old }
         ensures count { IfOk result (λ all. length all.items ≡ cabinet_count self.old) }
-        ensures reaches { IfOk result (λ all. (place : ℕ) (polls loads : List (List (List ℕ))) (replied : Passed) (sending : SendingRow) (streams : StreamsRow) → place < cabinet_count self.old → LinkStands self.old (scenario_content s.now) place polls loads replied → round ≡ length polls + 1 → items_of (get_or all.items place streams) ≡ deliveries (scenario_content s.now) (place + 1) (sent_text (get_or sendings.now place sending).poll ∷ polls) (sent_text (get_or sendings.now place sending).load ∷ loads)) }
-        ensures stands { OnOk result ((place : ℕ) (polls loads : List (List (List ℕ))) (replied : Passed) (sending : SendingRow) → place < cabinet_count self.old → LinkStands self.old (scenario_content s.now) place polls loads replied → round ≡ length polls + 1 → LinkStands self.new (scenario_content s.now) place (sent_text (get_or sendings.now place sending).poll ∷ polls) (sent_text (get_or sendings.now place sending).load ∷ loads) replied) }
-        ensures again { OnErr result ((place : ℕ) (polls loads : List (List (List ℕ))) (replied : Passed) → place < cabinet_count self.old → LinkStands self.old (scenario_content s.now) place polls loads replied → round ≡ length polls + 1 → LinkStands self.new (scenario_content s.now) place polls loads replied) }
+        ensures reaches { IfOk result (λ all. EachSentTo self.old (scenario_content s.now) round
+            (ReceivesItsFrames (scenario_content s.now) sendings.now all.items)) }
+        ensures stands { OnOk result (EachSentTo self.old (scenario_content s.now) round
+            (StandsWithSent self.new (scenario_content s.now) sendings.now)) }
+        ensures again { OnErr result (EachSentTo self.old (scenario_content s.now) round (LinkStands self.new (scenario_content s.now))) }
     {
         match deliver_all(&mut self.down, &self.lists, alloc, round, s, sendings) {
             Ok(all) => Ok(all),
@@ -161,19 +147,15 @@ impl Link {
         &mut self,
         alloc: Global,
         round: u32,
-        s: &Scenario,
         answers: &[Answers],
     ) -> Result<Vec<Answers>, NoMemory>
         requires each { length answers.now ≡ cabinet_count self.old }
         ensures kept { cabinet_count self.new ≡ cabinet_count self.old }
         ensures count { IfOk result (λ all. length all.items ≡ cabinet_count self.old) }
-        ensures polls { IfOk result (λ all. (place : ℕ) (polls loads : List (List (List ℕ))) (replied : Passed) (replies arrived : AnswersRow) → place < cabinet_count self.old → LinkStands self.old (scenario_content s.now) place polls loads replied → round ≡ length replied.polls + 1 → texts_of (get_or all.items place arrived).polls.items ≡ returning (scenario_content s.now) (place + 1) Poll (texts_of (get_or answers.now place replies).polls.items ∷ replied.polls)) }
-        ensures loads { IfOk result (λ all. (place : ℕ) (polls loads : List (List (List ℕ))) (replied : Passed) (replies arrived : AnswersRow) → place < cabinet_count self.old → LinkStands self.old (scenario_content s.now) place polls loads replied → round ≡ length replied.polls + 1 → texts_of (get_or all.items place arrived).loads.items ≡ returning (scenario_content s.now) (place + 1) Load (texts_of (get_or answers.now place replies).loads.items ∷ replied.loads)) }
-        ensures prios { IfOk result (λ all. (place : ℕ) (polls loads : List (List (List ℕ))) (replied : Passed) (replies arrived : AnswersRow) → place < cabinet_count self.old → LinkStands self.old (scenario_content s.now) place polls loads replied → round ≡ length replied.polls + 1 → texts_of (get_or all.items place arrived).prios.items ≡ returning (scenario_content s.now) (place + 1) Prio (texts_of (get_or answers.now place replies).prios.items ∷ replied.prios)) }
-        ensures stands { OnOk result ((place : ℕ) (polls loads : List (List (List ℕ))) (replied : Passed) (replies : AnswersRow) → place < cabinet_count self.old → LinkStands self.old (scenario_content s.now) place polls loads replied → round ≡ length replied.polls + 1 → LinkStands self.new (scenario_content s.now) place polls loads (answered (get_or answers.now place replies) replied)) }
-        ensures again { OnErr result ((place : ℕ) (polls loads : List (List (List ℕ))) (replied : Passed) → place < cabinet_count self.old → LinkStands self.old (scenario_content s.now) place polls loads replied → round ≡ length replied.polls + 1 → LinkStands self.new (scenario_content s.now) place polls loads replied) }
+        ensures arrive { IfOk result (λ all. (s : ScenarioContent) → EachHeardFrom self.old s round (RepliesArrive s answers.now all.items)) }
+        ensures stands { OnOk result ((s : ScenarioContent) → EachHeardFrom self.old s round (StandsWithReplied self.new s answers.now)) }
+        ensures again { OnErr result ((s : ScenarioContent) → EachHeardFrom self.old s round (LinkStands self.new s)) }
     {
-        let _ = s;
         match bring_all_back(&mut self.up, &self.lists, alloc, round, answers) {
             Ok(all) => Ok(all),
             Err(error) => Err(error),

@@ -4,7 +4,6 @@ ghost use Rattle.std.specs.Prelude.{ℕ, ◌≡◌, ◌≤◌, ◌++◌, length,
 ghost use Rattle.scenario_data.specs.Content.{scenario_content};
 ghost use Rattle.scenario_data.specs.Inputs.{inputs_of};
 ghost use Rattle.sig_types.specs.Items.{texts_of};
-ghost use Rattle.sig_types.specs.declared.notes.Way.TheVariants.{Poll, Load, Prio};
 ghost use Rattle.link_sim.specs.Priority.{priority_texts};
 ghost use Rattle.link_sim.specs.Reaching.{frames_of};
 
@@ -33,7 +32,7 @@ pub struct Arrivals {
 }
 
 impl Lists {
-    ghost use Rattle.link_sim.specs.Lists.{AreOf};
+    ghost use Rattle.link_sim.specs.Lists.{AreOf, HaveOwn};
 
     /// The lists of a scenario.
     pub fn new(alloc: Global, s: &Scenario) -> Result<Lists, NoMemory>
@@ -125,9 +124,7 @@ impl Lists {
         cab: u32,
         s: &Scenario,
     ) -> Result<Arrivals, NoMemory>
-        ensures polls { IfOk result (λ all. AreOf self.now (scenario_content s.now) → texts_of all.polls.items ≡ texts_of arrived.polls.items ++ frames_of (scenario_content s.now).frames round cab Poll) }
-        ensures loads { IfOk result (λ all. AreOf self.now (scenario_content s.now) → texts_of all.loads.items ≡ texts_of arrived.loads.items ++ frames_of (scenario_content s.now).frames round cab Load) }
-        ensures prios { IfOk result (λ all. AreOf self.now (scenario_content s.now) → texts_of all.prios.items ≡ texts_of arrived.prios.items ++ frames_of (scenario_content s.now).frames round cab Prio) }
+        ensures { IfOk result (λ all. AreOf self.now (scenario_content s.now) → HaveOwn (scenario_content s.now) round cab arrived all) }
     {
         let mut all = arrived;
         if self

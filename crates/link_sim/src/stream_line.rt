@@ -4,8 +4,8 @@ ghost use Rattle.std.specs.Prelude.{ℕ, ◌≡◌, ◌≢◌, ◌≤◌, ◌<�
 ghost use Rattle.sig_types.specs.Items.{texts_of};
 ghost use Rattle.link_sim.specs.Faults.{copied};
 ghost use Rattle.link_sim.specs.Carried.{arriving_from, copies_from};
-ghost use Rattle.link_sim.specs.Due.{due_texts};
-ghost use Rattle.link_sim.specs.LateLists.{on_late_list, listed_late, NoneAfter, DropsPast, IsOwnLateList};
+ghost use Rattle.link_sim.specs.Due.{due_texts, AreDueLater};
+ghost use Rattle.link_sim.specs.LateLists.{on_late_list, listed_late, AreListedLater, NoneAfter, DropsPast, IsOwnLateList};
 ghost use Rattle.link_sim.specs.Kept.{faults_in};
 
 use crate::faults::{arrive, copied};
@@ -46,7 +46,7 @@ fn keep(
     fault: Option<Fault>,
     octets: &Octets,
 ) -> Result<(), AllocError>
-    ensures later { OnOk result ((rounds : ℕ) → 1 ≤ rounds → due_texts (round + 1) (round + rounds) late.new.items ≡ due_texts (round + 1) (round + rounds) late.old.items ++ copied fault rounds octets.now.items) }
+    ensures later { OnOk result (AreDueLater round (λ rounds. copied fault rounds octets.now.items) late.old.items late.new.items) }
     ensures now { (due : ℕ) → due_texts round due late.new.items ≡ due_texts round due late.old.items }
     ensures sent { All (λ copy. copy.sent ≤ round) late.old.items → All (λ copy. copy.sent ≤ round) late.new.items }
 {
@@ -93,7 +93,7 @@ fn keep_in(
     fault: Option<Fault>,
     octets: &Octets,
 ) -> Result<(), AllocError>
-    ensures later { OnOk result ((rounds : ℕ) → 1 ≤ rounds → due_texts (round + 1) (round + rounds) late_list.new.copies.items ≡ due_texts (round + 1) (round + rounds) late_list.old.copies.items ++ copied fault rounds octets.now.items) }
+    ensures later { OnOk result (AreDueLater round (λ rounds. copied fault rounds octets.now.items) late_list.old.copies.items late_list.new.copies.items) }
     ensures now { (due : ℕ) → due_texts round due late_list.new.copies.items ≡ due_texts round due late_list.old.copies.items }
     ensures sent { All (λ copy. copy.sent ≤ round) late_list.old.copies.items → All (λ copy. copy.sent ≤ round) late_list.new.copies.items }
 {
@@ -108,7 +108,7 @@ fn keep_on(
     octets: &Octets,
 ) -> Result<(), AllocError>
     requires sent { NoneAfter round late.old }
-    ensures later { OnOk result ((rounds : ℕ) → 1 ≤ rounds → listed_late (round + 1) (round + rounds) late.new ≡ listed_late (round + 1) (round + rounds) late.old ++ copied fault rounds octets.now.items) }
+    ensures later { OnOk result (AreListedLater round (λ rounds. copied fault rounds octets.now.items) late.old late.new) }
     ensures now { (due : ℕ) → listed_late round due late.new ≡ listed_late round due late.old }
     ensures sent { NoneAfter round late.new }
 {
@@ -128,7 +128,7 @@ fn send(
 ) -> Result<(), AllocError>
     requires sent { NoneAfter round late.old }
     ensures out { OnOk result (texts_of out.new.items ≡ texts_of out.old.items ++ arriving_from (faults_in faults.now) line round 0 (texts_of sent.now)) }
-    ensures later { OnOk result ((rounds : ℕ) → 1 ≤ rounds → listed_late (round + 1) (round + rounds) late.new ≡ listed_late (round + 1) (round + rounds) late.old ++ copies_from (faults_in faults.now) line round rounds 0 (texts_of sent.now)) }
+    ensures later { OnOk result (AreListedLater round (λ rounds. copies_from (faults_in faults.now) line round rounds 0 (texts_of sent.now)) late.old late.new) }
     ensures now { (due : ℕ) → listed_late round due late.new ≡ listed_late round due late.old }
     ensures sent { NoneAfter round late.new }
 {
@@ -207,8 +207,8 @@ fn make_ready(late: &mut [LateList; 32], last: u32, round: u32)
 }
 
 impl StreamLine {
-    ghost use Rattle.link_sim.specs.Carried.{carried};
     ghost use Rattle.link_sim.specs.Holds.{Holds, line_of};
+    ghost use Rattle.link_sim.specs.LineRounds.{ArrivesOver, HoldsRound, StillHolds};
 
     /// A line on which nothing was sent.
     pub fn new(alloc: Global, line: Line) -> StreamLine
@@ -233,9 +233,9 @@ impl StreamLine {
         round: u32,
         sent: &[Octets],
     ) -> Result<Vec<Octets>, NoMemory>
-        ensures arrives { IfOk result (λ out. (past : List (List (List ℕ))) → Holds self.old (faults_in faults.now) past → round ≡ length past + 1 → texts_of out.items ≡ carried (faults_in faults.now) (line_of self.old) (texts_of sent.now ∷ past)) }
-        ensures holds { OnOk result ((past : List (List (List ℕ))) → Holds self.old (faults_in faults.now) past → round ≡ length past + 1 → Holds self.new (faults_in faults.now) (texts_of sent.now ∷ past)) }
-        ensures again { (past : List (List (List ℕ))) → Holds self.old (faults_in faults.now) past → round ≡ length past + 1 → Holds self.new (faults_in faults.now) past }
+        ensures arrives { IfOk result (λ out. ArrivesOver self.old (faults_in faults.now) round (texts_of sent.now) (texts_of out.items)) }
+        ensures holds { OnOk result (HoldsRound self.old self.new (faults_in faults.now) round (texts_of sent.now)) }
+        ensures again { StillHolds self.old self.new (faults_in faults.now) round }
         ensures line { line_of self.new ≡ line_of self.old }
     {
         let line = self.line;

@@ -24,8 +24,8 @@ use Rattle.run_definition.specs.Lines.{shown_line, acts_lines, opening_lines}
 use Rattle.round_run.specs.CabinetStates.{IsAt, AreAt, HasCome, HasEnded, HaveEnded, HasRun, HaveRun, no_journals, state_by_acts, TicksWithin}
 use Rattle.round_run.specs.Replied.{replied_in}
 use Rattle.round_run.proofs.Places.{Picked, pick}
-use Rattle.session_laws.specs.Session.{Step, Brings, step_acts, begin_acts, session_acts, history_by, state_behind, states_behind}
-use Rattle.session_laws.specs.Told.{each_begin, each_step, each_journal}
+use Rattle.session_laws.specs.Session.{Step, Brings, step_acts, begin_acts, session_acts, history_by, state_after_round, states_after_round}
+use Rattle.session_laws.specs.Answers.{each_begin, each_step, each_journal}
 use Rattle.live_session.specs.Standing.{HasComeBy, HaveComeBy, HasTaken, IsTold, HaveTaken}
 use Rattle.live_session.proofs.Appended.{text-append}
 use Rattle.live_session.proofs.Steps.{brings-elsewhere}
@@ -228,23 +228,23 @@ next-journal s ts steps books k b have below is =
     ∙ ap (λ (passes : List ℕ). line_text (J (k + 1) (runs_of passes)) ++ lines_text (each_journal s (k + 1 + 1) (drop (k + 1) ts) steps))
     (sym (journal-come found.item (session_acts s (k + 1) found.item steps) b own.come))
 
-pub behind-length : (s : ScenarioContent) (first : ℕ) (ts : List CabinetState) (steps : List Step) → length (states_behind s first ts steps) ≡ length ts
+pub behind-length : (s : ScenarioContent) (first : ℕ) (ts : List CabinetState) (steps : List Step) → length (states_after_round s first ts steps) ≡ length ts
 behind-length s first [] steps = refl
 behind-length s first (t ∷ ts) steps = ap suc (behind-length s (first + 1) ts steps)
 
 behind-here : (s : ScenarioContent) (first : ℕ) (ts : List CabinetState) (steps : List Step) (k cab : ℕ) (t u : CabinetState) → k < length ts → cab ≡ first + k
-    → get_or (states_behind s first ts steps) k u ≡ state_behind s cab (get_or ts k t) steps
+    → get_or (states_after_round s first ts steps) k u ≡ state_after_round s cab (get_or ts k t) steps
 behind-here s first [] steps k cab t u below is = absurd (omega (arith, below))
 behind-here s first (x ∷ ts) steps zero cab t u below is =
     let here : first ≡ cab = omega (arith, is) in
-    ap (λ (n : ℕ). state_behind s n x steps) here
+    ap (λ (n : ℕ). state_after_round s n x steps) here
 behind-here s first (x ∷ ts) steps (suc k) cab t u below is = behind-here s (first + 1) ts steps k cab t u (omega (arith, below)) (omega (arith, is))
 
 -- books that have come to a round with these steps have ended it
 pub have-ended : (s : ScenarioContent) (ts : List CabinetState) (steps : List Step) (books : List Book)
     → ((t : CabinetState) (acts : List Act) (b : Book) → HasCome t acts b → IsAt b (state_by_acts t acts))
     → ((t : CabinetState) (acts : List Act) (b : Book) → HasCome t acts b → replied_in b ≡ answers_in (acts_replies t.cabinet_history acts))
-    → HaveComeBy s ts steps books → HaveEnded ts (states_behind s 1 ts steps) books
+    → HaveComeBy s ts steps books → HaveEnded ts (states_after_round s 1 ts steps) books
 have-ended s ts steps books at replied have = record {
   many = have.many;
   as_many = behind-length s 1 ts steps;

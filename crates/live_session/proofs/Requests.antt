@@ -11,7 +11,7 @@ use Rattle.session_words.specs.declared.request.Untaken.{Untaken}
 use Rattle.session_words.specs.declared.request.Untaken.TheVariants.{Request as NoRequest, Cabinet, Phase, Number, On, Stream, Hex, Ticks, Full}
 use Rattle.session_words.specs.Requests.{number_among, number_to, switch_of, stream_of, octets_of, asked_for, word_at, words_of, tick_of, veh_of, ped_of, preempt_of, frame_of, is_form, request_of_words, request_of}
 use Rattle.session_laws.specs.Session.{SessionHistory, ticks_left, items_brought}
-use Rattle.session_laws.specs.Told.{with_room_for, taken}
+use Rattle.session_laws.specs.Answers.{with_room_for, taken}
 use Rattle.live_session.specs.Standing.{CanBeTaken}
 
 -- ---- what a line asks names what is there

@@ -20,9 +20,9 @@ use Rattle.round_run.specs.Replied.{replied_in}
 use Rattle.round_run.specs.ClosedLoop.{Between, InRound}
 use Rattle.master_rounds.specs.Served.{CanBeServed}
 use Rattle.round_run.proofs.Streams.{can-be-served, many-of}
-use Rattle.session_laws.specs.Session.{SessionHistory, Step, Ticks, Brings, states_after, ticks_behind, ticks_left, items_brought, steps_with, is_last, with_round, with_step, steps_to_end, is_over}
-use Rattle.session_laws.specs.Told.{begin_lines, each_begin, each_step, each_journal, next_lines, end_lines, step_lines, leave_lines}
-use Rattle.session_laws.specs.Told.{Lines}
+use Rattle.session_laws.specs.Session.{SessionHistory, Step, Ticks, Brings, states_after, ticks_left_after, ticks_left, items_brought, steps_with, is_last, with_round, with_step, steps_to_end, is_over}
+use Rattle.session_laws.specs.Answers.{begin_lines, each_begin, each_step, each_journal, next_lines, end_lines, step_lines, end_of_input_lines}
+use Rattle.session_laws.specs.Answers.{Lines}
 use Rattle.session_laws.specs.Dialogue.{dot, answer_text}
 use Rattle.live_session.specs.declared.session.Session.{Session}
 use Rattle.live_session.specs.Standing.{HaveComeBy, HaveTaken, IsBetween, IsInRound, SessionStands, has_ended}
@@ -86,14 +86,14 @@ module _ (old new : Session) (s : ScenarioContent) (h : SessionHistory) (step : 
     within = taken.within (length h.closed * 600 + 600) so.in_round.within;
   }
 
-  pub step-stands : is_last s h step ≡ false → new.ticks_left ≡ ticks_behind s (steps_with h step) → 1 ≤ new.ticks_left
+  pub step-stands : is_last s h step ≡ false → new.ticks_left ≡ ticks_left_after s (steps_with h step) → 1 ≤ new.ticks_left
       → new.brought ≡ items_brought (steps_with h step) → SessionStands new s (with_step s h step)
   step-stands more left some brought =
       subst (λ (x : SessionHistory). SessionStands new s x) (sym (step-more s h step more))
       (record { in_round = step-in-round; ticks = left; some = some; brought = brought })
 
   -- the same of a step that is made in another way
-  pub made-stands : (made : Step) → made ≡ step → is_last s h step ≡ false → new.ticks_left ≡ ticks_behind s (steps_with h step) → 1 ≤ new.ticks_left
+  pub made-stands : (made : Step) → made ≡ step → is_last s h step ≡ false → new.ticks_left ≡ ticks_left_after s (steps_with h step) → 1 ≤ new.ticks_left
       → new.brought ≡ items_brought (steps_with h step) → SessionStands new s (with_step s h made)
   made-stands made is more left some brought =
       subst (λ (x : Step). SessionStands new s (with_step s h x)) (sym is) (step-stands more left some brought)
@@ -258,22 +258,22 @@ module _ (old new : Session) (s : ScenarioContent) (rounds : List (List Step)) (
 -- ---- which step is the last of its round
 
 pub tick-more : (s : ScenarioContent) (h : SessionHistory) (many left : ℕ) → left ≡ ticks_left s h → 0 < left - many → is_last s h (Ticks many) ≡ false
-tick-more s h many left is some = ne_eqb (ticks_behind s (steps_with h (Ticks many))) 0 (λ e. omega (arith, e, is, some, ticks-more s h.steps many))
+tick-more s h many left is some = ne_eqb (ticks_left_after s (steps_with h (Ticks many))) 0 (λ e. omega (arith, e, is, some, ticks-more s h.steps many))
 
 pub tick-last : (s : ScenarioContent) (h : SessionHistory) (many left : ℕ) → left ≡ ticks_left s h → left - many ≡ 0 → is_last s h (Ticks many) ≡ true
-tick-last s h many left is none = eq-eqb (ticks_behind s (steps_with h (Ticks many))) 0 (omega (arith, is, none, ticks-more s h.steps many))
+tick-last s h many left is none = eq-eqb (ticks_left_after s (steps_with h (Ticks many))) 0 (omega (arith, is, none, ticks-more s h.steps many))
 
 pub brings-more : (s : ScenarioContent) (h : SessionHistory) (cab pass : ℕ) (item : Item) (left : ℕ) → left ≡ ticks_left s h → 1 ≤ left
     → is_last s h (Brings cab pass item) ≡ false
 brings-more s h cab pass item left is some =
-    ne_eqb (ticks_behind s (steps_with h (Brings cab pass item))) 0 (λ e. omega (arith, e, is, some, ticks-same s h.steps cab pass item))
+    ne_eqb (ticks_left_after s (steps_with h (Brings cab pass item))) 0 (λ e. omega (arith, e, is, some, ticks-same s h.steps cab pass item))
 
 -- ---- the end of the input
 
 pub leave-spelled : (s : ScenarioContent) (h : SessionHistory) (first second third last : List ℕ)
     → second ≡ first ++ lines_text (each_step s 1 (states_after s h.closed) h.steps (Ticks (ticks_left s h)))
     → third ≡ second ++ lines_text (each_journal s 1 (states_after s h.closed) (steps_to_end s h))
-    → last ≡ third ++ line_text (Z (length h.closed + 1)) → last ≡ first ++ lines_text (leave_lines s h)
+    → last ≡ third ++ line_text (Z (length h.closed + 1)) → last ≡ first ++ lines_text (end_of_input_lines s h)
 leave-spelled s h first second third last one two three =
     let end : Line = Z (length h.closed + 1) in
     let steps : List Line = each_step s 1 (states_after s h.closed) h.steps (Ticks (ticks_left s h)) in

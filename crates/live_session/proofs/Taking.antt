@@ -1,8 +1,10 @@
 -- What a book has come to by one step more.
-use Rattle.std.proofs.Common.{◌≡◌, ◌≢◌, ◌<◌, ◌≤◌, ◌+◌, ◌-◌, ◌∙◌, ℕ, inl, inr, List, [], ◌∷◌, ◌++◌, length, get_or, append_assoc, append-nil, replicate, refl, sym, ap, subst, arith}
+use Rattle.std.proofs.Common.{◌≡◌, ◌≢◌, ◌<◌, ◌≤◌, ◌+◌, ◌-◌, ◌∙◌, ℕ, inl, inr, List, [], ◌∷◌, ◌++◌, length, get_or, append_assoc, append-nil, replicate, slice_set, refl, sym, ap, subst, arith}
 use Rattle.std.proofs.lemmas.List.{get_or-set_same, get_or-set_other, length-append, length-map, replicate-append-replicate}
 use Rattle.std.proofs.lemmas.Bool.Decides.{eqb_tells}
 use Rattle.sig_types.specs.declared.frame.Frame.{Frame}
+use Rattle.sig_types.specs.declared.streams.Stream.{Stream}
+use Rattle.sig_types.specs.Passes.{number_of}
 use Rattle.sig_types.specs.Items.{Item, Ticked}
 use Rattle.scenario_data.specs.Content.{ScenarioContent}
 use Rattle.cabinet_history.specs.declared.Reply.{Reply}
@@ -11,7 +13,7 @@ use Rattle.cabinet_history.specs.Journals.{Act, items_in}
 use Rattle.cabinet_history.specs.Told.{item_written, acts_written, item_replies, acts_replies}
 use Rattle.cab_book.specs.declared.book.Book.{Book}
 use Rattle.cab_book.specs.declared.happened.Answered.{Answered}
-use Rattle.cab_book.specs.Books.{BookStands, IsOnePart, IsBroughtAtEnd, acts_in, streams_in, journal_of, tick_acts, left_of, ticks_by_end, with_last, written_in, answered_in}
+use Rattle.cab_book.specs.Books.{BookStands, IsOnePart, IsBroughtAtEnd, acts_in, streams_in, journal_of, tick_acts, left_of, ticks_by_end, written_in, answered_in}
 use Rattle.cab_book.proofs.OnePart.{one-stays}
 use Rattle.run_definition.specs.CabinetState.{CabinetState}
 use Rattle.run_definition.specs.Lines.{acts_lines}
@@ -158,12 +160,12 @@ has-ticked cab many old new is = record {
 
 -- ---- an item
 
--- with an item more at the end of the stream of a pass each stream is longer by at most one
+-- with an item more at the end of one stream each stream is longer by at most one
 longer-by-one : (streams : List (List Item)) (pass p : ℕ) (item : Item) → pass < length streams
-    → length (get_or (with_last streams pass item) p []) ≤ length (get_or streams p []) + 1
+    → length (get_or (slice_set streams pass (get_or streams pass [] ++ item ∷ [])) p []) ≤ length (get_or streams p []) + 1
 longer-by-one streams pass p item within = elim (eqb_tells p pass) [
   | inl (t, same) ↦
-      subst (λ (q : ℕ). length (get_or (with_last streams pass item) q []) ≤ length (get_or streams q []) + 1) (sym same)
+      subst (λ (q : ℕ). length (get_or (slice_set streams pass (get_or streams pass [] ++ item ∷ [])) q []) ≤ length (get_or streams q []) + 1) (sym same)
       (omega (
         arith,
         ap (λ (items : List Item). length items) (get_or-set_same streams pass (get_or streams pass [] ++ item ∷ []) [] within),
@@ -173,45 +175,45 @@ longer-by-one streams pass p item within = elim (eqb_tells p pass) [
       omega (arith, ap (λ (items : List Item). length items) (get_or-set_other streams pass p (get_or streams pass [] ++ item ∷ []) [] other))
 ]
 
-module _ (s : ScenarioContent) (cab : ℕ) (t : CabinetState) (steps : List Step) (pass : ℕ) (item : Item) (old new : Book)
-    (was : HasComeBy s cab t steps old) (is : IsBroughtAtEnd old new pass item)
-    (law : (acts : List Act) → HasCome t acts old → HasCome t (acts ++ record { pass = pass; item = item } ∷ []) new) where
-  pub brought-acts : HasCome t (session_acts s cab t steps ++ record { pass = pass; item = item } ∷ []) new
+module _ (s : ScenarioContent) (cab : ℕ) (t : CabinetState) (steps : List Step) (stream : Stream) (item : Item) (old new : Book)
+    (was : HasComeBy s cab t steps old) (is : IsBroughtAtEnd old new stream item)
+    (law : (acts : List Act) → HasCome t acts old → HasCome t (acts ++ record { pass = number_of stream; item = item } ∷ []) new) where
+  pub brought-acts : HasCome t (session_acts s cab t steps ++ record { pass = number_of stream; item = item } ∷ []) new
   brought-acts = law (session_acts s cab t steps) was.come
 
-  pub brought-come : pass < 4 → HasComeBy s cab t (steps ++ Brings cab pass item ∷ []) new
+  pub brought-come : number_of stream < 4 → HasComeBy s cab t (steps ++ Brings cab (number_of stream) item ∷ []) new
   brought-come low = record {
     come =
         subst (λ (acts : List Act). HasCome t acts new)
-        (sym (acts-more s cab t steps (Brings cab pass item) ∙ ap (λ (acts : List Act). session_acts s cab t steps ++ acts) (brings-here cab pass item)))
+        (sym (acts-more s cab t steps (Brings cab (number_of stream) item) ∙ ap (λ (acts : List Act). session_acts s cab t steps ++ acts) (brings-here cab (number_of stream) item)))
         brought-acts;
     brought = λ p below. is.left p ∙ was.brought p below;
-    ticks = is.left 4 ∙ was.ticks ∙ sym (ticks-same s steps cab pass item);
+    ticks = is.left 4 ∙ was.ticks ∙ sym (ticks-same s steps cab (number_of stream) item);
     short = λ p below.
         omega (
           arith,
           ap (λ (all : List (List Item)). length (get_or all p [])) is.streams,
-          longer-by-one (streams_in old) pass p item (omega (arith, low)),
+          longer-by-one (streams_in old) (number_of stream) p item (omega (arith, low)),
           was.short p below,
-          items-more steps cab pass item,
+          items-more steps cab (number_of stream) item,
         );
   }
 
   pub brought-longer : length (answered_in old) ≤ length (answered_in new)
-  brought-longer = longer-replies t (session_acts s cab t steps) (record { pass = pass; item = item } ∷ []) old new was.come brought-acts
+  brought-longer = longer-replies t (session_acts s cab t steps) (record { pass = number_of stream; item = item } ∷ []) old new was.come brought-acts
 
   pub brought-lines : (item ≡ Ticked → ⊥) → ((acts more : List Act) → HasCome t acts old → HasCome t (acts ++ more) new → HaveNoTicks more
       → acts_lines cab (after t.cabinet_history (items_in acts)) more ≡ new_reply_lines cab old new)
-      → acts_lines cab (history_by s cab t steps) (step_acts cab (Brings cab pass item)) ≡ new_reply_lines cab old new
+      → acts_lines cab (history_by s cab t steps) (step_acts cab (Brings cab (number_of stream) item)) ≡ new_reply_lines cab old new
   brought-lines other others =
-      ap (λ (acts : List Act). acts_lines cab (history_by s cab t steps) acts) (brings-here cab pass item)
-      ∙ others (session_acts s cab t steps) (record { pass = pass; item = item } ∷ []) was.come brought-acts (no-tick pass item other)
+      ap (λ (acts : List Act). acts_lines cab (history_by s cab t steps) acts) (brings-here cab (number_of stream) item)
+      ∙ others (session_acts s cab t steps) (record { pass = number_of stream; item = item } ∷ []) was.come brought-acts (no-tick (number_of stream) item other)
 
-pub has-brought : (cab pass : ℕ) (item : Item) (old new : Book) → pass < 4 → IsBroughtAtEnd old new pass item
-    → ((t : CabinetState) (acts : List Act) → HasCome t acts old → HasCome t (acts ++ record { pass = pass; item = item } ∷ []) new)
-    → HasTaken cab (Brings cab pass item) old new
-has-brought cab pass item old new low is law = record {
-  come = λ s t steps was. brought-come s cab t steps pass item old new was is (law t) low;
+pub has-brought : (cab : ℕ) (stream : Stream) (item : Item) (old new : Book) → number_of stream < 4 → IsBroughtAtEnd old new stream item
+    → ((t : CabinetState) (acts : List Act) → HasCome t acts old → HasCome t (acts ++ record { pass = number_of stream; item = item } ∷ []) new)
+    → HasTaken cab (Brings cab (number_of stream) item) old new
+has-brought cab stream item old new low is law = record {
+  come = λ s t steps was. brought-come s cab t steps stream item old new was is (law t) low;
   by_end = is.ticks;
 }
 

@@ -13,8 +13,8 @@ use Rattle.round_run.specs.CabinetStates.{HasCome, TicksWithin}
 use Rattle.round_run.specs.ClosedLoop.{Between, InRound}
 use Rattle.session_words.specs.declared.request.Request.{Request}
 use Rattle.session_words.specs.declared.request.Request.TheVariants.{Tick, Input, Frame}
-use Rattle.session_laws.specs.Session.{SessionHistory, Step, step_acts, session_acts, history_by, states_after, ticks_behind, ticks_left, items_brought}
-use Rattle.session_laws.specs.Told.{each_step}
+use Rattle.session_laws.specs.Session.{SessionHistory, Step, step_acts, session_acts, history_by, states_after, ticks_left_after, ticks_left, items_brought}
+use Rattle.session_laws.specs.Answers.{each_step}
 use Rattle.live_session.specs.declared.session.Session.{Session}
 
 -- the book of the cabinet with this number has come to a round with these steps: all that master, line and scenario bring was brought, the
@@ -22,7 +22,7 @@ use Rattle.live_session.specs.declared.session.Session.{Session}
 pub record HasComeBy (s : ScenarioContent) (cab : ℕ) (t : CabinetState) (steps : List Step) (b : Book) : Type 0 where
   pub come : HasCome t (session_acts s cab t steps) b
   pub brought : (pass : ℕ) → pass < 4 → left_of b pass ≡ 0
-  pub ticks : left_of b 4 ≡ ticks_behind s steps
+  pub ticks : left_of b 4 ≡ ticks_left_after s steps
   pub short : (pass : ℕ) → pass < 4 → length (get_or (streams_in b) pass []) ≤ 1000000 + items_brought steps
 
 -- so have all books

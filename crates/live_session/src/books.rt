@@ -11,15 +11,15 @@ ghost use Rattle.run_definition.specs.CabinetState.{CabinetState};
 ghost use Rattle.run_definition.specs.Lines.{acts_lines, opening_lines};
 ghost use Rattle.cab_book.specs.Books.{left_of, ticks_by_end, written_in, answered_in};
 ghost use Rattle.round_run.specs.CabinetStates.{AreAt, HasRun, HaveRun, no_journals, TicksWithin};
-ghost use Rattle.session_laws.specs.Session.{Step, Ticks, Brings, begin_acts, ticks_behind, items_brought};
-ghost use Rattle.session_laws.specs.Told.{each_begin, each_journal};
+ghost use Rattle.session_laws.specs.Session.{Step, Ticks, Brings, begin_acts, ticks_left_after, items_brought};
+ghost use Rattle.session_laws.specs.Answers.{each_begin, each_journal};
 ghost use Rattle.live_session.specs.Standing.{HasComeBy, HaveComeBy, IsTicked, HasTaken, IsTold, HaveTaken};
 
 use crate::lines::{put_frame, put_frames, put_journal, put_replies};
 use cab_book::{Answered, Book};
 use master_rounds::rounds_are_short;
 use round_run::{books_follow_acts, bring_beginning};
-use sig_types::{Field, Frame, NoMemory, Octets, Way, pass_of};
+use sig_types::{Field, Frame, NoMemory, Octets, Way};
 use std::alloc::Global;
 
 /// The lines of what each cabinet shows before any tick are appended.
@@ -98,7 +98,7 @@ fn tick_book(
     book: &mut Book,
     ticks: u32,
 ) -> Result<(), NoMemory>
-    requires { (s : ScenarioContent) × (t : CabinetState) × (steps : List Step) × HasComeBy s cab t steps book.old × (ticks ≤ ticks_behind s steps) }
+    requires { (s : ScenarioContent) × (t : CabinetState) × (steps : List Step) × HasComeBy s cab t steps book.old × (ticks ≤ ticks_left_after s steps) }
     ensures taken { OnOk result (HasTaken cab (Ticks ticks) book.old book.new) }
     ensures told { OnOk result (IsTold cab (Ticks ticks) book.old out.old.items out.new.items) }
 {
@@ -116,7 +116,7 @@ pub fn tick_books(
     ticks: u32,
 ) -> Result<(), NoMemory>
     requires few { length books.old.items ≤ 64 }
-    requires come { (s : ScenarioContent) × (ts : List CabinetState) × (steps : List Step) × HaveComeBy s ts steps books.old.items × (ticks ≤ ticks_behind s steps) }
+    requires come { (s : ScenarioContent) × (ts : List CabinetState) × (steps : List Step) × HaveComeBy s ts steps books.old.items × (ticks ≤ ticks_left_after s steps) }
     ensures { OnOk result (HaveTaken (Ticks ticks) books.old.items books.new.items out.old.items out.new.items) }
 {
     for k in 0..books.len() {
@@ -164,7 +164,7 @@ fn receive_frame(
     books_follow_acts();
     let (way, octets) = frame;
     let before = book.replies().len();
-    book.bring_frame(pass_of(way), octets)?;
+    book.bring_frame(way, octets)?;
     put_replies(alloc, out, cab, replies_from(book, before))
 }
 

@@ -1,9 +1,10 @@
 //! The lines of an answer, appended to its text. Where memory is wanting, a part of them may stand there already: the text is then of no
 //! more use.
 
-ghost use Rattle.std.specs.Prelude.{◌≡◌, ◌++◌, OnOk, map};
+ghost use Rattle.std.specs.Prelude.{◌≡◌, ◌++◌, ◌∷◌, OnOk, map};
 ghost use Rattle.trace_text.specs.declared.lines.Line.{Line as LineRow};
 ghost use Rattle.trace_text.specs.Line.{line_text};
+ghost use Rattle.trace_text.specs.Texts.{reply_text};
 ghost use Rattle.safety_laws.specs.TraceText.{lines_text};
 ghost use Rattle.cabinet_history.specs.Journals.{runs_of};
 ghost use Rattle.cab_book.specs.Books.{journal_of};
@@ -11,14 +12,14 @@ ghost use Rattle.cab_book.specs.Happenings.{replies_in};
 ghost use Rattle.run_definition.specs.Lines.{shown_line, frame_lines, load_lines, reply_lines};
 ghost use Rattle.round_run.specs.Lines.{answer_lines};
 ghost use Rattle.session_laws.specs.Dialogue.{dot, answer_text};
-ghost use Rattle.session_laws.specs.Told.{Refuses};
+ghost use Rattle.session_laws.specs.Answers.{NotTaken};
 
 use cab_book::{Answered, Book};
 use cabinet_history::{Load, Reply};
 use session_words::{Untaken, word_of};
-use sig_types::{Frame, MasterNote, NoMemory};
-use std::alloc::Global;
-use trace_text::{Line, Runs, same_octets, write_line};
+use sig_types::{Frame, MasterNote, NoMemory, Octets};
+use std::alloc::{AllocError, Global};
+use trace_text::{Line, Runs, hexadecimal, number, word, write_line};
 
 /// Appends these bytes.
 fn put(out: &mut Vec<u8>, bytes: &[u8]) -> Result<(), NoMemory>
@@ -93,18 +94,48 @@ fn put_load(alloc: Global, out: &mut Vec<u8>, cab: u32, load: &Option<Load>) -> 
     }
 }
 
+/// Puts a space, and the octets of an answer in hexadecimal; `-` where the cabinet was silent.
+fn put_octets(alloc: Global, out: &mut Vec<u8>, text: &Option<Octets>) -> Result<(), AllocError>
+    ensures { OnOk result (out.new.items ≡ out.old.items ++ 32 ∷ reply_text text.now) }
+{
+    match text {
+        None => word(out, b"-"),
+        Some(octets) => {
+            out.push(b' ')?;
+            hexadecimal(alloc, out, octets.as_slice())
+        }
+    }
+}
+
+/// Puts the line of an answer or of silence, word by word, so that the octets are not copied into a line first.
+#[tactic(auto, using(trace_text::proofs::Endings::endings), unfolding(trace_text::specs::Line::line_text))]
+fn put_words(alloc: Global, out: &mut Vec<u8>, cab: u32, reply: &Reply) -> Result<(), AllocError>
+    ensures { OnOk result (out.new.items ≡ out.old.items ++ line_text (LineRow.A cab reply.now.pass reply.now.text)) }
+{
+    out.push(b'A')?;
+    number(out, cab)?;
+    number(out, reply.pass)?;
+    put_octets(alloc, out, &reply.text)?;
+    out.push(b'\n')?;
+    Ok(())
+}
+
+/// Appends the line of an answer or of silence.
+fn put_answer(alloc: Global, out: &mut Vec<u8>, cab: u32, reply: &Reply) -> Result<(), NoMemory>
+    ensures { OnOk result (out.new.items ≡ out.old.items ++ line_text (LineRow.A cab reply.now.pass reply.now.text)) }
+{
+    match put_words(alloc, out, cab, reply) {
+        Ok(()) => Ok(()),
+        Err(_) => Err(NoMemory),
+    }
+}
+
 /// Appends the lines of a reply: the end of a download, where the frame brought one, and then the answer or silence.
 fn put_reply(alloc: Global, out: &mut Vec<u8>, cab: u32, reply: &Reply) -> Result<(), NoMemory>
     ensures { OnOk result (out.new.items ≡ out.old.items ++ lines_text (answer_lines cab reply.now)) }
 {
     put_load(alloc, out, cab, &reply.load)?;
-    let hex = same_octets(&reply.text);
-    let line = Line::A {
-        cab,
-        pass: reply.pass,
-        hex,
-    };
-    put_line(alloc, out, &line)
+    put_answer(alloc, out, cab, reply)
 }
 
 /// Appends the lines of replies.
@@ -155,7 +186,7 @@ pub fn put_dot(out: &mut Vec<u8>) -> Result<(), NoMemory>
 
 /// Appends the answer that says why a request can't be taken.
 pub fn put_refusal(out: &mut Vec<u8>, untaken: Untaken) -> Result<(), NoMemory>
-    ensures { OnOk result (out.new.items ≡ out.old.items ++ answer_text (Refuses untaken)) }
+    ensures { OnOk result (out.new.items ≡ out.old.items ++ answer_text (NotTaken untaken)) }
 {
     put(out, b"? ")?;
     put(out, word_of(untaken).as_bytes())?;

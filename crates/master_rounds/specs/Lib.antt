@@ -4,3 +4,4 @@ pub mod Bounds
 pub mod Answered
 pub mod Stands
 pub mod Begun
+pub mod Turns

@@ -1,8 +1,7 @@
 //! Master and line between the rounds and in them.
 
-ghost use Rattle.std.specs.Prelude.{ℕ, ◌≡◌, ◌≤◌, ◌<◌, ◌+◌, List, [], length, All, IfOk, OnOk, OnErr};
-ghost use Rattle.scenario_data.specs.Content.{scenario_content};
-ghost use Rattle.sig_types.specs.Replies.{Reply};
+ghost use Rattle.std.specs.Prelude.{◌≡◌, ◌≤◌, ◌+◌, [], length, All, IfOk, OnOk, OnErr};
+ghost use Rattle.scenario_data.specs.Content.{ScenarioContent, scenario_content};
 ghost use Rattle.master_rounds.specs.Answered.{IsEmpty};
 ghost use Rattle.master_poll.specs.Masters.{cabinet_count as master_count};
 ghost use Rattle.link_sim.specs.Stands.{cabinet_count as link_count};
@@ -48,9 +47,8 @@ fn nothing_from(alloc: Global, count: usize) -> Result<Vec<Answers>, AllocError>
 
 impl MasterRounds {
     ghost use Rattle.master_rounds.specs.Served.{CanBeServed};
-    ghost use Rattle.master_rounds.specs.Answered.{AreAllReplies, with_replies};
-    ghost use Rattle.master_rounds.specs.Stands.{MasterRoundsStands, HasBegun, cabinet_count, rounds_begun};
-    ghost use Rattle.master_rounds.specs.Begun.{IsBegun};
+    ghost use Rattle.master_rounds.specs.Stands.{MasterRoundsStands, cabinet_count, rounds_begun};
+    ghost use Rattle.master_rounds.specs.Turns.{BeginsAsDue, StandsBegun, StandsBetween, StandsEnded, StillBegun};
 
     /// Master and line of a scenario before its first round.
     pub fn open(alloc: Global, s: &Scenario) -> Result<MasterRounds, NoMemory>
@@ -59,14 +57,8 @@ impl MasterRounds {
         ensures rounds { IfOk result (λ master_rounds. rounds_begun master_rounds ≡ 0) }
         ensures cabinets { IfOk result (λ master_rounds. cabinet_count master_rounds ≡ length s.now.cabinets.items) }
     {
-        let master = match Master::open(alloc, s) {
-            Ok(master) => master,
-            Err(error) => return Err(error),
-        };
-        let link = match Link::open(alloc, s) {
-            Ok(link) => link,
-            Err(error) => return Err(error),
-        };
+        let master = Master::open(alloc, s)?;
+        let link = Link::open(alloc, s)?;
         let Ok(arrived) = nothing_from(alloc, s.cabinets.len()) else {
             return Err(NoMemory);
         };
@@ -85,9 +77,9 @@ impl MasterRounds {
         requires few { round ≤ 86400 }
         requires cabinets { cabinet_count self.old ≡ length s.now.cabinets.items }
         requires served { CanBeServed (scenario_content s.now) }
-        ensures begun { IfOk result (λ b. (done : ℕ) (answered : ℕ → List (List Reply)) → MasterRoundsStands self.old (scenario_content s.now) done answered → IsBegun b (scenario_content s.now) answered) }
-        ensures stands { OnOk result ((done : ℕ) (answered : ℕ → List (List Reply)) → MasterRoundsStands self.old (scenario_content s.now) done answered → HasBegun self.new (scenario_content s.now) round answered) }
-        ensures again { OnErr result ((done : ℕ) (answered : ℕ → List (List Reply)) → MasterRoundsStands self.old (scenario_content s.now) done answered → MasterRoundsStands self.new (scenario_content s.now) done answered) }
+        ensures begun { IfOk result (λ b. BeginsAsDue self.old (scenario_content s.now) b) }
+        ensures stands { OnOk result (StandsBegun self.old self.new (scenario_content s.now) round) }
+        ensures again { OnErr result (StandsBetween self.old self.new (scenario_content s.now)) }
         ensures rounds { OnOk result (rounds_begun self.new ≡ round) }
         ensures same_rounds { OnErr result (rounds_begun self.new ≡ rounds_begun self.old) }
         ensures kept { cabinet_count self.new ≡ cabinet_count self.old }
@@ -111,20 +103,14 @@ impl MasterRounds {
     /// Ends the round that has begun, in which the cabinets have answered this, in their order: what of it goes over the link arrives
     /// for the master's turn in the next round. Where memory is wanting master and line stay in the middle of the round, and it may end
     /// again.
-    pub fn end(
-        &mut self,
-        alloc: Global,
-        round: u32,
-        s: &Scenario,
-        answers: &[Answers],
-    ) -> Result<(), NoMemory>
+    pub fn end(&mut self, alloc: Global, round: u32, answers: &[Answers]) -> Result<(), NoMemory>
         requires each { length answers.now ≡ cabinet_count self.old }
-        ensures stands { OnOk result ((answered : ℕ → List (List Reply)) (replies : ℕ → List Reply) → HasBegun self.old (scenario_content s.now) round answered → AreAllReplies answers.now replies → MasterRoundsStands self.new (scenario_content s.now) round (with_replies replies answered)) }
-        ensures again { OnErr result ((answered : ℕ → List (List Reply)) → HasBegun self.old (scenario_content s.now) round answered → HasBegun self.new (scenario_content s.now) round answered) }
+        ensures stands { OnOk result ((s : ScenarioContent) → StandsEnded self.old self.new s round answers.now) }
+        ensures again { OnErr result ((s : ScenarioContent) → StillBegun self.old self.new s round) }
         ensures rounds { rounds_begun self.new ≡ rounds_begun self.old }
         ensures kept { cabinet_count self.new ≡ cabinet_count self.old }
     {
-        match self.link.up(alloc, round, s, answers) {
+        match self.link.up(alloc, round, answers) {
             Ok(arrived) => {
                 self.arrived = arrived;
                 Ok(())

@@ -204,7 +204,7 @@ fn a_late_poll_comes_again_in_the_next_round(rt: HostRuntime) -> Result<(), Fail
             prios: Vec::new(rt.alloc()),
         },
     ]?;
-    let Ok(arrived) = link.up(rt.alloc(), 1, &s, &answers) else {
+    let Ok(arrived) = link.up(rt.alloc(), 1, &answers) else {
         return Err(Fail::from("no memory"));
     };
     assert!(rt; is(&arrived[0].polls, [[9].as_slice()].as_slice()));

@@ -83,7 +83,7 @@ fn meets(alloc: Global, rounds: &[([&str; 2], [&str; 2])]) -> Result<bool, Fail>
             None => false,
         };
         let answered = answers(alloc, &replies)?;
-        if !reached || master_rounds.end(alloc, round, &s, &answered).is_err() {
+        if !reached || master_rounds.end(alloc, round, &answered).is_err() {
             return Ok(false);
         }
     }

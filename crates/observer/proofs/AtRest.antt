@@ -11,7 +11,7 @@ use Rattle.sig_types.specs.declared.phase_set.PhaseSet.{PhaseSet}
 use Rattle.sig_types.specs.Phases.{is_in}
 use Rattle.sig_types.specs.PhaseSet.{phases_of}
 use Rattle.sig_types.specs.Colour.{same_signal, colour_of, signal_of}
-use Rattle.sig_types.proofs.Sets.{those-same}
+use Rattle.sig_types.proofs.Sets.{those-same, empty-has}
 use Rattle.sig_tables.specs.declared.tables.Tables.{Tables}
 use Rattle.sig_tables.specs.Slots.{is_defined}
 use Rattle.sig_tables.specs.Choosing.{is_in_step, mode_running}
@@ -19,7 +19,6 @@ use Rattle.sig_tables.specs.Past.{Past}
 use Rattle.sig_tables.specs.Preempts.{all_preempts, preempt_on}
 use Rattle.sig_tables.specs.Seen.{frame_seen, moment_seen, demand_with}
 use Rattle.sig_tables.proofs.Below.{phase-is}
-use Rattle.call_store.proofs.Listed.{none-has}
 use Rattle.call_store.specs.Signals.{SignalLasts}
 use Rattle.preempt_stages.specs.Inputs.{preempts_seen}
 use Rattle.preempt_stages.proofs.Least.{preempt-above, preempt-within}
@@ -65,7 +64,7 @@ none-on s past on empty =
     let above : 0 < i = preempt-above i l in
     let within : i ≤ 8 = preempt-within i l in
     let few : i ≤ 16 = omega arith in
-    sym (on-at past i above within) ∙ sym (on i above within) ∙ none-has s i (phase-is i above few) empty)
+    sym (on-at past i above within) ∙ sym (on i above within) ∙ empty-has s i (phase-is i above few) empty)
 
 -- nothing that a phase shows runs out
 pub phase-rests : (k : ℕ) (past : Past) (p : ℕ) → (is_clearing (frame_seen past).veh p || is_signalling (frame_seen past) p) ≡ false

@@ -1,14 +1,12 @@
 -- What an observer was told stands after ticks at rest that it passes over, one by one and at once.
-use Rattle.std.proofs.Common.{◌≡◌, ◌<◌, ◌≤◌, ◌+◌, ◌==◌, ◌&&◌, min, ℕ, zero, suc, Bool, true, false, inl, inr, List, [], ◌∷◌, ◌++◌, None, length, refl, sym, ◌∙◌, ap, arith, subst}
+use Rattle.std.proofs.Common.{◌≡◌, ◌<◌, ◌≤◌, ◌+◌, ◌&&◌, ℕ, zero, suc, Bool, true, false, List, [], ◌∷◌, ◌++◌, None, length, refl, sym, ◌∙◌, ap, arith, subst}
 use Rattle.std.proofs.Math.Bool.{and-false}
 use Rattle.std.proofs.lemmas.Bool.{false≢true}
-use Rattle.sig_types.specs.declared.frame.Frame.{Frame}
 use Rattle.sig_types.specs.declared.frame.Mode.{Mode}
 use Rattle.sig_types.specs.declared.frame.Mode.TheVariants.{Free, Coord}
 use Rattle.sig_types.specs.declared.phase_set.PhaseSet.{PhaseSet}
 use Rattle.sig_types.specs.Phases.{is_phase, is_in, some}
 use Rattle.sig_types.proofs.Sets.{in-phases}
-use Rattle.sig_tables.specs.declared.tables.Tables.{Tables}
 use Rattle.sig_tables.specs.Slots.{cycle_time}
 use Rattle.sig_tables.specs.Past.{Past, Moment}
 use Rattle.sig_tables.specs.Looking.{last_frame}
@@ -33,7 +31,6 @@ use Rattle.tick_context.specs.declared.unit_commands.UnitCommands.{UnitCommands}
 use Rattle.tick_context.specs.Context.{ContextStands}
 use Rattle.tick_context.specs.Even.{IsEven, UnitCommandsPassed}
 use Rattle.tick_context.specs.Lasting.{Lasts, Looks, opposed_with}
-use Rattle.tick_context.specs.Passed.{timed}
 use Rattle.tick_context.proofs.Again.{free-apart}
 use Rattle.tick_context.proofs.EvenRuns.{unit_commands-next, next-passed, first-even, rest-even, rest-by, timed-none}
 use Rattle.tick_context.proofs.GoesOn.{tick-goes, frame-goes, goes-alike}
@@ -42,6 +39,7 @@ use Rattle.tick_context.proofs.Passed.{unit_commands-on, after, lasts-after}
 use Rattle.tick_context.proofs.Pickups.{few-next, one-more, same-most}
 use Rattle.tick_context.proofs.Seen.{opposed-green}
 use Rattle.tick_context.proofs.Sought.{start-again}
+use Rattle.tick_context.proofs.Striding.{after-last}
 use Rattle.look_back.specs.declared.frame_history.FrameHistory.{FrameHistory}
 use Rattle.look_back.specs.Again.{FrameGoesOn, AllGoOn}
 use Rattle.look_back.specs.FrameHistories.{LooksOver}
@@ -130,10 +128,6 @@ remembers-after n o new look past some by k l idle even few looks =
 abbrev pub more : ℕ → Past → List Moment
 more zero past = []
 more (suc k) past = next_moment (after k past) ∷ more k past
-
-after-last : (k : ℕ) (past : Past) → with_moment (after k past) (next_moment (after k past)) ≡ after k (with_moment past (next_moment past))
-after-last zero past = refl
-after-last (suc k) past = after-last k (with_moment past (next_moment past))
 
 pub moments-after : (n : ℕ) (past : Past) → (after n past).moments ≡ more n past ++ past.moments
 moments-after zero past = refl

@@ -4,11 +4,11 @@ use Rattle.std.proofs.lemmas.Bool.{cases_order, cases_Bool, both_ways}
 use Rattle.sig_tables.specs.Counting.{Correction, HasRoom, tick_later, steps_for, adds_sooner, stands, skips, last_step_changed, begins_cycle, next_counter, last_counter, needed}
 use Rattle.offset_laws.specs.Stepping.{KeepsLimits, to_zero, StepsOn}
 use Rattle.offset_laws.proofs.Steps.{no-steps, one-step, step-more}
-use Rattle.offset_laws.proofs.Errors.{At, plain-keeps, next-is, no-error}
+use Rattle.offset_laws.proofs.Errors.{At, plain-keeps, next-is, no-error, stand-adds, stand-ends}
 use Rattle.offset_laws.proofs.Needed.{left-some}
 use Rattle.offset_laws.proofs.AnyTarget.{steps-on}
 use Rattle.offset_laws.specs.Drifting.{Drift, Even, Gains, Loses, moved, next_drifts, drifted, target_drifted, Spaced, CanCorrect}
-use Rattle.offset_laws.proofs.Jumps.{loses-one, gains-one, gains-level}
+use Rattle.offset_laws.proofs.Jumps.{loses-one}
 use Rattle.offset_laws.proofs.Going.{Goes, Dwells, AddsNext, SkipsNext, goes-loses, goes-gains}
 use Rattle.offset_laws.proofs.Ticks.{After, Met, On, Over, tick}
 
@@ -79,8 +79,8 @@ loses-tick k most t c before (suc e) room a some goes =
 gains-tick : (k : Correction) (most t c : ℕ) (before : List ℕ) (e : ℕ) → HasRoom k → k.mode ≡ 3 → At k.cycle t c e → 1 ≤ e → Goes k most 1 c before e
     → After k most 0 (tick_later k.cycle (tick_later k.cycle t)) (next_counter k (c ∷ before) (tick_later k.cycle (tick_later k.cycle t))) (c ∷ before)
 gains-tick k most t c before e room three a some goes = elim (cases_order (e + 1) k.cycle) [
-  | inl full ↦ level-meets k most (tick_later k.cycle t) c before (gains-level k.cycle t c e a full)
-  | inr (inl less) ↦ tick k most 0 (tick_later k.cycle t) c before (e + 1) room (gains-one k.cycle t c e a less) (omega arith)
+  | inl full ↦ level-meets k most (tick_later k.cycle t) c before (stand-ends k.cycle t c e a full)
+  | inr (inl less) ↦ tick k most 0 (tick_later k.cycle t) c before (e + 1) room (stand-adds k.cycle t c e a less) (omega arith)
       (goes-gains k most c before e room three less goes)
   | inr (inr more) ↦ absurd (let below : e < k.cycle = a.error in omega arith)
 ]

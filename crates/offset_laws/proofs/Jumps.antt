@@ -91,10 +91,3 @@ loses-level cycle t c some a =
     back t s ht hs hc (inl x) (inl y) = inr (omega arith)
     back t s ht hs hc (inl x) (inr y) = inl (omega arith)
     back t s ht hs hc (inr x) y = absurd (omega arith)
-
--- a clock that gains puts it one tick further ahead
-pub gains-one : (cycle t c e : ℕ) → At cycle t c e → e + 1 < cycle → At cycle (tick_later cycle t) c (e + 1)
-gains-one cycle t c e a room = Rattle.offset_laws.proofs.Errors.stand-adds cycle t c e a room
-
-pub gains-level : (cycle t c e : ℕ) → At cycle t c e → e + 1 ≡ cycle → At cycle (tick_later cycle t) c 0
-gains-level cycle t c e a full = Rattle.offset_laws.proofs.Errors.stand-ends cycle t c e a full

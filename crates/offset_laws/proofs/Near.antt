@@ -6,12 +6,12 @@ use Rattle.sig_tables.specs.Counting.{Correction, HasRoom, tick_later, steps_for
 use Rattle.offset_laws.specs.Stepping.{KeepsLimits, to_zero, StepsOn}
 use Rattle.offset_laws.proofs.Steps.{one-step, step-more, fewer-steps, later-within, later-end}
 use Rattle.offset_laws.proofs.Looks.{fits, exceeds, Begun, begun}
-use Rattle.offset_laws.proofs.Errors.{At, zero-error, plain-keeps, stand-ends, skip-takes, next-is, no-error, in-window, past-window}
+use Rattle.offset_laws.proofs.Errors.{At, zero-error, plain-keeps, stand-ends, skip-takes, next-is, no-error, in-window, past-window, stand-adds}
 use Rattle.offset_laws.proofs.Resting.{gone, Adds, Subtracts, corrected-dwells, corrected-adds, corrected-subtracts}
 use Rattle.offset_laws.proofs.Onto.{Onto, onto}
 use Rattle.offset_laws.proofs.AnyTarget.{steps-on}
 use Rattle.offset_laws.specs.Drifting.{Drift, Even, Gains, Loses, moved, next_drifts, drifted, target_drifted, Spaced, CanCorrect, IsNear, MeetsTarget, StaysNear}
-use Rattle.offset_laws.proofs.Jumps.{loses-level, gains-one}
+use Rattle.offset_laws.proofs.Jumps.{loses-level}
 use Rattle.offset_laws.proofs.Ticks.{needed-adds, needed-subtracts, needed-dwells}
 use Rattle.offset_laws.proofs.Reaching.{reaches, shifted, shifted-spaced, shifted-can, drifted-more, target-more, zero-keeps}
 use Rattle.offset_laws.proofs.Cycles.{spaced-next, can-next, can-now, even-or, quiet-after}
@@ -198,7 +198,7 @@ drift-off : (k : Correction) (t c : ℕ) (before : List ℕ) (x : Drift) → Has
 drift-off k t c before Even room short can a = off-tick k t c before 0 room a (Level refl)
 drift-off k t c before Gains room short (inl three) a =
     off-tick k (tick_later k.cycle t) c before 1 room
-    (gains-one k.cycle t c 0 a (let l : 10 ≤ k.cycle = room.cycle in let g : 0 + 1 < k.cycle = omega arith in g)) (gains-off k room three short)
+    (stand-adds k.cycle t c 0 a (let l : 10 ≤ k.cycle = room.cycle in let g : 0 + 1 < k.cycle = omega arith in g)) (gains-off k room three short)
 drift-off k t c before Gains room short (inr never) a = absurd (never refl)
 drift-off k t c before Loses room short can a =
     let l : 10 ≤ k.cycle = room.cycle in

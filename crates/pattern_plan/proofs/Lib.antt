@@ -1,4 +1,4 @@
-mod Walks
+mod Greatest
 mod Sides
 mod Points
 pub mod ActivePattern

@@ -14,7 +14,7 @@ use Rattle.sig_tables.specs.Slots.{slot_end, side_of, side_end, side_clearance}
 use Rattle.sig_tables.specs.Layout.{Has}
 use Rattle.sig_tables.specs.Laying.{EachIs}
 use Rattle.pattern_plan.specs.Stands.{at_phase, enabled_end}
-use Rattle.pattern_plan.proofs.Walks.{greatest-alike}
+use Rattle.pattern_plan.proofs.Greatest.{greatest-alike}
 
 middle : (a b c : Bool) → (a && b && c) ≡ true → b ≡ true
 middle true true c h = refl

@@ -1,30 +1,10 @@
 //! A side of the barrier in a pattern: where its last slot ends, and how long it clears.
 
-ghost use Rattle.std.specs.Prelude.{◌≡◌, ◌<◌, ◌≤◌, ◌&&◌, ◌==◌, not, true, ℕ, List, []};
-ghost use Rattle.sig_types.specs.PhaseSet.{has, phases_of};
+ghost use Rattle.std.specs.Prelude.{◌≡◌, ℕ, List};
+ghost use Rattle.sig_types.specs.PhaseSet.{phases_of};
 ghost use Rattle.sig_tables.specs.Sums.{greatest};
-ghost use Rattle.sig_tables.specs.Layout.{Has};
 
 use sig_types::PhaseSet;
-
-/// The least phase of a set that isn't empty.
-fn least_of(set: PhaseSet) -> u8
-    requires some { ¬ (phases_of set ≡ []) }
-    ensures has { has set result ≡ true }
-    ensures above { 0 < result }
-    ensures within { result ≤ 16 }
-{
-    set.first()
-}
-
-/// The phases of a set but one, 1 to 16.
-fn without(set: PhaseSet, phase: u8) -> PhaseSet
-    requires above { 0 < phase }
-    requires within { phase ≤ 16 }
-    ensures { Has result (λ p. has set p && not (p == phase)) }
-{
-    set.minus(PhaseSet::empty().with(phase))
-}
 
 /// The phases of a side, where its last slot ends, and the greatest clearance of its phases, in ticks.
 #[derive(Clone, Copy)]
@@ -71,9 +51,9 @@ impl Side {
         let mut most = 0;
         let mut left = set;
         'members: while !left.is_empty() {
-            let phase = least_of(left);
+            let phase = left.least();
             most = numbers[phase as usize - 1].max(most);
-            left = without(left, phase);
+            left = left.without(phase);
         }
         most
     }

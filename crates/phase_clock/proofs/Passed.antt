@@ -11,16 +11,16 @@ use Rattle.sig_tables.specs.Looking.{last_frame}
 use Rattle.sig_tables.specs.Calls.{is_green}
 use Rattle.sig_tables.proofs.Below.{phase-is}
 use Rattle.phase_clock.specs.declared.Clocks.{Clocks}
-use Rattle.phase_clock.specs.declared.tally.Tally.{Tally}
-use Rattle.phase_clock.specs.Tally.{TallyStands}
+use Rattle.phase_clock.specs.declared.member_runs.MemberRuns.{MemberRuns}
+use Rattle.phase_clock.specs.MemberRuns.{MemberRunsStand}
 use Rattle.phase_clock.specs.Stands.{ClocksStand}
 use Rattle.phase_clock.specs.Passed.{IsSteady, passed}
 use Rattle.phase_clock.proofs.GoesOn.{colour_goes_on}
 
 -- a set that stays is counted on
-tally-on : (tally : Tally) (steps p : ℕ) (test : Moment → Bool) (past : List Moment) (m : Moment) → test m ≡ has tally.members p
-    → TallyStands tally steps p test past → TallyStands tally (steps + 1) p test (m ∷ past)
-tally-on tally steps p test past m e stands = record {
+runs-on : (runs : MemberRuns) (steps p : ℕ) (test : Moment → Bool) (past : List Moment) (m : Moment) → test m ≡ has runs.members p
+    → MemberRunsStand runs steps p test past → MemberRunsStand runs (steps + 1) p test (m ∷ past)
+runs-on runs steps p test past m e stands = record {
   inside = λ h. rw (e ∙ h) (omega (arith, stands.inside h));
   outside = λ h. rw (e ∙ h) refl;
 }
@@ -36,12 +36,12 @@ clocks-on c active opposed past m stands steady now quiet pressed = record {
   green = λ p above within. stands.green p above within ∙ ap (λ (veh : List Colour). same_colour (colour_in veh p) Green) (sym now);
   intervals = λ p above within. colour_goes_on _ p _ _ past m refl (rw now (stands.intervals p above within));
   quiet = λ p above within.
-      tally-on c.quiet c.steps p (λ m. is_in m.quiet p) past m
+      runs-on c.quiet c.steps p (λ m. is_in m.quiet p) past m
       (quiet p (phase-is p above within)
       ∙ sym (steady.quiet p within ∙ ap (λ (b : Bool). b && not (has active p)) (stands.green p above within)))
       (stands.quiet p above within);
   opposed = λ p above within.
-      tally-on c.opposed c.steps p (λ m. is_in m.opposed p) past m
+      runs-on c.opposed c.steps p (λ m. is_in m.opposed p) past m
       (pressed p (phase-is p above within)
       ∙ sym (steady.pressed p ∙ ap (λ (b : Bool). b && has opposed p) (stands.green p above within)))
       (stands.opposed p above within);

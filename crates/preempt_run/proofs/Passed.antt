@@ -13,8 +13,8 @@ use Rattle.sig_tables.specs.Past.{Past, Moment}
 use Rattle.sig_tables.specs.Decide.{with_moment}
 use Rattle.sig_tables.proofs.Below.{phase-is}
 use Rattle.preempt_run.specs.declared.Preempts.{Preempts}
-use Rattle.phase_clock.specs.declared.tally.Tally.{Tally}
-use Rattle.phase_clock.specs.Tally.{TallyStands}
+use Rattle.phase_clock.specs.declared.member_runs.MemberRuns.{MemberRuns}
+use Rattle.phase_clock.specs.MemberRuns.{MemberRunsStand}
 use Rattle.preempt_stages.specs.Dwelling.{is_off, dwells_green, dwells_off}
 use Rattle.preempt_run.specs.Stands.{PreemptsStand, StaysBeside}
 use Rattle.preempt_run.specs.Passed.{IsClear, passed}
@@ -23,10 +23,10 @@ use Rattle.preempt_run.proofs.Called.{seen-on}
 use Rattle.preempt_run.proofs.Runs.{mode-steps, stage-steps}
 
 -- an empty set counts no moment at which the test fails
-tally-none : (tally : Tally) (steps p : ℕ) (test : Moment → Bool) (past : List Moment) (m : Moment) → phases_of tally.members ≡ []
-    → is_phase p ≡ true → test m ≡ false → TallyStands tally steps p test (m ∷ past)
-tally-none tally steps p test past m none is e = record {
-  inside = λ h. absurd (false≢true (sym (sym (in-phases (has tally.members) p is) ∙ ap (λ (xs : List ℕ). is_in xs p) none) ∙ h));
+runs-none : (runs : MemberRuns) (steps p : ℕ) (test : Moment → Bool) (past : List Moment) (m : Moment) → phases_of runs.members ≡ []
+    → is_phase p ≡ true → test m ≡ false → MemberRunsStand runs steps p test (m ∷ past)
+runs-none runs steps p test past m none is e = record {
+  inside = λ h. absurd (false≢true (sym (sym (in-phases (has runs.members) p is) ∙ ap (λ (xs : List ℕ). is_in xs p) none) ∙ h));
   outside = λ h. rw e refl;
 }
 
@@ -40,17 +40,17 @@ preempts-on c past m stands clear stays =
       on = λ t i above within. sym (ap (λ (xs : List ℕ). is_in xs i) stays.saw ∙ seen-on c past stands i above within);
       inputs = λ i above within.
           let few : i ≤ 16 = omega arith in
-          tally-none c.inputs (c.steps + 1) i (λ m. is_in m.preempts i) past.moments m clear.inputs (phase-is i above few)
+          runs-none c.inputs (c.steps + 1) i (λ m. is_in m.preempts i) past.moments m clear.inputs (phase-is i above few)
           (ap (λ (xs : List ℕ). is_in xs i) stays.saw ∙ stays.none i above within);
       mode = sym goes;
       mode_run = mode-steps c.mode_since c.steps old old m past.moments true (sym (same_mode-itself old)) stands.mode goes stands.mode_run;
       stage_run = stage-steps c.stage_since c.steps old old m past.moments true
           (sym ((Decides-eqb (stage_of old) (stage_of old)).1 refl)) stands.mode goes stands.stage_run;
       green = λ p above within.
-          tally-none c.green (c.steps + 1) p (dwells_green p) past.moments m clear.green (phase-is p above within)
+          runs-none c.green (c.steps + 1) p (dwells_green p) past.moments m clear.green (phase-is p above within)
           (ap (λ (b : Bool). b && is_green m.frame p) stays.beside);
       off = λ p above within.
-          tally-none c.off (c.steps + 1) p (dwells_off p) past.moments m clear.off (phase-is p above within)
+          runs-none c.off (c.steps + 1) p (dwells_off p) past.moments m clear.off (phase-is p above within)
           (ap (λ (b : Bool). b && is_off m.frame p) stays.beside);
       fits = (stays.wide, stays.names, stands.fits);
     }

@@ -1,4 +1,4 @@
--- The runs of the last mode and of its stage, and of tallies, as tests over the last moments.
+-- The runs of the last mode and of its stage, and of members of sets, as tests over the last moments.
 use Rattle.std.proofs.Common.{◌≡◌, ◌+◌, ◌==◌, ℕ, Bool, true, false, nat_le, if◌then◌else◌, List, ◌∷◌, refl, sym, ◌∙◌}
 use Rattle.sig_types.specs.declared.frame.Mode.{Mode}
 use Rattle.sig_types.specs.declared.frame.Mode.TheVariants.{Dwell}
@@ -7,11 +7,11 @@ use Rattle.sig_tables.specs.Past.{Past, Moment}
 use Rattle.sig_tables.specs.Looking.{in_a_row, lasts, last_frame}
 use Rattle.sig_tables.specs.Seen.{frame_seen}
 use Rattle.sig_tables.proofs.Lasting.{lasts-counted}
-use Rattle.phase_clock.specs.declared.tally.Tally.{Tally}
+use Rattle.phase_clock.specs.declared.member_runs.MemberRuns.{MemberRuns}
 use Rattle.preempt_run.specs.declared.Preempts.{Preempts}
-use Rattle.phase_clock.specs.Tally.{TallyStands, count_of}
+use Rattle.phase_clock.specs.MemberRuns.{MemberRunsStand, count_of}
 use Rattle.preempt_run.specs.Stands.{PreemptsStand}
-use Rattle.phase_clock.proofs.Tallies.{counted}
+use Rattle.phase_clock.proofs.Counted.{counted}
 use Rattle.preempt_stages.proofs.Goes.{goes_on, begins, same_mode-itself, one-mode}
 use Rattle.std.proofs.lemmas.Bool.Decides.{Decides-eqb, eqb_tells}
 use Rattle.std.proofs.Common.{inl, inr}
@@ -32,10 +32,10 @@ stage-lasts c past i n run stands at count =
     let e : c.mode ≡ Dwell i = stands.mode ∙ at in
     lasts-counted n (λ m. stage_of m.frame.mode == i) past.moments ∙ rw (count, e) refl
 
--- what a tally counts has lasted
-pub tally-lasts : (tally : Tally) (last p n : ℕ) (test : Moment → Bool) (past : List Moment) → TallyStands tally last p test past
-    → nat_le n (count_of tally last p) ≡ lasts n test past
-tally-lasts tally last p n test past stands = rw (counted tally last p test past stands) (sym (lasts-counted n test past))
+-- a run that is counted has lasted
+pub runs-lasts : (runs : MemberRuns) (last p n : ℕ) (test : Moment → Bool) (past : List Moment) → MemberRunsStand runs last p test past
+    → nat_le n (count_of runs last p) ≡ lasts n test past
+runs-lasts runs last p n test past stands = rw (counted runs last p test past stands) (sym (lasts-counted n test past))
 
 -- the run of the mode after one more moment
 pub mode-steps : (since last : ℕ) (old new : Mode) (m : Moment) (past : List Moment) (same : Bool) → same ≡ same_mode old new

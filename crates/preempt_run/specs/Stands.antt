@@ -9,7 +9,7 @@ use Rattle.sig_tables.specs.Looking.{in_a_row, last_frame, last_moment}
 use Rattle.sig_tables.specs.Preempts.{preempt_on}
 use Rattle.sig_tables.specs.Seen.{frame_seen}
 use Rattle.preempt_run.specs.declared.Preempts.{Preempts}
-use Rattle.phase_clock.specs.Tally.{TallyStands}
+use Rattle.phase_clock.specs.MemberRuns.{MemberRunsStand}
 use Rattle.preempt_stages.specs.Inputs.{preempts_seen}
 use Rattle.preempt_stages.specs.Dwelling.{dwells_green, dwells_off, is_dwell, NamesPhases, EachFits}
 
@@ -23,12 +23,12 @@ step_count c = c.steps
 pub record PreemptsKeep (c : Preempts) (heard : List Heard) (past : List Moment) : Type 0 where
   pub steps : length past ≡ c.steps + 1
   pub on : (t : Tables) (i : ℕ) → 0 < i → i ≤ 8 → has c.on i ≡ preempt_on (is_in (last_moment t past).preempts i) heard i
-  pub inputs : (i : ℕ) → 0 < i → i ≤ 8 → TallyStands c.inputs c.steps i (λ m. is_in m.preempts i) past
+  pub inputs : (i : ℕ) → 0 < i → i ≤ 8 → MemberRunsStand c.inputs c.steps i (λ m. is_in m.preempts i) past
   pub mode : c.mode ≡ (last_frame past).mode
   pub mode_run : c.mode_since + in_a_row (λ m. same_mode m.frame.mode c.mode) past ≡ c.steps + 1
   pub stage_run : c.stage_since + in_a_row (λ m. stage_of m.frame.mode == stage_of c.mode) past ≡ c.steps + 1
-  pub green : (p : ℕ) → 0 < p → p ≤ 16 → TallyStands c.green c.steps p (dwells_green p) past
-  pub off : (p : ℕ) → 0 < p → p ≤ 16 → TallyStands c.off c.steps p (dwells_off p) past
+  pub green : (p : ℕ) → 0 < p → p ≤ 16 → MemberRunsStand c.green c.steps p (dwells_green p) past
+  pub off : (p : ℕ) → 0 < p → p ≤ 16 → MemberRunsStand c.off c.steps p (dwells_off p) past
   pub fits : EachFits past
 
 -- the registers stand for the past: of all that has come they look at the inputs and the moments alone, so that a download, a

@@ -5,7 +5,7 @@
 
 ghost use Rattle.std.specs.Prelude.{◌≡◌, ◌<◌, ◌≤◌, ◌+◌, ◌*◌, ◌&&◌, ◌||◌, ◌==◌, ◌∷◌, [], ℕ, true, false, IsTrue};
 
-use phase_clock::Tally;
+use phase_clock::MemberRuns;
 use preempt_stages::{
     after_entry, after_exit, began, breaks_in, calls, due_green, dwelling_green, dwelling_off,
     exit_from, holds_dwell, is_dwell, phases_in, row_of, same_mode, same_stage, shows_sixteen,
@@ -25,14 +25,14 @@ pub struct Preempts {
     /// The preempts whose input is on.
     on: PhaseSet,
     /// For how many ticks in a row, up to the last, each input was on.
-    inputs: Tally,
+    inputs: MemberRuns,
     /// The mode of the last frame, the step at which it began, and the step at which the stages of its preempt did.
     mode: Mode,
     mode_since: u32,
     stage_since: u32,
     /// For how many last frames of dwell in a row each phase has been green, and on in no ring.
-    green: Tally,
-    off: Tally,
+    green: MemberRuns,
+    off: MemberRuns,
 }
 
 impl Preempts {
@@ -60,12 +60,12 @@ impl Preempts {
         Preempts {
             steps: 0,
             on: PhaseSet::empty(),
-            inputs: Tally::new(),
+            inputs: MemberRuns::new(),
             mode: Mode::Start,
             mode_since: 0,
             stage_since: 0,
-            green: Tally::new(),
-            off: Tally::new(),
+            green: MemberRuns::new(),
+            off: MemberRuns::new(),
         }
     }
 

@@ -9,12 +9,12 @@ use Rattle.sig_types.specs.declared.frame.Frame.{Frame}
 use Rattle.sig_types.specs.Phases.{is_phase, all_phases, is_in, some}
 use Rattle.sig_types.specs.Colour.{on_in, same_colour}
 use Rattle.sig_types.proofs.Lists.{eq-true, phase-listed}
-use Rattle.sig_types.proofs.Sets.{in-every, listed-phase}
+use Rattle.sig_types.proofs.Sets.{in-every, listed-phase, every-from}
 use Rattle.sig_tables.specs.Sums.{every}
 use Rattle.sig_tables.specs.Calls.{is_green}
 use Rattle.sig_tables.proofs.Below.{phase-is, is-above}
 use Rattle.preempt_stages.specs.Dwelling.{is_off, NamesPhases}
-use Rattle.preempt_stages.proofs.Each.{same-answer, implies, implied, every-intro, every-same, every-both, not-some}
+use Rattle.preempt_stages.proofs.Each.{same-answer, implies, implied, every-same, every-both, not-some}
 
 -- phase p is asked for: it is listed, or is phase 1 and the octet 0 is
 abbrev pub is_due : List ℕ → ℕ → Bool
@@ -42,7 +42,7 @@ covered test xs zeroth beyond =
     ∙ sym (not-some (λ p. is_due xs p && not (test p)) all_phases)
   where
     down : every test xs ≡ true → every (λ p. not (is_due xs p && not (test p))) all_phases ≡ true
-    down h = every-intro (λ p. not (is_due xs p && not (test p))) all_phases
+    down h = every-from (λ p. not (is_due xs p && not (test p))) all_phases
         (λ p i. implies (is_due xs p) (test p) (λ d. elim (due-listed xs p d) [
           | inl l ↦ in-every test xs p h l
           | inr o ↦ ap test o.0 ∙ sym zeroth ∙ in-every test xs 0 h o.1
@@ -66,7 +66,7 @@ covered test xs zeroth beyond =
     ]
 
     up : every (λ p. not (is_due xs p && not (test p))) all_phases ≡ true → every test xs ≡ true
-    up h = every-intro test xs (each h)
+    up h = every-from test xs (each h)
 
 or-false : (b : Bool) → (b || false) ≡ b
 or-false true = refl
@@ -81,7 +81,7 @@ one-ring : (xs : List ℕ) (x : ℕ) → x ≤ 16 → (x == 0 || is_in xs x) ≡
 one-ring xs x few = same-answer (x == 0 || is_in xs x) (every (λ p. is_in xs p || not (x == p)) all_phases) down up
   where
     down : (x == 0 || is_in xs x) ≡ true → every (λ p. is_in xs p || not (x == p)) all_phases ≡ true
-    down h = every-intro (λ p. is_in xs p || not (x == p)) all_phases (λ p i. elim (eqb_tells x p) [
+    down h = every-from (λ p. is_in xs p || not (x == p)) all_phases (λ p i. elim (eqb_tells x p) [
       | inl (t, e) ↦
           let above : 0 < p = is-above p (listed-phase p i) in
           let some : x ≢ 0 = omega arith in

@@ -21,11 +21,6 @@ implied true true h e = refl
 implied true false h e = h
 implied false y h e = absurd (false≢true e)
 
--- one that each passes, all pass
-pub every-intro : (test : ℕ → Bool) (xs : List ℕ) → ((q : ℕ) → is_in xs q ≡ true → test q ≡ true) → every test xs ≡ true
-every-intro test [] h = refl
-every-intro test (x ∷ xs) h = rw (h x (in-head x xs)) (every-intro test xs (λ q i. h q (in-tail x xs q i)))
-
 pub every-true : (xs : List ℕ) → every (λ _. true) xs ≡ true
 every-true [] = refl
 every-true (x ∷ xs) = every-true xs

@@ -1,13 +1,12 @@
 -- The frames of a controller name phases, or nothing.
-use Rattle.std.proofs.Common.{◌≡◌, ◌≤◌, inl, inr, ℕ, Bool, true, not, ◌&&◌, ◌==◌, List, [], ◌∷◌, length, refl, arith}
-use Rattle.std.proofs.lemmas.Bool.{cases_Bool}
+use Rattle.std.proofs.Common.{◌≡◌, ◌≤◌, ℕ, not, ◌&&◌, ◌==◌, List, [], ◌∷◌, length, refl}
 use Rattle.sig_types.specs.declared.frame.Colour.{Colour}
 use Rattle.sig_types.specs.declared.frame.Colour.TheVariants.{Red}
 use Rattle.sig_types.specs.declared.frame.Frame.{Frame}
-use Rattle.sig_types.specs.Phases.{all_phases, is_in, first, only}
+use Rattle.sig_types.specs.Phases.{all_phases, first}
 use Rattle.sig_types.specs.Colour.{same_colour, colour_in}
-use Rattle.sig_types.proofs.Lists.{in-head, in-tail}
 use Rattle.sig_types.proofs.Sets.{listed-phase}
+use Rattle.sig_types.proofs.Members.{first-within}
 use Rattle.sig_tables.specs.declared.tables.Tables.{Tables}
 use Rattle.sig_tables.specs.Tables.{ring_of, is_enabled}
 use Rattle.sig_tables.specs.Ticking.{on_of}
@@ -15,13 +14,6 @@ use Rattle.sig_tables.proofs.Below.{is-within}
 use Rattle.sig_tables.specs.Past.{Moment}
 use Rattle.sig_tables.specs.Looking.{last_frame}
 use Rattle.preempt_stages.specs.Dwelling.{NamesPhases, EachFits}
-
-first-within : (test : ℕ → Bool) (xs : List ℕ) → ((q : ℕ) → is_in xs q ≡ true → q ≤ 16) → only (first test xs) ≤ 16
-first-within test [] h = omega arith
-first-within test (x ∷ xs) h = elim (cases_Bool (test x)) [
-  | inl e ↦ rw e (h x (in-head x xs))
-  | inr e ↦ rw e (first-within test xs (λ q i. h q (in-tail x xs q i)))
-]
 
 on-within : (t : Tables) (veh : List Colour) (r : ℕ) → on_of t veh r ≤ 16
 on-within t veh r = first-within (λ p. is_enabled t p && ring_of t p == r && not (same_colour (colour_in veh p) Red)) all_phases (λ q i. is-within q (listed-phase q i))

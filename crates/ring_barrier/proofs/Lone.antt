@@ -1,5 +1,5 @@
 -- Lists of at most one phase: what ends and what begins in a ring.
-use Rattle.std.proofs.Common.{◌≡◌, inl, inr, ℕ, zero, suc, Bool, true, false, not, ◌&&◌, ◌||◌, ◌==◌, if◌then◌else◌, List, [], ◌∷◌, ◌++◌, refl, sym, ◌∙◌, arith}
+use Rattle.std.proofs.Common.{◌≡◌, inl, inr, ℕ, zero, suc, Bool, true, false, not, ◌&&◌, ◌==◌, if◌then◌else◌, List, [], ◌∷◌, refl, sym, ◌∙◌, arith}
 use Rattle.std.proofs.lemmas.Bool.{cases_Bool, ne_eqb, false≢true}
 use Rattle.std.proofs.Math.Bool.{and-false}
 use Rattle.sig_types.specs.Phases.{is_phase, is_in, first, or_else, only}
@@ -82,11 +82,4 @@ is-one false n p = refl
 is-one true n p = elim (cases_Bool (p == n)) [
   | inl t ↦ rw t refl
   | inr t ↦ rw t refl
-]
-
-pub in-both : (xs ys : List ℕ) (p : ℕ) → is_in (xs ++ ys) p ≡ (is_in xs p || is_in ys p)
-in-both [] ys p = refl
-in-both (x ∷ xs) ys p = elim (cases_Bool (p == x)) [
-  | inl t ↦ rw t refl
-  | inr t ↦ rw (t, in-both xs ys p) refl
 ]

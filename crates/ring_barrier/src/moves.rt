@@ -10,7 +10,6 @@ ghost use Rattle.ring_barrier.specs.Shows.{Shows, Opens};
 
 use crate::beginning::beginnings;
 use crate::ending::ending;
-use crate::order::lone;
 use crate::side::{present_side, side_of};
 use crate::view::{Changes, View};
 use sig_types::PhaseSet;
@@ -46,6 +45,6 @@ pub fn changes(view: &View) -> Changes
     let begins = beginnings(view, side);
     Changes {
         ends: ending(view, side, 1).union(ending(view, side, 2)),
-        begins: lone(begins[0]).union(lone(begins[1])),
+        begins: PhaseSet::of(begins[0]).union(PhaseSet::of(begins[1])),
     }
 }

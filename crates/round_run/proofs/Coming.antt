@@ -4,6 +4,8 @@ use Rattle.std.proofs.lemmas.List.{drop-map, length-map}
 use Rattle.std.proofs.lemmas.List.Elements.{All-head, All-tail}
 use Rattle.std.proofs.Math.Seq.{drop-append_seam}
 use Rattle.sig_types.specs.declared.frame.Frame.{Frame}
+use Rattle.sig_types.specs.declared.streams.Stream.{Stream}
+use Rattle.sig_types.specs.Passes.{number_of}
 use Rattle.sig_types.specs.Items.{Item, Told, Came, Ticked}
 use Rattle.trace_text.specs.declared.lines.Line.{Line}
 use Rattle.trace_text.specs.declared.lines.Line.TheVariants.{A}
@@ -43,11 +45,11 @@ frames-are t acts b come = come.stands.written.frames ∙ ap (acts_written t.cab
 pub come-replied : (t : CabinetState) (acts : List Act) (b : Book) → HasCome t acts b → replied_in b ≡ answers_in (acts_replies t.cabinet_history acts)
 come-replied t acts b come = ap answers_in (replies-are t acts b come)
 
-pub come-brought : (t : CabinetState) (acts : List Act) (old new : Book) (pass : ℕ) (item : Item) → HasCome t acts old → IsBroughtAtEnd old new pass item
-    → HasCome t (acts ++ record { pass = pass; item = item } ∷ []) new
-come-brought t acts old new pass item come brought = record {
+pub come-brought : (t : CabinetState) (acts : List Act) (old new : Book) (stream : Stream) (item : Item) → HasCome t acts old → IsBroughtAtEnd old new stream item
+    → HasCome t (acts ++ record { pass = number_of stream; item = item } ∷ []) new
+come-brought t acts old new stream item come brought = record {
   stands = brought.stands t.cabinet_history come.stands;
-  acts_are = brought.acts ∙ ap (λ (x : List Act). x ++ act pass item ∷ []) come.acts_are;
+  acts_are = brought.acts ∙ ap (λ (x : List Act). x ++ act (number_of stream) item ∷ []) come.acts_are;
   one = brought.one come.one;
 }
   where

@@ -3,6 +3,8 @@ use Rattle.std.specs.Prelude.{ℕ, ◌≡◌, ◌≢◌, ◌<◌, ◌≤◌, ◌
 use Rattle.scenario_data.specs.Content.{ScenarioContent}
 use Rattle.run_definition.specs.CabinetState.{CabinetState}
 use Rattle.run_definition.specs.Orders.{EachMerges}
+use Rattle.sig_types.specs.declared.streams.Stream.{Stream}
+use Rattle.sig_types.specs.Passes.{number_of}
 use Rattle.cab_book.specs.declared.book.Book.{Book}
 use Rattle.cabinet_history.specs.CabinetHistory.{CabinetHistory}
 use Rattle.cabinet_history.specs.Journals.{IsMerge}
@@ -27,13 +29,13 @@ pub record HaveMerged (s : ScenarioContent) (ts : List CabinetState) (books : Li
   pub merges : EachMerges s 1 ts (journals_in books)
   pub run : HaveRun s ts (journals_in books) books
 
--- a pass has brought so many of the next items of its stream
-pub record BringsSome (old new : Book) (pass many : ℕ) : Type 0 where
+-- so many of the next items of a stream were brought
+pub record BringsSome (old new : Book) (stream : Stream) (many : ℕ) : Type 0 where
   pub stands : (cabinet_history : CabinetHistory) → BookStands old cabinet_history → BookStands new cabinet_history
   pub streams : streams_in new ≡ streams_in old
-  pub journal : journal_of new ≡ journal_of old ++ replicate many pass
-  pub own : left_of new pass + many ≡ left_of old pass
-  pub others : (p : ℕ) → p ≢ pass → left_of new p ≡ left_of old p
+  pub journal : journal_of new ≡ journal_of old ++ replicate many (number_of stream)
+  pub own : left_of new (number_of stream) + many ≡ left_of old (number_of stream)
+  pub others : (p : ℕ) → p ≢ number_of stream → left_of new p ≡ left_of old p
   pub ticks : ticks_by_end new ≡ ticks_by_end old
 
 -- all that was left of a book's round has been brought, whatever was brought before: its journal has each pass just as often as its

@@ -2,6 +2,8 @@
 use Rattle.std.specs.Prelude.{ℕ, ◌≡◌, ◌<◌, List, length, get_or}
 use Rattle.sig_types.specs.declared.streams.Answers.{Answers}
 use Rattle.sig_types.specs.Items.{texts_of}
+use Rattle.sig_types.specs.declared.notes.Way.TheVariants.{Poll, Load, Prio}
+use Rattle.sig_types.specs.Passes.{pass_of}
 use Rattle.sig_types.specs.Replies.{Reply, replied_on}
 use Rattle.run_definition.specs.CabinetState.{answers_in}
 use Rattle.cab_book.specs.declared.book.Book.{Book}
@@ -14,9 +16,9 @@ replied_in b = answers_in (replies_in (answered_in b))
 
 -- these are the texts of the replies on each of the three streams
 pub record AreAnswers (answers : Answers) (replies : List Reply) : Type 0 where
-  pub polls : texts_of answers.polls.items ≡ replied_on 1 replies
-  pub loads : texts_of answers.loads.items ≡ replied_on 2 replies
-  pub prios : texts_of answers.prios.items ≡ replied_on 3 replies
+  pub polls : texts_of answers.polls.items ≡ replied_on (pass_of Poll) replies
+  pub loads : texts_of answers.loads.items ≡ replied_on (pass_of Load) replies
+  pub prios : texts_of answers.prios.items ≡ replied_on (pass_of Prio) replies
 
 -- these are those of each book
 pub record EachAnswers (all : List Answers) (books : List Book) : Type 0 where

@@ -12,7 +12,7 @@ ghost use Rattle.round_run.specs.CabinetStates.{AreAt, TicksWithin};
 
 use crate::books_follow_runs;
 use arrayvec::ArrayVec;
-use cab_book::{Book, Cabinet, Control, Way};
+use cab_book::{Book, Cabinet, Control, Engine};
 use scenario_data::{Cabinet as Setup, opening_tables, opening_tables_in_range};
 use sig_types::NoMemory;
 use std::alloc::Global;
@@ -28,13 +28,13 @@ fn same_community(community: &ArrayVec<u8, 32>) -> ArrayVec<u8, 32>
 }
 
 /// The control of a cabinet to which nothing has happened, but that its clock may drift.
-fn control_of(alloc: Global, way: Way, setup: &Setup) -> Result<Control, NoMemory>
+fn control_of(alloc: Global, engine: Engine, setup: &Setup) -> Result<Control, NoMemory>
     requires { CanOpen (cabinet_content setup.now) }
     ensures { IfOk result (λ control. ControlStands control (opening_history (cabinet_content setup.now))) }
 {
     let opened = Control::open(
         alloc,
-        way,
+        engine,
         opening_tables(setup),
         setup.pattern,
         setup.clock,
@@ -72,7 +72,7 @@ fn book_by(
 /// A cabinet to which nothing has come, in its book.
 fn book_of(
     alloc: Global,
-    way: Way,
+    engine: Engine,
     setup: &Setup,
     community: &ArrayVec<u8, 32>,
 ) -> Result<Book, NoMemory>
@@ -81,7 +81,7 @@ fn book_of(
     ensures journal { IfOk result (λ book. journal_of book ≡ []) }
     ensures ticks { IfOk result (λ book. ticks_by_end book ≡ 0) }
 {
-    match control_of(alloc, way, setup) {
+    match control_of(alloc, engine, setup) {
         Ok(control) => match book_by(alloc, control, setup, community) {
             Ok(book) => Ok(book),
             Err(NoMemory) => Err(NoMemory),
@@ -90,10 +90,10 @@ fn book_of(
     }
 }
 
-/// The books of all cabinets, to which nothing has come, whose frames come about this way.
+/// The books of all cabinets, to which nothing has come, whose frames this engine gives.
 pub fn open_books(
     alloc: Global,
-    way: Way,
+    engine: Engine,
     setups: &[Setup],
     community: &ArrayVec<u8, 32>,
 ) -> Result<Vec<Book>, NoMemory>
@@ -105,7 +105,7 @@ pub fn open_books(
     books_follow_runs();
     let mut books = Vec::new(alloc);
     for setup in setups {
-        let book = match book_of(alloc, way, setup, community) {
+        let book = match book_of(alloc, engine, setup, community) {
             Ok(book) => book,
             Err(NoMemory) => return Err(NoMemory),
         };

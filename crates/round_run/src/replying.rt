@@ -2,6 +2,7 @@
 
 ghost use Rattle.std.specs.Prelude.{ℕ, ◌≡◌, ◌++◌, IfOk, OnOk};
 ghost use Rattle.sig_types.specs.Items.{texts_of};
+ghost use Rattle.sig_types.specs.Passes.{pass_of};
 ghost use Rattle.sig_types.specs.Replies.{replied_on};
 ghost use Rattle.run_definition.specs.CabinetState.{answers_in, answer_of};
 ghost use Rattle.cab_book.specs.Happenings.{replies_in};
@@ -9,7 +10,7 @@ ghost use Rattle.round_run.specs.Replied.{replied_in, AreAnswers, EachAnswers};
 
 use cab_book::{Answered, Book};
 use cabinet_history::Reply;
-use sig_types::{Answers, NoMemory, Octets};
+use sig_types::{Answers, NoMemory, Octets, Way, pass_of};
 use std::alloc::{AllocError, Global};
 
 /// The same octets.
@@ -21,11 +22,11 @@ fn copied(octets: &Octets) -> Octets
     copy
 }
 
-/// Appends the octets of a reply, where it answers a frame of this pass; silence adds nothing.
-fn push_text(out: &mut Vec<Octets>, reply: &Reply, pass: u32) -> Result<(), AllocError>
-    ensures { OnOk result (texts_of out.new.items ≡ texts_of out.old.items ++ replied_on pass (answer_of reply.now.pass reply.now.text)) }
+/// Appends the octets of a reply, where it answers a frame of this stream; silence adds nothing.
+fn push_text(out: &mut Vec<Octets>, reply: &Reply, way: Way) -> Result<(), AllocError>
+    ensures { OnOk result (texts_of out.new.items ≡ texts_of out.old.items ++ replied_on (pass_of way) (answer_of reply.now.pass reply.now.text)) }
 {
-    if reply.pass == pass {
+    if reply.pass == pass_of(way) {
         match &reply.text {
             Some(text) => out.push(copied(text))?,
             None => {}
@@ -34,13 +35,13 @@ fn push_text(out: &mut Vec<Octets>, reply: &Reply, pass: u32) -> Result<(), Allo
     Ok(())
 }
 
-/// The octets of the replies to the frames of a pass, in order.
-fn texts_on(alloc: Global, replies: &[Answered], pass: u32) -> Result<Vec<Octets>, NoMemory>
-    ensures { IfOk result (λ texts. texts_of texts.items ≡ replied_on pass (answers_in (replies_in replies.now))) }
+/// The octets of the replies to the frames of a stream, in order.
+fn texts_on(alloc: Global, replies: &[Answered], way: Way) -> Result<Vec<Octets>, NoMemory>
+    ensures { IfOk result (λ texts. texts_of texts.items ≡ replied_on (pass_of way) (answers_in (replies_in replies.now))) }
 {
     let mut texts = Vec::new(alloc);
     for answered in replies {
-        if push_text(&mut texts, &answered.reply, pass).is_err() {
+        if push_text(&mut texts, &answered.reply, way).is_err() {
             return Err(NoMemory);
         }
     }
@@ -51,15 +52,15 @@ fn texts_on(alloc: Global, replies: &[Answered], pass: u32) -> Result<Vec<Octets
 fn answers_of(alloc: Global, book: &Book) -> Result<Answers, NoMemory>
     ensures { IfOk result (λ answers. AreAnswers answers (replied_in book.now)) }
 {
-    let polls = match texts_on(alloc, book.replies(), 1) {
+    let polls = match texts_on(alloc, book.replies(), Way::Poll) {
         Ok(texts) => texts,
         Err(error) => return Err(error),
     };
-    let loads = match texts_on(alloc, book.replies(), 2) {
+    let loads = match texts_on(alloc, book.replies(), Way::Load) {
         Ok(texts) => texts,
         Err(error) => return Err(error),
     };
-    match texts_on(alloc, book.replies(), 3) {
+    match texts_on(alloc, book.replies(), Way::Prio) {
         Ok(prios) => Ok(Answers {
             polls,
             loads,

@@ -11,7 +11,7 @@ ghost use Rattle.round_run.specs.Joined.{AreFresh, HaveFewLeft};
 
 use crate::books::open_books;
 use crate::{answers, open_rounds};
-use cab_book::{Book, Way};
+use cab_book::{Book, Engine};
 use master_rounds::{Begun, MasterRounds};
 use scenario_data::Scenario;
 use sig_types::{MasterNote, NoMemory};
@@ -27,8 +27,8 @@ pub struct ClosedLoop {
 impl ClosedLoop {
     ghost use Rattle.round_run.specs.ClosedLoop.{Between, InRound};
 
-    /// The closed loop of a scenario before its first round, in which the frames of the cabinets come about this way.
-    pub fn open(alloc: Global, way: Way, s: &Scenario) -> Result<ClosedLoop, NoMemory>
+    /// The closed loop of a scenario before its first round, in which this engine gives the frames of the cabinets.
+    pub fn open(alloc: Global, engine: Engine, s: &Scenario) -> Result<ClosedLoop, NoMemory>
         requires { Runnable (scenario_content s.now) }
         ensures { IfOk result (Between (scenario_content s.now) 0 (opened_cabinet_states (scenario_content s.now) (scenario_content s.now).cabinets)) }
     {
@@ -36,7 +36,7 @@ impl ClosedLoop {
             Ok(master_rounds) => master_rounds,
             Err(NoMemory) => return Err(NoMemory),
         };
-        match open_books(alloc, way, s.cabinets.as_slice(), &s.community) {
+        match open_books(alloc, engine, s.cabinets.as_slice(), &s.community) {
             Ok(books) => Ok(ClosedLoop {
                 master_rounds,
                 books,
@@ -90,10 +90,7 @@ impl ClosedLoop {
             Ok(replies) => replies,
             Err(NoMemory) => return Err(NoMemory),
         };
-        match self
-            .master_rounds
-            .end(alloc, done + 1, s, replies.as_slice())
-        {
+        match self.master_rounds.end(alloc, done + 1, replies.as_slice()) {
             Ok(()) => Ok(()),
             Err(NoMemory) => Err(NoMemory),
         }

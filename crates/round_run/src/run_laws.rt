@@ -2,6 +2,8 @@
 
 ghost use Rattle.std.specs.Prelude.{ℕ, ◌≡◌, ◌∷◌, ◌++◌, List, [], length};
 ghost use Rattle.sig_types.specs.Items.{Item};
+ghost use Rattle.sig_types.specs.Passes.{number_of};
+ghost use Rattle.sig_types.specs.declared.streams.Stream.{Stream};
 ghost use Rattle.scenario_data.specs.Content.{ScenarioContent};
 ghost use Rattle.cabinet_history.specs.CabinetHistory.{CabinetHistory, after};
 ghost use Rattle.cabinet_history.specs.Journals.{Act, items_in};
@@ -35,7 +37,7 @@ pub fn books_follow_runs()
 {}
 
 /// A book that has run a journal has come to what the journal brings. A book to which acts have come is at what the cabinet has come to by
-/// them, and its replies are theirs. An item that is brought behind all others of its pass is an act more. Of acts that come behind
+/// them, and its replies are theirs. An item that is brought behind all others of its stream is an act more. Of acts that come behind
 /// others, ticks alone have the lines of the frames that are new in the book, and acts without a tick those of the new replies.
 pub fn books_follow_acts()
     ensures run { (s : ScenarioContent) (cab : ℕ) (t : CabinetState) (journal : List ℕ) (b : BookRow)
@@ -43,8 +45,8 @@ pub fn books_follow_acts()
     ensures at { (t : CabinetState) (acts : List Act) (b : BookRow) → HasCome t acts b → IsAt b (state_by_acts t acts) }
     ensures replied { (t : CabinetState) (acts : List Act) (b : BookRow) → HasCome t acts b
         → replied_in b ≡ answers_in (acts_replies t.cabinet_history acts) }
-    ensures brought { (t : CabinetState) (acts : List Act) (old new : BookRow) (pass : ℕ) (item : Item) → HasCome t acts old
-        → IsBroughtAtEnd old new pass item → HasCome t (acts ++ record { pass = pass; item = item } ∷ []) new }
+    ensures brought { (t : CabinetState) (acts : List Act) (old new : BookRow) (stream : Stream) (item : Item) → HasCome t acts old
+        → IsBroughtAtEnd old new stream item → HasCome t (acts ++ record { pass = number_of stream; item = item } ∷ []) new }
     ensures ticks { (cab : ℕ) (t : CabinetState) (acts more : List Act) (old new : BookRow) → HasCome t acts old → HasCome t (acts ++ more) new
         → AreTicks more → acts_lines cab (after t.cabinet_history (items_in acts)) more ≡ new_frame_lines cab old new }
     ensures others { (cab : ℕ) (t : CabinetState) (acts more : List Act) (old new : BookRow) → HasCome t acts old → HasCome t (acts ++ more) new

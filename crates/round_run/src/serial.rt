@@ -1,7 +1,8 @@
-//! The serial order of a round: cabinet after cabinet, pass after pass, all that is left to come.
+//! The serial order of a round: cabinet after cabinet, stream after stream, all that is left to come.
 //! Ticks are brought in strides.
 
 ghost use Rattle.std.specs.Prelude.{ℕ, ◌≡◌, ◌≢◌, ◌<◌, ◌≤◌, ◌+◌, ◌++◌, List, [], length, replicate, take, get_or, vec_capacity};
+ghost use Rattle.sig_types.specs.Passes.{number_of};
 ghost use Rattle.scenario_data.specs.Content.{ScenarioContent};
 ghost use Rattle.cabinet_history.specs.CabinetHistory.{CabinetHistory};
 ghost use Rattle.cabinet_history.specs.Journals.{serial};
@@ -13,14 +14,16 @@ ghost use Rattle.round_run.specs.CabinetStates.{HasRun, HaveRun, no_journals, Ti
 ghost use Rattle.round_run.specs.Joined.{BringsSome, Finishes};
 
 use cab_book::Book;
+use sig_types::Stream;
 
-/// A pass brings the next item of its stream, or of ticks the next ones up to the first whose frame has a line: how many these are.
-fn bring_some(book: &mut Book, pass: u32) -> u32
-    requires { 0 < left_of book.old pass }
-    ensures brings { BringsSome book.old book.new pass result }
+/// Brings the next item of a stream, or of ticks the next ones up to the first whose frame has a line: how many these are.
+fn bring_some(book: &mut Book, stream: Stream) -> u32
+    requires { 0 < left_of book.old (number_of stream) }
+    ensures brings { BringsSome book.old book.new stream result }
     ensures some { 1 ≤ result }
 {
-    if pass == 4 {
+    let pass = stream.number();
+    if stream == Stream::Ticks {
         let left = book.left(pass);
         return book.stride(pass, left);
     }
@@ -28,17 +31,17 @@ fn bring_some(book: &mut Book, pass: u32) -> u32
     1
 }
 
-/// A pass brings all that is left of its stream.
-fn bring_all(book: &mut Book, pass: u32)
+/// Brings all that is left of a stream.
+fn bring_all(book: &mut Book, stream: Stream)
     ensures stands { (cabinet_history : CabinetHistory) → BookStands book.old cabinet_history → BookStands book.new cabinet_history }
     ensures streams { streams_in book.new ≡ streams_in book.old }
-    ensures journal { journal_of book.new ≡ journal_of book.old ++ replicate (left_of book.old pass) pass }
-    ensures own { left_of book.new pass ≡ 0 }
-    ensures others { (p : ℕ) → p ≢ pass → left_of book.new p ≡ left_of book.old p }
+    ensures journal { journal_of book.new ≡ journal_of book.old ++ replicate (left_of book.old (number_of stream)) (number_of stream) }
+    ensures own { left_of book.new (number_of stream) ≡ 0 }
+    ensures others { (p : ℕ) → p ≢ number_of stream → left_of book.new p ≡ left_of book.old p }
     ensures ticks { ticks_by_end book.new ≡ ticks_by_end book.old }
 {
-    while book.left(pass) > 0 {
-        bring_some(book, pass);
+    while book.left(stream.number()) > 0 {
+        bring_some(book, stream);
     }
 }
 
@@ -52,11 +55,11 @@ pub fn bring_beginning(book: &mut Book)
     ensures ticks { ticks_by_end book.new ≡ ticks_by_end book.old }
 {
     for pass in 0..4 {
-        bring_all(book, pass);
+        bring_all(book, Stream::of_pass(pass));
     }
 }
 
-/// Each pass in turn brings all that is left to come to a cabinet in a round, of whose passes of ticks one is made first.
+/// Brings all that is left to come to a cabinet in a round, stream after stream; the ticks are made those of one pass first.
 fn bring_round(book: &mut Book)
     ensures run { (s : ScenarioContent) (cab : ℕ) (t : CabinetState) → HasRun s cab t [] book.old
         → HasRun s cab t (serial (coming_streams s cab t)) book.new }
@@ -65,7 +68,7 @@ fn bring_round(book: &mut Book)
 {
     book.join_ticks();
     for pass in 0..5 {
-        bring_all(book, pass);
+        bring_all(book, Stream::of_pass(pass));
     }
 }
 

@@ -9,13 +9,13 @@ use Rattle.sig_tables.specs.Tables.{ring_of, is_enabled}
 use Rattle.sig_tables.specs.Sides.{names, are_concurrent}
 use Rattle.rule_book.specs.RingLayout.{neighbours, same_phases, keeps_layout}
 use Rattle.sig_tables.specs.Sums.{every}
+use Rattle.sig_tables.proofs.Below.{enabled-phase}
 use Rattle.rule_book.specs.declared.rules.Rule.{Rule}
 use Rattle.rule_book.specs.declared.rules.Rule.TheVariants.{OnPhase, OnSequence, OnPattern, TwoSides, Correction, PreemptPhases, LayoutInForce}
 use Rattle.rule_book.specs.Rules.{breaks, broken, Consistent}
 use Rattle.tick_laws.proofs.OneSide.{concurrent-enabled, concurrent-from}
 use Rattle.rule_facts.proofs.Kept.{kept, unbroken}
 use Rattle.tick_laws.specs.Lawful.{SameLayout}
-use Rattle.tick_laws.proofs.FrameStands.{enabled-phase}
 use Rattle.rule_facts.proofs.Numbered.{layout-kept}
 use Rattle.rule_facts.proofs.Members.{same-answer}
 use Rattle.rule_facts.proofs.RingLayout.{neighbour-is, same-member}

@@ -12,9 +12,9 @@ use Rattle.sig_tables.specs.Sides.{are_concurrent}
 use Rattle.sig_tables.specs.Sums.{every, sum_of, before}
 use Rattle.sig_tables.specs.Cells.{pattern_of}
 use Rattle.sig_tables.specs.Slots.{is_defined, cycle_time, pattern_order, split_time, is_omitted, is_coordinated, coordinated_in, coordinated_phase, slot_start, slot_end, side_end, side_clearance, least_service, leaves_room, zero_point, force_point, window}
+use Rattle.sig_tables.proofs.Below.{enabled-phase, coordinated-enabled}
 use Rattle.rule_book.specs.RingLayout.{is_listed}
 use Rattle.rule_book.specs.Patterns.{has_coordinated_pair, holds_for, has_window, side_time}
-use Rattle.tick_laws.proofs.FrameStands.{enabled-phase}
 use Rattle.rule_facts.specs.Rules.{SequenceRules, KeepsRules}
 use Rattle.plan_facts.specs.Plan.{NamesThere, Coordinates, SlotsLie, SidesLie, WindowHolds, HeldForce, OtherForce, PlanHolds}
 use Rattle.rule_facts.proofs.Members.{counted-member}
@@ -166,9 +166,6 @@ record Defined (t : Tables) (n : ℕ) : Type 0 where
   rules : KeepsRules t
   here : is_defined t n ≡ true
   pair : Coordinates t n
-
-coordinated-enabled : (t : Tables) (n q : ℕ) → is_coordinated t n q ≡ true → is_enabled t q ≡ true
-coordinated-enabled t n q c = (and_parts (is_enabled t q) _ c).0
 
 -- where both coordinated phases hold for so many ticks, each does
 room-held : (t : Tables) (n q ticks : ℕ) → Defined t n → is_coordinated t n q ≡ true → holds_for t n ticks ≡ true → Room t n q (zero_point t n + ticks)

@@ -11,7 +11,7 @@ use Rattle.sig_tables.specs.Sides.{are_of_one_side}
 use Rattle.sig_tables.specs.Sums.{greatest}
 use Rattle.sig_tables.specs.Cells.{pattern_of}
 use Rattle.sig_tables.specs.Slots.{is_defined, cycle_time, is_omitted, is_coordinated, slot_end, side_of, side_end, side_clearance, least_service, zero_point, whole_cycles, force_point, permissive_end}
-use Rattle.tick_laws.proofs.FrameStands.{enabled-phase}
+use Rattle.sig_tables.proofs.Below.{enabled-phase}
 use Rattle.tick_laws.proofs.OneSide.{own}
 use Rattle.rule_facts.specs.Forces.{AreEnough, force_with}
 use Rattle.plan_facts.specs.Plan.{Untimed}

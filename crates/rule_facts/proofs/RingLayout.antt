@@ -4,15 +4,15 @@ use Rattle.std.proofs.lemmas.Bool.{and_parts, and_from, or_cases, both_ways, not
 use Rattle.std.proofs.lemmas.Bool.Decides.{Decides-eqb}
 use Rattle.sig_types.specs.Phases.{is_phase, all_phases, is_in, some}
 use Rattle.sig_types.proofs.Lists.{eq-true, in-those, phase-listed}
-use Rattle.sig_types.proofs.Sets.{in-every, every-phase, in-phases}
+use Rattle.sig_types.proofs.Sets.{in-every, every-phase, in-phases, found-some}
 use Rattle.sig_tables.specs.declared.tables.Tables.{Tables}
 use Rattle.sig_tables.specs.Tables.{listed, row, ring_of, is_enabled}
 use Rattle.sig_tables.specs.Sides.{names, are_concurrent}
+use Rattle.sig_tables.proofs.Below.{enabled-phase}
 use Rattle.rule_book.specs.RingLayout.{neighbours, same_phases, share_a_phase}
-use Rattle.tick_laws.proofs.FrameStands.{enabled-phase}
 use Rattle.tick_laws.proofs.OneSide.{concurrent-enabled, concurrent-from}
 use Rattle.rule_facts.specs.Rules.{KeepsRules}
-use Rattle.rule_facts.proofs.Members.{found-some, under}
+use Rattle.rule_facts.proofs.Members.{under}
 
 -- q is a neighbour of p
 abbrev pub is_neighbour : Tables → ℕ → ℕ → Bool

@@ -5,18 +5,18 @@ use Rattle.std.proofs.lemmas.Bool.{cases_Bool, and_parts, and_from, or_cases, or
 use Rattle.std.proofs.lemmas.List.{append-nil}
 use Rattle.sig_types.specs.Phases.{all_phases, is_in, some, those, after}
 use Rattle.sig_types.proofs.Lists.{eq-true, in-cons, in-after, phase-listed}
-use Rattle.sig_types.proofs.Sets.{in-every, every-phase, those-same}
+use Rattle.sig_types.proofs.Sets.{in-every, every-phase, those-same, found-some}
 use Rattle.sig_tables.specs.declared.tables.Tables.{Tables}
 use Rattle.sig_tables.specs.Tables.{ring_of, is_enabled, order_of}
 use Rattle.sig_tables.specs.Sides.{are_of_one_side}
 use Rattle.sig_tables.specs.Sums.{times_in, every, before}
+use Rattle.sig_tables.proofs.Below.{enabled-phase}
 use Rattle.rule_book.specs.RingLayout.{serves_ring, is_of_ring, comes_after, side_comes_before}
-use Rattle.tick_laws.proofs.FrameStands.{enabled-phase}
 use Rattle.tick_laws.proofs.OneSide.{side-enabled, own, side-mutual}
 use Rattle.rule_facts.specs.Rules.{SequenceRules, KeepsRules}
 use Rattle.rule_facts.specs.Sequences.{RingServed, earlier_sides, SequenceServes}
 use Rattle.rule_facts.proofs.Kept.{none-listed}
-use Rattle.rule_facts.proofs.Members.{Found, some-found, found-some, counted-member, under, same-answer}
+use Rattle.rule_facts.proofs.Members.{Found, some-found, counted-member, under, same-answer}
 use Rattle.rule_facts.proofs.RingLayout.{in-ring}
 use Rattle.rule_facts.proofs.Sides.{side-joined}
 use Rattle.rule_facts.proofs.Orders.{cut-at, in-before, one-before, before-after, those-append}

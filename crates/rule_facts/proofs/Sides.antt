@@ -8,9 +8,9 @@ use Rattle.sig_types.proofs.Sets.{every-phase}
 use Rattle.sig_tables.specs.declared.tables.Tables.{Tables}
 use Rattle.sig_tables.specs.Tables.{ring_of, is_enabled, starts_up}
 use Rattle.sig_tables.specs.Sides.{are_concurrent, are_incompatible, are_of_one_side}
+use Rattle.sig_tables.proofs.Below.{enabled-phase}
 use Rattle.rule_book.specs.RingLayout.{neighbours}
 use Rattle.rule_facts.specs.Sides.{SidesCut, SidesHold}
-use Rattle.tick_laws.proofs.FrameStands.{enabled-phase}
 use Rattle.rule_facts.specs.Rules.{KeepsRules}
 use Rattle.rule_facts.proofs.Members.{Found, some-found, under}
 use Rattle.tick_laws.proofs.OneSide.{Same, Beside, Through, one-side, concurrent-enabled, concurrent-mutual, side-enabled, own, beside, through, side-mutual}

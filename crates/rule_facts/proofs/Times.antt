@@ -7,8 +7,8 @@ use Rattle.sig_types.proofs.Sets.{every-phase}
 use Rattle.sig_tables.specs.declared.tables.Tables.{Tables}
 use Rattle.sig_tables.specs.Tables.{row, is_enabled, yellow_time, red_clear_time, clearance, red_revert_time}
 use Rattle.sig_tables.specs.Slots.{least_service}
+use Rattle.sig_tables.proofs.Below.{enabled-phase}
 use Rattle.rule_book.specs.Patterns.{corrects}
-use Rattle.tick_laws.proofs.FrameStands.{enabled-phase}
 use Rattle.rule_facts.specs.Rules.{KeepsRules}
 use Rattle.plan_facts.specs.Times.{CorrectionHolds, TimesHold}
 

@@ -13,8 +13,8 @@ use Rattle.sig_tables.specs.declared.tables.Tables.{Tables}
 use Rattle.sig_tables.specs.Tables.{is_enabled, pedestrian_clear_time}
 use Rattle.sig_tables.specs.Sides.{are_incompatible, are_concurrent}
 use Rattle.sig_tables.specs.Standard.{max8, standard, pair}
+use Rattle.sig_tables.proofs.Below.{enabled-phase}
 use Rattle.tick_laws.proofs.Choices.{differs, differs-signal}
-use Rattle.tick_laws.proofs.FrameStands.{enabled-phase}
 use Rattle.safety_laws.specs.Safe.{Intersection, intersection_of, colour_at, signal_at, mode_at, in_force, way_at, Apart, clearance_due, next_signal}
 use Rattle.safety_laws.specs.Safe.{PhaseFollows, Interval, Lasts, Safe}
 use Rattle.safety_laws.specs.Rows.{IsRefusedWith, preempted, cut_flash}

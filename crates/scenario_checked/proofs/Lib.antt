@@ -7,3 +7,4 @@ pub mod RangesLoads
 pub mod RangesMessages
 pub mod Ranges
 pub mod Around
+pub mod InnerNames

@@ -10,4 +10,5 @@ pub mod CellFloats
 pub mod Compact
 pub mod Whole
 pub mod OneAnswer
+pub mod Elsewhere
 pub mod LimitNames

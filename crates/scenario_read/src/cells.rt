@@ -178,10 +178,7 @@ pub(crate) fn cell_in(
         return Err(refuse(alloc, place, Unfit::Wrong));
     }
     match list.get(value_place(cell)) {
-        Some(value) => match content_in(alloc, cell, value, place) {
-            Ok(content) => Ok((cell, content)),
-            Err(fail) => Err(fail),
-        },
+        Some(value) => Ok((cell, content_in(alloc, cell, value, place)?)),
         None => Err(refuse(alloc, place, Unfit::Wrong)),
     }
 }

@@ -42,7 +42,7 @@ pub use reading::{read, text};
 pub use scenario::{Parts, checked_parts, scenario_from};
 pub use setup::Setup;
 pub use tables::all_judged;
-pub use values::{Unfit, items_of, whole_of};
+pub use values::{Unfit, flag_of, is_among, items_of, list_of, whole_of};
 
 /// Small values, as the definitions see them.
 pub fn small_values()

@@ -103,14 +103,8 @@ fn act_in(alloc: Global, object: &Value, place: Place) -> Result<PriorityAct, Re
         object.get("cancel").is_some(),
         object.get("number").is_some(),
     ) {
-        (true, false) => match cancel_in(alloc, object, place) {
-            Ok(number) => Ok(PriorityAct::Cancel(number)),
-            Err(fail) => Err(fail),
-        },
-        (false, true) => match request_in(alloc, object, place) {
-            Ok(request) => Ok(PriorityAct::Request(request)),
-            Err(fail) => Err(fail),
-        },
+        (true, false) => Ok(PriorityAct::Cancel(cancel_in(alloc, object, place)?)),
+        (false, true) => Ok(PriorityAct::Request(request_in(alloc, object, place)?)),
         _ => Err(refuse(alloc, place, Unfit::Wrong)),
     }
 }

@@ -19,7 +19,7 @@ pub enum Unfit {
 }
 
 /// Whether a name is one of these.
-pub(crate) fn is_among(names: &[&str], name: &str) -> bool
+pub fn is_among(names: &[&str], name: &str) -> bool
     ensures { result ≡ is_among (map (λ known. known.now) names.now) name.now }
 {
     names.contains(&name)
@@ -80,10 +80,8 @@ pub(crate) fn text_of(value: &Value, least: usize, most: usize) -> Result<&str, 
     if !is_printable(text.as_bytes()) {
         return Err(Unfit::Wrong);
     }
-    match in_range(text.len(), least, most) {
-        Ok(()) => Ok(text.as_str()),
-        Err(unfit) => Err(unfit),
-    }
+    in_range(text.len(), least, most)?;
+    Ok(text.as_str())
 }
 
 /// The word of standard tables.
@@ -135,7 +133,7 @@ pub(crate) fn fault_kind_of(value: &Value) -> Result<FaultKind, Unfit>
 }
 
 /// True or false.
-pub(crate) fn flag_of(value: &Value) -> Result<bool, Unfit>
+pub fn flag_of(value: &Value) -> Result<bool, Unfit>
     ensures { ReadAs result (flag_fits (view value.now)) (λ flag. flag ≡ flag_of (view value.now)) }
 {
     match value {
@@ -158,17 +156,15 @@ fn in_range(count: usize, least: usize, most: usize) -> Result<(), Unfit>
 
 /// The items of a list of least to most.
 #[tactic(auto, using(crate::proofs::Lists::array_within, crate::proofs::Lists::array_items))]
-pub(crate) fn list_of(value: &Value, least: usize, most: usize) -> Result<&Vec<Value>, Unfit>
+pub fn list_of(value: &Value, least: usize, most: usize) -> Result<&Vec<Value>, Unfit>
     ensures read { ReadAs result (list_fits least most (view value.now)) (λ items. items_view items.now.items ≡ items_in (view value.now)) }
     ensures few { IfOk result (λ items. length items.now.items ≤ most) }
 {
     let Value::Array(items) = value else {
         return Err(Unfit::Wrong);
     };
-    match in_range(items.len(), least, most) {
-        Ok(()) => Ok(items),
-        Err(unfit) => Err(unfit),
-    }
+    in_range(items.len(), least, most)?;
+    Ok(items)
 }
 
 /// The items of a list of any length.

@@ -5,7 +5,7 @@ use Rattle.std.proofs.lemmas.Bool.{cases_eq}
 use Rattle.std.proofs.lemmas.List.{nil_from_length}
 use Rattle.sig_types.specs.Items.{Item, Ticked}
 use Rattle.cabinet_history.specs.Journals.{Act, times, acts_from}
-use Rattle.session_laws.specs.Told.{passes_in}
+use Rattle.session_laws.specs.Answers.{passes_in}
 use Rattle.session_laws.proofs.Lists.{if-true, if-false, at-drop, behind-drop}
 
 -- the items that a pass brings in these acts, in order

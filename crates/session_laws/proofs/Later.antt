@@ -2,7 +2,7 @@
 use Rattle.std.proofs.Common.{◌≡◌, ℕ, Bool, true, false, if◌then◌else◌, List, [], ◌∷◌, ◌++◌, refl, ap}
 use Rattle.scenario_data.specs.Content.{ScenarioContent}
 use Rattle.session_laws.specs.Session.{SessionHistory, opened_session, is_over}
-use Rattle.session_laws.specs.Told.{Answer, Lines, open_lines, answer_to, next_session, answers_from, answers_while}
+use Rattle.session_laws.specs.Answers.{Answer, Lines, open_lines, answer_to, next_session, answers_from, answers_while}
 use Rattle.session_laws.specs.Laws.{NeedsNoMore}
 
 -- some answers begin with others

@@ -14,7 +14,7 @@ use Rattle.master_rounds.specs.Rounds.{noted}
 use Rattle.run_definition.specs.CabinetState.{CabinetState, HasComeTo}
 use Rattle.run_definition.specs.Lines.{shown_line, item_lines, acts_lines, notes_lines, head_lines, opening_lines}
 use Rattle.session_laws.specs.Session.{Step, step_acts, steps_acts, begin_acts, session_acts, history_by}
-use Rattle.session_laws.specs.Told.{journal_by, each_begin, each_step, each_journal}
+use Rattle.session_laws.specs.Answers.{journal_by, each_begin, each_step, each_journal}
 use Rattle.session_laws.specs.Record.{begins_part, is_of_street, is_journal_of, is_told_of, cabinets_in_order, part_in_order}
 use Rattle.session_laws.proofs.Lists.{filter-append, filter-all, filter-none}
 use Rattle.session_laws.proofs.Parts.{InOnePart}

@@ -15,8 +15,8 @@ use Rattle.run_definition.specs.CabinetState.{CabinetState, answers_in, coming_s
 use Rattle.run_definition.specs.Lines.{acts_lines, each_lines, notes_lines, head_lines, round_lines, opening_lines, front_lines, rest_lines}
 use Rattle.run_definition.specs.Orders.{EachMerges, AreMerges, AreJournals}
 use Rattle.run_definition.proofs.More.{fronts-more}
-use Rattle.session_laws.specs.Session.{Step, session_acts, state_behind, states_behind, states_after}
-use Rattle.session_laws.specs.Told.{journal_by}
+use Rattle.session_laws.specs.Session.{Step, session_acts, state_after_round, states_after_round, states_after}
+use Rattle.session_laws.specs.Answers.{journal_by}
 use Rattle.session_laws.specs.Record.{resulting, round_journals, session_journals}
 use Rattle.session_laws.specs.Dialogue.{IsByRounds}
 use Rattle.session_laws.proofs.Acts.{acts-again, passes-counted}
@@ -56,7 +56,7 @@ merge-kept s all compact steps before cab t context at = λ p.
 
 state-kept : (s : ScenarioContent) (all : List (List Step)) (compact : List ℕ) (steps : List Step) (before : List (List Step)) (cab : ℕ) (t : CabinetState)
     → Context s all steps before → length t.answered ≡ length before
-    → next_cabinet_state (resulting s all compact) cab t (journal_by s cab t steps) ≡ state_behind s cab t steps
+    → next_cabinet_state (resulting s all compact) cab t (journal_by s cab t steps) ≡ state_after_round s cab t steps
 state-kept s all compact steps before cab t context at =
     let come : List Act → CabinetState = λ acts. record {
       cabinet = t.cabinet;
@@ -69,11 +69,11 @@ state-kept s all compact steps before cab t context at =
 
 each-state : (s : ScenarioContent) (all : List (List Step)) (compact : List ℕ) (steps : List Step) (before : List (List Step)) (first : ℕ) (ts : List CabinetState)
     → Context s all steps before → HaveAnswered (length before) ts
-    → each_cabinet_state (resulting s all compact) first ts (round_journals s first ts steps) ≡ states_behind s first ts steps
+    → each_cabinet_state (resulting s all compact) first ts (round_journals s first ts steps) ≡ states_after_round s first ts steps
 each-state s all compact steps before first [] context have = refl
 each-state s all compact steps before first (t ∷ ts) context have =
     ap (λ (u : CabinetState). u ∷ each_cabinet_state (resulting s all compact) (first + 1) ts (round_journals s (first + 1) ts steps)) (state-kept s all compact steps before first t context have.0)
-    ∙ ap (λ (r : List CabinetState). state_behind s first t steps ∷ r) (each-state s all compact steps before (first + 1) ts context have.1)
+    ∙ ap (λ (r : List CabinetState). state_after_round s first t steps ∷ r) (each-state s all compact steps before (first + 1) ts context have.1)
 
 each-merge : (s : ScenarioContent) (all : List (List Step)) (compact : List ℕ) (steps : List Step) (before : List (List Step)) (first : ℕ) (ts : List CabinetState)
     → Context s all steps before → HaveAnswered (length before) ts
@@ -129,7 +129,7 @@ opened-answered : (s : ScenarioContent) (cabinets : List CabinetContent) → Hav
 opened-answered s [] = tt
 opened-answered s (c ∷ cabinets) = (refl, opened-answered s cabinets)
 
-behind-answered : (s : ScenarioContent) (rounds first : ℕ) (ts : List CabinetState) (steps : List Step) → HaveAnswered rounds ts → HaveAnswered (suc rounds) (states_behind s first ts steps)
+behind-answered : (s : ScenarioContent) (rounds first : ℕ) (ts : List CabinetState) (steps : List Step) → HaveAnswered rounds ts → HaveAnswered (suc rounds) (states_after_round s first ts steps)
 behind-answered s rounds first [] steps have = tt
 behind-answered s rounds first (t ∷ ts) steps have = (ap suc have.0, behind-answered s rounds (first + 1) ts steps have.1)
 

@@ -9,7 +9,7 @@ use Rattle.session_words.specs.declared.request.Untaken.{Untaken}
 use Rattle.session_words.specs.declared.request.Untaken.TheVariants.{Full, Ticks as TicksWord}
 use Rattle.session_words.specs.Requests.{number_among, number_to, switch_of, stream_of, octets_of, asked_for, word_at, veh_of, ped_of, preempt_of, frame_of, is_form, words_of, request_of_words, request_of}
 use Rattle.session_laws.specs.Session.{SessionHistory, Step, Ticks, Brings, opened_session, step_of, ticks_in, ticks_left, items_brought, steps_with, is_last, with_round, steps_to_end, is_over}
-use Rattle.session_laws.specs.Told.{with_room_for, taken, next_by, rounds_from, rounds_by}
+use Rattle.session_laws.specs.Answers.{with_room_for, taken, next_by, rounds_from, rounds_by}
 use Rattle.session_laws.proofs.Bringing.{AreSteps}
 use Rattle.session_laws.proofs.Rounds.{AreRounds}
 

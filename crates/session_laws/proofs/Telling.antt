@@ -7,8 +7,8 @@ use Rattle.run_definition.specs.CabinetState.{CabinetState, opened_cabinet_state
 use Rattle.run_definition.specs.Lines.{notes_lines, opening_lines}
 use Rattle.session_words.specs.declared.request.Request.{Request}
 use Rattle.session_words.specs.declared.request.Untaken.{Untaken}
-use Rattle.session_laws.specs.Session.{SessionHistory, Step, Ticks, opened_session, step_of, states_behind, states_after, ticks_left, steps_with, is_last, with_round, steps_to_end, is_over}
-use Rattle.session_laws.specs.Told.{Answer, each_begin, begin_lines, each_step, each_journal, next_lines, end_lines, leave_lines, taken, answer_by, next_by, answers_from, answers, rounds_from, rounds_by}
+use Rattle.session_laws.specs.Session.{SessionHistory, Step, Ticks, opened_session, step_of, states_after_round, states_after, ticks_left, steps_with, is_last, with_round, steps_to_end, is_over}
+use Rattle.session_laws.specs.Answers.{Answer, each_begin, begin_lines, each_step, each_journal, next_lines, end_lines, end_of_input_lines, taken, answer_by, next_by, answers_from, answers, rounds_from, rounds_by}
 use Rattle.session_laws.specs.Record.{lines_in, begins_part, part_in_order, in_trace_order}
 use Rattle.session_laws.proofs.Parts.{order-first, order-next, order-end}
 use Rattle.session_laws.proofs.Rounds.{round_told, rounds_told, session_told}
@@ -20,7 +20,7 @@ opened-counted : (s : ScenarioContent) (cabinets : List CabinetContent) → leng
 opened-counted s [] = refl
 opened-counted s (c ∷ cabinets) = ap suc (opened-counted s cabinets)
 
-behind-counted : (s : ScenarioContent) (first : ℕ) (ts : List CabinetState) (steps : List Step) → length (states_behind s first ts steps) ≡ length ts
+behind-counted : (s : ScenarioContent) (first : ℕ) (ts : List CabinetState) (steps : List Step) → length (states_after_round s first ts steps) ≡ length ts
 behind-counted s first [] steps = refl
 behind-counted s first (t ∷ ts) steps = ap suc (behind-counted s (first + 1) ts steps)
 
@@ -114,7 +114,7 @@ tells-end s h =
     let all : List Step = steps_to_end s h in
     let rest : List Line = each_journal s 1 ts all ++ Z (length h.closed + 1) ∷ [] in
     let counted : length h.closed + 1 ≡ length (all ∷ h.closed) = omega arith in
-    ap (told_with s h) (append-nil (leave_lines s h))
+    ap (told_with s h) (append-nil (end_of_input_lines s h))
     ∙ ap (λ (x : List Line). rounds_told s h.closed ++ in_trace_order (length s.cabinets) x) (so-far-more s h left rest)
     ∙ session-closed s h.closed all (length h.closed + 1) counted
 

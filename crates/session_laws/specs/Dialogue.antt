@@ -1,4 +1,5 @@
--- A session as bytes: its input, a scenario in the first line and a request in each line behind it, and the text of its answers.
+-- A session as bytes: its input, a scenario in the first line and a request in each line behind it, and the text of
+-- its answers.
 use Rattle.std.specs.Prelude.{◌≡◌, ℕ, ◌+◌, nat_lt, if◌then◌else◌, List, [], ◌∷◌, ◌++◌, codes, decimal, Option, Some, None}
 use Rattle.safety_laws.specs.TraceText.{lines_text}
 use Rattle.std.specs.Option.{option_map}
@@ -7,7 +8,7 @@ use Rattle.scenario_data.specs.Causes.{Limit, Names}
 use Rattle.scenario_data.specs.declared.refusal.Refusal.{Refusal}
 use Rattle.session_words.specs.Requests.{untaken_word}
 pub use Rattle.session_words.specs.Lines.{first_line, behind_first, before_lines, whole_lines}
-use Rattle.session_laws.specs.Told.{Answer, Lines, Refuses, answers}
+use Rattle.session_laws.specs.Answers.{Answer, Lines, NotTaken, answers}
 
 -- the requests of an input
 abbrev pub requests_in : List ℕ → List (List ℕ)
@@ -20,7 +21,7 @@ dot = 46 ∷ 10 ∷ []
 -- the text of an answer: its lines, or one that says why a request can't be taken
 abbrev pub answer_text : Answer → List ℕ
 answer_text (Lines lines) = lines_text lines ++ dot
-answer_text (Refuses untaken) = 63 ∷ 32 ∷ (untaken_word untaken ++ 10 ∷ dot)
+answer_text (NotTaken untaken) = 63 ∷ 32 ∷ (untaken_word untaken ++ 10 ∷ dot)
 
 abbrev pub answers_text : List Answer → List ℕ
 answers_text [] = []
@@ -30,7 +31,8 @@ answers_text (answer ∷ answers) = answer_text answer ++ answers_text answers
 abbrev pub session_text : ScenarioContent → List (List ℕ) → List ℕ
 session_text s lines = answers_text (answers s lines)
 
--- the place of the first of some items whose round is before that of the item before it; the first of them has this place
+-- the place of the first of some items whose round is before that of the item before it; the first of them has this
+-- place
 abbrev pub first_early : {A : Type 0} → (A → ℕ) → ℕ → ℕ → List A → Option ℕ
 first_early round_of place last [] = None
 first_early round_of place last (x ∷ xs) =

@@ -1,5 +1,5 @@
 pub mod Session
-pub mod Told
+pub mod Answers
 pub mod Record
 pub mod Dialogue
 pub mod Laws

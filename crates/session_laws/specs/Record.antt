@@ -1,4 +1,5 @@
--- What a session is as a run: the scenario that results, the journals, and the lines of its answers in the order of a trace.
+-- What a session is as a run: the scenario that results, the journals, and the lines of its answers in the order of a
+-- trace.
 use Rattle.std.specs.Prelude.{ℕ, zero, suc, ◌+◌, ◌==◌, nat_le, Bool, true, false, if◌then◌else◌, List, [], ◌∷◌, ◌++◌, length}
 use Rattle.std.specs.List.{filter}
 use Rattle.sig_types.specs.Items.{Told, Came}
@@ -10,7 +11,7 @@ use Rattle.scenario_data.specs.declared.scenario.Input.{Input}
 use Rattle.scenario_data.specs.Content.{ScenarioContent, FrameContent}
 use Rattle.run_definition.specs.CabinetState.{CabinetState}
 use Rattle.session_laws.specs.Session.{Step, Brings, states_after}
-use Rattle.session_laws.specs.Told.{Answer, Lines, Refuses, journal_by}
+use Rattle.session_laws.specs.Answers.{Answer, Lines, NotTaken, journal_by}
 
 -- the input that a step brings to the scenario in a round
 abbrev pub input_of : ℕ → Step → List Input
@@ -48,8 +49,8 @@ frames_brought (steps ∷ before) = frames_brought before ++ frames_by (length b
 abbrev pub of_rounds : {A : Type 0} → (A → ℕ) → ℕ → List A → List A
 of_rounds round_of rounds xs = filter (λ x. nat_le (round_of x) rounds) xs
 
--- the scenario that results from a session with these rounds: the base cut to them, and behind its inputs and frames what the session
--- brought. Its compact text is this.
+-- the scenario that results from a session with these rounds: the base cut to them, and behind its inputs and frames
+-- what the session brought. Its compact text is this.
 abbrev pub resulting : ScenarioContent → List (List Step) → List ℕ → ScenarioContent
 resulting s rounds compact = record {
   version = s.version;
@@ -80,7 +81,7 @@ session_journals s (steps ∷ before) = session_journals s before ++ round_journ
 abbrev pub lines_in : List Answer → List Line
 lines_in [] = []
 lines_in (Lines lines ∷ answers) = lines ++ lines_in answers
-lines_in (Refuses untaken ∷ answers) = lines_in answers
+lines_in (NotTaken untaken ∷ answers) = lines_in answers
 
 -- a line with which a part of a trace begins: a round, or the end
 abbrev pub begins_part : Line → Bool
@@ -116,7 +117,8 @@ is_told_of cab (L of id result) = of == cab
 is_told_of cab (A of pass hex) = of == cab
 is_told_of cab _ = false
 
--- of a part the lines of so many cabinets, counted from a first number: the journal of each before what else is told of it
+-- of a part the lines of so many cabinets, counted from a first number: the journal of each before what else is told
+-- of it
 abbrev pub cabinets_in_order : ℕ → ℕ → List Line → List Line
 cabinets_in_order first zero part = []
 cabinets_in_order first (suc many) part =

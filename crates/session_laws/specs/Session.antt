@@ -1,5 +1,6 @@
--- What a session brings to its cabinets, round by round, and what they come to by it. Beside what master, line and scenario bring there is
--- what was asked in the session. Lists of rounds have the newest first; the steps of a round are in their order.
+-- What a session brings to its cabinets, round by round, and what they come to by it. Beside what master, line and
+-- scenario bring there is what was asked in the session. Lists of rounds have the newest first; the steps of a round
+-- are in their order.
 use Rattle.std.specs.Prelude.{ℕ, ◌+◌, ◌-◌, ◌==◌, Bool, if◌then◌else◌, List, [], ◌∷◌, ◌++◌, length, replicate, take}
 use Rattle.sig_types.specs.Items.{Item, Told, Came, Ticked}
 use Rattle.sig_types.specs.Passes.{pass_of}
@@ -40,7 +41,8 @@ abbrev pub steps_acts : ℕ → List Step → List Act
 steps_acts cab [] = []
 steps_acts cab (step ∷ steps) = step_acts cab step ++ steps_acts cab steps
 
--- what master, line and scenario bring to a cabinet before any tick of the round to come: all inputs, then the frames of each stream
+-- what master, line and scenario bring to a cabinet before any tick of the round to come: all inputs, then the frames
+-- of each stream
 abbrev pub begin_acts : ScenarioContent → ℕ → CabinetState → List Act
 begin_acts s cab t = acts_of (coming_streams s cab t) (serial (take 4 (coming_streams s cab t)))
 
@@ -53,22 +55,22 @@ abbrev pub history_by : ScenarioContent → ℕ → CabinetState → List Step �
 history_by s cab t steps = after t.cabinet_history (items_in (session_acts s cab t steps))
 
 -- what the cabinet has come to after a round with these steps
-abbrev pub state_behind : ScenarioContent → ℕ → CabinetState → List Step → CabinetState
-state_behind s cab t steps = record {
+abbrev pub state_after_round : ScenarioContent → ℕ → CabinetState → List Step → CabinetState
+state_after_round s cab t steps = record {
   cabinet = t.cabinet;
   cabinet_history = history_by s cab t steps;
   answered = answers_in (acts_replies t.cabinet_history (session_acts s cab t steps)) ∷ t.answered;
 }
 
 -- so of each cabinet, counted from a first number
-abbrev pub states_behind : ScenarioContent → ℕ → List CabinetState → List Step → List CabinetState
-states_behind s first [] steps = []
-states_behind s first (t ∷ ts) steps = state_behind s first t steps ∷ states_behind s (first + 1) ts steps
+abbrev pub states_after_round : ScenarioContent → ℕ → List CabinetState → List Step → List CabinetState
+states_after_round s first [] steps = []
+states_after_round s first (t ∷ ts) steps = state_after_round s first t steps ∷ states_after_round s (first + 1) ts steps
 
 -- what each cabinet has come to after rounds with these steps
 abbrev pub states_after : ScenarioContent → List (List Step) → List CabinetState
 states_after s [] = opened_cabinet_states s s.cabinets
-states_after s (steps ∷ before) = states_behind s 1 (states_after s before) steps
+states_after s (steps ∷ before) = states_after_round s 1 (states_after s before) steps
 
 -- how many ticks these steps are, and how many are left in the round
 abbrev pub ticks_in : List Step → ℕ
@@ -76,11 +78,11 @@ ticks_in [] = 0
 ticks_in (Ticks many ∷ steps) = many + ticks_in steps
 ticks_in (Brings cab pass item ∷ steps) = ticks_in steps
 
-abbrev pub ticks_behind : ScenarioContent → List Step → ℕ
-ticks_behind s steps = s.ticks - ticks_in steps
+abbrev pub ticks_left_after : ScenarioContent → List Step → ℕ
+ticks_left_after s steps = s.ticks - ticks_in steps
 
 abbrev pub ticks_left : ScenarioContent → SessionHistory → ℕ
-ticks_left s h = ticks_behind s h.steps
+ticks_left s h = ticks_left_after s h.steps
 
 -- how many items these steps bring
 abbrev pub items_brought : List Step → ℕ
@@ -94,7 +96,7 @@ steps_with h step = h.steps ++ step ∷ []
 
 -- the step is the last of its round, which has no tick left behind it
 abbrev pub is_last : ScenarioContent → SessionHistory → Step → Bool
-is_last s h step = ticks_behind s (steps_with h step) == 0
+is_last s h step = ticks_left_after s (steps_with h step) == 0
 
 -- the round under way is closed behind these steps, and the next is under way
 abbrev pub with_round : SessionHistory → List Step → SessionHistory

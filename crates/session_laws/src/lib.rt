@@ -7,7 +7,7 @@ ghost use Rattle.std.specs.Prelude.{◌≤◌, ℕ, List};
 ghost use Rattle.scenario_data.specs.Content.{ScenarioContent};
 ghost use Rattle.runnable.specs.Runnable.{AllOpen};
 ghost use Rattle.session_laws.specs.Dialogue.{IsByRounds};
-ghost use Rattle.session_laws.specs.Laws.{IsRun, NeedsNoMore};
+ghost use Rattle.session_laws.specs.Laws.{SessionIsRun, NeedsNoMore};
 
 use run_definition::any_order_is_safe;
 
@@ -16,7 +16,7 @@ use run_definition::any_order_is_safe;
 /// its loads and priority requests stand by rounds. The law holds for any number of requests.
 pub fn sessions_are_runs()
     ensures { (s : ScenarioContent) → IsByRounds s → 1 ≤ s.rounds → 1 ≤ s.ticks → AllOpen s.cabinets
-        → (lines : List (List ℕ)) (compact : List ℕ) → IsRun s lines compact }
+        → (lines : List (List ℕ)) (compact : List ℕ) → SessionIsRun s lines compact }
 {
     any_order_is_safe();
 }

@@ -215,3 +215,19 @@ pub ended-told : (held more : List ℕ) (left new : Option (List ℕ)) → ahead
     → left ≡ told_as [] left
 ended-told held more left new same kept none ended =
     sym (ahead-none left) ∙ ap (λ (h : List ℕ). ahead_of h left) (sym none) ∙ sym same ∙ ap (λ (h : List ℕ). ahead_of h new) (kept ∙ none) ∙ ahead-none new ∙ ended
+
+-- at least so many bytes of a source were read, where it tells them
+abbrev pub HasRead : ℕ → Option (List ℕ) → Option (List ℕ) → Type 0
+HasRead n None new = Unit {0}
+HasRead n (Some bytes) None = ⊥
+HasRead n (Some bytes) (Some left) = n + length left ≤ length bytes
+
+-- a piece more was read, of a byte or more
+pub one_read : (n : ℕ) (old mid new : Option (List ℕ)) (held : List ℕ) → HasRead n old mid → ahead_of held new ≡ mid → 1 ≤ length held → HasRead (n + 1) old new
+one_read n None mid new held read is some = tt
+one_read n (Some bytes) None new held read is some = absurd read
+one_read n (Some bytes) (Some rest) None held read is some = absurd (cc)
+one_read n (Some bytes) (Some rest) (Some left) held read is some =
+    let same : rest ≡ held ++ left = cc in
+    let long : length rest ≡ length held + length left = ap length same ∙ length-append held left in
+    omega (arith, read, some, long)

@@ -180,6 +180,7 @@ impl LineReader {
         requires long { 4096 < length (held_of self.old) }
         ensures next { IfOk result (λ next. Gives next (unread self.old (S.left source.old)) (unread self.new (S.left source.new)) (given_line self.new)) }
         ensures ended { result ≡ Ok Next.End → S.left source.new ≡ told_as [] (S.left source.old) }
+        ensures endless { result ≡ Err LineStop.Endless → IfSome (S.left source.old) (λ bytes. 18446744073709551615 ≤ length bytes) }
         ensures fault { result ≡ Err LineStop.Fault → Rises (S.faults source.old) (S.faults source.new) }
         ensures exact { OnOk result (Stays S.counts_exactly (S.faults source.old) (S.faults source.new)) }
         ensures kept { S.faults source.old ≤ S.faults source.new }
@@ -207,6 +208,7 @@ impl LineReader {
         requires { Lacks 10 (held_of self.old) }
         ensures next { IfOk result (λ next. Gives next (unread self.old (S.left source.old)) (unread self.new (S.left source.new)) (given_line self.new)) }
         ensures ended { result ≡ Ok Next.End → S.left source.new ≡ told_as [] (S.left source.old) }
+        ensures endless { result ≡ Err LineStop.Endless → IfSome (S.left source.old) (λ bytes. 18446744073709551615 ≤ length bytes) }
         ensures fault { result ≡ Err LineStop.Fault → Rises (S.faults source.old) (S.faults source.new) }
         ensures exact { OnOk result (Stays S.counts_exactly (S.faults source.old) (S.faults source.new)) }
         ensures kept { S.faults source.old ≤ S.faults source.new }
@@ -232,6 +234,7 @@ impl LineReader {
         ensures next { IfOk result (λ next. Gives next (unread self.old (S.left source.old)) (unread self.new (S.left source.new)) (given_line self.new)) }
         ensures ended { result ≡ Ok Next.End → S.left source.new ≡ told_as [] (S.left source.old) }
         ensures waits { (source.new ≡ source.old) ⊎ Lacks 10 (held_of self.old) }
+        ensures endless { result ≡ Err LineStop.Endless → IfSome (S.left source.old) (λ bytes. 18446744073709551615 ≤ length bytes) }
         ensures fault { result ≡ Err LineStop.Fault → Rises (S.faults source.old) (S.faults source.new) }
         ensures exact { OnOk result (Stays S.counts_exactly (S.faults source.old) (S.faults source.new)) }
         ensures kept { S.faults source.old ≤ S.faults source.new }

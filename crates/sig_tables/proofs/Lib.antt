@@ -8,6 +8,7 @@ pub mod CellLemmas
 pub mod Lasting
 pub mod Called
 pub mod Filled
+pub mod FilledTo
 pub mod FreeTickState
 pub mod PlainRuns
 pub mod FreeFrame

@@ -10,13 +10,13 @@ use Rattle.session_words.specs.Lines.{behind_first, whole_lines}
 use Rattle.session_words.proofs.Cuts.{whole_lines-cut, whole_lines-none}
 use Rattle.session_words.specs.Unread.{GivesLine, HasNoLine, PassesLong}
 use Rattle.session_laws.specs.Session.{SessionHistory, opened_session, is_over}
-use Rattle.session_laws.specs.Told.{Answer, Lines, Refuses, answer_to, answers_from, leave_lines, next_session, open_lines}
+use Rattle.session_laws.specs.Answers.{Answer, Lines, NotTaken, answer_to, answers_from, end_of_input_lines, next_session, open_lines}
 use Rattle.session_laws.specs.Dialogue.{answer_text, answers_text, dot, requests_in, session_text}
 use Rattle.live_session.specs.declared.session.Session.{Session}
 use Rattle.live_session.specs.Standing.{SessionStands}
 use Rattle.station.specs.declared.status.Status.{Status}
 use Rattle.station.specs.declared.status.Status.TheVariants.{Done, Usage, Scenario, NotATrace, Overlap as BrokenOverlap, ReadFault, WriteFault, NoMemory}
-use Rattle.session_laws.specs.Laws.{IsRun}
+use Rattle.session_laws.specs.Laws.{SessionIsRun}
 use Rattle.station.specs.Io.{io}
 use Rattle.station.specs.Answers.{WritesText}
 use Rattle.station.specs.Lived.{Lived, LivesShort}
@@ -33,7 +33,7 @@ text-one x = append-nil (answer_text x)
 -- the text of an answer isn't empty
 some_answer : (x : Answer) → answer_text x ≢ []
 some_answer (Lines lines) = some_behind _ dot (λ none. cc none)
-some_answer (Refuses untaken) = λ none. cc none
+some_answer (NotTaken untaken) = λ none. cc none
 
 some_answers : (x : Answer) (xs : List Answer) → answers_text (x ∷ xs) ≢ []
 some_answers x xs = some_before (answer_text x) (answers_text xs) (some_answer x)
@@ -44,7 +44,7 @@ some_answers x xs = some_before (answer_text x) (answers_text xs) (some_answer x
 
 -- whatever lines are ahead, something is still to be answered
 some_ahead : (s : ScenarioContent) (h : SessionHistory) (lines : List (List ℕ)) → answers_text (answers_from s h lines) ≢ []
-some_ahead s h [] = some_answers (Lines (leave_lines s h)) []
+some_ahead s h [] = some_answers (Lines (end_of_input_lines s h)) []
 some_ahead s h (line ∷ lines) =
     some_answers (answer_to s h line) (if is_over s (next_session s h line) then [] else answers_from s (next_session s h line) lines)
 
@@ -151,12 +151,12 @@ module _ (s : ScenarioContent) where
 
   -- the end of the input is answered
   pub whole_by_end : (left ahead old mid new : Option (List ℕ)) (h : SessionHistory) → IsAnswering left ahead old mid s h → HasNoLine ahead
-      → Appends mid new (answer_text (Lines (leave_lines s h))) → IsWhole left old new s
+      → Appends mid new (answer_text (Lines (end_of_input_lines s h))) → IsWhole left old new s
   whole_by_end left ahead old mid new h is none written = record {
     requests = is.lines;
     asked = none_ahead left ahead is.lines is.asked none;
     written = subst (λ (t : List ℕ). Appends old new t)
-        (ap (λ (t : List ℕ). answers_text (Lines (open_lines s) ∷ is.done) ++ t) (sym (text-one (Lines (leave_lines s h)))) ∙ sym (text_so is.lines [] is.done h is.goes)
+        (ap (λ (t : List ℕ). answers_text (Lines (open_lines s) ∷ is.done) ++ t) (sym (text-one (Lines (end_of_input_lines s h)))) ∙ sym (text_so is.lines [] is.done h is.goes)
         ∙ ap (session_text s) (append-nil is.lines))
         (appends_then old mid new _ _ is.written written);
   }
@@ -188,7 +188,7 @@ module _ (s : ScenarioContent) where
 
   -- a front of the answer to the end of the input was written
   pub short_in_end : (left ahead old mid new : Option (List ℕ)) (h : SessionHistory) → IsAnswering left ahead old mid s h → HasNoLine ahead
-      → AppendsFront mid new (answer_text (Lines (leave_lines s h))) → IsShortOf left old new s
+      → AppendsFront mid new (answer_text (Lines (end_of_input_lines s h))) → IsShortOf left old new s
   short_in_end left ahead old mid new h is none written = record {
     requests = is.lines;
     asked = none_ahead left ahead is.lines is.asked none;
@@ -323,7 +323,7 @@ opening_lived NoMemory left ends behind old new unread unwritten s opened stops 
 
 -- how the rest of a session ended is how the whole did
 module _ (left ends behind old new : Option (List ℕ)) (s : ScenarioContent) (opened : IsOpened left behind s)
-    (runs : (requests : List (List ℕ)) (compact : List ℕ) → IsRun s requests compact)
+    (runs : (requests : List (List ℕ)) (compact : List ℕ) → SessionIsRun s requests compact)
   where
     lived_short : IsShortOf left old new s → LivesShort left old new
     lived_short short = record {

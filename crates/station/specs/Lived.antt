@@ -6,7 +6,7 @@ use Rattle.scenario_data.specs.declared.refusal.Refusal.{Refusal}
 use Rattle.scenario_data.specs.Content.{ScenarioContent}
 use Rattle.scenario_read.specs.Answers.{IsScenario, IsFirstFault}
 use Rattle.session_laws.specs.Dialogue.{first_line, requests_in, session_text, IsByRounds, IsOrderFault}
-use Rattle.session_laws.specs.Laws.{IsRun}
+use Rattle.session_laws.specs.Laws.{SessionIsRun}
 use Rattle.station.specs.declared.status.Status.{Status}
 use Rattle.station.specs.declared.status.Status.TheVariants.{Done, Scenario, ReadFault, WriteFault, NoMemory}
 use Rattle.station.specs.Io.{Io}
@@ -33,7 +33,7 @@ pub record LivesWhole (left old new : Option (List ℕ)) : Type 0 where
   pub requests : List (List ℕ)
   pub input : IsSession left scenario requests
   pub written : Appends old new (session_text scenario requests)
-  pub run : (compact : List ℕ) → IsRun scenario requests compact
+  pub run : (compact : List ℕ) → SessionIsRun scenario requests compact
 
 -- it stopped short: a front of the text of the answers was appended, and not all of it
 pub record LivesShort (left old new : Option (List ℕ)) : Type 0 where

@@ -6,7 +6,7 @@ use Rattle.scenario_data.specs.Content.{ScenarioContent}
 use Rattle.session_words.specs.Lines.{first_line, whole_lines}
 use Rattle.session_words.specs.Unread.{behind_told, GivesLine, HasNoLine}
 use Rattle.session_laws.specs.Session.{SessionHistory, opened_session, is_over}
-use Rattle.session_laws.specs.Told.{Answer, Lines, answer_to, answers_from, leave_lines, next_session, open_lines}
+use Rattle.session_laws.specs.Answers.{Answer, Lines, answer_to, answers_from, end_of_input_lines, next_session, open_lines}
 use Rattle.session_laws.specs.Dialogue.{answer_text, answers_text, requests_in, session_text}
 use Rattle.live_session.specs.declared.session.Session.{Session}
 use Rattle.live_session.specs.Standing.{SessionStands}
@@ -50,7 +50,7 @@ pub record AnswersLine (over : Bool) (s : ScenarioContent) (h : SessionHistory) 
 -- no line is ahead: the text is the answer to the end of the input, and the session is over
 pub record AnswersEnd (over : Bool) (s : ScenarioContent) (h : SessionHistory) (before : Option (List ℕ)) (text : List ℕ) : Type 0 where
   pub none : HasNoLine before
-  pub answer : text ≡ answer_text (Lines (leave_lines s h))
+  pub answer : text ≡ answer_text (Lines (end_of_input_lines s h))
   pub over_is : over ≡ true
 
 abbrev pub AnswersNext : Bool → ScenarioContent → SessionHistory → Session → Option (List ℕ) → Option (List ℕ) → List ℕ → Type 0

@@ -7,7 +7,7 @@ ghost use Rattle.scenario_data.specs.declared.refusal.Refusal.{Refusal};
 ghost use Rattle.runnable.specs.Runnable.{Runnable};
 ghost use Rattle.session_words.specs.Unread.{held_of, given_line, unread};
 ghost use Rattle.session_laws.specs.Session.{SessionHistory, opened_session};
-ghost use Rattle.session_laws.specs.Told.{Lines, leave_lines, open_lines};
+ghost use Rattle.session_laws.specs.Answers.{Lines, end_of_input_lines, open_lines};
 ghost use Rattle.session_laws.specs.Dialogue.{answer_text};
 ghost use Rattle.live_session.specs.Standing.{SessionStands};
 ghost use Rattle.station.specs.Io.{io_of, Counts};
@@ -108,7 +108,7 @@ impl Dialogue {
         ensures reader { self.new.reader ≡ self.old.reader }
         ensures over { IfOk result (λ over. over ≡ true) }
         ensures answers { OnOk result ((s : ScenarioContent) (h : SessionHistory) → SessionStands self.old.session s h
-            → self.new.answer.items ≡ answer_text (Lines (leave_lines s h))) }
+            → self.new.answer.items ≡ answer_text (Lines (end_of_input_lines s h))) }
         ensures failed { (status : StatusRow) → result ≡ Err status → status ≡ Status.NoMemory }
     {
         match self.session.leave(self.alloc, &mut self.answer) {

@@ -12,7 +12,7 @@ use Rattle.sig_types.specs.declared.phase_set.PhaseSet.{PhaseSet}
 use Rattle.sig_types.specs.PhaseSet.{has, phases_of}
 use Rattle.sig_types.specs.Phases.{is_phase, is_in, some, those, all_phases}
 use Rattle.sig_types.specs.Colour.{same_colour, same_signal, colour_in, colour_of, signal_of, is_start}
-use Rattle.sig_types.proofs.Sets.{in-phases, listed-phase}
+use Rattle.sig_types.proofs.Sets.{in-phases, listed-phase, empty-has}
 use Rattle.sig_tables.specs.declared.tables.Tables.{Tables}
 use Rattle.sig_tables.specs.Sides.{are_incompatible}
 use Rattle.sig_tables.specs.Slots.{is_defined}
@@ -28,7 +28,6 @@ use Rattle.sig_tables.specs.Moves.{Moves, ring_moves}
 use Rattle.sig_tables.specs.View.{is_open, is_done, ended_of}
 use Rattle.sig_tables.specs.Ticking.{on_of, moves_of, colours_of, frame_of, frame_with, next_moment}
 use Rattle.sig_tables.specs.Seen.{frame_seen, mode_seen, view_seen, moves_seen, tick_inputs_seen, demand_with, pedestrian_seen, opposed_seen}
-use Rattle.call_store.proofs.Listed.{none-has}
 use Rattle.tick_context.specs.Modes.{is_free}
 use Rattle.tick_context.specs.Shows.{is_clearing, is_signalling}
 use Rattle.tick_context.specs.Walks.{crossing_seen, walk_after, signal_seen}
@@ -58,14 +57,14 @@ free-is (Exit i) e = absurd (false≢true e)
 pub no-preempts : (s : PhaseSet) → phases_of s ≡ [] → those (has s) all_preempts ≡ []
 no-preempts s e =
     rw (
-      none-has s 1 refl e,
-      none-has s 2 refl e,
-      none-has s 3 refl e,
-      none-has s 4 refl e,
-      none-has s 5 refl e,
-      none-has s 6 refl e,
-      none-has s 7 refl e,
-      none-has s 8 refl e,
+      empty-has s 1 refl e,
+      empty-has s 2 refl e,
+      empty-has s 3 refl e,
+      empty-has s 4 refl e,
+      empty-has s 5 refl e,
+      empty-has s 6 refl e,
+      empty-has s 7 refl e,
+      empty-has s 8 refl e,
     ) refl
 
 -- free operation goes on where no preempt input is on and the command asks for no pattern and no flash

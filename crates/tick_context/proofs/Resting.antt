@@ -1,7 +1,7 @@
 -- Where nothing is wanted and no ring is open, the rings rest: what is on stays on.
 use Rattle.std.proofs.Common.{◌≡◌, ◌==◌, ◌&&◌, ◌||◌, ◌++◌, not, if◌then◌else◌, ℕ, Bool, true, false, List, [], ◌∷◌, inl, inr, refl, sym, ◌∙◌, ap}
 use Rattle.std.proofs.Math.Bool.{and-false}
-use Rattle.sig_types.specs.Phases.{is_in, some}
+use Rattle.sig_types.specs.Phases.{is_in}
 use Rattle.sig_tables.specs.Tables.{clearance}
 use Rattle.sig_tables.specs.Sides.{are_of_one_side}
 use Rattle.sig_tables.specs.View.{View, on_phase, is_open, present_side, later, earlier, has_room_in, is_wanted}
@@ -12,15 +12,11 @@ use Rattle.std.proofs.lemmas.Bool.{cases_Bool}
 use Rattle.sig_types.specs.Phases.{is_phase}
 use Rattle.sig_types.specs.PhaseSet.{phases_of}
 use Rattle.sig_types.specs.declared.phase_set.PhaseSet.{PhaseSet}
+use Rattle.sig_types.proofs.Sets.{some-none, empty-has}
 use Rattle.sig_tables.specs.Layout.{Has}
-use Rattle.call_store.proofs.Listed.{none-has}
 
 unwanted : (v : View) (k q : ℕ) → v.demand ≡ [] → is_wanted v k q ≡ false
 unwanted v k q e = ap (λ (xs : List ℕ). if is_in xs q then has_room_in v k q else false) e
-
-some-none : (test : ℕ → Bool) (xs : List ℕ) → ((q : ℕ) → test q ≡ false) → some test xs ≡ false
-some-none test [] none = refl
-some-none test (x ∷ xs) none = rw (none x) (some-none test xs none)
 
 also-unwanted : (b : Bool) (v : View) (k q : ℕ) → v.demand ≡ [] → (b && is_wanted v k q) ≡ false
 also-unwanted b v k q e = rw (unwanted v k q e) (and-false b)
@@ -53,7 +49,7 @@ none-begins v r shut = rw shut refl
 -- where no phase of a set of those that are forced off is, none is
 pub none-forced : (v : View) (s : PhaseSet) → Has s (is_forced v) → phases_of s ≡ [] → (p : ℕ) → is_forced v p ≡ false
 none-forced v s h none p = elim (cases_Bool (is_phase p)) [
-  | inl i ↦ sym (h p i) ∙ none-has s p i none
+  | inl i ↦ sym (h p i) ∙ empty-has s p i none
   | inr i ↦ rw i refl
 ]
 

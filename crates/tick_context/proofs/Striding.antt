@@ -1,6 +1,6 @@
 -- Ticks that are passed over, in histories: what has come after them, and that their frames are plain.
 use Rattle.std.proofs.Common.{◌≡◌, ◌≢◌, ◌<◌, ◌≤◌, ◌+◌, ◌-◌, ◌==◌, nat_le, ℕ, zero, suc, true, false, inl, inr}
-use Rattle.std.proofs.Common.{List, [], ◌∷◌, refl, sym, ◌∙◌, ap, arith, subst}
+use Rattle.std.proofs.Common.{Bool, List, [], ◌∷◌, refl, sym, ◌∙◌, ap, arith, subst}
 use Rattle.std.proofs.lemmas.Bool.{false≢true, cases_Bool, leb-true, leb-false}
 use Rattle.std.proofs.lemmas.Bool.Decides.{Decides-eqb}
 use Rattle.sig_types.specs.declared.frame.Colour.{Colour}
@@ -23,7 +23,7 @@ use Rattle.tick_context.proofs.InStep.{counter-next, no-zero}
 use Rattle.tick_context.proofs.Passed.{after, lasts-after}
 
 -- what a history has come to after so many ticks more
-after-last : (k : ℕ) (past : Past)
+pub after-last : (k : ℕ) (past : Past)
     → with_moment (after k past) (next_moment (after k past)) ≡ after k (with_moment past (next_moment past))
 after-last zero past = refl
 after-last (suc k) past = after-last k (with_moment past (next_moment past))
@@ -90,6 +90,10 @@ lasts-plain k n mode h less l =
     (lasts-after k j mode (past_at h) (subst (λ (x : ℕ). Lasts mode x (past_at h)) parts l)) in
     like-plain (last_frame_of (ticks_more k h)) (decide (ticks_more k h)) (goes-alike mode j (past_at (ticks_more k h)) now)
     (zero-not mode j (past_at (ticks_more k h)) now)
+
+-- what the test of two frames said of the tick between them
+pub told-by : (last next f g : Frame) (b : Bool) → b ≡ has_line last next → last ≡ f → next ≡ g → has_line f g ≡ b
+told-by last next f g b e k l = rw (← k, ← l) (sym e)
 
 -- after ticks with plain frames, one more and some that were passed over, all have plain frames
 pub plain-on : (h : History) (done more : ℕ) → ((k : ℕ) → k ≤ done → is_told h k ≡ false) → is_told h (suc done) ≡ false

@@ -62,19 +62,6 @@ fn services(tables: &Tables) -> [u32; 16]
     services
 }
 
-/// The set of a phase alone; what is no phase gives none.
-pub fn lone(phase: u8) -> PhaseSet
-    ensures { Has result (λ p. p == phase) }
-{
-    if phase == 0 {
-        PhaseSet::empty()
-    } else if phase > 16 {
-        PhaseSet::empty()
-    } else {
-        PhaseSet::empty().with(phase)
-    }
-}
-
 /// Whether the tables define a pattern: it is 1 to 48 and has a cycle.
 pub fn is_defined(tables: &Tables, pattern: u8) -> bool
     ensures { result ≡ is_defined tables.now pattern }
@@ -156,7 +143,7 @@ impl ActivePattern {
         ensures pair { (t : Tables) (n : ℕ) → ActivePatternIs self.now t n → Has result (is_in (coordinated_phases t n)) }
     {
         let coordinated = self.plan.coordinated;
-        lone(coordinated[0]).union(lone(coordinated[1]))
+        PhaseSet::of(coordinated[0]).union(PhaseSet::of(coordinated[1]))
     }
 
     /// Where the target of the pattern's counter stands at this time of the day.

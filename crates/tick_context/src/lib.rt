@@ -16,7 +16,7 @@ mod telling;
 mod tick_state;
 mod unit_commands;
 
-pub use active_pattern::{ActivePattern, is_defined, lone};
+pub use active_pattern::{ActivePattern, is_defined};
 pub use at_rest::{are_both_on, is_resting, no_changes, shows_sixteen};
 pub use context::TickContext;
 pub use context_rings::RingState;

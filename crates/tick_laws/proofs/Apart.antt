@@ -21,6 +21,7 @@ use Rattle.sig_tables.specs.TickState.{RingTurn, Rest, StartUp, Rings, Goal, sta
 use Rattle.sig_tables.specs.Seen.{view_seen, tick_inputs_seen, moves_seen}
 use Rattle.sig_tables.specs.Decide.{moves_of, colour_after, next_moment, past_of}
 use Rattle.sig_tables.proofs.Histories.{over-events}
+use Rattle.sig_tables.proofs.Below.{enabled-phase}
 use Rattle.plan_facts.specs.Goals.{GoTogether}
 use Rattle.tick_laws.specs.Each.{EachMoment}
 use Rattle.tick_laws.specs.Lawful.{Sound, SameLayout, IsLawfulAfter, Lawful, is_dark}
@@ -31,7 +32,7 @@ use Rattle.tick_laws.proofs.Choices.{neither, never-yellow, differs}
 use Rattle.tick_laws.proofs.Next.{first-red}
 use Rattle.tick_laws.proofs.RingTurns.{dark-rests, up-from-dark}
 use Rattle.tick_laws.proofs.Sought.{Numbered, reached-numbered, sought-known, sought-dark, goal-goes}
-use Rattle.tick_laws.proofs.FrameStands.{FrameStands, Fits, standing-next, enabled-phase}
+use Rattle.tick_laws.proofs.FrameStands.{FrameStands, Fits, standing-next}
 use Rattle.tick_laws.proofs.Rings.{rings-fit}
 use Rattle.tick_laws.proofs.GoalFits.{goal-fits}
 use Rattle.tick_laws.proofs.Within.{other-fresh, shows-next, not-first}

@@ -13,9 +13,10 @@ use Rattle.sig_tables.specs.Slots.{is_coordinated, coordinated_phase}
 use Rattle.sig_tables.specs.View.{View, on_phase, is_open, present_side, present_side_of, greatest_clearance}
 use Rattle.sig_tables.specs.Looking.{latest_on}
 use Rattle.sig_tables.specs.Moves.{beginning_in, beginning_both, beginning_of, ring_moves}
+use Rattle.sig_tables.proofs.Below.{coordinated-enabled}
 use Rattle.tick_laws.specs.Zero.{HoldsPair, Sees, AtZero}
 use Rattle.tick_laws.proofs.Finding.{in-left, in-right}
-use Rattle.tick_laws.proofs.Entering.{Comes, begins-present, begins-both, held-enabled}
+use Rattle.tick_laws.proofs.Entering.{Comes, begins-present, begins-both}
 
 green-not_red : (c : Colour) → c ≡ Green → c ≢ Red
 green-not_red c e f = false≢true (ap (λ (x : Colour). same_colour x Green) (sym f ∙ e))
@@ -53,7 +54,7 @@ some-phase t q e =
 closes : (v : View) (n r : ℕ) → HoldsPair v.tables n → Sees v n → (r ≡ 1) ⊎ (r ≡ 2) → colour_of v.frame (coordinated_phase v.tables n r) ≡ Green → Closed v n r
 closes v n r pair sees which green =
     let q : ℕ = coordinated_phase v.tables n r in
-    let e : is_enabled v.tables (coordinated_phase v.tables n r) ≡ true = held-enabled v.tables n (coordinated_phase v.tables n r) (pair.held r which) in
+    let e : is_enabled v.tables (coordinated_phase v.tables n r) ≡ true = coordinated-enabled v.tables n (coordinated_phase v.tables n r) (pair.held r which) in
     let named : on_phase v (ring_of v.tables (coordinated_phase v.tables n r)) ≡ coordinated_phase v.tables n r = sees.placed
     (coordinated_phase v.tables n r) e (green-not_red _ green) in
     let names : on_phase v r ≡ coordinated_phase v.tables n r = subst (λ (x : ℕ). on_phase v x ≡ coordinated_phase v.tables n r) (pair.ring r which) named in

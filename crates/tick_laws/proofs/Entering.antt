@@ -3,9 +3,9 @@ use Rattle.std.proofs.Common.{◌≡◌, ◌⊎◌, inl, inr, ℕ, ◌+◌, ◌�
 use Rattle.std.proofs.lemmas.Bool.{cases_Bool, both_ways, false≢true, and_parts, and_from, leb-true}
 use Rattle.std.proofs.lemmas.Bool.Decides.{Decides-eqb}
 use Rattle.sig_types.specs.declared.frame.Colour.TheVariants.{Red}
-use Rattle.sig_types.specs.Phases.{is_in, some, those, first, or_else}
+use Rattle.sig_types.specs.Phases.{is_in, some, first, or_else}
 use Rattle.sig_types.specs.Colour.{colour_of}
-use Rattle.sig_types.proofs.Lists.{in-those, in-first}
+use Rattle.sig_types.proofs.Lists.{in-those}
 use Rattle.sig_tables.specs.declared.tables.Tables.{Tables}
 use Rattle.sig_tables.specs.Tables.{ring_of, is_enabled, order_of}
 use Rattle.sig_tables.specs.Sides.{are_of_one_side, ring_phases, sides}
@@ -15,12 +15,9 @@ use Rattle.sig_tables.specs.Modes.{bound}
 use Rattle.sig_tables.specs.Coordinating.{has_room, fits}
 use Rattle.sig_tables.specs.View.{View, present_side, present, later, earlier, is_wanted, is_startable, can_begin, elsewhere}
 use Rattle.sig_tables.specs.Moves.{beginning_in, from_side, can_enter, entering_in, entering, stays_in_side, beginning_both}
+use Rattle.sig_tables.proofs.Below.{coordinated-enabled}
 use Rattle.tick_laws.specs.Zero.{HoldsPair, Sees}
 use Rattle.tick_laws.proofs.Finding.{finds-only, finds-none, some-passes, none-passes, passes-some, finds-some, in-those-of, or_else-left, later-or-earlier, heads-of, in-from_side}
-
--- a held phase is enabled
-pub held-enabled : (t : Tables) (n q : ℕ) → is_coordinated t n q ≡ true → is_enabled t q ≡ true
-held-enabled t n q h = (and_parts (is_enabled t q) _ h).0
 
 -- at counter 0 there is room for a held phase alone
 room-held : (b : Option ℕ) (t : Tables) (n k q : ℕ) → b ≡ Some n → is_coordinated t n q ≡ true → has_room b t 0 k q ≡ true
@@ -124,7 +121,7 @@ none-elsewhere v n k r q c side =
 pub begins-present : (v : View) (n k r q : ℕ) → Comes v n r q → are_of_one_side v.tables (present_side v) q ≡ true → is_in (beginning_in v k r) q ≡ true
 begins-present v n k r q c side =
     elim (later-or-earlier (present v r) (last_on r v.past) q
-    (in-ring_phases v n (present_side v) r q c.pair c.sees (held-enabled v.tables n q c.held) c.ring side)) [
+    (in-ring_phases v n (present_side v) r q c.pair c.sees (coordinated-enabled v.tables n q c.held) c.ring side)) [
       | inl h ↦ or_else-left _ _ q (finds-only (can_begin v) (later v r) q h (comes-begins v n r q c)
           (λ x i b. comes-alone v n r q x c (lies v (present_side v) r x (later-present v r x i)).ring b))
       | inr h ↦ elim (cases_Bool (is_in (later v r) q)) [
@@ -146,7 +143,7 @@ begins-present v n k r q c side =
 begins-entered : (v : View) (n r q s : ℕ) → Comes v n r q → are_of_one_side v.tables s q ≡ true → is_in (entering_in v s r) q ≡ true
 begins-entered v n r q s c side =
     or_else-left _ _ q (finds-only (can_begin v) (ring_phases v.tables v.sequence s r) q
-    (in-ring_phases v n s r q c.pair c.sees (held-enabled v.tables n q c.held) c.ring side) (comes-begins v n r q c)
+    (in-ring_phases v n s r q c.pair c.sees (coordinated-enabled v.tables n q c.held) c.ring side) (comes-begins v n r q c)
     (λ x i b. comes-alone v n r q x c (lies v s r x i).ring b))
 
 -- some phase of the side of s can begin, so s is of the side of the held phases
@@ -166,7 +163,7 @@ enters-held v n r q s c h = by (some (can_begin v) (ring_phases v.tables v.seque
 
 held-enters : (v : View) (n r q s : ℕ) → Comes v n r q → (r ≡ 1) ⊎ (r ≡ 2) → are_of_one_side v.tables s q ≡ true → can_enter v s ≡ true
 held-enters v n r q s c which side = by which (some-passes (can_begin v) (ring_phases v.tables v.sequence s r) q
-    (in-ring_phases v n s r q c.pair c.sees (held-enabled v.tables n q c.held) c.ring side) (comes-begins v n r q c))
+    (in-ring_phases v n s r q c.pair c.sees (coordinated-enabled v.tables n q c.held) c.ring side) (comes-begins v n r q c))
   where
     left : (a b : Bool) → a ≡ true → (a || b) ≡ true
     left a b e = rw e refl
@@ -219,7 +216,7 @@ begins-both v n r q c which = elim (cases_Bool (are_of_one_side v.tables (presen
       let held : is_coordinated v.tables n one ≡ true = c.pair.held 1 (inl refl) in
       let listed : is_in (order_of v.tables v.sequence 1) one ≡ true
       = subst (λ (x : ℕ). is_in (order_of v.tables x 1) one ≡ true) (sym c.sees.sequence)
-      (c.pair.listed one 1 (held-enabled v.tables n one held) (c.pair.ring 1 (inl refl))) in
+      (c.pair.listed one 1 (coordinated-enabled v.tables n one held) (c.pair.ring 1 (inl refl))) in
       let head = heads-of v.tables (order_of v.tables v.sequence 1) one listed (c.pair.side one one held held) c.pair.joined in
       let side : are_of_one_side v.tables head.0 q ≡ true = c.pair.joined head.0 one q head.2 (c.pair.side one q held c.held) in
       let tried : is_in (from_side v.tables (present_side v) (sides v.tables v.sequence) []) head.0 ≡ true

@@ -23,17 +23,17 @@ same-signal-self Walk = refl
 same-signal-self Flash = refl
 same-signal-self Dont = refl
 
-signal-on : (p : ℕ) (s : Ped) (m : Moment) (past : List Moment) → signal_of m.frame p ≡ s → signal_run p s (m ∷ past) ≡ signal_run p s past + 1
+pub signal-on : (p : ℕ) (s : Ped) (m : Moment) (past : List Moment) → signal_of m.frame p ≡ s → signal_run p s (m ∷ past) ≡ signal_run p s past + 1
 signal-on p s m past e = rw (e, same-signal-self s) refl
 
-signal-none : (p : ℕ) (s x : Ped) (n : Moment) (past : List Moment) → signal_of n.frame p ≡ x → same_signal x s ≡ false → signal_run p s (n ∷ past) ≡ 0
+pub signal-none : (p : ℕ) (s x : Ped) (n : Moment) (past : List Moment) → signal_of n.frame p ≡ x → same_signal x s ≡ false → signal_run p s (n ∷ past) ≡ 0
 signal-none p s x n past e f = rw (e, f) refl
 
 signal_latched-on : (p : ℕ) (s : Ped) (t : Tables) (m : Moment) (past : List Moment) → signal_of m.frame p ≡ s → m.tables ≡ t
     → signal_latched p s t past ≡ t → signal_latched p s t (m ∷ past) ≡ t
 signal_latched-on p s t m past e same l = rw (e, same-signal-self s, same) l
 
-signal_latched-none : (p : ℕ) (s x : Ped) (t : Tables) (n : Moment) (past : List Moment) → signal_of n.frame p ≡ x → same_signal x s ≡ false
+pub signal_latched-none : (p : ℕ) (s x : Ped) (t : Tables) (n : Moment) (past : List Moment) → signal_of n.frame p ≡ x → same_signal x s ≡ false
     → signal_latched p s t (n ∷ past) ≡ t
 signal_latched-none p s x t n past e f = rw (e, f) refl
 
@@ -54,7 +54,7 @@ flash-next p t past l = elim (cases_Bool (signal_run p Flash past == pedestrian_
   | inr e ↦ inr (e, rw (l, e) refl)
 ]
 
-choice : (b : Bool) (x y : Ped) → ((b ≡ true) × ((if b then x else y) ≡ x)) ⊎ ((b ≡ false) × ((if b then x else y) ≡ y))
+pub choice : (b : Bool) (x y : Ped) → ((b ≡ true) × ((if b then x else y) ≡ x)) ⊎ ((b ≡ false) × ((if b then x else y) ≡ y))
 choice true x y = inl (refl, refl)
 choice false x y = inr (refl, refl)
 

@@ -17,6 +17,7 @@ use Rattle.sig_tables.specs.Moves.{Moves}
 use Rattle.sig_tables.specs.TickInputs.{TickInputs}
 use Rattle.sig_tables.specs.TickState.{TickState}
 use Rattle.sig_tables.specs.Ticking.{colour_after, colours_of, frame_with, on_of}
+use Rattle.sig_tables.proofs.Below.{enabled-phase}
 use Rattle.tick_laws.specs.Lawful.{Sound, is_dark}
 use Rattle.tick_laws.specs.Safe.{is_on}
 use Rattle.sig_types.proofs.Lists.{in-those, only-first, phase-listed, colour-at, eq-true}
@@ -79,9 +80,6 @@ comes-on moves past p ph h =
       | inl s ↦ inl (s.0, not-ended past.tables past.moments p s.1)
       | inr b ↦ inr b
     ]
-
-pub enabled-phase : (t : Tables) (p : ℕ) → is_enabled t p ≡ true → is_phase p ≡ true
-enabled-phase t p h = (and_parts _ _ h).0
 
 -- the phases that come go together
 pub come-together : (t : Tables) (f : Frame) (ended begins : List ℕ) → FrameStands t f → Fits t f ended begins → (p q : ℕ)

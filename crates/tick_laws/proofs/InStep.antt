@@ -31,6 +31,7 @@ use Rattle.sig_tables.specs.Moves.{Moves, ring_moves}
 use Rattle.sig_tables.specs.Seen.{mode_seen, ring_turn_seen, view_seen, moves_seen, tick_inputs_seen}
 use Rattle.sig_tables.specs.Decide.{moves_of, colour_after, colours_of, on_of, next_moment}
 use Rattle.sig_tables.proofs.FreeTickState.{lesser-unstaged}
+use Rattle.sig_tables.proofs.Below.{enabled-phase}
 use Rattle.plan_facts.specs.Plan.{PlanHolds}
 use Rattle.tick_laws.specs.Steps.{Steps, Stands, Plain, Skips, Zero}
 use Rattle.tick_laws.specs.Phases.{OtherStands, SignalMoves, SignalStands}
@@ -48,7 +49,7 @@ use Rattle.tick_laws.proofs.Choices.{same-is, differs, not-chosen, chosen}
 use Rattle.tick_laws.proofs.Next.{next-colour, next-signal, mode_given, crossing_seen, walk_seen, signal_left}
 use Rattle.tick_laws.proofs.Signals.{seen-dont}
 use Rattle.tick_laws.proofs.SignalWithin.{long-walk}
-use Rattle.tick_laws.proofs.FrameStands.{FrameStands, enabled-phase}
+use Rattle.tick_laws.proofs.FrameStands.{FrameStands}
 use Rattle.tick_laws.proofs.OneSide.{own, beside}
 use Rattle.tick_laws.proofs.PatternFacts.{holds-pair, plan-serves, times-serve, window-within}
 use Rattle.tick_laws.proofs.Modes.{same-coord}
@@ -153,7 +154,7 @@ rings-ring_turn past n mode last =
     ap (λ (m : Mode). ring_turn_of past.tables past.moments m) mode
     ∙ ap (λ (m : Mode). if is_start m then ring_turn_from_start past.tables (Coord n) else ring_turn_in past.tables (Coord n)) last
 
-moves-are : (past : Past) (n : ℕ) → mode_seen past ≡ Coord n → (last_frame past.moments).mode ≡ Coord n → moves_seen past ≡ ring_moves (view_seen past)
+pub moves-are : (past : Past) (n : ℕ) → mode_seen past ≡ Coord n → (last_frame past.moments).mode ≡ Coord n → moves_seen past ≡ ring_moves (view_seen past)
 moves-are past n mode last = ap (λ (ring_turn : RingTurn). moves_of ring_turn (view_seen past)) (rings-ring_turn past n mode last)
 
 -- the counter of the tick follows that of the last frame

@@ -37,4 +37,5 @@ pub mod Search
 pub mod Clocks
 pub mod ClockRuns
 pub mod Waiting
+mod FreeGreen
 pub mod Barrier

@@ -17,12 +17,13 @@ use Rattle.sig_tables.specs.Splits.{omits}
 use Rattle.sig_tables.specs.Coordinating.{has_room, fits, is_forced_off, is_released, extension_of}
 use Rattle.sig_tables.specs.View.{View, on_phase, is_open, other_ring, later, earlier, present_side, present_side_of, has_room_in, is_wanted, is_startable, is_served, can_begin, elsewhere, is_reasoned, has_reason, is_forced, clearance_of, greatest_clearance}
 use Rattle.sig_tables.specs.Moves.{beginning_in, from_side, can_enter, can_join, entering, stays_in_side, beginning_of, is_free_to_leave, is_to_end, is_ended, ending_in, ring_moves}
+use Rattle.sig_tables.proofs.Below.{coordinated-enabled}
 use Rattle.std.proofs.lemmas.Bool.{le-leb}
 use Rattle.tick_laws.specs.Cycle.{Fits}
 use Rattle.tick_laws.specs.Phases.{OtherMoves, HeldMoves, FitsAfter}
 use Rattle.tick_laws.specs.Zero.{HoldsPair, PlanServes, Sees}
 use Rattle.tick_laws.proofs.Finding.{in-left, in-right, passes-some}
-use Rattle.tick_laws.proofs.Entering.{held-enabled, lies, later-present, earlier-present}
+use Rattle.tick_laws.proofs.Entering.{lies, later-present, earlier-present}
 use Rattle.tick_laws.proofs.Beginning.{some-phase}
 use Rattle.std.proofs.Math.Nat.{le_refl}
 
@@ -327,7 +328,7 @@ held-moves v n q pair plan sees held = record {
 
     fits-after : (r : ℕ) → (r ≡ 1) ⊎ (r ≡ 2) → Ended v r q → FitsAfter v.tables n q v.counter
     fits-after r w x =
-        let e : is_enabled v.tables q ≡ true = held-enabled v.tables n q held in
+        let e : is_enabled v.tables q ≡ true = coordinated-enabled v.tables n q held in
         let green : colour_of v.frame q ≡ Green = (reason-of r x).green in
         let to_end : is_to_end v r q ≡ true = (and_parts (has_reason v q) (is_to_end v r q)
         (and_parts (has_reason v q && is_to_end v r q) (is_served v.tables v.past q) x.ends).0).1 in

@@ -7,9 +7,9 @@ use Rattle.sig_types.proofs.Lists.{eq-true, phase-listed}
 use Rattle.sig_tables.specs.declared.tables.Tables.{Tables}
 use Rattle.sig_tables.specs.Tables.{ring_of, is_enabled}
 use Rattle.sig_tables.specs.Sides.{names, are_concurrent, are_of_one_side}
+use Rattle.sig_tables.proofs.Below.{enabled-phase}
 use Rattle.tick_laws.proofs.Finding.{some-passes, passes-some}
 use Rattle.tick_laws.specs.Lawful.{Sound}
-use Rattle.tick_laws.proofs.FrameStands.{enabled-phase}
 
 pub concurrent-enabled : (t : Tables) (p q : ℕ) → are_concurrent t p q ≡ true → (is_enabled t p ≡ true) × (is_enabled t q ≡ true)
 concurrent-enabled t p q h = and_parts (is_enabled t p) (is_enabled t q) (and_parts (is_enabled t p && is_enabled t q) _ h).0

@@ -1,22 +1,19 @@
 -- What sound tables give a pattern's ticks: one coordinated phase of each ring, times that serve every phase that it serves, and
 -- a correction that keeps to the cycle.
 use Rattle.std.proofs.Common.{◌≡◌, ◌⊎◌, inl, inr, ℕ, ◌+◌, ◌≤◌, ◌<◌, max, true, [], ◌∷◌, refl, sym, subst, arith}
-use Rattle.std.proofs.lemmas.Bool.{and_parts}
 use Rattle.sig_types.specs.Phases.{is_in}
 use Rattle.sig_types.proofs.Lists.{in-head, in-tail}
 use Rattle.sig_tables.specs.declared.tables.Tables.{Tables}
-use Rattle.sig_tables.specs.Tables.{ring_of, is_enabled, least_green, clearance, yellow_time}
+use Rattle.sig_tables.specs.Tables.{ring_of, least_green, clearance, yellow_time}
 use Rattle.sig_tables.specs.Sides.{are_of_one_side}
-use Rattle.sig_tables.specs.Slots.{is_defined, is_coordinated, coordinated_phase, pattern_order, force_point, window, cycle_time, least_service}
+use Rattle.sig_tables.specs.Slots.{is_defined, coordinated_phase, pattern_order, force_point, window, cycle_time, least_service}
 use Rattle.sig_tables.specs.Splits.{coordinated_phases}
+use Rattle.sig_tables.proofs.Below.{coordinated-enabled}
 use Rattle.plan_facts.specs.Plan.{PlanHolds, HeldForce, OtherForce}
 use Rattle.tick_laws.proofs.ForcedSignals.{service-green}
 use Rattle.tick_laws.specs.Zero.{HoldsPair, PlanServes, TimesServe}
 use Rattle.tick_laws.specs.Lawful.{Sound}
 use Rattle.tick_laws.proofs.OneSide.{side-joined}
-
-coordinated-enabled : (t : Tables) (n q : ℕ) → is_coordinated t n q ≡ true → is_enabled t q ≡ true
-coordinated-enabled t n q h = (and_parts (is_enabled t q) _ h).0
 
 in-pair : (t : Tables) (n r : ℕ) → (r ≡ 1) ⊎ (r ≡ 2) → is_in (coordinated_phases t n) (coordinated_phase t n r) ≡ true
 in-pair t n r (inl one) =

@@ -9,11 +9,11 @@ use Rattle.sig_tables.specs.Tables.{is_enabled}
 use Rattle.sig_tables.specs.Sides.{are_concurrent}
 use Rattle.sig_tables.specs.Past.{Event}
 use Rattle.sig_tables.specs.Decide.{past_of}
+use Rattle.sig_tables.proofs.Below.{enabled-phase}
 use Rattle.tick_laws.specs.Lawful.{Lawful}
 use Rattle.tick_laws.specs.Safe.{is_on, Apart, OnlyEnabled}
 use Rattle.tick_laws.specs.Walking.{OnGreen, Quiet, EachQuiet}
 use Rattle.tick_laws.proofs.Each.{each-both, each-weaker}
-use Rattle.tick_laws.proofs.FrameStands.{enabled-phase}
 use Rattle.tick_laws.proofs.Apart.{Holds, holds}
 use Rattle.tick_laws.proofs.Signals.{each-on-green}
 use Rattle.tick_laws.proofs.Serving.{lawful-served}

@@ -1,7 +1,6 @@
 -- What the rules of the rings begin goes together.
 use Rattle.std.proofs.Common.{◌≡◌, ◌≢◌, ◌⊎◌, inl, inr, ℕ, ◌<◌, ◌≤◌, Bool, true, false, ◌&&◌, if◌then◌else◌, ◌==◌, List, [], ◌∷◌, ◌++◌, refl, sym, ◌∙◌, subst, arith}
-use Rattle.std.proofs.lemmas.Bool.{cases_Bool, and_parts, and_from, false≢true, both_ways}
-use Rattle.std.proofs.lemmas.Bool.Decides.{Decides-eqb}
+use Rattle.std.proofs.lemmas.Bool.{cases_Bool, and_parts, false≢true, both_ways}
 use Rattle.sig_types.specs.Phases.{is_phase, is_in, first, or_else, only, after, up_to}
 use Rattle.sig_types.specs.Colour.{on_in}
 use Rattle.sig_tables.specs.declared.tables.Tables.{Tables}
@@ -13,6 +12,7 @@ use Rattle.sig_tables.specs.Moves.{beginning_in, from_side, can_enter, can_join,
 use Rattle.tick_laws.specs.Lawful.{Sound}
 use Rattle.sig_types.proofs.Lists.{in-those, in-first, in-append, in-or_else, in-after, in-up_to, Single, single-first, single-or_else, eq-true, phase-in}
 use Rattle.tick_laws.proofs.FrameStands.{FrameStands, Fits}
+use Rattle.tick_laws.proofs.OneSide.{own}
 
 -- q is of ring r and of the side of s
 abbrev pub Lies : Tables → ℕ → ℕ → ℕ → Type 0
@@ -27,10 +27,6 @@ lies t n s r q h =
 lies-enabled : (t : Tables) (s r q : ℕ) → Lies t s r q → is_enabled t q ≡ true
 lies-enabled t s r q l =
     (and_parts (is_enabled t s) (is_enabled t q) (and_parts (is_enabled t s && is_enabled t q) _ l.1).0).1
-
--- a phase is of its own side
-own : (t : Tables) (p : ℕ) → is_enabled t p ≡ true → are_of_one_side t p p ≡ true
-own t p e = and_from _ _ (and_from _ _ e e) (rw ((Decides-eqb p p).1 refl) refl)
 
 in-later_in : (phases : List ℕ) (last q : ℕ) → is_in (later_in phases last) q ≡ true → is_in phases q ≡ true
 in-later_in phases last q h = split (is_in phases last) h

@@ -17,8 +17,8 @@ use Rattle.sig_tables.specs.SplitCalls.{demand_in, is_called_by}
 use Rattle.sig_tables.specs.Modes.{bound, sequence_in}
 use Rattle.sig_tables.specs.Looking.{last_frame, runs_on}
 use Rattle.sig_tables.specs.View.{View, on_phase, ended_of}
+use Rattle.sig_tables.proofs.Below.{coordinated-enabled}
 use Rattle.tick_laws.specs.Zero.{Sees}
-use Rattle.tick_laws.proofs.Entering.{held-enabled}
 
 -- how the view is made, and what stands on in its frame
 pub record Made (v : View) (n : ℕ) (vehicle pedestrian detectors : List ℕ) : Type 0 where
@@ -51,11 +51,11 @@ sees-made v n vehicle pedestrian detectors m = record {
   sequence = m.sequence ∙ ap (sequence_in v.tables) m.mode;
   called = λ q held red.
       subst (λ (xs : List ℕ). is_in xs q ≡ true) (sym demand)
-      (in-phases wanted q (phase q (held-enabled v.tables n q held))
+      (in-phases wanted q (phase q (coordinated-enabled v.tables n q held))
       ∙ and_from (is_enabled v.tables q && same_colour (colour_of v.frame q) Red && not (is_omitted v.tables n q))
       (is_called v.tables vehicle pedestrian detectors q || is_called_by v.tables n q)
       (and_from (is_enabled v.tables q && same_colour (colour_of v.frame q) Red) (not (is_omitted v.tables n q))
-      (and_from (is_enabled v.tables q) (same_colour (colour_of v.frame q) Red) (held-enabled v.tables n q held)
+      (and_from (is_enabled v.tables q) (same_colour (colour_of v.frame q) Red) (coordinated-enabled v.tables n q held)
       (ap (λ (c : Colour). same_colour c Red) red)) (ap not (m.served q held)))
       (by-pattern (is_called v.tables vehicle pedestrian detectors q) q held));
   placed = m.placed;

@@ -18,13 +18,13 @@ use Rattle.sig_tables.specs.Splits.{omits}
 use Rattle.sig_tables.specs.View.{View, is_open, other_ring, later, earlier, present_side, has_room_in, is_wanted, is_startable, can_begin, elsewhere, greatest_clearance}
 use Rattle.sig_tables.specs.Moves.{beginning_in, from_side, can_enter, can_join, entering, stays_in_side, beginning_of, ring_moves}
 use Rattle.sig_tables.specs.Decide.{colour_after}
+use Rattle.sig_tables.proofs.Below.{coordinated-enabled}
 use Rattle.tick_laws.specs.Steps.{Steps, Stands, Plain, Skips, Zero}
 use Rattle.tick_laws.proofs.Cycle.{held-not_zero}
 use Rattle.tick_laws.specs.Phases.{Next, Other, Held, OtherStands, HeldStands, OtherYellow, OtherClear}
 use Rattle.tick_laws.proofs.Others.{other-step}
 use Rattle.tick_laws.proofs.Held.{held-step, held-green, held-at_zero}
 use Rattle.tick_laws.specs.Zero.{HoldsPair, PlanServes, Sees, AtZero, InTime, TimesServe, Gives, ZeroHolds, Kept}
-use Rattle.tick_laws.proofs.Entering.{held-enabled}
 use Rattle.tick_laws.proofs.Beginning.{held-begin}
 use Rattle.tick_laws.proofs.Moving.{other-moves, held-moves, wanted-demanded}
 
@@ -169,7 +169,7 @@ at-zero v n c l past m x z last = record {
         → lasts (red_revert_time v.tables q) (shows q Red) v.past ≡ true → is_startable v q ≡ true
     startable q held red lasting =
         and_from (is_enabled v.tables q && same_colour (colour_of v.frame q) Red) (lasts (red_revert_time v.tables q) (shows q Red) v.past)
-        (and_from (is_enabled v.tables q) (same_colour (colour_of v.frame q) Red) (held-enabled v.tables n q held)
+        (and_from (is_enabled v.tables q) (same_colour (colour_of v.frame q) Red) (coordinated-enabled v.tables n q held)
         (ap (λ (y : Colour). same_colour y Red) red)) lasting
 
     held-stand : (r : ℕ) → (r ≡ 1) ⊎ (r ≡ 2) → (colour_of v.frame (coordinated_phase v.tables n r) ≡ Green)
@@ -189,7 +189,7 @@ at-zero v n c l past m x z last = record {
 stays-green : (v : View) (n q c : ℕ) (m : Moment) → HoldsPair v.tables n → PlanServes v.tables n → TimesServe v.tables n → Sees v n → Gives v n c m
     → is_coordinated v.tables n q ≡ true → v.counter ≡ 0 → colour_of (last_frame v.past) q ≡ Green → colour_of m.frame q ≡ Green
 stays-green v n q c m pair plan times sees g held z green =
-    g.colours q (held-enabled v.tables n q held) ∙ ap (colour_after (ring_moves v) q v.tables v.past) green ∙ stays (is_in (ring_moves v).ends q) refl
+    g.colours q (coordinated-enabled v.tables n q held) ∙ ap (colour_after (ring_moves v) q v.tables v.past) green ∙ stays (is_in (ring_moves v).ends q) refl
   where
     stays : (b : Bool) → is_in (ring_moves v).ends q ≡ b → (if b then Yellow else Green) ≡ Green
     stays true f = absurd (let late : force_point v.tables n q ≤ v.counter = (held-moves v n q pair plan sees held).past f in
@@ -208,13 +208,13 @@ zero-green v n c l past m x z q held = elim (to-zero (cycle_time v.tables n) (wi
   | inr last ↦ elim (held-at_zero v.tables n q c v.past (colour_of (last_frame v.past) q) last (x.before.held q held)) [
     | inl green ↦ stays-green v n q c m x.pair x.plan x.times x.sees x.gives held z green
     | inr red ↦
-        let which : (ring_of v.tables q ≡ 1) ⊎ (ring_of v.tables q ≡ 2) = x.pair.rings q (held-enabled v.tables n q held) in
+        let which : (ring_of v.tables q ≡ 1) ⊎ (ring_of v.tables q ≡ 2) = x.pair.rings q (coordinated-enabled v.tables n q held) in
         let same : q ≡ coordinated_phase v.tables n (ring_of v.tables q) = x.pair.alone q held in
         let frame : colour_of v.frame q ≡ Red = ap (λ (f : Frame). colour_of f q) x.gives.frame ∙ red.0 in
         let begins : is_in (ring_moves v).begins (coordinated_phase v.tables n (ring_of v.tables q)) ≡ true
         = held-begin v n (ring_of v.tables q) x.pair x.sees (at-zero v n c l past m x z last) which
         (subst (λ (y : ℕ). colour_of v.frame y ≡ Red) same frame) in
-        x.gives.colours q (held-enabled v.tables n q held) ∙ ap (colour_after (ring_moves v) q v.tables v.past) red.0
+        x.gives.colours q (coordinated-enabled v.tables n q held) ∙ ap (colour_after (ring_moves v) q v.tables v.past) red.0
         ∙ ap (λ (b : Bool). if b then Green else Red) (subst (λ (y : ℕ). is_in (ring_moves v).begins y ≡ true) (sym same) begins)
   ]
 ]
@@ -223,7 +223,7 @@ held-kept : (v : View) (n c : ℕ) (l : Moment) (past : List Moment) (m : Moment
     → HeldStands v.tables n q v.counter (m ∷ v.past) (colour_of m.frame q)
 held-kept v n c l past m x q held = elim (cases_lt v.counter 1) [
   | inl low ↦ subst (λ (y : Colour). HeldStands v.tables n q v.counter (m ∷ v.past) y) (sym (zero-green v n c l past m x (omega arith) q held)) tt
-  | inr high ↦ by v.past (sym x.lasting) high (next-of v n q c m x.gives (held-enabled v.tables n q held)) (x.before.held q held)
+  | inr high ↦ by v.past (sym x.lasting) high (next-of v n q c m x.gives (coordinated-enabled v.tables n q held)) (x.before.held q held)
 ]
   where
     by : (ms : List Moment) → l ∷ past ≡ ms → 1 ≤ v.counter → Next v.tables n q c v.counter (ring_moves v) ms m
@@ -231,7 +231,7 @@ held-kept v n c l past m x q held = elim (cases_lt v.counter 1) [
         → HeldStands v.tables n q v.counter (m ∷ ms) (colour_of m.frame q)
     by ms is high next stands =
         subst (λ (ys : List Moment). HeldStands v.tables n q v.counter (m ∷ ys) (colour_of m.frame q)) is
-        (held-step v.tables n q c v.counter (ring_moves v) l past m (x.times.held q held) (x.times.yellow q (held-enabled v.tables n q held)) high
+        (held-step v.tables n q c v.counter (ring_moves v) l past m (x.times.held q held) (x.times.yellow q (coordinated-enabled v.tables n q held)) high
         (held-moves v n q x.pair x.plan x.sees held)
         (subst (λ (ys : List Moment). Next v.tables n q c v.counter (ring_moves v) ys m) (sym is) next)
         (subst (λ (ys : List Moment). HeldStands v.tables n q c ys (colour_of (last_frame ys) q)) (sym is) stands))

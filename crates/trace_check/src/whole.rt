@@ -25,7 +25,7 @@ use crate::pieces::{cut, fault_at};
 use crate::places::Place;
 use crate::rounds::check_round;
 use crate::watching::{first_seen, nothing_seen};
-use cab_book::{Book, Way};
+use cab_book::{Book, Engine};
 use round_run::ClosedLoop;
 use scenario_checked::scenarios_run;
 use scenario_data::{ReadFail, Scenario};
@@ -67,7 +67,8 @@ fn check_rounds<'a>(
     seen: &mut Seen,
 ) -> Result<Place<'a>, CheckFail>
     requires runnable { Runnable (scenario_content s.now) }
-    requires between { Between (scenario_content s.now) 0 (opened_cabinet_states (scenario_content s.now) (scenario_content s.now).cabinets) closed_loop.old }
+    requires between { Between (scenario_content s.now) 0 (opened_cabinet_states (scenario_content s.now) (scenario_content s.now).cabinets)
+        closed_loop.old }
     ensures reads { ReadsOn (rounds_script (scenario_content s.now) 1 s.now.rounds (opened_cabinet_states (scenario_content s.now) (scenario_content s.now).cabinets))
         start.entry (Script.Says (LineRow.Z s.now.rounds) Ends) result }
     ensures seen { IfOk result (λ next. RoundsSeen (scenario_content s.now) (opened_cabinet_states (scenario_content s.now) (scenario_content s.now).cabinets)
@@ -106,7 +107,7 @@ fn check_rest(
     ensures reads { ReadsWhole (script_of (scenario_content s.now)) start.entry result }
     ensures seen { OnOk result (RestSeen (scenario_content s.now) start.entry.left.now watched seen.new) }
 {
-    let mut closed_loop = match ClosedLoop::open(alloc, Way::LookingBack, s) {
+    let mut closed_loop = match ClosedLoop::open(alloc, Engine::Observer, s) {
         Ok(closed_loop) => closed_loop,
         Err(NoMemory) => return Err(CheckFail::NoMemory),
     };
@@ -214,7 +215,8 @@ fn answer(alloc: Global, text: &[u8], watched: u32, seen: &mut Seen) -> Result<(
 pub fn check(alloc: Global, text: &[u8]) -> Result<(), CheckFail>
     ensures tells { Tells text.now result }
     ensures trace { IsTrace text.now → IsCheckable text.now → (result ≡ Ok tt) ⊎ (result ≡ Err CheckFail.NoMemory) }
-    ensures fault { (f : TraceFault) → FirstFault text.now f.line f.rule → (result ≡ Err (CheckFail.NotATrace f)) ⊎ (result ≡ Err CheckFail.NoMemory) }
+    ensures fault { (f : TraceFault) → FirstFault text.now f.line f.rule
+        → (result ≡ Err (CheckFail.NotATrace f)) ⊎ (result ≡ Err CheckFail.NoMemory) }
     ensures kept { OnOk result (TellsOfRun text.now) }
 {
     traces_have_no_fault();
@@ -230,7 +232,8 @@ pub fn observe(alloc: Global, text: &[u8], cab: u32) -> Result<Seen, CheckFail>
     ensures told { IfErr result (λ fail. Tells text.now (Err fail)) }
     ensures short { OnOk result (IsCheckable text.now) }
     ensures trace { IsTrace text.now → IsCheckable text.now → IfErr result (λ fail. fail ≡ CheckFail.NoMemory) }
-    ensures fault { (f : TraceFault) → FirstFault text.now f.line f.rule → (result ≡ Err (CheckFail.NotATrace f)) ⊎ (result ≡ Err CheckFail.NoMemory) }
+    ensures fault { (f : TraceFault) → FirstFault text.now f.line f.rule
+        → (result ≡ Err (CheckFail.NotATrace f)) ⊎ (result ≡ Err CheckFail.NoMemory) }
     ensures seen { IfOk result (λ seen. HasSeen text.now cab seen) }
 {
     traces_have_no_fault();

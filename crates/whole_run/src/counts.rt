@@ -9,7 +9,7 @@ ghost use Rattle.whole_run.specs.Counting.{counts_of};
 
 use crate::survey_rounds::run_rounds;
 use crate::tally::Tally;
-use cab_book::Way;
+use cab_book::Engine;
 use round_run::ClosedLoop;
 use scenario_data::Scenario;
 use sig_types::NoMemory;
@@ -64,7 +64,7 @@ pub fn survey(alloc: Global, s: &Scenario) -> Result<Counts, NoMemory>
     requires { Runnable (scenario_content s.now) }
     ensures { IfOk result (λ counts. counts ≡ counts_of (run_lines (scenario_content s.now) (serial_journals (scenario_content s.now)))) }
 {
-    let mut closed_loop = match ClosedLoop::open(alloc, Way::Registers, s) {
+    let mut closed_loop = match ClosedLoop::open(alloc, Engine::Controller, s) {
         Ok(closed_loop) => closed_loop,
         Err(NoMemory) => return Err(NoMemory),
     };

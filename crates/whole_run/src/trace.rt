@@ -16,7 +16,7 @@ use crate::crew::Crew;
 use crate::lines::{put_book, put_frame, put_notes};
 use crate::rounds::run_round;
 use crate::{Stop, Writer};
-use cab_book::{Book, Way};
+use cab_book::{Book, Engine};
 use io_edge::{Gate, Sink};
 use round_run::{ClosedLoop, books_follow_runs};
 use scenario_data::Scenario;
@@ -128,7 +128,7 @@ fn put_rest<R: Threads + Sync, K: Sink, G: Gate + Sync>(
         HandsOver K.written K.faults K.counts_exactly result writer.old writer.new sink.old sink.new (lines_text (rest_lines (scenario_content s.now) journals)))
         (λ closed left. HandsWithin K.written result writer.old sink.old sink.new left (lines_text (front_lines (scenario_content s.now) closed))) }
 {
-    let mut closed_loop = match ClosedLoop::open(alloc, Way::Registers, s) {
+    let mut closed_loop = match ClosedLoop::open(alloc, Engine::Controller, s) {
         Ok(closed_loop) => closed_loop,
         Err(NoMemory) => return Err(Stop::NoMemory),
     };

@@ -11,7 +11,7 @@ from typing import Any
 
 from ..shared import commandline, files
 from ..shared.commandline import number
-from ..shared.program import NoProgram, Refused, found, trace_of
+from ..shared.program import NoProgram, Refused, answering, trace_of
 from ..shared.session_record import SessionRecord
 from ..shared.status import Status
 from ..street import ports
@@ -108,6 +108,7 @@ def parser() -> argparse.ArgumentParser:
     words = argparse.ArgumentParser(
         prog="cabinet",
         description="Answers SNMP version 1 on loopback as a live cabinet, until Ctrl-C. A tick is 0.1 s.",
+        epilog="`./arterial street --as ntcip1202` answers version 2c too, and the objects that central software asks first.",
     )
     words.add_argument(
         "--port", type=number(0, 65_535), default=10_161, help="the UDP port (10161); 0 for one that is free"
@@ -127,7 +128,7 @@ def parser() -> argparse.ArgumentParser:
     words.add_argument(
         "--record", metavar="FILE", help="at the end write the scenario of all that came, for arterial run"
     )
-    words.add_argument("--program", metavar="PATH", help="the program (the one that ./arterial prove has built)")
+    words.add_argument("--program", metavar="PATH", help="the program (the one that ./arterial prove has built; the model until then)")
     return words
 
 
@@ -140,7 +141,7 @@ def scenario_of(program: pathlib.Path, name: str | None) -> dict[str, Any]:
 
 def cabinet_of(words: argparse.Namespace) -> Cabinet | None:
     """Returns the cabinet that the words ask for; None where the scenario has none of this number."""
-    program = found(words.program)
+    program = answering(words.program, say)
     scenario = scenario_of(program, words.scenario)
     if words.cabinet > len(scenario["cabinets"]):
         return None

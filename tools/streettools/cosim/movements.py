@@ -125,11 +125,12 @@ def counts(study: Study, greens: Greens) -> dict[Key, Count]:
     rows: dict[Key, list[QueueSample]] = defaultdict(list)
     for sample in study.queues:
         rows[sample.cabinet, sample.movement].append(sample)
+    start = min(study.warm, study.seconds)
     for movement in study.movements:
         key = (movement.cabinet, movement.name)
         spans = greens_of(movement, greens)
-        green_times(found[key], spans, study.warm, study.seconds)
-        queues(found[key], rows[key], study.warm, study.seconds)
+        green_times(found[key], spans, start, study.seconds)
+        queues(found[key], rows[key], start, study.seconds)
         late = failed(spans.starts, passages[key])
         found[key].failures = sum(1 for it in late if it >= study.warm)
     return found

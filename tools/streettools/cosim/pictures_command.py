@@ -78,7 +78,7 @@ def draw(words: argparse.Namespace, study: Study) -> None:
         from . import pictures_paths
 
         cabinets = words.cabinets or list(range(1, study.cabinets + 1))
-        if words.travel is None and len(cabinets) > 1:
+        if words.travel is None:
             raise Fault("paths need --travel, the seconds from each cabinet to the next")
         pictures_paths.draw(study, cabinets, words.travel or [], view, words.out)
         return

@@ -53,6 +53,8 @@ def corners_of(study: Study, cabinets: list[int], travel: list[int], view: View)
 
 def draw(study: Study, cabinets: list[int], travel: list[int], view: View, path: str) -> None:
     """Draws the diagram of a street and writes it; `travel` has the ticks from each cabinet to the next."""
+    if len(set(cabinets)) < 2 or len(set(cabinets)) < len(cabinets):
+        raise Fault("paths need two cabinets or more, none of them twice")
     if len(travel) != len(cabinets) - 1:
         raise Fault(f"{len(cabinets)} cabinets have {len(cabinets) - 1} times of travel between them")
     corners = corners_of(study, cabinets, travel, view)

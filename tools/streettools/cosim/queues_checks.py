@@ -37,9 +37,9 @@ def cabinets_are_there(volumes: Volumes, tables: dict[int, Tables]) -> None:
             raise Fault(f"volumes: {what}: phase {it.phase} is not enabled in cabinet {it.cabinet}")
         if isinstance(it, Crossing) and not tables[it.cabinet].phase(it.phase, 2):
             raise Fault(f"volumes: {what}: phase {it.phase} of cabinet {it.cabinet} has no walk")
-    for cabinet, phase in sorted(volumes.partners, key=str):
+    for cabinet, phase in sorted(volumes.idle, key=str):
         if cabinet not in tables or phase not in tables[cabinet].enabled():
-            raise Fault(f"volumes: partners of cabinet {cabinet}: phase {phase} is not enabled there")
+            raise Fault(f"volumes: idle of cabinet {cabinet}: phase {phase} is not enabled there")
 
 
 def told(it: Flow | Crossing) -> str:
@@ -49,13 +49,13 @@ def told(it: Flow | Crossing) -> str:
 
 def phases_are_served(volumes: Volumes, tables: dict[int, Tables]) -> None:
     """Refuses a phase that serves nobody."""
-    served = {(it.cabinet, it.phase) for it in (*volumes.flows, *volumes.crossings)} | volumes.partners
+    served = {(it.cabinet, it.phase) for it in (*volumes.flows, *volumes.crossings)} | volumes.idle
     for cabinet, table in tables.items():
         for phase in table.enabled():
             if (cabinet, phase) not in served:
                 raise Fault(
                     f"volumes: phase {phase} of cabinet {cabinet} has no movement and no crossing "
-                    "(partners lists phases without traffic)"
+                    "(idle lists phases without traffic)"
                 )
 
 

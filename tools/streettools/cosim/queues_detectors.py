@@ -10,7 +10,7 @@ SPEED, SPACING = 13.4, 7.5
 class PhaseDetectors:
     """The detectors that call one phase: those of all its movements together."""
 
-    __slots__ = ("on", "off", "pulse", "lines", "until", "seen", "is_on")
+    __slots__ = ("on", "off", "lines", "until", "seen", "is_on", "is_awake")
 
     def __init__(self, cabinet: int, phase: int) -> None:
         self.on = b"veh %d %d on\n" % (cabinet, phase)
@@ -20,6 +20,8 @@ class PhaseDetectors:
         self.until = self.seen = -1.0
         """Up to when those who drive by are on a detector; the last second at which one was."""
         self.is_on = False
+        self.is_awake = False
+        """Whether there may be something to tell: somebody came or passed since the last look, or drives over it."""
 
     def watch(self, flow: Flow, line: StopLine) -> None:
         """Adds the detectors of a movement: one at the stop line sees whoever waits, one further up sees a queue that
@@ -31,6 +33,7 @@ class PhaseDetectors:
 
     def drove(self, at: float, occupied: float) -> None:
         """Takes a vehicle that drives over a detector at a second."""
+        self.is_awake = True
         end = at + occupied
         if end > self.until:
             self.until = end
@@ -50,4 +53,4 @@ class PhaseDetectors:
             requests.append(self.off)
         elif self.until > self.seen:
             requests += (self.on, self.off)
-        self.is_on, self.seen = is_on, now
+        self.is_on, self.is_awake, self.seen = is_on, self.until > now, now

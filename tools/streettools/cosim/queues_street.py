@@ -73,7 +73,8 @@ class Street:
             now = step * self.size
             requests = self.presses[step]
             for it in seers:
-                it.told(now, requests)
+                if it.is_awake:
+                    it.told(now, requests)
             lines = cabinets.step(requests, self.steps.ticks)
             self.arrive(step)
             for change in signals.shown(lines):
@@ -88,6 +89,7 @@ class Street:
             came.sort()
         for at, place, vehicle in came:
             self.lines[place].queue.append((at, vehicle))
+            self.seers[place].is_awake = True
         for at, place in self.passing[step]:
             self.seers[place].drove(at, self.flows[place].detectors.occupied)
 
@@ -111,6 +113,7 @@ class Street:
         """Lets pass who can at one stop line, and sends them on."""
         flow, seer = self.flows[place], self.seers[place]
         for vehicle, arrived, released in self.lines[place].discharged(until):
+            seer.is_awake = True
             if flow.detectors.stop:
                 seer.drove(released, flow.detectors.occupied)
             told = self.passages[vehicle]

@@ -79,8 +79,8 @@ Advance = Callable[[int], None]
 def run(program: str, volumes: Volumes, scenario: dict[str, Any], asked: Asked, advance: Advance) -> Ran:
     """Runs the street."""
     queues_checks.check(volumes, scenario, asked.seconds)
-    demand = demand_of(volumes, asked.seed, queues_checks.starts_at(scenario), asked.seconds)
     given, steps = session_of(scenario, asked)
+    demand = demand_of(volumes, asked.seed, queues_checks.starts_at(scenario), asked.seconds)
     street, signals = Street(volumes, demand, steps), Signals(len(scenario["cabinets"]))
     cabinets = Cabinets(program, given, asked.keeps_trace)
     try:

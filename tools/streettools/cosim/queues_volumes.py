@@ -97,12 +97,12 @@ class Crossing:
 
 @dataclass(frozen=True)
 class Volumes:
-    """A whole file of volumes; `partners` are phases without traffic of their own, with their cabinets."""
+    """A whole file of volumes; `idle` are phases without traffic, with their cabinets."""
 
     title: str
     flows: tuple[Flow, ...]
     crossings: tuple[Crossing, ...] = ()
-    partners: frozenset[tuple[int, int]] = frozenset()
+    idle: frozenset[tuple[int, int]] = frozenset()
     profiles: dict[str, Profile] = field(default_factory=dict)
     factor: float = 1.0
 
@@ -231,14 +231,14 @@ def volumes_of(document: dict[str, Any]) -> Volumes:
     """Reads a whole file of volumes."""
     given = Table(document, "")
     usual = Usual.of(given, Usual(Saturation(), Detectors(), 0.0, 0.35, None))
-    flows, crossings, partners, numbers = [], [], [], []
+    flows, crossings, idle, numbers = [], [], [], []
 
     def cabinet(row: Table) -> None:
         number = row.need("number", int)
         numbers.append(number)
         flows.extend(row.each("movements", lambda it: flow_of(it, number, usual)))
         crossings.extend(row.each("crossings", lambda it: crossing_of(it, number, usual)))
-        partners.extend((number, it) for it in row.take("partners", list, []))
+        idle.extend((number, it) for it in row.take("idle", list, []))
         row.end()
 
     given.each("cabinet", cabinet)
@@ -249,4 +249,4 @@ def volumes_of(document: dict[str, Any]) -> Volumes:
     twice = next((it for it in numbers if numbers.count(it) > 1), None)
     if twice is not None:
         raise Fault(f"volumes: cabinet {twice} stands there twice")
-    return Volumes(title, tuple(flows), tuple(crossings), frozenset(partners), profiles, float(factor))
+    return Volumes(title, tuple(flows), tuple(crossings), frozenset(idle), profiles, float(factor))

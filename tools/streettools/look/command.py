@@ -33,12 +33,6 @@ def span(words, course, usual):
     return start, end
 
 
-def finish(course):
-    """Makes sure that the trace came to its end."""
-    if not course.whole:
-        raise Fault(f"line {course.line} is no line of a trace: it ends before its Z line")
-
-
 def names_of(words, course):
     """Returns what things are called; a file that names more intersections than the trace has cabinets is another's."""
     if not words.names:
@@ -71,7 +65,7 @@ def rings(words, course, names):
 
     number = cabinet_of(course, words.cabinet)
     seen = rings.collect(course, number, *span(words, course, 1800), names.partners(number))
-    finish(course)
+    course.finish()
     rings.draw(seen, words.out, names, words.start)
 
 
@@ -86,7 +80,7 @@ def coordination(words, course, names):
         plan = planned.read(words.planned) if words.planned else None
         look = coordination.View(*span(words, course, 3000), sum(words.travel or ()), words.phases, names)
         corners = coordination.collect(course, cabinets, look)
-        finish(course)
+        course.finish()
         coordination.draw(corners, words.travel, words.out, plan, words.start)
     except planned.NoBands as fault:
         raise Fault(str(fault)) from None
@@ -97,7 +91,7 @@ def offset(words, course, names):
     from . import offset
 
     seen = offset.collect(course, cabinet_of(course, words.cabinet), *span(words, course, course.rounds * course.ticks))
-    finish(course)
+    course.finish()
     offset.draw(seen, words.out, names, words.start)
 
 
@@ -105,7 +99,7 @@ def page(words, course, names):
     """Writes a page."""
     from .page import writing
 
-    writing.write(course, names, writing.Asked(street_of(words, course), words.travel, words.start), words.out, finish)
+    writing.write(course, names, writing.Asked(street_of(words, course), words.travel, words.start), words.out)
 
 
 def report(words, course, names):
@@ -114,7 +108,7 @@ def report(words, course, names):
     from . import report
 
     value = report.collect(course, names)
-    finish(course)
+    course.finish()
     with files.output(words.out) as out:
         out.write(report.text(value, words.json, names))
 
@@ -125,9 +119,10 @@ def events(words, course, names):
     from ..shared.commandline import say
     from . import events
 
+    course.answered()
     with files.output(words.out) as out:
         events.write(course, words.start, out, names)
-        finish(course)
+        course.finish()
     for number in range(1, course.cabinets + 1):
         if names.left_out(number):
             say("look", f"{names.cabinet(number)}: {names.left_out(number)}")
@@ -138,14 +133,13 @@ DOES = {it.__name__: it for it in (rings, coordination, offset, page, report, ev
 
 def main(arguments=None):
     """Does what the words ask for, and returns the exit status."""
-    words = parser().parse_args(arguments)
-    from ..shared.course import Course
+    arguments = sys.argv[1:] if arguments is None else arguments
+    words = parser(arguments[:1]).parse_args(arguments)
     from ..shared.lines import NotATrace
     from .reading import opened
 
     try:
-        with opened(words.trace, not words.no_check) as (stream, advance):
-            course = Course(stream, advance)
+        with opened(words.trace, not words.no_check) as course:
             DOES[words.command](words, course, names_of(words, course))
     except (NotATrace, Fault) as fault:
         print(f"look: {fault}", file=sys.stderr)

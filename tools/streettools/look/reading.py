@@ -1,18 +1,17 @@
-"""Opens a trace, and lets the proved program check it first."""
+"""Opens a trace, and lets the proved program check it meanwhile."""
 
 import contextlib
 import io
 import os
 import sys
 
-from ..shared.commandline import say
+from ..shared.course import Course
+from ..shared.lines import NotATrace
 from ..shared.progress import bar
 from ..shared.status import Status
+from .checking import Check
 from .fault import Fault
 
-NO_TRACE = 5
-"""The program's exit status where a text is no trace."""
-TOO_LONG = "trace: line 0 breaks rule 1"
 AT_ONCE = 1 << 20
 
 
@@ -42,44 +41,55 @@ def kept(source):
     return file
 
 
-def told(stream, called):
-    """Lets the proved program check a text, and tells what it found; one that is no trace is refused. Without a program
-    nothing is told. The text is read on from where it stood."""
-    import subprocess
+class Checked(Course):
+    """A trace that is read while it is checked; without a check it is taken as far as its lines go."""
 
-    from ..shared import program
+    def __init__(self, stream, advance, check):
+        self.check = check
+        super().__init__(stream, advance)
 
-    try:
-        path = program.found()
-    except program.NoProgram:
-        return
-    start = stream.tell()
-    os.lseek(stream.fileno(), start, os.SEEK_SET)
-    ran = subprocess.run([path, "check"], stdin=stream, stdout=subprocess.DEVNULL, stderr=subprocess.PIPE)
-    stream.seek(start)
-    line = ran.stderr.decode(errors="replace").strip()
-    if ran.returncode == 0:
-        say("look", f"checked: {called} is a trace")
-    elif ran.returncode == NO_TRACE and line != TOO_LONG:
-        raise Fault(f"checked: {called} is no trace ({line}); --no-check shows it as far as its lines go")
-    else:
-        say("look", f"not checked: {line or f'the program ended with status {ran.returncode}'}")
+    def answered(self):
+        """Waits for the answer of the check, which what is shown as it is read must stand behind."""
+        if self.check:
+            self.check.told()
+
+    def finish(self):
+        """Makes sure that the trace came to its end, and that the check found it to be one."""
+        self.answered()
+        if not self.whole:
+            raise Fault(f"line {self.line} is no line of a trace: it ends before its Z line")
 
 
 @contextlib.contextmanager
 def opened(name, is_checked):
-    """Opens a trace and gives it with what tells of the progress: a bar that a terminal alone shows, after a second."""
+    """Opens a trace, and gives its course. A terminal shows a bar, after a second. Where the text can't be shown, that
+    it is no trace is told first."""
+    with contextlib.ExitStack() as open_files:
+        stream, called = open_files.enter_context(text(name, is_checked))
+        check = Check(stream, called) if is_checked else None
+        if check:
+            open_files.callback(check.end)
+        shown = bar(os.fstat(stream.fileno()).st_size or None, "B", unit_scale=True, delay=1)
+        if shown:
+            open_files.enter_context(shown)
+        try:
+            yield Checked(stream, shown.update if shown else None, check)
+        except (NotATrace, Fault):
+            if check:
+                check.told()
+            raise
+
+
+@contextlib.contextmanager
+def text(name, is_twice):
+    """Opens a text, and gives it with what it is called: one that can be read twice where that is asked for."""
     try:
         source = Source(name)
     except OSError as fault:
         raise Fault(f"{name or 'standard input'}: {fault.strerror}", Status.FILE) from None
-    with contextlib.ExitStack() as open_files:
-        stream = open_files.enter_context(io.BufferedReader(source, AT_ONCE))
-        if is_checked:
-            if not stream.seekable():
-                stream = open_files.enter_context(kept(stream))
-            told(stream, source.called)
-        shown = bar(os.fstat(stream.fileno()).st_size or None, "B", unit_scale=True, delay=1)
-        if shown:
-            open_files.enter_context(shown)
-        yield stream, shown.update if shown else None
+    with io.BufferedReader(source, AT_ONCE) as stream:
+        if stream.seekable() or not is_twice:
+            yield stream, source.called
+            return
+        with kept(stream) as copy:
+            yield copy, source.called

@@ -1,8 +1,9 @@
 """The words of the command `./look`."""
 
 import argparse
-import datetime
 import os
+
+from ..shared.commandline import Formatter, RawFormatter
 
 EPILOG = """examples:
   ./look report trace                                      each phase's greens and how they ended, replies, downloads
@@ -12,7 +13,7 @@ EPILOG = """examples:
   ./look page --travel 20,20,20 -o street.html trace       one file to move about in: any second of any cabinet
   ./look events --start 2026-11-27T06:00:00 -o log.csv trace
 
-Where a proved program is there, `arterial check` reads the text first, and one that isn't a trace is refused.
+Where a proved program is there, `arterial check` reads the text too, and one that isn't a trace is refused.
 Exit status: 0 done, 1 a file can't be read or written, or a package is missing, 2 the words or the text can't be
 taken, 130 Ctrl-C.
 """
@@ -50,6 +51,8 @@ def tick(text):
 
 def moment(text):
     """Reads a time of day with its date, in no zone."""
+    import datetime
+
     value = datetime.datetime.fromisoformat(text)
     if value.tzinfo or value.year > 9990:
         raise ValueError
@@ -58,6 +61,8 @@ def moment(text):
 
 def daytime(text):
     """Reads a time of day, with a date or without one, in no zone; returns it as seconds from midnight."""
+    import datetime
+
     try:
         value = datetime.time.fromisoformat(text)
     except ValueError:
@@ -83,11 +88,11 @@ def page(text):
 
 def add_reader(commands, name, text):
     """Returns a command's reader, with the words that all share."""
-    found = commands.add_parser(name, help=text, description=text)
+    found = commands.add_parser(name, help=text, description=text, formatter_class=Formatter)
     found.add_argument("trace", nargs="?", help="the trace's file; standard input where it isn't named")
     found.add_argument("--names", metavar="FILE", help="names of cabinets and phases, as `arterial plan scenario` "
                        "writes them; partner phases are left out")  # fmt: skip
-    found.add_argument("--no-check", action="store_true", help="don't let `arterial check` read the text first")
+    found.add_argument("--no-check", action="store_true", help="don't let `arterial check` read the text too")
     return found
 
 
@@ -98,37 +103,47 @@ def add_street(found):
                        help="seconds from each cabinet to the next, for the bands")  # fmt: skip
 
 
-def add_command(commands, name, text, drawn=True):
-    """Returns a command's reader, with the words that all share, or those that pictures share where it draws one."""
+def add_picture(commands, name, text):
+    """Returns the reader of a command that draws, with the words that these share."""
     found = add_reader(commands, name, text)
-    if drawn:
-        found.add_argument("-o", "--out", type=picture, required=True, help="the picture: .svg, .png or .pdf")
-        found.add_argument("--from", dest="first", type=tick, default=0, metavar="TICK", help="first tick (0)")
-        found.add_argument("--to", dest="last", type=tick, metavar="TICK", help="last tick")
-        found.add_argument("--start", type=daytime, metavar="TIME", help=STARTED)
-    else:
-        found.add_argument("-o", "--out", help="the file to write; standard output where it isn't named")
+    found.add_argument("-o", "--out", type=picture, required=True, help="the picture: .svg, .png or .pdf")
+    found.add_argument("--from", dest="first", type=tick, default=0, metavar="TICK", help="first tick (0)")
+    found.add_argument("--to", dest="last", type=tick, metavar="TICK", help="last tick")
+    found.add_argument("--start", type=daytime, metavar="TIME", help=STARTED)
     return found
 
 
-def add_pictures(commands):
-    """Adds the commands that draw."""
-    rings = add_command(
+def add_text(commands, name, text):
+    """Returns the reader of a command that writes a text."""
+    found = add_reader(commands, name, text)
+    found.add_argument("-o", "--out", help="the file to write; standard output where it isn't named")
+    return found
+
+
+def add_rings(commands):
+    """Adds the command that draws a cabinet's rings."""
+    found = add_picture(
         commands, "rings", "both rings of a cabinet: greens, clearances, walks, barriers, modes (to: 1800 ticks on)"
     )
-    rings.add_argument("--cabinet", type=int, default=1, metavar="N", help="the cabinet (1)")
-    street = add_command(
+    found.add_argument("--cabinet", type=int, default=1, metavar="N", help="the cabinet (1)")
+
+
+def add_coordination(commands):
+    """Adds the command that draws a street."""
+    found = add_picture(
         commands, "coordination",
         "the coordinated greens of several cabinets over time, with through bands (to: 3000 ticks on)",
     )  # fmt: skip
-    add_street(street)
-    street.add_argument("--planned", metavar="FILE",
-                        help="what `arterial band` wrote: the plan's greatest bands, as dashed outlines")  # fmt: skip
-    street.add_argument("--phases", type=phases, metavar="P,P", help="the phases to show, not the coordinated ones")
-    offset = add_command(
-        commands, "offset", "how a cabinet brings its offset about, and what disturbs it (to: the end)"
-    )
-    offset.add_argument("--cabinet", type=int, default=1, metavar="N", help="the cabinet (1)")
+    add_street(found)
+    found.add_argument("--planned", metavar="FILE",
+                       help="what `arterial band` wrote: the plan's greatest bands, as dashed outlines")  # fmt: skip
+    found.add_argument("--phases", type=phases, metavar="P,P", help="the phases to show, not the coordinated ones")
+
+
+def add_offset(commands):
+    """Adds the command that draws how an offset comes about."""
+    found = add_picture(commands, "offset", "how a cabinet brings its offset about, and what disturbs it (to: the end)")
+    found.add_argument("--cabinet", type=int, default=1, metavar="N", help="the cabinet (1)")
 
 
 def add_page(commands):
@@ -142,23 +157,36 @@ def add_page(commands):
     add_street(found)
 
 
-def parser():
-    """Returns the reader of the command's words."""
+def add_report(commands):
+    """Adds the command that writes a report."""
+    found = add_text(
+        commands, "report",
+        "services, greens and how they ended, walks, modes, offsets, replies, refused Sets, downloads, notes",
+    )  # fmt: skip
+    found.add_argument("--json", action="store_true", help="JSON in place of tables")
+
+
+def add_events(commands):
+    """Adds the command that writes an event log."""
+    found = add_text(commands, "events", "the event log in the Indiana hi-resolution codes, as CSV (docs/EVENTS.md)")
+    found.add_argument("--start", type=moment, required=True, metavar="TIME",
+                       help="the time of tick 0, as 2026-11-27T06:00:00")  # fmt: skip
+
+
+COMMANDS = {
+    "rings": add_rings, "coordination": add_coordination, "offset": add_offset,
+    "page": add_page, "report": add_report, "events": add_events,
+}  # fmt: skip
+
+
+def parser(first=()):
+    """Returns the reader of the words, of which these come first; of those of one command alone where they name it, since
+    each takes a while."""
     words = argparse.ArgumentParser(
         prog="look", description="Shows a trace that `arterial run` wrote. Ticks are 0.1 s.",
-        epilog=EPILOG, formatter_class=argparse.RawDescriptionHelpFormatter,
+        epilog=EPILOG, formatter_class=RawFormatter,
     )  # fmt: skip
-    commands = words.add_subparsers(dest="command", required=True, metavar="COMMAND")
-    add_pictures(commands)
-    add_page(commands)
-    report = add_command(
-        commands, "report",
-        "services, greens and how they ended, walks, modes, offsets, replies, refused Sets, downloads, notes", False,
-    )  # fmt: skip
-    report.add_argument("--json", action="store_true", help="JSON in place of tables")
-    events = add_command(
-        commands, "events", "the event log in the Indiana hi-resolution codes, as CSV (docs/EVENTS.md)", False
-    )
-    events.add_argument("--start", type=moment, required=True, metavar="TIME",
-                        help="the time of tick 0, as 2026-11-27T06:00:00")  # fmt: skip
+    commands = words.add_subparsers(dest="command", required=True, metavar="COMMAND", prog="look")
+    for name in COMMANDS.keys() & first or COMMANDS:
+        COMMANDS[name](commands)
     return words

@@ -110,22 +110,42 @@ def do_check(words: argparse.Namespace) -> int:
             print(it)
         print(f"{words.file}: {counted(found)}")
     if words.fix and source.street is not None and not source.errors:
-        do_fix(words, source.street)
+        do_fix(words, source, source.street)
     return Status.REFUSED if any(it.level is Level.ERROR for it in found) else Status.DONE
 
 
-def do_fix(words: argparse.Namespace, street: Street) -> None:
+def do_fix(words: argparse.Namespace, source: Source, street: Street) -> None:
     """Proposes the least change of splits for each pattern that breaks rule 17, 18 or 19; writes the street with it
     where an output is named."""
     from . import fix  # here, since numpy takes a while
 
+    changes: list[tuple[int, fix.Change]] = []
     for number, cabinet in enumerate(street.scenario["cabinets"], 1):
-        tables, known = tables_of(cabinet), street.names.intersection(number)
-        for line in fix.mend(tables, known):
+        tables, known, made = tables_of(cabinet), street.names.intersection(number), []
+        for line in fix.mend(tables, known, made):
             print(f"{street.names.called(number)}: fix: {line}")
+        changes += [(number, it) for it in made]
         cabinet["cells"] = cells_between(Tables(cabinet.get("base", "std8")), tables)
-    if words.output:
+    if words.output and not put_kept(words.output, source, street, changes):
         put_fixed(words.output, street)
+
+
+def put_kept(path: str, source: Source, street: Street, changes: list) -> bool:
+    """Writes a sheet in TOML with other splits as it was written else, and returns whether that could be done."""
+    if source.sheet is None or path.endswith((".json", BOOK)):
+        return False
+    from . import kept_text
+
+    try:
+        text = kept_text.with_splits(source.sheet, changes, street)
+    except ModuleNotFoundError:
+        say("plan", "comments are left out: Debian's package python3-tomlkit keeps them")
+        return False
+    if text is None:
+        say("plan", "comments are left out, since the splits stand where they can't be changed alone")
+        return False
+    write(path, text)
+    return True
 
 
 def put_fixed(path: str, street: Street) -> None:

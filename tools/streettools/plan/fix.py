@@ -227,9 +227,9 @@ def apply(tables: Tables, change: Change) -> None:
         put(tables, ("split", change.split, phase, 3), time)
 
 
-def mend(tables: Tables, known: Intersection) -> Iterator[str]:
-    """Puts the least changes into tables that break rule 17, 18 or 19, and yields them in words; or why there are
-    none."""
+def mend(tables: Tables, known: Intersection, made: list[Change]) -> Iterator[str]:
+    """Puts the least changes into tables that break rule 17, 18 or 19, adds them to `made`, and yields them in words; or
+    why there are none."""
     broken = rules.broken(tables)
     first = next((it.rule for it in broken if it.rule in FIRST), None)
     patterns = sorted({it.row for it in broken if it.rule in SPLIT_RULES})
@@ -240,6 +240,7 @@ def mend(tables: Tables, known: Intersection) -> Iterator[str]:
         try:
             change = least_change(tables, pattern, known)
             apply(tables, change)
+            made.append(change)
             yield change.words(known)
         except NoChange as why:
             yield str(why)

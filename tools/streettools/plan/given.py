@@ -80,6 +80,20 @@ class Given:
                 for number in map(int, numbers):
                     yield number, Given(it, ", ".join(filter(None, (self.where, f"{name} {number}"))), self.faults)
 
+    def spread(self, name: str, most: int) -> "Given":
+        """Returns the table at a name with one number from 1 in each of its names; "2 6" stands for both."""
+        found = self.below(name)
+        table: dict[str, object] = {}
+        for key, value in found.table.items():
+            words = key.replace(",", " ").split()
+            if len(words) < 2 or not all(word.isdecimal() and 1 <= int(word) <= most for word in words):
+                words = [key]
+            for word in words:
+                if word in table:
+                    found.fault("this number is said twice", word)
+                table[word] = value
+        return Given(table, found.where, found.faults)
+
     def tables(self, name: str) -> Iterator[tuple[int, "Given"]]:
         """Yields the tables of a list, as `[[schedule]]`, with their places from 1."""
         found = self.table.get(name, [])

@@ -15,7 +15,7 @@ def read_split(it: Given, number: int, found: Read, usual: tuple[int, ...] | Non
     are coordinated where nothing is said."""
     said_times = set()
     for name, each, column in (("splits", fields.SPLIT_TIME, 3), ("modes", fields.SPLIT_MODES, 4)):
-        below = it.below(name)
+        below = it.spread(name, len(ALL))
         below.allow(map(str, ALL))
         for phase in ALL:
             new = below.take(str(phase), each.read)

@@ -14,10 +14,12 @@ from .values import MOST_BYTES
 
 @dataclass
 class Source:
-    """A file: its name, its text where it is JSON, what it comes to, and what was found while it was read."""
+    """A file: its name, its text where it is JSON, or where it is a sheet in TOML, what it comes to, and what was found
+    while it was read."""
 
     path: str
     text: str | None = None
+    sheet: str | None = None
     street: Street | None = None
     findings: list[Finding] = field(default_factory=list)
 
@@ -48,8 +50,14 @@ def load(path: str, named: str | None = None) -> Source:
     elif path.endswith(".json") or (not path.endswith(".toml") and content.lstrip()[:1] == b"{"):
         read_json(source, content, names_of(path, named))
     else:
-        read_sheet(source, lambda: toml_text.read(utf8(content)))
+        read_sheet(source, lambda: toml_text.read(sheet_of(source, content)))
     return source
+
+
+def sheet_of(source: Source, content: bytes) -> str:
+    """Returns the text of a sheet, and keeps it."""
+    source.sheet = utf8(content)
+    return source.sheet
 
 
 def utf8(content: bytes) -> str:

@@ -16,6 +16,9 @@ ROWS = ("phase", "detector", "sequence")
 BLOCKS = ("pattern", "split", "preempt")
 """Tables of an intersection with a block for each row."""
 
+SHORT_TIME = re.compile(r"= ?\d\d?:\d\d(?!:|\d)")
+"""A time without seconds, which TOML doesn't know."""
+
 AT = re.compile(r"(.*) \(at (?:line (\d+), column (\d+)|end of document)\)")
 
 
@@ -112,4 +115,6 @@ def read(content: str) -> dict:
         if not found:
             raise Unreadable([Fault("", f"no TOML: {fault}")]) from None
         where = f"line {found[2]}, column {found[3]}" if found[2] else "at the end"
-        raise Unreadable([Fault(where, f"no TOML: {found[1][:1].lower()}{found[1][1:]}")]) from None
+        line = content.splitlines()[int(found[2]) - 1] if found[2] else ""
+        hint = "; a time of day has its seconds too, as 07:30:00" if SHORT_TIME.search(line) else ""
+        raise Unreadable([Fault(where, f"no TOML: {found[1][:1].lower()}{found[1][1:]}{hint}")]) from None

@@ -84,13 +84,13 @@ def orders(digits):
 def order(binding):
     """Returns the order in a binding of a name and a value, or None."""
     (_, name), (_, value) = fields(binding)
-    match name.hex():
-        case text if text == CLOCK:
-            return ClockNamed(int.from_bytes(value, "big"))
-        case text if text == REQUEST and len(value) == 8:
-            return Requested(value[0], int.from_bytes(value[6:8], "big"))
-        case text if text == CANCEL:
-            return Cancelled(int.from_bytes(value, "big"))
+    digits = name.hex()
+    if digits == CLOCK:
+        return ClockNamed(int.from_bytes(value, "big"))
+    if digits == REQUEST and len(value) == 8:
+        return Requested(value[0], int.from_bytes(value[6:8], "big"))
+    if digits == CANCEL:
+        return Cancelled(int.from_bytes(value, "big"))
     return None
 
 

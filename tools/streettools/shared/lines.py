@@ -14,13 +14,13 @@ LONGEST = 67_108_864
 MOST = 4_294_967_295
 NUMBER = rb"(0|[1-9][0-9]{0,9})"
 SIGNED = rb"(0|-?[1-9][0-9]{0,9})"
-FRAME = re.compile(rb"F %s %s ([GYCR]{16}) ([WFD]{16}) ([A-Z0-9a-z]+) %s %s %s\n" % ((NUMBER,) * 5))
+FRAME = rb"F %s %s ([GYCR]{16}) ([WFD]{16}) ([A-Z0-9a-z]+) %s %s %s\n" % ((NUMBER,) * 5)
 JOURNAL = re.compile(rb"J %s ([0-9* ]+)\n" % NUMBER)
 RUN = re.compile(rb"%s\*%s" % (NUMBER, NUMBER))
-ANSWER = re.compile(rb"A %s %s (-|(?:[0-9a-f]{2}){1,1472})\n" % (NUMBER, NUMBER))
-LOAD = re.compile(rb"L %s %s (?:accepted %s|refused %s %s)\n" % ((NUMBER,) * 5))
-NOTE = re.compile(rb"M %s (fail|good|pattern %s|load %s (?:done|refused %s %s))\n" % (NUMBER, NUMBER, NUMBER, SIGNED, SIGNED))
-END = re.compile(rb"Z %s\n" % NUMBER)
+ANSWER = rb"A %s %s (-|(?:[0-9a-f]{2}){1,1472})\n" % (NUMBER, NUMBER)
+LOAD = rb"L %s %s (?:accepted %s|refused %s %s)\n" % ((NUMBER,) * 5)
+NOTE = rb"M %s (fail|good|pattern %s|load %s (?:done|refused %s %s))\n" % (NUMBER, NUMBER, NUMBER, SIGNED, SIGNED)
+END = rb"Z %s\n" % NUMBER
 MODE = re.compile(r"[SFEX]|[KC](0|[1-9][0-9]{0,2})|P(0|[1-9][0-9]{0,2})[etdx]")
 
 
@@ -188,6 +188,16 @@ KINDS = {
 own ways."""
 
 
+@functools.cache
+def kind(letter):
+    """Returns how a line that begins with this letter is matched, and the function of its record; None where no line
+    does. Most traces have few kinds, and to make ready for each takes a while."""
+    if letter not in KINDS:
+        return None
+    pattern, made = KINDS[letter]
+    return re.compile(pattern).fullmatch, made
+
+
 def scenario(line):
     """Returns the record of an S line, which ends in a newline and holds a JSON object."""
     if line[:2] != b"S " or line[-1:] != b"\n":
@@ -201,15 +211,15 @@ def scenario(line):
 def record(line):
     """Returns the record of a line other than the first; ValueError where it is none."""
     letter = line[:1]
-    if letter == b"J":
-        return journal(line)
     if letter == b"R":
         return round_of(line)
-    kind = KINDS.get(letter)
-    found = kind and kind[0].fullmatch(line)
+    if letter == b"J":
+        return journal(line)
+    known = kind(letter)
+    found = known and known[0](line)
     if not found:
         raise ValueError
-    return kind[1](found)
+    return known[1](found)
 
 
 def read(stream, advance=None):

@@ -1,16 +1,28 @@
-"""The proved program: where it is, and what it answers to a scenario."""
+"""The proved program: where it is, and what it answers to a scenario. What takes a while is imported where it is needed.
+"""
 
 import os
-import pathlib
-import subprocess
+from collections.abc import Callable
 
-HERE = pathlib.Path(__file__).resolve().parents[2]
+HERE = os.path.dirname(os.path.dirname(os.path.dirname(os.path.realpath(__file__))))
 """The folder that has the package: `tools` of a checkout, or the one of an installation, which has the program beside
 it."""
+OWN, FINDER = os.path.join(HERE, "arterial"), os.path.join(HERE, "proved")
+"""The program of an installation, and the script that finds the one of a checkout."""
+MODEL = os.path.join(os.path.dirname(HERE), "model", "program")
+"""The model of a checkout: the same commands in plain Python, with which the program is compared (model/README.md)."""
+FIND = 'found=$("$0" 2>/dev/null) && exec "$found" "$@"; exit 125'
+"""A shell script that runs the program which another script finds."""
+NONE_HERE = (125,)
+"""The exit status of that script where there is no program."""
 
 
 class NoProgram(Exception):
     """There is no program that can be run, in words."""
+
+
+class NotProved(NoProgram):
+    """There is no program that was proved in this checkout from the sources that stand in it."""
 
 
 class Refused(Exception):
@@ -22,23 +34,48 @@ class Refused(Exception):
         self.status = ran.returncode
 
 
-def found(name: str | None = None) -> pathlib.Path:
-    """Returns the program of this name; where there is no name the one that ARTERIAL_PROGRAM names, the one that is
-    installed with these tools, the one that was proved in this checkout, or the one on the path."""
+def found(name: str | None = None):
+    """Returns the path of the program of this name; where there is no name that of the one that ARTERIAL_PROGRAM names,
+    that is installed with these tools, that was proved in this checkout, or that is on the path."""
+    import pathlib
+
     path = pathlib.Path(name or os.environ.get("ARTERIAL_PROGRAM") or usual()).resolve()
     if not (path.is_file() and os.access(path, os.X_OK)):
         raise NoProgram(f"no program at {path}")
     return path
 
 
+def answering(name: str | None, tell: Callable[[str], None]):
+    """Returns the path of the program as `found` does. In a checkout in which none was proved yet it is that of the model,
+    which answers the same, and is slower; that is told."""
+    try:
+        return found(name)
+    except NotProved as fault:
+        if not os.path.isfile(MODEL):
+            raise
+        tell(f"{fault}; until then the model in plain Python answers")
+        return found(MODEL)
+
+
+def command(*words: str) -> list[str]:
+    """Returns the command that runs the program with these words. In a checkout the program is found as the command
+    runs, which takes a while: it ends with a status of NONE_HERE where none was proved."""
+    if os.environ.get("ARTERIAL_PROGRAM") or os.path.isfile(OWN) or not os.path.isfile(FINDER):
+        return [str(found()), *words]
+    return ["/bin/sh", "-c", FIND, FINDER, *words]
+
+
 def usual() -> str:
     """Returns the path of the program where nothing names it."""
-    if (HERE / "arterial").is_file():
-        return str(HERE / "arterial")
-    if (HERE / "proved").is_file():
-        asked = subprocess.run([HERE / "proved"], capture_output=True, text=True)
+    if os.path.isfile(OWN):
+        return OWN
+    if os.path.isfile(FINDER):
+        import subprocess
+
+        asked = subprocess.run([FINDER], capture_output=True, text=True)
         if asked.returncode:
-            raise NoProgram(asked.stderr.strip())
+            fault = NotProved if asked.returncode in NONE_HERE else NoProgram
+            raise fault(asked.stderr.strip())
         return asked.stdout.rstrip("\n")
     import shutil
 
@@ -48,8 +85,11 @@ def usual() -> str:
     return path
 
 
-def trace_of(program, scenario, out=subprocess.PIPE):
-    """Returns the trace of a scenario, both as bytes."""
+def trace_of(program, scenario, out=None):
+    """Returns the trace of a scenario, both as bytes; where `out` is given it goes there."""
+    import subprocess
+
+    out = subprocess.PIPE if out is None else out
     ran = subprocess.run([program, "run"], input=scenario, stdout=out, stderr=subprocess.PIPE)
     if ran.returncode:
         raise Refused(ran)

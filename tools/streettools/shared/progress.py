@@ -2,7 +2,6 @@
 
 import contextlib
 import sys
-import threading
 from collections.abc import Iterator
 
 
@@ -20,6 +19,8 @@ def bar(total: int, unit: str, **more):
 @contextlib.contextmanager
 def waiting(seconds: int) -> Iterator[None]:
     """Shows how much of a time is over, while the block runs."""
+    import threading
+
     shown = bar(seconds, "s", bar_format="{bar:40} {elapsed}")
     over = threading.Event()
 

@@ -12,7 +12,7 @@ from collections.abc import Awaitable, Callable
 from typing import Any
 
 from ..shared import commandline
-from ..shared.program import NoProgram, found
+from ..shared.program import NoProgram, answering
 from ..shared.status import Status
 from . import ports, words
 from .ntcip.front import Fronts
@@ -64,7 +64,7 @@ def given_scenario(program: pathlib.Path, name: str | None) -> dict[str, Any]:
 def street_of(given: argparse.Namespace, hearers: list[Hearer]) -> tuple[Street, list[bytes]]:
     """Returns the street that the words ask for, and what is to happen again in it."""
     again = given.replay or given.resume
-    program, is_step = found(given.program), words.is_step(given)
+    program, is_step = answering(given.program, say), words.is_step(given)
     scenario, requests = read_requests(pathlib.Path(again)) if again else (given_scenario(program, given.scenario), [])
     street = Street(str(program), scenario, Pace(0.0 if is_step else given.speed), hearers)
     if is_step:

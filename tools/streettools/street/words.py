@@ -94,7 +94,9 @@ def parser() -> argparse.ArgumentParser:
     words.add_argument(
         "--as", dest="front", choices=["ntcip1202"], help="answer more than the proved profile has: docs/CLIENTS.md"
     )
-    words.add_argument("--program", metavar="PATH", help="the program (the one that ./arterial prove has built)")
+    words.add_argument(
+        "--program", metavar="PATH", help="the program (the one that ./arterial prove has built; the model until then)"
+    )
     return words
 
 

@@ -7,7 +7,6 @@ from pathlib import Path
 
 from ..shared.bands import Spans, common, delays_of, read_bands
 from ..shared.cabinet import Cabinet
-from ..shared.lines import Frame
 from .counts import Spread, StreetCounts
 from .study import Street
 
@@ -40,10 +39,11 @@ class Greens:
         self.since: list[int | None] = [None, None]
         self.spans: tuple[Spans, Spans] = ([], [])
 
-    def shown(self, frame: Frame) -> None:
-        """Takes a frame."""
+    def turned(self, begun: tuple[int, ...], ended: tuple[int, ...], tick: int) -> None:
+        """Takes the phases that turn green at a tick, and those whose green ends."""
         for way, phase in enumerate(self.pair):
-            self.show(way, frame.vehicles[phase - 1] == "G", frame.tick)
+            if phase in begun or phase in ended:
+                self.show(way, phase in begun, tick)
 
     def show(self, way: int, is_green: bool, tick: int) -> None:
         """Begins or ends a green."""
@@ -63,11 +63,6 @@ class StreetTally:
         numbers = [number for number, it in rows if it.get("section", 1) == street.section]
         self.start, self.street = start, street
         self.greens = {number: Greens(cabinets[number], street.pattern) for number in numbers}
-
-    def shown(self, frame: Frame) -> None:
-        """Takes a frame."""
-        if frame.cabinet in self.greens:
-            self.greens[frame.cabinet].shown(frame)
 
     def close(self, last: int) -> StreetCounts:
         """Returns the bands that came out: the spans of time at which a vehicle may start so as to meet green in

@@ -6,10 +6,13 @@ import json
 import subprocess
 from dataclasses import dataclass
 from pathlib import Path
+from typing import Any
 
 from . import drawn, queued
+from .drawn import Drawn
 from .faults import Fault
 from .queued import Queued
+from .sensed import Stream, streams_of
 from .study import Base, BaseKind, Fetch, Street, Study, street_of
 from .values import Option
 from .variants import Variant
@@ -20,13 +23,26 @@ SHARED = ("inputs", "loads", "priority", "frames", "faults")
 
 @dataclass(frozen=True)
 class Built:
-    """A variant that was made: its scenario as text and as a value, the street of its bands, and who comes where
-    the study has volumes."""
+    """A variant that was made: its scenario as text and as a value, the street of its bands, the inputs that were
+    drawn, which aren't in the value (those that stand there come before them), and who comes where the study has
+    volumes."""
 
     text: bytes
     scenario: dict
     street: Street | None
+    drawn: Drawn | None = None
     queued: Queued | None = None
+
+    def streams(self) -> list[Stream]:
+        """Returns all inputs by cabinet and phase."""
+        own = streams_of(self.scenario.get("inputs", ()))
+        return [*own, *self.drawn.streams] if self.drawn else own
+
+    def whole(self) -> dict:
+        """Returns the scenario's value with all inputs."""
+        if self.drawn is None:
+            return self.scenario
+        return self.scenario | {"inputs": (*self.scenario.get("inputs", ()), *self.drawn.values())}
 
 
 class Builder:
@@ -78,35 +94,37 @@ class Builder:
         """Returns a variant's scenario."""
         document = self.document(variant)
         scenario = document["scenario"]
-        drawing = self.inputs(document, variant.seed)
+        found = self.drawn(document, variant.seed)
         if "line" in document:
             faults = drawn.faults_of(
                 json.dumps(document["line"]), variant.seed or 1, scenario["rounds"], len(scenario["cabinets"])
             )
             scenario["faults"] = [*scenario.get("faults", ()), *faults]
         street = street_of(document["street"]) if "street" in document else None
-        if drawing is None:
+        if found is None:
             table = document.get("volumes")
             came = queued.queued_of(table, variant.seed, self.fetch) if table else None
-            return Built(json.dumps(scenario, separators=(",", ":")).encode(), scenario, street, came)
-        words, values = drawing
-        short = json.dumps({name: it for name, it in scenario.items() if name != "inputs"}, separators=(",", ":"))
-        scenario["inputs"] = values
-        return Built(f'{short[:-1]},"inputs":[{words}]}}'.encode(), scenario, street)
+            return Built(written(scenario).encode(), scenario, street, None, came)
+        own = scenario.pop("inputs", ())
+        short = written(scenario)[:-1]
+        words = found.text
+        if own and document["traffic"].get("keep"):
+            scenario["inputs"] = own
+            words = ",".join(filter(None, (written(own)[1:-1], words)))
+        return Built(f'{short},"inputs":[{words}]}}'.encode(), scenario, street, found)
 
-    def inputs(self, document: dict, seed: int | None) -> tuple[str, tuple[dict, ...]] | None:
-        """Returns the inputs in place of the scenario's: those that are drawn, behind the scenario's own where these
-        are kept."""
+    def drawn(self, document: dict, seed: int | None) -> Drawn | None:
+        """Returns the inputs that are drawn."""
         traffic, scenario = document.get("traffic", {}), document["scenario"]
         if not traffic.get("flow"):
             return None
-        words, values = drawn.inputs_of(
-            json.dumps(traffic), 1 if seed is None else seed, scenario["rounds"], scenario["ticks"]
-        )
-        own = scenario.get("inputs") if traffic.get("keep") else None
-        if not own:
-            return words, values
-        return ",".join(filter(None, (json.dumps(own, separators=(",", ":"))[1:-1], words))), (*own, *values)
+        number = 1 if seed is None else seed
+        return drawn.inputs_of(json.dumps(traffic), number, scenario["rounds"], scenario["ticks"])
+
+
+def written(value: Any) -> str:
+    """Returns a value as JSON."""
+    return json.dumps(value, separators=(",", ":"))
 
 
 def parsed(text: bytes, name: str) -> dict:

@@ -35,6 +35,8 @@ class Column:
                 parts: list[Any] = [counts.street]
             case Scope.CABINET:
                 parts = [it for cabinet, it in counts.cabinets.items() if self.cabinet in (None, cabinet)]
+            case Scope.PHASE if None not in (self.cabinet, self.phase):
+                parts = [counts.phases[place]] if (place := (self.cabinet, self.phase)) in counts.phases else []
             case Scope.PHASE:
                 parts = [it for (cabinet, phase), it in counts.phases.items()
                          if self.cabinet in (None, cabinet) and self.phase in (None, phase)]  # fmt: skip

@@ -21,6 +21,7 @@ SETTINGS = {
     "distributed.comm.timeouts.tcp": "120s",
     "distributed.scheduler.allowed-failures": 3,
     "distributed.worker.memory.terminate": 0.95,
+    "distributed.worker.profile.enabled": False,
     "distributed.nanny.pre-spawn-environ": {"MALLOC_TRIM_THRESHOLD_": 65536, "OMP_NUM_THREADS": 1},
 }
 
@@ -74,6 +75,8 @@ def embedded(workers: int | None, memory: int | None) -> Iterator[Cluster]:
                 memory_limit=limit,
                 host="127.0.0.1",
                 dashboard_address=None,
+                # without a dashboard the scheduler still opens a port for its health, at all addresses if it isn't told
+                scheduler_kwargs={"dashboard_address": "127.0.0.1:0"},
                 silence_logs=logging.CRITICAL,
                 local_directory=folder,
             )

@@ -20,8 +20,10 @@ class Spread:
         """Counts a length."""
         self.count += 1
         self.total += length
-        self.least = length if self.least is None else min(self.least, length)
-        self.greatest = length if self.greatest is None else max(self.greatest, length)
+        if self.least is None or length < self.least:
+            self.least = length
+        if self.greatest is None or length > self.greatest:
+            self.greatest = length
 
     @staticmethod
     def of(parts: Iterable["Spread"]) -> "Spread":

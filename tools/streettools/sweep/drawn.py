@@ -2,13 +2,17 @@
 every machine."""
 
 import functools
+import itertools
 import json
 import math
 import random
+from collections import defaultdict
 from collections.abc import Iterator
+from dataclasses import dataclass
 from typing import Any
 
 from .given import NUMBER, Given
+from .sensed import Stream
 
 WAYS, STREAMS = ("down", "up"), ("poll", "load")
 
@@ -41,36 +45,31 @@ def each(value: Any) -> list:
     return value if isinstance(value, list) else [value]
 
 
-def arrivals(draw: random.Random, per_hour: float, seconds: float) -> Iterator[float]:
-    """Yields the seconds at which something comes that comes by chance, so many times an hour on average (a Poisson
+def arrivals(draw: random.Random, per_hour: float, seconds: float) -> list[float]:
+    """Returns the seconds at which something comes that comes by chance, so many times an hour on average (a Poisson
     process)."""
+    found: list[float] = []
     if per_hour <= 0:
-        return
-    at = 0.0
-    while True:
-        at -= math.log(1 - draw.random()) * 3600 / per_hour
-        if at >= seconds:
-            return
-        yield at
+        return found
+    at, log, chance = 0.0, math.log, draw.random
+    while (at := at - log(1 - chance()) * 3600 / per_hour) < seconds:
+        found.append(at)
+    return found
 
 
-def vehicles(
-    draw: random.Random, per_hour: float, occupied: int, rounds: int, seconds: float
-) -> Iterator[tuple[int, bool]]:
-    """Yields the rounds at which a detector goes on and off. Vehicles that come while it is on keep it on."""
-    off = None
+def vehicles(draw: random.Random, per_hour: float, occupied: int, rounds: int, seconds: float) -> list[int]:
+    """Returns the rounds at which a detector goes on and off in turn. Vehicles that come while it is on keep it on."""
+    found: list[int] = []
+    off = 0
     for at in arrivals(draw, per_hour, rounds * seconds):
         number = 1 + int(at / seconds)
-        if off is None or number > off:
-            if off is not None:
-                yield off, False
-            yield number, True
+        if number > off:
+            found += (off, number)
         off = number + occupied
-    if off is not None and off <= rounds:
-        yield off, False
+    return found[1:] + [off] if 0 < off <= rounds else found[1:]
 
 
-def flow(row: dict, seed: int, place: int, traffic: dict, rounds: int, seconds: float) -> Iterator[dict]:
+def flow(row: dict, seed: int, place: int, traffic: dict, rounds: int, seconds: float) -> Iterator[Stream]:
     """Yields the inputs of a row of the traffic. Each cabinet and phase has draws of its own."""
     factor = traffic.get("factor", 1)
     occupied = max(1, math.ceil(traffic.get("occupied", 1) / seconds - 1e-9))
@@ -78,29 +77,51 @@ def flow(row: dict, seed: int, place: int, traffic: dict, rounds: int, seconds: 
         for phase in each(row["phase"]):
             draw = random.Random(f"{seed}/{place}/{cabinet}/{phase}")
             if "pedestrians" in row:
-                for at in arrivals(draw, factor * row["pedestrians"], rounds * seconds):
-                    yield {"cabinet": cabinet, "ped": phase, "round": 1 + int(at / seconds)}
+                times = arrivals(draw, factor * row["pedestrians"], rounds * seconds)
+                yield Stream(cabinet, "ped", phase, [1 + int(at / seconds) for at in times])
             else:
-                for number, on in vehicles(draw, factor * row["vehicles"], occupied, rounds, seconds):
-                    yield {"cabinet": cabinet, "on": on, "round": number, "veh": phase}
+                found = vehicles(draw, factor * row["vehicles"], occupied, rounds, seconds)
+                yield Stream(cabinet, "veh", phase, found, (bytearray(b"\1\0") * len(found))[: len(found)])
 
 
-def in_order(inputs: list[dict]) -> list[dict]:
-    """Returns inputs by their rounds; those of one round and cabinet keep their order."""
-    return sorted(inputs, key=lambda it: (it["round"], it["cabinet"]))
+def words_of(stream: Stream) -> Iterator[str]:
+    """Yields the inputs of a stream as JSON, in the order of their rounds."""
+    cabinet, phase = json.dumps(stream.cabinet), json.dumps(stream.phase)
+    if stream.kind == "ped":
+        return (f'{{"cabinet":{cabinet},"ped":{phase},"round":{number}}}' for number in stream.rounds)
+    begins = [f'{{"cabinet":{cabinet},"on":{on},"round":' for on in ("true", "false")]
+    end = f',"veh":{phase}}}'
+    return (f"{begin}{number}{end}" for number, begin in zip(stream.rounds, itertools.cycle(begins)))
+
+
+def in_order(streams: list[Stream]) -> list[str]:
+    """Returns all inputs by their rounds and cabinets; those of one round and cabinet keep their order."""
+    found: dict[int, list[str]] = defaultdict(list)
+    for it in sorted(streams, key=lambda it: it.cabinet):
+        for number, word in zip(it.rounds, words_of(it)):
+            found[number].append(word)
+    return [word for number in sorted(found) for word in found[number]]
+
+
+@dataclass(frozen=True)
+class Drawn:
+    """The inputs that traffic gives by a seed: as JSON without its brackets, and by cabinet and phase."""
+
+    text: str
+    streams: tuple[Stream, ...]
+
+    def values(self) -> tuple[dict, ...]:
+        """Returns the inputs as the scenario has them."""
+        return tuple(json.loads(f"[{self.text}]"))
 
 
 @functools.lru_cache(maxsize=64)
-def inputs_of(traffic: str, seed: int, rounds: int, ticks: int) -> tuple[str, tuple[dict, ...]]:
-    """Returns the inputs that the traffic gives by a seed: as JSON without its brackets, and as values."""
+def inputs_of(traffic: str, seed: int, rounds: int, ticks: int) -> Drawn:
+    """Returns the inputs that the traffic gives by a seed."""
     table = json.loads(traffic)
-    found = [
-        it
-        for place, row in enumerate(table.get("flow", ()))
-        for it in flow(row, seed, place, table, rounds, ticks / 10)
-    ]
-    ordered = in_order(found)
-    return json.dumps(ordered, separators=(",", ":"))[1:-1], tuple(ordered)
+    rows = enumerate(table.get("flow", ()))
+    found = [it for place, row in rows for it in flow(row, seed, place, table, rounds, ticks / 10)]
+    return Drawn(",".join(in_order(found)), tuple(found))
 
 
 @functools.lru_cache(maxsize=64)

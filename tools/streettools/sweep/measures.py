@@ -19,15 +19,27 @@ class Scope(enum.Enum):
     TRAFFIC = "phase with vehicles of the table volumes"
 
 
+class Part(enum.Enum):
+    """What of a run is followed for a measure alone: how greens end, vehicles that wait, people that wait and walk,
+    cycles of a pattern. All else is always followed."""
+
+    ENDINGS = "endings"
+    WAITS = "waits"
+    WALKS = "walks"
+    CYCLES = "cycles"
+
+
 @dataclass(frozen=True)
 class Measure:
-    """A measure: `value` takes the counts of all phases, cabinets or streets that are asked for."""
+    """A measure: `value` takes the counts of all phases, cabinets or streets that are asked for; `part` says what is
+    followed for it."""
 
     name: str
     scope: Scope
     unit: str
     what: str
     value: Callable[[list[Any]], Value]
+    part: Part | None = None
 
 
 def count(name: str) -> Callable[[list[Any]], Value]:
@@ -98,10 +110,12 @@ ENDINGS = {
 }
 
 
-def spreads(name: str, of: str, what: str, scope: Scope, unit: str = "s", scale: int = 10) -> list[Measure]:
+def spreads(
+    name: str, of: str, what: str, scope: Scope, part: Part | None = None, unit: str = "s", scale: int = 10
+) -> list[Measure]:
     """Returns the least, the mean and the greatest of lengths as measures."""
     return [
-        Measure(f"{name}_{it}", scope, unit, f"{it} {what}", spread(of, it, scale))
+        Measure(f"{name}_{it}", scope, unit, f"{it} {what}", spread(of, it, scale), part)
         for it in ("least", "mean", "greatest")
     ]
 
@@ -123,48 +137,70 @@ PHASE = [
             "greens",
             f"greens that ended so: {what}",
             ended(it),
+            Part.ENDINGS,
         )
         for it, what in ENDINGS.items()
     ),
-    *spreads("wait", "wait", "time from a vehicle's call to the green that serves it", Scope.PHASE),
+    *spreads("wait", "wait", "time from a vehicle's call to the green that serves it", Scope.PHASE, Part.WAITS),
     Measure(
         "waiting",
         Scope.PHASE,
         "phases",
         "phases with a call that was not served by the end of the run",
         count("waiting"),
+        Part.WAITS,
     ),
-    Measure("walks", Scope.PHASE, "walks", "walks that began", count("walks")),
-    *spreads("walk_wait", "walk_wait", "time from the first press of a button to the walk that serves it", Scope.PHASE),
+    Measure("walks", Scope.PHASE, "walks", "walks that began", count("walks"), Part.WALKS),
+    *spreads(
+        "walk_wait",
+        "walk_wait",
+        "time from the first press of a button to the walk that serves it",
+        Scope.PHASE,
+        Part.WALKS,
+    ),
     Measure(
         "walk_waiting",
         Scope.PHASE,
         "phases",
         "phases with a press that was not served by the end of the run",
         count("walk_waiting"),
+        Part.WALKS,
     ),
 ]
 CABINET = [
-    Measure("local_zeros", Scope.CABINET, "zeros", "local zeros", count("zeros")),
+    Measure("local_zeros", Scope.CABINET, "zeros", "local zeros", count("zeros"), Part.CYCLES),
     Measure(
-        "on_offset_share", Scope.CABINET, "share", "share of local zeros that are on the offset", share("met", "zeros")
+        "on_offset_share",
+        Scope.CABINET,
+        "share",
+        "share of local zeros that are on the offset",
+        share("met", "zeros"),
+        Part.CYCLES,
     ),
-    Measure("pickups", Scope.CABINET, "pickups", "how often a pattern was picked up", count("pickups")),
+    Measure("pickups", Scope.CABINET, "pickups", "how often a pattern was picked up", count("pickups"), Part.CYCLES),
     *spreads(
         "cycles_to_offset",
         "cycles",
         "number of cycles from a pickup to the first local zero on the offset",
         Scope.CABINET,
+        Part.CYCLES,
         "cycles",
         1,
     ),
-    *spreads("seconds_to_offset", "seconds", "time from a pickup to the first local zero on the offset", Scope.CABINET),
+    *spreads(
+        "seconds_to_offset",
+        "seconds",
+        "time from a pickup to the first local zero on the offset",
+        Scope.CABINET,
+        Part.CYCLES,
+    ),
     Measure(
         "offset_missed",
         Scope.CABINET,
         "pickups",
         "pickups after which no local zero was on the offset",
         lambda parts: sum(it.pickups - it.cycles.count for it in parts),
+        Part.CYCLES,
     ),
     Measure(
         "coordinated_share",
@@ -193,6 +229,7 @@ CABINET = [
         "failed_rounds",
         "number of rounds from that note to the note that the cabinet is good again",
         Scope.CABINET,
+        None,
         "rounds",
         1,
     ),

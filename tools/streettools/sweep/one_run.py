@@ -3,11 +3,12 @@
 import enum
 import hashlib
 import io
+import os
 import subprocess
 import time
 from dataclasses import dataclass, replace
 from pathlib import Path
-from typing import Any
+from typing import Any, BinaryIO
 
 from ..cosim.movements import Count
 from ..shared.course import Course
@@ -19,7 +20,9 @@ from .choice import Column
 from .counts import RunCounts, StreetCounts
 from .faults import Fault
 from .measures import Scope
+from .needs import Needs
 from .own import Own
+from .sensed import Sensed
 from .tally import CabinetTally
 from .variants import Variant
 
@@ -55,6 +58,17 @@ class Failed(Exception):
     """A run came to no measures, in words."""
 
 
+def kept(text: bytes = b"") -> BinaryIO:
+    """Returns a file in memory that holds a text: the program reads and writes such, so that neither waits for the
+    other."""
+    file = os.fdopen(os.memfd_create("arterial-sweep"), "w+b", buffering=0)
+    left = memoryview(text)
+    while left:
+        left = left[file.write(left) :]
+    file.seek(0)
+    return file
+
+
 class Runner:
     """Runs variants and measures them."""
 
@@ -72,6 +86,7 @@ class Runner:
         self.check, self.seconds = check, seconds
         self.start = builder.study.start
         scopes = {(it.measure.scope, it.measure.name) for it in columns}
+        self.needs = Needs(columns)
         self.street = any(scope is Scope.STREET for scope, _ in scopes)
         self.traffic = any(scope is Scope.TRAFFIC for scope, _ in scopes)
         self.looks = check or bool(own) or any(scope is not Scope.TRAFFIC for scope, _ in scopes)
@@ -87,10 +102,11 @@ class Runner:
             name = hashlib.sha256(built.text).hexdigest()[:16]
             if built.queued:
                 return [Outcome.DONE.value, None, name, *self.queued(built)]
-            trace, refusal = self.trace(built)
-            if trace is None:
-                return [Outcome.REFUSED.value, refusal, name, *blank]
-            return [Outcome.DONE.value, None, name, *self.measured(built, trace)]
+            with kept(built.text) as given, kept() as trace:
+                refusal = self.trace(given, trace)
+                if refusal is not None:
+                    return [Outcome.REFUSED.value, refusal, name, *blank]
+                return [Outcome.DONE.value, None, name, *self.measured(built, trace)]
         except Fault as fault:
             return [Outcome.REFUSED.value, str(fault), name, *blank]
         except (Failed, OSError) as fault:
@@ -103,17 +119,16 @@ class Runner:
         except (TypeError, KeyError, AttributeError, ValueError) as fault:
             raise Fault(f"no scenario can be made of this variant: {type(fault).__name__}: {fault}") from None
 
-    def trace(self, built: Built) -> tuple[bytes | None, str | None]:
-        """Returns the trace, or the line with which the program refuses the scenario."""
-        ran = self.ran(["run"], built.text)
+    def trace(self, given: BinaryIO, trace: BinaryIO) -> str | None:
+        """Writes the trace of a scenario; returns the line with which the program refuses it, None where it doesn't."""
+        ran = self.ran("run", given, trace)
         words = ran.stderr.decode(errors="replace").strip()
         if ran.returncode == 2:
-            return None, words
+            return words
         if ran.returncode:
             raise Failed(words or f"the program ended with status {ran.returncode}")
-        if self.check and (checked := self.ran(["check"], ran.stdout)).returncode:
-            raise Failed(f"check: {checked.stderr.decode(errors='replace').strip()}")
-        return ran.stdout, None
+        self.checked(trace)
+        return None
 
     def queued(self, built: Built) -> list[Any]:
         """Runs a variant with the vehicles of its volumes, and returns its measures."""
@@ -126,22 +141,34 @@ class Runner:
             raise Failed(str(fault)) from None
         except TimeoutError:
             raise Failed(f"live was not done in {self.seconds:g} s") from None
-        scenario = queued.scenario_of(ran.trace) if self.looks else built.scenario
-        if self.check and (checked := self.ran(["check"], ran.trace)).returncode:
-            raise Failed(f"check: {checked.stderr.decode(errors='replace').strip()}")
         traffic = queued.counted(ran) if self.traffic else {}
-        return self.measured(replace(built, scenario=scenario), ran.trace, traffic)
+        if ran.trace is None:
+            return [it.value(RunCounts({}, {}, StreetCounts(), traffic)) for it in self.columns]
+        with kept(ran.trace) as trace:
+            self.checked(trace)
+            return self.measured(replace(built, scenario=queued.scenario_of(ran.trace)), trace, traffic)
 
-    def ran(self, words: list[str], given: bytes) -> subprocess.CompletedProcess:
+    def checked(self, trace: BinaryIO) -> None:
+        """Has a trace checked, where that is asked for."""
+        if self.check and (told := self.ran("check", trace, subprocess.DEVNULL)).returncode:
+            raise Failed(f"check: {told.stderr.decode(errors='replace').strip()}")
+
+    def ran(self, word: str, given: BinaryIO, to: BinaryIO | int) -> subprocess.CompletedProcess:
         """Runs the program. Where it can't be started or is killed, as on a machine without memory, it is tried
         again."""
         fault = ""
         for pause in PAUSES:
             time.sleep(pause)
+            given.seek(0)
+            if not isinstance(to, int):
+                to.seek(0)
+                to.truncate()
             try:
-                ran = subprocess.run([self.program, *words], input=given, capture_output=True, timeout=self.seconds)
+                ran = subprocess.run(
+                    [self.program, word], stdin=given, stdout=to, stderr=subprocess.PIPE, timeout=self.seconds
+                )
             except subprocess.TimeoutExpired:
-                raise Failed(f"{words[0]} was not done in {self.seconds:g} s") from None
+                raise Failed(f"{word} was not done in {self.seconds:g} s") from None
             except OSError as why:
                 fault = f"the program can't be started: {why.strerror}"
                 continue
@@ -150,14 +177,16 @@ class Runner:
             fault = f"the program was ended by signal {-ran.returncode}"
         raise Failed(fault)
 
-    def measured(self, built: Built, trace: bytes | None, traffic: Traffic | None = None) -> list[Any]:
-        """Returns the measures of a run; there is no trace where nothing asks for it."""
-        counts = self.counted(built, trace) if self.columns and trace is not None else RunCounts({}, {}, StreetCounts())
+    def measured(self, built: Built, trace: BinaryIO, traffic: Traffic | None = None) -> list[Any]:
+        """Returns the measures of a run."""
+        counts = self.counted(built, trace) if self.columns else RunCounts({}, {}, StreetCounts())
         counts.traffic = traffic or {}
         found = [it.value(counts) for it in self.columns]
+        trace.seek(0)
+        text = trace.read() if self.own else b""
         for function in self.own:
             try:
-                value = function(Run(built.scenario, trace))
+                value = function(Run(built.whole(), text))
             except Exception as fault:
                 raise Failed(f"{function.__name__}: {type(fault).__name__}: {fault}") from None
             if value is not None and not isinstance(value, (int, float, str)):
@@ -167,31 +196,47 @@ class Runner:
             found.append(value)
         return found
 
-    def counted(self, built: Built, trace: bytes) -> RunCounts:
+    def counted(self, built: Built, trace: BinaryIO) -> RunCounts:
         """Counts what happened in a run."""
         scenario = built.scenario
+        trace.seek(0)
         last = scenario["rounds"] * scenario["ticks"]
-        tallies = {
-            number: CabinetTally(scenario, number, self.start) for number in range(1, len(scenario["cabinets"]) + 1)
-        }
+        sensed = Sensed(built.streams() if self.needs.inputs else (), scenario["ticks"])
+        numbers = range(1, len(scenario["cabinets"]) + 1)
+        tallies = {number: CabinetTally(scenario, number, self.start, self.needs, sensed) for number in numbers}
         enabled = {number: it.cabinet.tables.enabled() for number, it in tallies.items()}
-        street = None
-        if self.street:
-            street = bands.StreetTally(
-                built.street, {number: it.cabinet for number, it in tallies.items()}, scenario, self.start
-            )
+        street = self.street_of(built, tallies) if self.street else None
         try:
-            for happening in sights.happenings(trace, scenario):
-                tallies[happening.cabinet].take(happening)
-                if street and isinstance(happening, sights.Frame):
-                    street.shown(happening)
+            self.follow(trace, tallies)
         except (ValueError, KeyError, NotATrace):
             raise Failed("the program wrote a line that is none of a trace") from None
+        cabinets = {number: it.close(last) for number, it in tallies.items()}
         seen = street.close(last) if street else StreetCounts()
         if self.planned:
             seen.planned = bands.planned(self.program, scenario, built.street, self.seconds)
-        cabinets = {number: it.close(last) for number, it in tallies.items()}
         phases = {
-            (number, phase): it.phases[phase].close(last) for number, it in tallies.items() for phase in enabled[number]
+            (number, phase): it.phases[phase].close(last)
+            for number, it in tallies.items()
+            for phase in enabled[number]
+            if phase in it.phases
         }
         return RunCounts(phases, cabinets, seen)
+
+    def street_of(self, built: Built, tallies: dict[int, CabinetTally]) -> bands.StreetTally:
+        """Returns the street of a run, whose greens its cabinets tell."""
+        cabinets = {number: it.cabinet for number, it in tallies.items()}
+        street = bands.StreetTally(built.street, cabinets, built.scenario, self.start)
+        for number, greens in street.greens.items():
+            tallies[number].street = greens
+        return street
+
+    def follow(self, trace: BinaryIO, tallies: dict[int, CabinetTally]) -> None:
+        """Lets the cabinets take what happened in a run."""
+        shown = {b"%d" % number: it.shown for number, it in tallies.items()}
+        for it in sights.happenings(trace):
+            if isinstance(it, sights.Over):
+                tallies[it.cabinet].over(it)
+            elif isinstance(it, sights.Said):
+                tallies[it.cabinet].said(it)
+            else:
+                shown[it[0]](it)

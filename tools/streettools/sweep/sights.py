@@ -1,87 +1,111 @@
-"""Reads the trace of a run fast: frames, ends of downloads and notes, each cabinet's inputs before what comes after them.
+"""Reads the trace of a run fast: frames, ends of downloads and notes, block after block, so that memory stays flat.
 
-It reads what the program itself has written just now: in a round all inputs come before its ticks. Other traces are
-read by `shared.course`.
+It reads what the program itself has written just now. Other traces are read by `shared.course`.
 """
 
-from collections import defaultdict
-from collections.abc import Iterable, Iterator
-from typing import NamedTuple
+import re
+from collections.abc import Iterator
+from typing import BinaryIO, NamedTuple
 
 from ..shared import lines
-from ..shared.lines import Frame, Load
+from ..shared.lines import Frame, Load, Note
 
+BLOCK = 1 << 20
+"""So many bytes are read at once."""
+NUMBER = rb"(0|[1-9][0-9]{0,8})"
+LAST = rb"(?![^\n])"
+FRAME = rb"\nF %s %s ([GYCR]{16}) ([WFD]{16}) ([A-Z0-9a-z]+) %s %s %s" % ((NUMBER,) * 5)
+FRAMES = re.compile(FRAME + LAST)
+ROWS = re.compile(rb"(?:%s|\n([RLM][^\n]*))" % FRAME + LAST)
+"""Frames, and beside them the lines that tell rounds, ends of downloads and notes. J lines tell nothing new here, and A
+lines repeat what was asked."""
 
-class Sensed(NamedTuple):
-    """An input from the street after a tick: `kind` is veh, ped or preempt, `number` the phase or the preempt."""
-
-    cabinet: int
-    tick: int
-    kind: str
-    number: int
-    on: bool
+Row = tuple[bytes, bytes, bytes, bytes, bytes, bytes, bytes, bytes]
+"""A frame as it is written: cabinet, tick, colours, pedestrian signals, mode, counter, target, version."""
 
 
 class Said(NamedTuple):
     """A note of the master in a round."""
 
     cabinet: int
-    tick: int
     round: int
     words: str
 
 
 class Over(NamedTuple):
-    """The end of a download after a tick."""
+    """The end of a download in a round."""
 
     cabinet: int
-    tick: int
+    round: int
     load: Load
 
 
-FIRST = {ord(letter) for letter in "FRLM"}
-"""The lines that are looked at. J lines tell nothing new here, and A lines repeat what was asked."""
+def frame_of(row: Row) -> Frame:
+    """Returns a frame that was read; ValueError where its mode is none."""
+    cabinet, tick, vehicles, pedestrians, mode, counter, target, version = row
+    return Frame(
+        int(cabinet),
+        int(tick),
+        vehicles.decode("ascii"),
+        pedestrians.decode("ascii"),
+        lines.mode(mode),
+        int(counter),
+        int(target),
+        int(version),
+    )
 
 
-def inputs_of(inputs: Iterable[dict], ticks: int) -> dict[int, list[Sensed]]:
-    """Returns each cabinet's inputs in the order in which they come."""
-    found = defaultdict(list)
-    for it in inputs:
-        kind = "veh" if "veh" in it else "ped" if "ped" in it else "preempt"
-        found[it["cabinet"]].append(
-            Sensed(it["cabinet"], (it["round"] - 1) * ticks, kind, it[kind], it.get("on", True))
-        )
-    for rows in found.values():
-        rows.sort(key=lambda it: it.tick)
-    return found
+def blocks(stream: BinaryIO) -> Iterator[bytes]:
+    """Yields a trace behind its first line: each block begins with the end of a line, and ends before one."""
+    rest = b""
+    while part := stream.read(BLOCK):
+        if not rest:
+            at = part.find(b"\n")
+            if at < 0:
+                continue
+            part = part[at:]
+        text = rest + part
+        end = text.rfind(b"\n")
+        yield text[:end]
+        rest = text[end:]
+    yield rest
 
 
-def happenings(trace: bytes, scenario: dict) -> Iterator[Sensed | Frame | Over | Said]:
-    """Yields what happened, in order for each cabinet; ValueError where a line is none of a trace."""
-    ticks, number = scenario["ticks"], 0
-    waiting = {cabinet: iter(rows) for cabinet, rows in inputs_of(scenario.get("inputs", ()), ticks).items()}
-    due = {cabinet: next(rows) for cabinet, rows in waiting.items()}
+def happenings(stream: BinaryIO) -> Iterator[Row | Said | Over]:
+    """Yields what happened, in the order of the trace; ValueError where a line is none of a trace."""
+    number = 0
+    for block in blocks(stream):
+        if b"\nL" in block or b"\nM" in block:
+            yield from with_notes(block, number)
+        else:
+            found = FRAMES.findall(block)
+            if len(found) != block.count(b"\nF"):
+                raise ValueError
+            yield from found
+        at = block.rfind(b"\nR")
+        if at >= 0:
+            number = round_at(block, at)
 
-    def before(cabinet: int, tick: int) -> Iterator[Sensed]:
-        """Yields a cabinet's inputs that came before a tick."""
-        while (it := due.get(cabinet)) is not None and it.tick < tick:
-            yield it
-            due[cabinet] = next(waiting[cabinet], None)
 
-    for line in trace.split(b"\n"):
-        if not line or line[0] not in FIRST:
+def round_at(block: bytes, at: int) -> int:
+    """Returns the number of the round whose line stands at a place."""
+    end = block.find(b"\n", at + 1)
+    return lines.round_of((block[at + 1 :] if end < 0 else block[at + 1 : end]) + b"\n").number
+
+
+def with_notes(block: bytes, number: int) -> Iterator[Row | Said | Over]:
+    """Yields what happened in a block that has ends of downloads or notes; its first lines are of this round."""
+    found = ROWS.findall(block)
+    if sum(not it[8] for it in found) != block.count(b"\nF"):
+        raise ValueError
+    for *row, other in found:
+        if not other:
+            yield tuple(row)
             continue
-        record = lines.record(line + b"\n")
-        if isinstance(record, Frame):
-            yield from before(record.cabinet, record.tick)
-            yield record
-        elif isinstance(record, lines.Round):
+        record = lines.record(other + b"\n")
+        if isinstance(record, lines.Round):
             number = record.number
         elif isinstance(record, Load):
-            tick = (number - 1) * ticks
-            yield from before(record.cabinet, tick + 1)
-            yield Over(record.cabinet, tick, record)
-        else:
-            yield Said(record.cabinet, (number - 1) * ticks, number, record.words)
-    for cabinet in list(due):
-        yield from before(cabinet, scenario["rounds"] * ticks + 1)
+            yield Over(record.cabinet, number, record)
+        elif isinstance(record, Note):
+            yield Said(record.cabinet, number, record.words)

@@ -53,6 +53,35 @@ def test_a_text_that_the_program_cannot_judge_is_shown_and_said_to_be_unchecked(
         assert (ran.returncode, ran.stderr) == (0, f"look: not checked: {words}\n") and ran.stdout
 
 
+def test_nothing_is_printed_before_the_answer_of_a_slow_check(tmp_path):
+    path = tmp_path / "program"
+    path.write_text("#!/bin/sh\nsleep 1\ncat >/dev/null\necho 'trace: line 10 breaks rule 6' >&2\nexit 5\n")
+    path.chmod(0o755)
+    env = {**os.environ, "ARTERIAL_PROGRAM": str(path)}
+    for words in (["report"], ["report", "--json"], ["events", "--start", "2026-11-27T06:00:00"]):
+        ran = run(*words, given=SMALL, env=env)
+        assert (ran.returncode, ran.stdout) == (2, "") and "line 10 breaks rule 6" in ran.stderr
+
+
+def test_a_text_that_cannot_be_read_is_refused_by_the_check_first(stand_in):
+    ran = run("report", given=SMALL.replace("R 3", "R 4"), env=stand_in(5, "trace: line 8 breaks rule 2"))
+    assert ran.returncode == 2 and ran.stderr.startswith("look: checked: standard input is no trace (trace: line 8 ")
+    ran = run("rings", "--cabinet", "2", "-o", "x.svg", given=SMALL, env=stand_in(0))
+    words = ["look: checked: standard input is a trace", "look: the trace has no cabinet 2"]
+    assert (ran.returncode, ran.stderr.splitlines()) == (2, words)
+
+
+def test_the_program_of_a_checkout_is_found_as_the_check_runs(tmp_path, monkeypatch):
+    monkeypatch.delenv("ARTERIAL_PROGRAM", raising=False)
+    for text, due in (("echo /bin/echo", (0, "check\n")), ("exit 123", (125, "")), ("echo no >&2; exit 125", (125, ""))):
+        finder = tmp_path / "finder"
+        finder.write_text(f"#!/bin/sh\n{text}\n")
+        finder.chmod(0o755)
+        monkeypatch.setattr(program, "FINDER", str(finder))
+        ran = subprocess.run(program.command("check"), capture_output=True, text=True)
+        assert (ran.returncode, ran.stdout, ran.stderr) == (*due, "")
+
+
 def test_without_a_program_nothing_is_said():
     ran = run("report", "--json", given=SMALL)
     assert (ran.returncode, ran.stderr) == (0, "")

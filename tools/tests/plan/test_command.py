@@ -113,3 +113,68 @@ def test_loads_are_written_for_a_scenario_and_for_snmp(tmp_path):
         )
         == 4
     )
+
+
+WITH_COMMENTS = """\
+# Kept by the city; ask before you change it.
+title = "Main"
+[[intersection]]
+name = "Main & 1st"   # counted in May
+
+[intersection.phase]
+"1 3 5 7" = {}
+"2 6" = {}
+"4 8" = {}
+
+[intersection.pattern.1]
+cycle = 90
+# ring 1 comes to 95 s: a slip
+splits = {1 = 20, 2 = 30, 3 = 15, 4 = 30, 5 = 15, 6 = 30, 7 = 15, 8 = 30}  # from the sheet
+"""
+
+
+@pytest.mark.parametrize("place", ["pattern", "split"])
+def test_a_mended_sheet_keeps_its_comments_and_all_but_the_splits(tmp_path, place):
+    pytest.importorskip("tomlkit", reason="python3-tomlkit is missing")
+    text = WITH_COMMENTS
+    if place == "split":
+        text = text.replace("# ring 1", "[intersection.split.1]\n# ring 1")
+    path, aim = tmp_path / "given.toml", tmp_path / "mended.toml"
+    path.write_text(text)
+    ran = plan("check", "--fix", path, "-o", aim)
+    assert (ran.returncode, ran.stderr) == (2, b"")
+    before, after = text.splitlines(), aim.read_text().splitlines()
+    other = [(one, new) for one, new in zip(before, after, strict=True) if one != new]
+    # 5 s too much in ring 1: the least change takes them from one phase
+    assert len(other) == 1 and other[0][1].startswith("splits = {") and other[0][1].endswith("}  # from the sheet")
+    assert plan("check", aim).returncode == 0
+
+
+def test_a_split_that_is_not_said_in_the_sheet_is_mended_in_a_sheet_that_is_written_anew(tmp_path):
+    path, aim = tmp_path / "given.toml", tmp_path / "mended.toml"
+    # split 1 of the standard tables comes to 90 s
+    path.write_text(WITH_COMMENTS.split("[intersection.pattern.1]")[0] + "[intersection.pattern.1]\ncycle = 95\n")
+    ran = plan("check", "--fix", path, "-o", aim)
+    assert ran.returncode == 2 and b"comments are left out" in ran.stderr
+    assert plan("check", aim).returncode == 0
+
+
+def test_a_split_of_several_phases_is_said_once_and_mended_in_its_place(tmp_path):
+    pytest.importorskip("tomlkit", reason="python3-tomlkit is missing")
+    path, aim = tmp_path / "given.toml", tmp_path / "mended.toml"
+    line = 'splits = {"1 5" = 20, "2, 6" = 30, "3 7" = 15, "4 8" = 30}'
+    path.write_text(WITH_COMMENTS.split("splits = ")[0] + line + "\n")
+    ran = plan("check", "--fix", path, "-o", aim)
+    # both rings come to 95 s in a cycle of 90: 5 s less in each
+    assert ran.returncode == 2 and b"10 s of change, the least there is" in ran.stdout and ran.stderr == b""
+    assert aim.read_text().startswith("# Kept by the city") and plan("check", aim).returncode == 0
+    path.write_text(path.read_text().replace('"3 7" = 15', '"3 7" = 15, 3 = 14'))
+    ran = plan("check", path)
+    assert ran.returncode == 2 and b"splits, 3: error: this number is said twice" in ran.stdout
+
+
+@pytest.mark.parametrize("text", ["clock = 08:50\n", "schedule = [\n  {at = 7:00, pattern = 1},\n]\n"])
+def test_a_time_of_day_without_seconds_is_told(tmp_path, text):
+    (tmp_path / "given.toml").write_text(text)
+    ran = plan("check", tmp_path / "given.toml")
+    assert ran.returncode == 2 and b"; a time of day has its seconds too, as 07:30:00" in ran.stdout

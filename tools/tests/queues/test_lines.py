@@ -94,11 +94,11 @@ def test_mean_delay_is_websters_within_a_tenth_and_a_headway(per_hour, cycle, gr
     """With lost time and the yellow that is used of 2 s each the effective green is the green. A discharged vehicle
     passes a headway after its place in a flow that runs like a fluid; half of that is the limit beside the tenth."""
     due = webster(cycle, green, per_hour, 1800)
-    assert math.isclose(mean_delay(per_hour, cycle, green, 12), due, abs_tol=0.1 * due + 1.0)
+    assert math.isclose(mean_delay(per_hour, cycle, green, 8), due, abs_tol=0.1 * due + 1.0)
 
 
 def test_mean_delay_is_no_less_than_uniform_delay_and_grows_with_volume():
-    means = [mean_delay(volume, 90, 40, 6) for volume in (100, 300, 500, 700)]
+    means = [mean_delay(volume, 90, 40, 4) for volume in (100, 300, 500, 700)]
     assert means == sorted(means)
     for volume, mean in zip((100, 300, 500, 700), means):
         assert mean > uniform_delay(90, 40, volume / 800)

@@ -10,7 +10,7 @@ import urllib.request
 import pytest
 from streettools.cabinet.messages import SET, message, reply_of
 
-from .conftest import CONTROL, SECONDS, VERSION
+from .conftest import ASC, CONTROL, OWN, SECONDS, VERSION
 from .test_agents import get, written
 
 aiohttp = pytest.importorskip("aiohttp")
@@ -22,6 +22,8 @@ TRAIN = {
     "cabinets": [{"cells": [["preempt", 1, 13, "0206"], ["preempt", 1, 10, 5]]}],
 }
 """Preempt 1 dwells on phases 2 and 6 for 5 s at the least."""
+BEGIN, ID, PART, TOTAL, FINISH = ((*OWN, 1, arc, 0) for arc in range(2, 7))
+"""The objects of a download."""
 
 
 @pytest.fixture
@@ -97,6 +99,40 @@ def test_a_held_preempt_is_shown_in_the_rings(panel, browser):
     assert "red" in browser.find_element("id", "box-4").text
     browser.find_element("id", "preempt-1").click()
     awaited(browser, "facts", "free")
+
+
+SPLITS, SEQUENCE = (*ASC, 4, 9, 1, 3, 1), (*ASC, 7, 3, 1, 3)
+
+
+def download(running, number, *cells):
+    """Brings cells to the only cabinet as a download of management software, which is put in force."""
+    of_it = (ID, number)
+    for pairs in ([(BEGIN, number)], [of_it, (PART, 1), *cells], [of_it, (TOTAL, 1)], [of_it, (FINISH, 1)]):
+        assert reply_of(running.ask(message(SET, number, pairs))).status == 0
+
+
+def places(browser):
+    """Returns the phases of ring 1 as the page has them from left to right."""
+    return [it.text for it in browser.find_elements("css selector", "#rings .ring:first-child .phase b")]
+
+
+def test_rings_are_drawn_anew_when_a_download_is_put_in_force(panel, browser):
+    running, address = panel("--speed", 5)
+    browser.get(f"{address}#1")
+    awaited(browser, "box-2", "green")
+    assert "split" not in browser.find_element("id", "rings").text
+    running.ask(message(SET, 1, [(CONTROL, 1)]))
+    awaited(browser, "box-1", "split 15 s")
+    download(running, 1, *(((*SPLITS, phase), time) for phase, time in ((1, 20), (4, 25), (5, 20), (8, 25))))
+    awaited(browser, "box-1", "split 20 s")
+    assert "split 25 s" in browser.find_element("id", "box-8").text
+    assert places(browser) == ["Phase 1", "Phase 2", "Phase 3", "Phase 4"]
+    # lagging lefts on the main street: ring 1 is 2, 1, 3, 4 and ring 2 is 6, 5, 7, 8
+    download(running, 2, ((*SEQUENCE, 1, 1), bytes([2, 1, 3, 4])), ((*SEQUENCE, 1, 2), bytes([6, 5, 7, 8])))
+    awaited(browser, "rings", r"^Ring 1\s+Phase 2")
+    assert places(browser) == ["Phase 2", "Phase 1", "Phase 3", "Phase 4"]
+    browser.refresh()
+    awaited(browser, "rings", r"^Ring 1\s+Phase 2")
 
 
 def test_a_push_button_brings_a_walk_and_vehicles_come_by_chance(panel, browser):

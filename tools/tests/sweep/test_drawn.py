@@ -9,17 +9,16 @@ from streettools.sweep.drawn import faults_of, inputs_of
 def drawn(seed, hours=10, **row):
     """Returns the inputs of an hour or more, by rounds of a second."""
     table = {"flow": [{"cabinet": 1, "phase": 4} | row], "occupied": 2}
-    return inputs_of(json.dumps(table), seed, 3600 * hours, 10)
+    return inputs_of(json.dumps(table), seed, 3600 * hours, 10).values()
 
 
 def test_as_many_people_come_as_the_rate_says():
-    count = sum(len(drawn(seed, pedestrians=60)[1]) for seed in range(10))
+    count = sum(len(drawn(seed, pedestrians=60)) for seed in range(10))
     assert abs(count - 6000) < 4 * math.sqrt(6000)
 
 
 def test_a_detector_goes_on_and_off_in_turn_and_stays_on_for_its_time():
-    text, values = drawn(1, vehicles=900)
-    assert json.loads(f"[{text}]") == list(values)
+    values = drawn(1, vehicles=900)
     assert [it["on"] for it in values] == [place % 2 == 0 for place in range(len(values))]
     lengths = [off["round"] - on["round"] for on, off in zip(values[::2], values[1::2])]
     assert min(lengths) == 2 and max(lengths) > 2

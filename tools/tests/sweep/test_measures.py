@@ -6,12 +6,14 @@ import json
 import pytest
 from streettools.look import called, report
 from streettools.shared.course import Course
-from streettools.sweep import measures
+from streettools.sweep import measures, sights
 from streettools.sweep.bands import StreetTally
-from streettools.sweep.choice import column_of
+from streettools.sweep.choice import Column, column_of
 from streettools.sweep.counts import RunCounts
+from streettools.sweep.measures import Scope
 from streettools.sweep.one_run import Runner
 from streettools.sweep.prepared import prepared
+from streettools.sweep.sensed import streams_of
 from streettools.sweep.study import Street
 
 from ..look.conftest import PAIR, SMALL, VECTORS
@@ -31,12 +33,16 @@ class BuiltSo:
     def __init__(self, scenario, street=None):
         self.scenario, self.street, self.text = scenario, street, b""
 
+    def streams(self):
+        """Returns the inputs by cabinet and phase."""
+        return streams_of(self.scenario.get("inputs", ()))
+
 
 def counted(trace: str, start: int = 0, street: Street | None = None) -> RunCounts:
     """Returns what is counted of a trace."""
     runner = Runner(NoStudy(start), None, (), (), False, 60)
     runner.street = street is not None
-    return runner.counted(BuiltSo(json.loads(trace.split("\n")[0][2:]), street), trace.encode())
+    return runner.counted(BuiltSo(json.loads(trace.split("\n")[0][2:]), street), io.BytesIO(trace.encode()))
 
 
 def measured(trace: str, words: str, **more):
@@ -102,6 +108,33 @@ def test_counts_are_those_of_the_report(trace):
         )
         assert mine.accepted == sum("version" in it for it in cabinet["downloads"])
         assert mine.notes == sum(it["times"] for it in cabinet["notes"])
+
+
+def runner_of(columns: tuple[Column, ...]) -> Runner:
+    """Returns what counts a run for some columns alone."""
+    return Runner(NoStudy(0), None, columns, (), False, 60)
+
+
+@pytest.mark.parametrize("trace", VECTORS, ids=lambda it: it.stem)
+def test_a_measure_that_is_asked_alone_is_the_same_as_beside_all_others(trace):
+    text = trace.read_text()
+    counts, built = counted(text), BuiltSo(json.loads(text.split("\n")[0][2:]))
+    for name, measure in measures.ALL.items():
+        if measure.scope is Scope.STREET:
+            continue
+        for words in (name, f"{name} cabinet 1"):
+            column = column_of(words)
+            alone = runner_of((column,)).counted(built, io.BytesIO(text.encode()))
+            assert (words, column.value(alone)) == (words, column.value(counts))
+
+
+@pytest.mark.parametrize("trace", VECTORS, ids=lambda it: it.stem)
+def test_counts_do_not_depend_on_where_blocks_end(trace, monkeypatch):
+    text = trace.read_text()
+    whole = counted(text)
+    for size in (1, 100, 1000):
+        monkeypatch.setattr(sights, "BLOCK", size)
+        assert counted(text) == whole
 
 
 ROWS = {

@@ -1,7 +1,7 @@
 use Rattle.std.proofs.Common.{◌∙◌, List, sym}
 use Rattle.run_definition.specs.Orders.{AreJournals}
 use Rattle.session_laws.specs.Session.{Step}
-use Rattle.session_laws.specs.Told.{rounds_by}
+use Rattle.session_laws.specs.Answers.{rounds_by}
 use Rattle.session_laws.specs.Record.{resulting, session_journals}
 use Rattle.session_laws.proofs.Rounds.{AreRounds, journals-are, rest-told}
 use Rattle.session_laws.proofs.Sound.{session-rounds}

@@ -12,11 +12,11 @@ from collections.abc import Iterator
 from typing import NamedTuple
 
 from streettools.shared import files
-from streettools.shared.course import Course
 from streettools.shared.status import Status
 
 from ..called import Called
 from ..fault import Fault
+from ..reading import Checked
 from . import colours
 from .collect import CALLS, KINDS, Shared, Story, collect
 from .tables import FIELDS, packed
@@ -78,7 +78,7 @@ def cabinet_head(story: Story, names: Called) -> dict:
     }
 
 
-def head(course: Course, stories: list[Story], shared: Shared, names: Called, asked: Asked) -> dict:
+def head(course: Checked, stories: list[Story], shared: Shared, names: Called, asked: Asked) -> dict:
     """Returns all of a page that isn't a number of a table."""
     return {
         "title": names.title() or f"A run of {course.cabinets} cabinet{'s' * (course.cabinets > 1)}",
@@ -114,10 +114,10 @@ def page(top: dict, data: str) -> Iterator[str]:
         yield filled[text] if place % 2 else text
 
 
-def write(course: Course, names: Called, asked: Asked, path: str, finish) -> None:
-    """Reads the trace and writes its page; `finish` makes sure that the trace came to its end."""
+def write(course: Checked, names: Called, asked: Asked, path: str) -> None:
+    """Reads the trace and writes its page."""
     stories, shared = collect(course)
-    finish(course)
+    course.finish()
     top = head(course, stories, shared, names, asked)
     top["counts"], data = packed([story.tables for story in stories])
     with files.output(path) as out:

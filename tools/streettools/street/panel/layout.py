@@ -1,7 +1,6 @@
 """What a page must know of a cabinet's tables: its rings, and its patterns laid out.
 
-By the tables with which the cabinet opens and the downloads of the scenario; a download of other software is told by
-the version alone.
+By the tables with which the cabinet opens; after a download by those that are in force then (`in_force`).
 """
 
 from typing import Any
@@ -22,12 +21,12 @@ def sides(tables: Tables) -> list[list[int]]:
     return found
 
 
-def rings(tables: Tables) -> list[list[int]]:
-    """Returns the enabled phases of each ring in the order of sequence 1."""
+def rings(tables: Tables, sequence: int) -> list[list[int]]:
+    """Returns the enabled phases of each ring in the order of a sequence."""
     enabled = tables.enabled()
     found = []
     for ring in (1, 2):
-        order = [phase for phase in tables.sequence(1, ring) if phase in enabled]
+        order = [phase for phase in tables.sequence(sequence, ring) if phase in enabled]
         found.append(order + [it for it in enabled if tables.phase(it, 22) == ring and it not in order])
     return found
 
@@ -40,24 +39,30 @@ def pattern_facts(tables: Tables, number: int) -> Facts | None:
         return None
     if laid is None:
         return None
-    return {"cycle": laid.cycle, "offset": laid.offset, "coordinated": list(laid.coordinated), "force": laid.force}
+    return {
+        "cycle": laid.cycle,
+        "offset": laid.offset,
+        "coordinated": list(laid.coordinated),
+        "rings": rings(tables, tables.pattern(number, 5)),
+        "splits": {phase: tables.split(tables.pattern(number, 4), phase, 3) for phase in tables.enabled()},
+    }
 
 
-def facts(number: int, tables: Tables) -> Facts:
-    """Returns what a page must know of a cabinet."""
+def facts(number: int, tables: Tables, version: int = 0) -> Facts:
+    """Returns what a page must know of a cabinet, whose tables have this version."""
     patterns = {it: laid for it in tables.patterns() if (laid := pattern_facts(tables, it))}
     return {
         "number": number,
+        "version": version,
         "phases": tables.enabled(),
-        "rings": rings(tables),
+        "rings": rings(tables, 1),
         "sides": sides(tables),
         "patterns": patterns,
-        "times": {p: [tables.phase(p, 4) * 10, tables.phase(p, 6) * 10] for p in tables.enabled()},
     }
 
 
 def street_facts(scenario: dict[str, Any]) -> list[Facts]:
-    """Returns the facts of all cabinets."""
+    """Returns the facts of all cabinets as a session begins."""
     return [
         facts(number, Tables(setup.get("base", "std8"), setup.get("cells", ())))
         for number, setup in enumerate(scenario["cabinets"], 1)

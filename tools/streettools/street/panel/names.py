@@ -88,3 +88,11 @@ def answered_text(octets: bytes | None) -> str:
 def numbers_of(octets: bytes) -> list[int]:
     """Returns the numbers of a reply's bindings, 0 for what is none."""
     return [int.from_bytes(it, "big", signed=True) if tag == INTEGER else 0 for _, tag, it in reply_of(octets).bindings]
+
+
+def values_of(octets: bytes) -> list[int | tuple[int, ...]]:
+    """Returns the numbers and the octets of a reply's bindings."""
+    return [
+        tuple(it) if tag == OCTETS else int.from_bytes(it, "big", signed=True)
+        for _, tag, it in reply_of(octets).bindings
+    ]

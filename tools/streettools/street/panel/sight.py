@@ -138,6 +138,11 @@ class Sight(Hearer):
             "messages": [message_row(it) for it in self.messages if it[0] > known],
         }
 
+    def outdated(self) -> list[int]:
+        """Returns the cabinets whose tables in force are others than those by which they are laid out."""
+        pairs = zip(self.cabinets, self.facts)
+        return [number for number, (shown, facts) in enumerate(pairs, 1) if shown.version != facts["version"]]
+
     def greens(self) -> dict[int, list[tuple[int, int, int]]]:
         """Returns the greens of each cabinet's coordinated phases that are over and not long ago."""
         found = {}

@@ -11,8 +11,9 @@ from aiohttp import WSMsgType, web
 
 from ...cabinet.messages import GET, message
 from ..street import Hearer, Street
-from . import orders
-from .names import numbers_of
+from . import in_force, orders
+from .layout import facts
+from .names import numbers_of, values_of
 from .sight import Sight
 from .streams import STAYS, Streams
 
@@ -133,11 +134,39 @@ class Panel(Hearer):
 
     async def details_of(self, cabinet: int) -> dict[str, Any]:
         """Returns what management software reads of a cabinet."""
-        octets = message(GET, 1, [(name, None) for name in DETAILS.values()], self.community())
+        reply = await self.got(cabinet, list(DETAILS.values()))
+        return {"cabinet": cabinet} | (dict(zip(DETAILS, numbers_of(reply))) if reply else {})
+
+    async def got(self, cabinet: int, names: list[in_force.Name]) -> bytes | None:
+        """Returns a cabinet's reply to a Get of the panel's own; None where it is silent."""
+        octets = message(GET, 1, [(name, None) for name in names], self.community())
         request = b"frame %d priority %b" % (cabinet, octets.hex().encode())
         self.sight.own.add(request)
-        reply = await self.street.message(cabinet, octets)
-        return {"cabinet": cabinet} | (dict(zip(DETAILS, numbers_of(reply))) if reply else {})
+        try:
+            return await self.street.message(cabinet, octets)
+        finally:
+            self.sight.own.discard(request)
+
+    async def tables(self) -> None:
+        """Lays cabinets out anew that have other tables in force, and tells pages."""
+        while True:
+            await asyncio.sleep(EVERY)
+            for cabinet in self.sight.outdated() if self.pages else ():
+                with contextlib.suppress(in_force.Changed):
+                    await self.lay_out(cabinet)
+
+    async def lay_out(self, cabinet: int) -> None:
+        """Lays a cabinet out by the tables in force, and tells pages."""
+
+        async def asked(names: list[in_force.Name]) -> in_force.Values | None:
+            reply = await self.got(cabinet, names)
+            return values_of(reply) if reply else None
+
+        version, session = self.sight.cabinets[cabinet - 1].version, self.sight.sessions
+        tables = await in_force.read(asked, version)
+        if session == self.sight.sessions:
+            self.sight.facts[cabinet - 1] = facts(cabinet, tables, version)
+            self.broadcast({"laid": self.sight.facts[cabinet - 1]})
 
     def community(self) -> bytes:
         """Returns the community of the street."""
@@ -234,7 +263,7 @@ class Panel(Hearer):
         runner = web.AppRunner(app, access_log=None)
         await runner.setup()
         await web.SockSite(runner, port, shutdown_timeout=1).start()
-        self.tasks = [asyncio.create_task(it()) for it in (self.news, self.details, self.greens)]
+        self.tasks = [asyncio.create_task(it()) for it in (self.news, self.details, self.greens, self.tables)]
         return runner
 
     async def close(self, runner: web.AppRunner, ending: str) -> None:

@@ -7,10 +7,10 @@ use Rattle.sig_types.specs.Phases.{is_phase}
 use Rattle.sig_tables.specs.Modes.{bound}
 use Rattle.sig_tables.specs.View.{is_done}
 use Rattle.sig_tables.specs.Seen.{view_seen, demand_with}
-use Rattle.call_store.proofs.Listed.{none-has}
 use Rattle.tick_context.proofs.Again.{rings-rest, rings-undone}
 use Rattle.controller.proofs.Alone.{of-two}
 use Rattle.tick_context.proofs.Seen.{done-not}
+use Rattle.sig_types.proofs.Sets.{empty-has}
 use Rattle.controller.proofs.Controller.all_stay.Goals as goal
 
 off : (a b : Bool) → b ≡ false → (a && b) ≡ false
@@ -28,9 +28,9 @@ returns-then-stays c = record {
   stay = λ past k s mode t first second.
       let undone : (p : ℕ) → is_phase p ≡ true → is_done (view_seen past) p ≡ false = λ p h. elim (cases_Bool (has c.args.self.now.shown.green p)) [
         | inl i ↦ of-two (λ (q : ℕ). is_phase q ≡ true → is_done (view_seen past) q ≡ false)
-            c.args.self.now.shown.green c.lone.result c.lone-2.result c.minus.result c.minus-2.result _ _ p h
-            c.lone.ensures c.lone-2.ensures c.minus.ensures.has c.minus-2.ensures.has
-            (none-has c.minus-2.result p h (c.is_empty-2.ensures.empty.0 c.if-is_empty-2.true))
+            c.args.self.now.shown.green c.of.result c.of-2.result c.minus.result c.minus-2.result _ _ p h
+            c.of.ensures c.of-2.ensures c.minus.ensures.has c.minus-2.ensures.has
+            (empty-has c.minus-2.result p h (c.is_empty-2.ensures.empty.0 c.if-is_empty-2.true))
             i
             (c.stays.ensures.stays past k s mode c.if-stays.true)
             (c.stays-then-stays.ensures.stays past k s mode t) h

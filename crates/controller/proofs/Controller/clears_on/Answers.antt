@@ -4,14 +4,14 @@ use Rattle.sig_types.specs.Phases.{is_phase}
 use Rattle.sig_types.specs.Colour.{colour_of}
 use Rattle.sig_tables.specs.Looking.{runs_on}
 use Rattle.sig_tables.specs.Seen.{frame_seen}
-use Rattle.call_store.proofs.Listed.{none-has}
 use Rattle.controller.proofs.Alone.{of-two}
+use Rattle.sig_types.proofs.Sets.{empty-has}
 use Rattle.controller.proofs.Controller.clears_on.Goals as goal
 
 pub returns-then-is_empty : goal.returns-then-is_empty
 returns-then-is_empty c = record {
   stays = λ past p k t h clearing.
-      absurd (false≢true (sym (none-has c.args.self.now.shown.clearing p h (c.is_empty.ensures.empty.0 c.if-is_empty.true))
+      absurd (false≢true (sym (empty-has c.args.self.now.shown.clearing p h (c.is_empty.ensures.empty.0 c.if-is_empty.true))
       ∙ (k.shown.clearing p h ∙ clearing)));
 }
 
@@ -19,9 +19,9 @@ pub returns-then-keeps_colour : goal.returns-then-keeps_colour
 returns-then-keeps_colour c = record {
   stays = λ past p k t h clearing.
       of-two (λ (q : ℕ). is_phase q ≡ true → runs_on q past.tables past.moments (colour_of (frame_seen past) q) ≡ colour_of (frame_seen past) q)
-      c.args.self.now.shown.clearing c.lone.result c.lone-2.result c.minus.result c.minus-2.result _ _ p h
-      c.lone.ensures c.lone-2.ensures c.minus.ensures.has c.minus-2.ensures.has
-      (none-has c.minus-2.result p h (c.is_empty-2.ensures.empty.0 c.if-is_empty-2.true))
+      c.args.self.now.shown.clearing c.of.result c.of-2.result c.minus.result c.minus-2.result _ _ p h
+      c.of.ensures c.of-2.ensures c.minus.ensures.has c.minus-2.ensures.has
+      (empty-has c.minus-2.result p h (c.is_empty-2.ensures.empty.0 c.if-is_empty-2.true))
       (k.shown.clearing p h ∙ clearing)
       (c.keeps_colour.ensures.stays past k c.if-keeps_colour.true)
       (c.keeps_colour-then-keeps_colour.ensures.stays past k t) h;

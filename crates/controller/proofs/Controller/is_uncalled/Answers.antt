@@ -1,6 +1,6 @@
 use Rattle.std.proofs.Common.{◌≡◌, ◌&&◌, Bool, not, false}
 use Rattle.sig_tables.proofs.Below.{is-within}
-use Rattle.call_store.proofs.Listed.{none-has}
+use Rattle.sig_types.proofs.Sets.{empty-has}
 use Rattle.controller.proofs.Controller.is_uncalled.Goals as goal
 
 -- what the sets have of a phase, where none has all
@@ -12,7 +12,7 @@ pub returns : goal.returns
 returns c = record {
   walks = λ past against p k o t h.
       apart _ _ _ _ _ _ _ _ _ _ _ _ _ _
-      (none-has c.meet.result p h (c.is_empty.ensures.empty.0 t))
+      (empty-has c.meet.result p h (c.is_empty.ensures.empty.0 t))
       (c.meet.ensures.has p) (c.meet-called.ensures.has p) (c.minus.ensures.has p (is-within p h)) (c.minus-steady.ensures.has p (is-within p h))
       (k.context.layout.walks p h) (c.pedestrian.ensures.has past k.context.calls p h) (k.shown.green p h) (k.signalling p h) (o p h);
 }

@@ -3,19 +3,19 @@ use Rattle.std.proofs.lemmas.Bool.{cases_Bool}
 use Rattle.sig_types.specs.PhaseSet.{has}
 use Rattle.sig_types.specs.Phases.{is_phase}
 use Rattle.sig_tables.specs.Modes.{bound}
-use Rattle.call_store.proofs.Listed.{none-has}
 use Rattle.tick_context.specs.Lasting.{PhaseLasts}
 use Rattle.tick_context.proofs.Left.{dark-lasts, neither-of}
 use Rattle.controller.proofs.Alone.{of-two}
+use Rattle.sig_types.proofs.Sets.{empty-has}
 use Rattle.controller.proofs.Controller.phases_left.Goals as goal
 
 pub returns-then-is_empty : goal.returns-then-is_empty
 returns-then-is_empty c = record {
   left = λ past k p keeps b looks some within h. elim (cases_Bool (has c.union-busy.result p)) [
     | inl i ↦ of-two (λ (q : ℕ). is_phase q ≡ true → PhaseLasts (bound c.args.self.now.context.frame.mode) k past q)
-        c.union-busy.result c.lone.result c.lone-2.result c.minus.result c.minus-2.result _ _ p h
-        c.lone.ensures c.lone-2.ensures c.minus.ensures.has c.minus-2.ensures.has
-        (none-has c.minus-2.result p h (c.is_empty.ensures.empty.0 c.if-is_empty.true))
+        c.union-busy.result c.of.result c.of-2.result c.minus.result c.minus-2.result _ _ p h
+        c.of.ensures c.of-2.ensures c.minus.ensures.has c.minus-2.ensures.has
+        (empty-has c.minus-2.result p h (c.is_empty.ensures.empty.0 c.if-is_empty.true))
         i
         (c.place_left-one.ensures.left past k keeps b looks some (omega (arith, within)))
         (c.place_left.ensures.left past k keeps b looks some (omega (arith, within))) h

@@ -1,15 +1,10 @@
-use Rattle.std.proofs.Common.{◌≡◌, ◌≤◌, ◌+◌, ℕ, suc, Bool, false, refl, sym, ◌∙◌, ap, arith, subst}
-use Rattle.sig_types.specs.declared.frame.Frame.{Frame}
+use Rattle.std.proofs.Common.{◌≡◌, ◌≤◌, ◌+◌, ℕ, suc, false, refl, sym, ◌∙◌, ap, arith, subst}
 use Rattle.sig_tables.specs.Past.{History}
 use Rattle.sig_tables.specs.Decide.{decide, last_frame_of}
 use Rattle.tick_context.specs.Strides.{has_line, is_told, ticks_more}
 use Rattle.controller.specs.StandsFor.{ControllerStands}
-use Rattle.tick_context.proofs.Striding.{more-more, plain-on}
+use Rattle.tick_context.proofs.Striding.{more-more, plain-on, told-by}
 use Rattle.controller.proofs.Controller.stride_told.Goals as goal
-
--- what the test of the two frames said of the tick
-told-by : (last next f g : Frame) (b : Bool) → b ≡ has_line last next → last ≡ f → next ≡ g → has_line f g ≡ b
-told-by last next f g b e k l = rw (← k, ← l) (sym e)
 
 pub loop-done-init : goal.loop-done-init
 loop-done-init c = record {

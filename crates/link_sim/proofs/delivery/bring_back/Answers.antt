@@ -7,22 +7,26 @@ use Rattle.link_sim.specs.Reaching.{line_up}
 use Rattle.link_sim.proofs.Reached.{carried_is, held_is}
 use Rattle.link_sim.proofs.delivery.bring_back.Goals as goal
 
-pub returns-in-Ok-clause-stays : goal.returns-in-Ok-clause-stays
-returns-in-Ok-clause-stays c = λ cab past are is. c.carry.ensures.again cab Up past are is
+pub returns-clause-stays : goal.returns-clause-stays
+returns-clause-stays c = λ cab past are is. c.carry.ensures.again cab Up past are is
 
-pub returns-in-Err-clause-stays : goal.returns-in-Err-clause-stays
-returns-in-Err-clause-stays c = λ cab past are is. c.carry.ensures.again cab Up past are is
+pub returns-in_err-arrived-clause-stays : goal.returns-in_err-arrived-clause-stays
+returns-in_err-arrived-clause-stays c = λ cab past are is. c.carry.ensures.again cab Up past are is
 
-pub returns-in-Ok-clause-returns : goal.returns-in-Ok-clause-returns
-returns-in-Ok-clause-returns c = λ s cab. record {
-  polls = λ past of are is. carried_is (faults_in c.args.lists.now.faults) s.faults of.faults (line_up cab Poll) _ (texts_of c.args.answers.now.polls.items) _ past.polls
-      (c.in-Ok.ensures.polls cab Up past are is) (ap texts_of c.deref.ensures.value);
-  loads = λ past of are is. carried_is (faults_in c.args.lists.now.faults) s.faults of.faults (line_up cab Load) _ (texts_of c.args.answers.now.loads.items) _ past.loads
-      (c.in-Ok.ensures.loads cab Up past are is) (ap texts_of c.deref-2.ensures.value);
-  prios = λ past of are is. carried_is (faults_in c.args.lists.now.faults) s.faults of.faults (line_up cab Prio) _ (texts_of c.args.answers.now.prios.items) _ past.prios
-      (c.in-Ok.ensures.prios cab Up past are is) (ap texts_of c.deref-3.ensures.value);
+pub returns-clause-returns : goal.returns-clause-returns
+returns-clause-returns c = λ s cab. record {
+  arrive = λ past of are is.
+      let arrive = c.in_ok-arrived.ensures.arrive cab Up past are is in
+      record {
+        polls = carried_is (faults_in c.args.lists.now.faults) s.faults of.faults (line_up cab Poll) _ (texts_of c.args.answers.now.polls.items) _ past.polls
+            arrive.polls (ap texts_of c.deref.ensures.value);
+        loads = carried_is (faults_in c.args.lists.now.faults) s.faults of.faults (line_up cab Load) _ (texts_of c.args.answers.now.loads.items) _ past.loads
+            arrive.loads (ap texts_of c.deref-2.ensures.value);
+        prios = carried_is (faults_in c.args.lists.now.faults) s.faults of.faults (line_up cab Prio) _ (texts_of c.args.answers.now.prios.items) _ past.prios
+            arrive.prios (ap texts_of c.deref-3.ensures.value);
+      };
   holds = λ past of are is.
       held_is c.carry.new.self (faults_in c.args.lists.now.faults) cab Up _ (texts_of c.args.answers.now.polls.items) _ (texts_of c.args.answers.now.loads.items)
       _ (texts_of c.args.answers.now.prios.items) past (ap texts_of c.deref.ensures.value) (ap texts_of c.deref-2.ensures.value) (ap texts_of c.deref-3.ensures.value)
-      (c.in-Ok.ensures.holds cab Up past are is);
+      (c.in_ok-arrived.ensures.hold cab Up past are is);
 }

@@ -11,14 +11,14 @@ use Rattle.link_sim.proofs.link.deliver_all.Goals as goal
 
 pub loop-k-preserved : goal.loop-k-preserved
 loop-k-preserved c =
-    let pushed : c.push.new.self.items ≡ c.loop-k.all.items ++ c.in-Ok.streams ∷ [] = grind (arith, common_steps) in
+    let pushed : c.push.new.self.items ≡ c.loop-k.all.items ++ c.in_ok-streams.streams ∷ [] = grind (arith, common_steps) in
     let number = c.loop-k.invariant.0 in (
       ap (λ n. n + 1) number,
-      rw pushed (goes_next _ _ c.args.down.now.items c.loop-k.down.items c.loop-k.all.items c.loop-k.k c.deliver.new.lines c.in-Ok.streams (omega arith) c.loop-k.invariant.1
+      rw pushed (goes_next _ _ c.args.down.now.items c.loop-k.down.items c.loop-k.all.items c.loop-k.k c.deliver.new.lines c.in_ok-streams.streams (omega arith) c.loop-k.invariant.1
           c.index_mut.result.now c.index_mut.ensures.value
-          (λ m. subst (λ (x : Sending). Delivers c.index_mut.result.now c.deliver.new.lines c.args.lists.now (scenario_content c.args.s.now) c.args.round (c.loop-k.k + 1) x c.in-Ok.streams)
+          (λ m. subst (λ (x : Sending). Delivers c.index_mut.result.now c.deliver.new.lines c.args.lists.now (scenario_content c.args.s.now) c.args.round (c.loop-k.k + 1) x c.in_ok-streams.streams)
           (c.index-sendings-k.is ∙ get_or_default c.args.sendings.now c.loop-k.k _ m (omega arith))
-          (subst (λ (n : ℕ). Delivers c.index_mut.result.now c.deliver.new.lines c.args.lists.now (scenario_content c.args.s.now) c.args.round n c.index-sendings-k.result c.in-Ok.streams)
-          number c.in-Ok.ensures.delivers))
+          (subst (λ (n : ℕ). Delivers c.index_mut.result.now c.deliver.new.lines c.args.lists.now (scenario_content c.args.s.now) c.args.round n c.index-sendings-k.result c.in_ok-streams.streams)
+          number c.in_ok-streams.ensures.delivers))
           (subst (λ (n : ℕ). Stays c.index_mut.result.now c.deliver.new.lines (faults_in c.args.lists.now.faults) n Down c.args.round) number c.deliver.ensures.stays)),
     )

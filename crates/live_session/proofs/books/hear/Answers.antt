@@ -1,4 +1,5 @@
 use Rattle.std.proofs.Common.{◌-◌, ◌<◌, length, refl, arith}
+use Rattle.sig_types.specs.declared.streams.Stream.TheVariants.{Inputs}
 use Rattle.sig_types.specs.Items.{Told}
 use Rattle.live_session.proofs.Appended.{on-ok-then}
 use Rattle.live_session.proofs.Taking.{has-brought}
@@ -27,5 +28,5 @@ returns c =
     let new = c.bring_input.new.self in
     on-ok-then _ _ c.bring_input.result (λ brought text.
     one-silent 0 (Told c.args.field) c.args.books.now.items (c.args.cab - 1) c.args.cab was new (omega arith) c.index_mut.ensures.value (omega arith)
-    (has-brought c.args.cab 0 (Told c.args.field) was new (omega arith) brought
-    (λ t acts came. c.books_follow_acts.ensures.brought t acts was new 0 (Told c.args.field) came brought)) c.args.field refl text) c.bring_input.ensures.brought
+    (has-brought c.args.cab Inputs (Told c.args.field) was new (omega arith) brought
+    (λ t acts came. c.books_follow_acts.ensures.brought t acts was new Inputs (Told c.args.field) came brought)) c.args.field refl text) c.bring_input.ensures.brought

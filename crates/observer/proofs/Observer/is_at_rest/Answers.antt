@@ -7,10 +7,10 @@ use Rattle.sig_tables.specs.Past.{Past}
 use Rattle.sig_tables.specs.Decide.{past_at, ticked}
 use Rattle.sig_tables.specs.Walking.{has_walk}
 use Rattle.sig_tables.specs.Seen.{frame_seen, pedestrian_seen}
-use Rattle.call_store.proofs.Listed.{none-has}
 use Rattle.tick_context.specs.Lasting.{IsFresh, opposed_with}
 use Rattle.tick_context.specs.Shows.{is_clearing, is_signalling}
 use Rattle.observer.proofs.AtRest.{phase-rests, still-uncalled}
+use Rattle.sig_types.proofs.Sets.{empty-has}
 use Rattle.observer.proofs.Observer.is_at_rest.Goals as goal
 
 pub returns-else-not-is_empty : goal.returns-else-not-is_empty
@@ -45,7 +45,7 @@ returns-else-not-is_empty c = record {
           phases = λ p i.
               let none : (is_clearing (frame_seen past).veh p || is_signalling (frame_seen past) p) ≡ false =
               ap (λ (f : Frame). is_clearing f.veh p || is_signalling f p) (sym k.context.frame) ∙ sym (c.running_out.ensures p i)
-              ∙ none-has c.running_out.result p i (c.is_empty.ensures.empty.0 c.if-not-is_empty.false) in
+              ∙ empty-has c.running_out.result p i (c.is_empty.ensures.empty.0 c.if-not-is_empty.false) in
               phase-rests n past p none demand;
         };
       };

@@ -6,7 +6,7 @@ use Rattle.sig_tables.specs.Past.{Past}
 use Rattle.sig_tables.specs.Layout.{Has}
 use Rattle.sig_tables.specs.Seen.{frame_seen}
 use Rattle.sig_tables.proofs.Below.{is-above, is-within}
-use Rattle.call_store.proofs.Listed.{none-has}
+use Rattle.sig_types.proofs.Sets.{empty-has}
 use Rattle.observer.proofs.Observer.is_unasked.Goals as goal
 
 -- what the sets have of a phase, where none has all
@@ -19,7 +19,7 @@ returns-then-is_empty c = record {
       sym (c.demand.ensures.demand None past k.context.calls k.context.layout tt (red past k.context.frame)) ∙ c.is_empty.ensures.empty.0 c.if-is_empty.true;
   walks = λ past p k t h.
       apart _ _ _ _ _ _ _ _
-      (none-has c.meet.result p h (c.is_empty-then-is_empty.ensures.empty.0 t))
+      (empty-has c.meet.result p h (c.is_empty-then-is_empty.ensures.empty.0 t))
       (c.meet.ensures.has p) (c.meet-called.ensures.has p) (k.context.layout.walks p h) (c.pedestrian.ensures.has past k.context.calls p h)
       (c.showing-green.ensures.shown p (is-above p h) (is-within p h) ∙ ap (λ (f : Frame). same_colour (colour_of f p) Green) k.context.frame);
 }

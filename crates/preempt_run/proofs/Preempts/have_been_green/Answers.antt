@@ -8,7 +8,7 @@ use Rattle.sig_tables.proofs.Below.{is-above, is-within}
 use Rattle.preempt_stages.specs.Dwelling.{dwells_green}
 use Rattle.preempt_stages.proofs.Covered.{is_due, covered}
 use Rattle.preempt_run.proofs.Dwelt.{beyond-green}
-use Rattle.preempt_run.proofs.Runs.{tally-lasts}
+use Rattle.preempt_run.proofs.Runs.{runs-lasts}
 use Rattle.preempt_run.proofs.Preempts.have_been_green.Goals as goal
 
 pub returns : goal.returns
@@ -22,7 +22,7 @@ returns c = record {
       ∙ rw (
         c.due_green.ensures p (is-above p is) (is-within p is),
         c.short_of-not_green.ensures.short p (is-above p is) (is-within p is),
-        tally-lasts c.args.self.now.green c.args.self.now.steps p c.args.ticks (dwells_green p) past.moments
+        runs-lasts c.args.self.now.green c.args.self.now.steps p c.args.ticks (dwells_green p) past.moments
             (stands.green p (is-above p is) (is-within p is)),
       ) refl))
       ∙ sym (covered (λ q. lasts c.args.ticks (dwells_green q) past.moments) (listed c.args.goal.now) refl

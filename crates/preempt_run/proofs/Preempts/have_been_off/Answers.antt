@@ -8,7 +8,7 @@ use Rattle.sig_tables.proofs.Below.{is-above, is-within}
 use Rattle.preempt_stages.specs.Dwelling.{dwells_off}
 use Rattle.preempt_stages.proofs.Each.{not-some, every-same}
 use Rattle.preempt_stages.proofs.Listed.{neither}
-use Rattle.preempt_run.proofs.Runs.{tally-lasts}
+use Rattle.preempt_run.proofs.Runs.{runs-lasts}
 use Rattle.preempt_run.proofs.Preempts.have_been_off.Goals as goal
 
 pub returns : goal.returns
@@ -23,7 +23,7 @@ returns c = record {
         c.minus.ensures.has p (is-within p is),
         c.short_of-not_off.ensures.short p (is-above p is) (is-within p is),
         c.phases_in.ensures.has p is,
-        tally-lasts c.args.self.now.off c.args.self.now.steps p c.args.ticks (dwells_off p) past.moments
+        runs-lasts c.args.self.now.off c.args.self.now.steps p c.args.ticks (dwells_off p) past.moments
             (stands.off p (is-above p is) (is-within p is)),
       )
       (neither (lasts c.args.ticks (dwells_off p) past.moments) (is_in (listed c.args.goal.now) p)));

@@ -1,7 +1,7 @@
 use Rattle.std.proofs.Common.{◌≡◌, ◌<◌, ◌⊎◌, inl, inr, true, sym, ◌∙◌, arith}
 use Rattle.sig_types.specs.Phases.{is_in}
 use Rattle.preempt_stages.specs.Inputs.{preempts_seen}
-use Rattle.phase_clock.proofs.Tallies.{counted}
+use Rattle.phase_clock.proofs.Counted.{counted}
 use Rattle.preempt_stages.proofs.Inputs.{none-beyond, not-called}
 use Rattle.preempt_run.proofs.Called.{seen-on, called-counted}
 use Rattle.preempt_run.proofs.Preempts.is_called.Goals as goal

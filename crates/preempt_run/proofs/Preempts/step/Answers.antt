@@ -1,18 +1,13 @@
-use Rattle.std.proofs.Common.{◌≡◌, ◌≤◌, ℕ, true, false, List, [], length, sym, ◌∙◌, ap, arith}
+use Rattle.std.proofs.Common.{◌≡◌, ◌≤◌, ℕ, true, List, length, sym, ◌∙◌, ap, arith}
 use Rattle.sig_types.specs.declared.frame.Frame.{Frame}
-use Rattle.sig_types.specs.declared.phase_set.PhaseSet.{PhaseSet}
-use Rattle.sig_types.specs.PhaseSet.{has, phases_of}
-use Rattle.sig_types.specs.Phases.{is_phase, is_in}
-use Rattle.sig_types.proofs.Sets.{in-phases}
+use Rattle.sig_types.specs.Phases.{is_in}
+use Rattle.sig_types.proofs.Sets.{empty-has}
 use Rattle.sig_tables.proofs.Below.{phase-is}
 use Rattle.preempt_stages.specs.Dwelling.{is_dwell, dwells_green, dwells_off}
 use Rattle.preempt_stages.proofs.Goes.{one-mode}
 use Rattle.preempt_run.proofs.Called.{seen-on}
 use Rattle.preempt_run.proofs.Runs.{mode-steps, stage-steps}
 use Rattle.preempt_run.proofs.Preempts.step.Goals as goal
-
-empty-has : (s : PhaseSet) (p : ℕ) → is_phase p ≡ true → phases_of s ≡ [] → has s p ≡ false
-empty-has s p is e = sym (in-phases (has s) p is) ∙ ap (λ (xs : List ℕ). is_in xs p) e
 
 pub returns-then-is_beside-clause-stands : goal.returns-then-is_beside-clause-stands
 returns-then-is_beside-clause-stands c = λ past m stands frame saw names.

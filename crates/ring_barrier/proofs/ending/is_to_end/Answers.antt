@@ -31,7 +31,7 @@ returns-else-elsewhere c = λ w s on.
     (ap (λ (n : ℕ). not (n == 0)) (c.first_earlier.ensures w s test (λ q p.
     c.minus-others.ensures.has q (phase-in q p).1
     ∙ rw (
-      c.lone.ensures q p,
+      c.of.ensures q p,
       s.shows.rings.on c.args.ring c.requires.from c.requires.to,
       wanted-on c.args.view.now w c.args.ring s.shows c.requires.from c.requires.to on q p,
     )

@@ -4,7 +4,8 @@ use Rattle.sig_tables.specs.Sides.{are_of_one_side}
 use Rattle.sig_tables.specs.View.{View as Scene}
 use Rattle.sig_tables.specs.Moves.{Moves, ending_in, beginning_of}
 use Rattle.ring_barrier.specs.Shows.{Shows, Sees}
-use Rattle.ring_barrier.proofs.Lone.{beginning-has, in-both}
+use Rattle.ring_barrier.proofs.Lone.{beginning-has}
+use Rattle.sig_types.proofs.Lists.{in-both}
 use Rattle.ring_barrier.proofs.moves.changes.Goals as goal
 
 pub returns-then-is_idle : goal.returns-then-is_idle
@@ -35,6 +36,6 @@ returns c =
           let g : get_or c.beginnings-begins.result 1 0 ≡ only (beginning_of w 2) =
           ap (λ (xs : List ℕ). get_or xs 1 0) (c.beginnings-begins.ensures w (sees w s)) in
           c.union-2.ensures.has p
-          ∙ rw (c.lone.ensures p e, c.lone-2.ensures p e, f, g, ← beginning-has w 1 p e, ← beginning-has w 2 p e)
+          ∙ rw (c.of.ensures p e, c.of-2.ensures p e, f, g, ← beginning-has w 1 p e, ← beginning-has w 2 p e)
           (sym (in-both (beginning_of w 1) (beginning_of w 2) p));
     }

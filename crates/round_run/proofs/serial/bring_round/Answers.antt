@@ -1,4 +1,6 @@
-use Rattle.std.proofs.Common.{◌∙◌, arith}
+use Rattle.std.proofs.Common.{◌∙◌, subst, arith}
+use Rattle.sig_types.specs.Passes.{number_of}
+use Rattle.cab_book.proofs.Numbers.{number-brought}
 use Rattle.round_run.proofs.InSerial.{BringsAll, joined-first, brought-none, brought-more, brought-whole, finished-none, finished-more, finished-whole}
 use Rattle.round_run.proofs.serial.bring_round.Goals as goal
 
@@ -14,13 +16,15 @@ loop-pass-init c =
 
 pub loop-pass-preserved : goal.loop-pass-preserved
 loop-pass-preserved c =
-    let brings : BringsAll c.loop-pass.book c.bring_all.new.book c.loop-pass.pass = record {
+    let own : BringsAll c.loop-pass.book c.bring_all.new.book (number_of c.of_pass.result) = record {
       stands = c.bring_all.ensures.stands;
       streams = c.bring_all.ensures.streams;
       journal = c.bring_all.ensures.journal;
       own = c.bring_all.ensures.own;
       others = c.bring_all.ensures.others;
     } in
+    let brings : BringsAll c.loop-pass.book c.bring_all.new.book c.loop-pass.pass =
+    subst (BringsAll c.loop-pass.book c.bring_all.new.book) (number-brought c.loop-pass.pass c.of_pass.result (omega arith) c.of_pass.ensures) own in
     record {
       brought = λ s cab t run. brought-more s cab t c.loop-pass.pass c.loop-pass.book c.bring_all.new.book (omega arith) brings
           (c.loop-pass.invariant.brought s cab t run);

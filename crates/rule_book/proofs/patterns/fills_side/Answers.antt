@@ -7,10 +7,9 @@ use Rattle.sig_tables.specs.declared.tables.Tables.{Tables}
 use Rattle.sig_tables.specs.Tables.{ring_of, is_enabled}
 use Rattle.sig_tables.specs.Sides.{are_concurrent, are_of_one_side}
 use Rattle.sig_tables.specs.Layout.{Has, set_of}
-use Rattle.sig_tables.proofs.Below.{phase-is}
+use Rattle.sig_tables.proofs.Below.{phase-is, enabled-phase}
 use Rattle.rule_book.specs.RingLayout.{is_of_ring}
 use Rattle.rule_book.specs.Patterns.{side_time}
-use Rattle.rule_book.proofs.Together.{enabled-phase}
 use Rattle.rule_book.proofs.patterns.fills_side.Goals as goal
 
 of-ring : (p q r x : Bool) → ((q && r) && (p && q && x)) ≡ (r && (p && q && x))

@@ -2,7 +2,7 @@ use Rattle.std.proofs.Common.{◌≡◌, ◌≤◌, ◌+◌, ◌-◌, ℕ, slice
 use Rattle.std.proofs.Math.ListN.{length-set}
 use Rattle.sig_tables.specs.Slots.{least_service}
 use Rattle.sig_tables.proofs.Below.{is-within}
-use Rattle.tick_context.proofs.Filling.{FilledTo, filled-none, filled-more}
+use Rattle.sig_tables.proofs.FilledTo.{FilledTo, filled-none, filled-more}
 use Rattle.tick_context.proofs.active_pattern.services.Goals as goal
 
 pub loop-phase-init : goal.loop-phase-init

@@ -1,6 +1,6 @@
 use Rattle.std.proofs.Common.{◌≡◌, length, ◌-◌}
 use Rattle.sig_tables.specs.Slots.{least_service}
-use Rattle.tick_context.proofs.Filling.{FilledTo}
+use Rattle.sig_tables.proofs.FilledTo.{FilledTo}
 use Rattle.tick_context.proofs.active_pattern.services.Given as goal
 
 abbrev pub invariant-loop-phase : goal.invariant-loop-phase

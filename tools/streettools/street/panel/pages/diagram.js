@@ -3,7 +3,8 @@
 
 const ROW = 34;
 const LEFT = 80;
-const WIDTH = 1000;
+const NARROWEST = 320;
+const LABEL = 90;
 
 function greensOf(known, number, ring) {
   const facts = known.facts[number - 1];
@@ -47,9 +48,11 @@ function drawDiagram(known) {
   if (typeof d3 === "undefined" || !known.facts.length) return;
   const ticks = 600 * Math.max(1, Number(document.getElementById("minutes").value) || 5);
   const height = known.facts.length * ROW + 40;
-  const svg = d3.select("#diagram").attr("viewBox", `0 0 ${WIDTH} ${height}`);
+  const svg = d3.select("#diagram");
+  const width = Math.max(NARROWEST, svg.node().clientWidth);
+  svg.attr("viewBox", `0 0 ${width} ${height}`);
   const times = [Math.max(0, known.now - ticks), Math.max(ticks, known.now)];
-  const x = d3.scaleLinear().domain(times).range([LEFT, WIDTH - 30]).clamp(true);
+  const x = d3.scaleLinear().domain(times).range([LEFT, width - 30]).clamp(true);
   const rows = known.facts.map((facts, at) => at);
   svg.selectAll("text.row").data(rows).join("text").attr("class", "row").attr("x", 6)
     .attr("y", (it) => it * ROW + ROW / 2 + 14).text((it) => `Cabinet ${it + 1}`);
@@ -62,5 +65,5 @@ function drawDiagram(known) {
   drawBands(svg, known, "in", 1, [...rows].reverse(), x);
   const axis = svg.selectAll("g.axis").data([0]).join("g").attr("class", "axis");
   axis.attr("transform", `translate(0,${height - 26})`);
-  axis.call(d3.axisBottom(x).ticks(10).tickFormat((it) => `${Math.round(it / 10)} s`));
+  axis.call(d3.axisBottom(x).ticks(Math.floor(width / LABEL)).tickFormat((it) => `${Math.round(it / 10)} s`));
 }

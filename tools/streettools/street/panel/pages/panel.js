@@ -55,6 +55,10 @@ function take(told) {
     known.facts = told.facts;
     build();
   }
+  if (told.laid) {
+    known.facts[told.laid.number - 1] = told.laid;
+    by("cards").children[told.laid.number - 1].dataset.tick = "";
+  }
   if (told.all) clearLists();
   if (told.now !== undefined) known.now = told.now;
   for (const [number, row] of Object.entries(told.cabinets || {})) known.cabinets[number] = shownOf(row);
@@ -149,12 +153,17 @@ function showCard(facts) {
 function phaseBox(p) {
   const box = made("div", "phase");
   box.id = `box-${p}`;
-  box.append(made("b", "", `Phase ${p}`), made("span", "interval"));
+  box.append(made("b", "", `Phase ${p}`), made("span", "interval"), made("span", "split"));
   return box;
 }
 
-function buildRings(facts) {
-  const rings = facts.rings.map((phases, at) => {
+// The pattern that runs or is sought, laid out; nothing where there is none.
+function patternOf(facts, mode) {
+  return ["K", "C"].includes(mode[0]) ? facts.patterns[mode.slice(1)] : undefined;
+}
+
+function buildRings(order, facts) {
+  const rings = order.map((phases, at) => {
     const ring = made("div", "ring");
     ring.append(made("span", "name", `Ring ${at + 1}`));
     const sides = [];
@@ -169,6 +178,20 @@ function buildRings(facts) {
     return ring;
   });
   by("rings").replaceChildren(...rings);
+}
+
+// Draws the rings where there are others than before: another sequence, other phases, other splits.
+function layRings(shown) {
+  const facts = known.facts[viewed - 1];
+  const pattern = patternOf(facts, shown.mode) || { rings: facts.rings, splits: {} };
+  const laid = JSON.stringify([viewed, pattern, facts.sides]);
+  if (by("rings").dataset.laid === laid) return;
+  by("rings").dataset.laid = laid;
+  buildRings(pattern.rings, facts);
+  for (const [p, time] of Object.entries(pattern.splits)) {
+    const box = by(`box-${p}`);
+    if (box) put(box.querySelector(".split"), `split ${time} s`);
+  }
 }
 
 function button(text, id, pressed) {
@@ -220,7 +243,6 @@ function buildCabinet() {
   const facts = known.facts[viewed - 1];
   if (!facts) return;
   put(by("cabinet-title"), `Cabinet ${viewed}`);
-  buildRings(facts);
   by("phases").tBodies[0].replaceChildren(...Array.from({ length: 16 }, (_, at) => phaseRow(at + 1)));
   const preempts = Array.from({ length: 8 }, (_, at) => {
     const it = button(`Preempt ${at + 1}`, `preempt-${at + 1}`, true);
@@ -298,6 +320,7 @@ function showPhase(p, shown) {
 function showCabinet() {
   const shown = known.cabinets[viewed];
   if (!shown || !by("hold-1")) return;
+  layRings(shown);
   showFacts(shown);
   for (let p = 1; p <= 16; p += 1) showPhase(p, shown);
   for (let n = 1; n <= 8; n += 1) press(`preempt-${n}`, known.inputs.has(`preempt ${viewed} ${n}`));

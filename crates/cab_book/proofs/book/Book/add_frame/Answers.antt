@@ -1,13 +1,14 @@
-use Rattle.std.proofs.Common.{◌≡◌, ◌+◌, ◌∙◌, ℕ, List, length, get_or, slice_set, refl, sym, ap, subst, arith}
+use Rattle.std.proofs.Common.{◌≡◌, ◌<◌, ◌+◌, ◌∙◌, ℕ, List, length, get_or, slice_set, refl, sym, ap, subst, arith}
 use Rattle.std.proofs.Math.Logic.{∥∥₁_map}
 use Rattle.sig_types.specs.declared.streams.Streams.{Streams}
 use Rattle.sig_types.specs.Items.{Came, items_of}
 use Rattle.cab_book.specs.declared.cabinet.Cabinet.{Cabinet}
-use Rattle.cab_book.specs.Books.{with_last}
+use Rattle.sig_types.specs.Passes.{pass_of}
 use Rattle.cab_book.specs.Shares.{ticks_left}
 use Rattle.cab_book.specs.Rounds.{frames_left, items_left, RoundStands}
 use Rattle.cab_book.proofs.Bringing.{Taken, frame-taken, room-less}
-use Rattle.cab_book.proofs.Lengthening.{added, acts-same, acts-stay, longer_by, placed-same, round-same, short-lengthened, short-same, tallied-lengthened, tallied-same, unchanged}
+use Rattle.cab_book.proofs.Lengthening.{added, acts-same, acts-stay, longer_by, placed-same, round-same, short-lengthened, short-same, tallied-lengthened, tallied-same, unchanged, with_last_at}
+use Rattle.cab_book.proofs.Numbers.{way-above, way-within, way-low}
 use Rattle.cab_book.proofs.book.Book.add_frame.Goals as goal
 
 -- memory was wanting for the stream
@@ -35,23 +36,25 @@ invariant_of-self-2 c =
     let same = c.reserve_one.ensures.same in
     let streams = c.push_frame.new.streams in
     let wide : length r.left ≡ length b.left = ap (λ (l : List ℕ). length l) same.left in
-    let left = slice_set r.left c.args.pass (get_or r.left c.args.pass 0 + 1) in
-    let o : Taken left b.left c.args.pass 1 = subst (λ (l : List ℕ). Taken left l c.args.pass 1) same.left (added r.left c.args.pass (omega (arith, wide, c.requires.within))) in
-    let t = frame-taken left b.left c.args.pass c.requires.above c.requires.within o in
-    let longer : items_of streams ≡ with_last (items_of b.streams) c.args.pass (Came c.args.octets.items) =
-    c.in-Ok-push_frame.ensures.items ∙ ap (λ (s : Streams). with_last (items_of s) c.args.pass (Came c.args.octets.items)) same.streams in
+    let left = slice_set r.left c.pass_of.result (get_or r.left c.pass_of.result 0 + 1) in
+    let here : c.pass_of.result < length r.left = omega (arith, wide, way-within c.args.way, c.pass_of.ensures) in
+    let o : Taken left b.left (pass_of c.args.way) 1 =
+    subst (λ (p : ℕ). Taken left b.left p 1) c.pass_of.ensures (subst (λ (l : List ℕ). Taken left l c.pass_of.result 1) same.left (added r.left c.pass_of.result here)) in
+    let t = frame-taken left b.left (pass_of c.args.way) (way-above c.args.way) (way-within c.args.way) o in
+    let longer : items_of streams ≡ with_last_at (items_of b.streams) (pass_of c.args.way) (Came c.args.octets.items) =
+    c.in-Ok-push_frame.ensures.items ∙ ap (λ (s : Streams). with_last_at (items_of s) (pass_of c.args.way) (Came c.args.octets.items)) same.streams in
     record {
       placed = ∥∥₁_map r.placed (placed-same r.streams streams (ap (λ v. v.items) c.push_frame.ensures.fields));
       few = omega (arith, b.few, ap (λ (k : Cabinet). k.ticks) same.cabinet, t.ticks_are);
       room = room-less r.happened (ticks_left b.left) (frames_left b.left + 1) (items_left b.left + 1) (ticks_left left) (frames_left left) (items_left left)
           (omega (arith, t.ticks_are)) (omega (arith, t.frames_are)) (omega (arith, t.items_are)) c.in-Ok.ensures.room;
-      tallied = tallied-lengthened b.streams streams c.args.pass (Came c.args.octets.items) (omega (arith, c.requires.within)) longer b.left left b.happened r.happened o same.happened.journal b.tallied;
-      short = short-lengthened b.streams streams c.args.pass (Came c.args.octets.items) (omega (arith, c.requires.within)) longer b.short c.requires.few;
+      tallied = tallied-lengthened b.streams streams (pass_of c.args.way) (Came c.args.octets.items) (way-low c.args.way) longer b.left left b.happened r.happened o same.happened.journal b.tallied;
+      short = short-lengthened b.streams streams (pass_of c.args.way) (Came c.args.octets.items) (way-low c.args.way) longer b.short c.requires.few;
       some = ∥∥₁_map b.some (λ some. (
         some.0,
         subst (λ (k : Cabinet). RoundStands k streams r.happened some.0) (sym same.cabinet)
             (round-same b.cabinet.value b.streams streams b.happened r.happened some.0
-            (acts-stay b.streams streams c.args.pass (Came c.args.octets.items) (omega (arith, c.requires.within)) longer b.left b.happened r.happened b.tallied same.happened.journal)
+            (acts-stay b.streams streams (pass_of c.args.way) (Came c.args.octets.items) (way-low c.args.way) longer b.left b.happened r.happened b.tallied same.happened.journal)
             same.happened.written same.happened.replies some.1),
       ));
     }
@@ -97,11 +100,13 @@ returns-clause-added c =
     let b = c.args.self.now in
     let r = c.reserve_one.new.self in
     let same = c.reserve_one.ensures.same in
-    let left = slice_set r.left c.args.pass (get_or r.left c.args.pass 0 + 1) in
+    let left = slice_set r.left c.pass_of.result (get_or r.left c.pass_of.result 0 + 1) in
     let wide : length r.left ≡ length b.left = ap (λ (l : List ℕ). length l) same.left in
-    let e = c.in-Ok-push_frame.ensures.items ∙ ap (λ (s : Streams). with_last (items_of s) c.args.pass (Came c.args.octets.items)) same.streams in
-    let o : Taken left b.left c.args.pass 1 = subst (λ (l : List ℕ). Taken left l c.args.pass 1) same.left (added r.left c.args.pass (omega (arith, wide, c.requires.within))) in
-    let u = longer_by b r.cabinet.value c.push_frame.new.streams left r.happened c.args.pass (Came c.args.octets.items) (omega (arith, c.requires.within)) same.cabinet e o same.happened in
+    let e = c.in-Ok-push_frame.ensures.items ∙ ap (λ (s : Streams). with_last_at (items_of s) (pass_of c.args.way) (Came c.args.octets.items)) same.streams in
+    let here : c.pass_of.result < length r.left = omega (arith, wide, way-within c.args.way, c.pass_of.ensures) in
+    let o : Taken left b.left (pass_of c.args.way) 1 =
+    subst (λ (p : ℕ). Taken left b.left p 1) c.pass_of.ensures (subst (λ (l : List ℕ). Taken left l c.pass_of.result 1) same.left (added r.left c.pass_of.result here)) in
+    let u = longer_by b r.cabinet.value c.push_frame.new.streams left r.happened (pass_of c.args.way) (Came c.args.octets.items) (way-low c.args.way) same.cabinet e o same.happened in
     record {
       stands = u.stands;
       streams = e;

@@ -3,11 +3,10 @@ use Rattle.std.proofs.Math.Logic.{∥∥₁_map}
 use Rattle.sig_types.specs.declared.streams.Streams.{Streams}
 use Rattle.sig_types.specs.Items.{Told, items_of}
 use Rattle.cab_book.specs.declared.cabinet.Cabinet.{Cabinet}
-use Rattle.cab_book.specs.Books.{with_last}
 use Rattle.cab_book.specs.Shares.{ticks_left}
 use Rattle.cab_book.specs.Rounds.{frames_left, items_left, RoundStands}
 use Rattle.cab_book.proofs.Bringing.{Taken, input-taken, room-less}
-use Rattle.cab_book.proofs.Lengthening.{added, acts-same, acts-stay, longer_by, placed-more, placed-same, round-same, short-lengthened, short-same, tallied-lengthened, tallied-same, unchanged}
+use Rattle.cab_book.proofs.Lengthening.{added, acts-same, acts-stay, longer_by, placed-more, placed-same, round-same, short-lengthened, short-same, tallied-lengthened, tallied-same, unchanged, with_last_at}
 use Rattle.cab_book.proofs.book.Book.add_input.Goals as goal
 
 -- memory was wanting for the stream
@@ -38,8 +37,8 @@ invariant_of-self-2 c =
     let left = slice_set r.left 0 (get_or r.left 0 0 + 1) in
     let o : Taken left b.left 0 1 = subst (λ (l : List ℕ). Taken left l 0 1) same.left (added r.left 0 (omega (arith, wide))) in
     let t = input-taken left b.left o in
-    let longer : items_of streams ≡ with_last (items_of b.streams) 0 (Told c.args.field) =
-    c.in-Ok-push_field.ensures.items ∙ ap (λ (s : Streams). with_last (items_of s) 0 (Told c.args.field)) same.streams in
+    let longer : items_of streams ≡ with_last_at (items_of b.streams) 0 (Told c.args.field) =
+    c.in-Ok-push_field.ensures.items ∙ ap (λ (s : Streams). with_last_at (items_of s) 0 (Told c.args.field)) same.streams in
     record {
       placed = ∥∥₁_map r.placed (placed-more r.streams streams c.args.field c.in-Ok-push_field.ensures.fields c.requires.place);
       few = omega (arith, b.few, ap (λ (k : Cabinet). k.ticks) same.cabinet, t.ticks_are);
@@ -99,7 +98,7 @@ returns-clause-added c =
     let same = c.reserve_one.ensures.same in
     let left = slice_set r.left 0 (get_or r.left 0 0 + 1) in
     let wide : length r.left ≡ length b.left = ap (λ (l : List ℕ). length l) same.left in
-    let e = c.in-Ok-push_field.ensures.items ∙ ap (λ (s : Streams). with_last (items_of s) 0 (Told c.args.field)) same.streams in
+    let e = c.in-Ok-push_field.ensures.items ∙ ap (λ (s : Streams). with_last_at (items_of s) 0 (Told c.args.field)) same.streams in
     let o : Taken left b.left 0 1 = subst (λ (l : List ℕ). Taken left l 0 1) same.left (added r.left 0 (omega (arith, wide))) in
     let u = longer_by b r.cabinet.value c.push_field.new.streams left r.happened 0 (Told c.args.field) (omega arith) same.cabinet e o same.happened in
     record {

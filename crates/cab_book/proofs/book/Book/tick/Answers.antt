@@ -23,7 +23,7 @@ tick-written-requires-clause-some c =
 pub add_ticks-requires-clause-few : goal.add_ticks-requires-clause-few
 add_ticks-requires-clause-few c =
     let b = c.args.self.now in
-    omega (arith, few-shared b.streams b.left b.happened c.args.pass b.tallied b.short c.requires.above c.requires.within, c.requires.some)
+    omega (arith, few-shared b.streams b.left b.happened c.args.pass b.tallied b.short c.requires.ticks.0 c.requires.ticks.1, c.requires.some)
 
 pub invariant_of-self : goal.invariant_of-self
 invariant_of-self c =
@@ -32,7 +32,7 @@ invariant_of-self c =
     let pass = c.args.pass in
     let rest = slice_set b.left pass (get_or b.left pass 0 - 1) in
     let o = taken b.left pass 1 (get_or b.left pass 0 - 1) (omega arith) (omega (arith, c.requires.some)) in
-    let t = ticks-taken b.left rest pass 1 c.requires.above c.requires.within o in
+    let t = ticks-taken b.left rest pass 1 c.requires.ticks.0 c.requires.ticks.1 o in
     record {
       placed = b.placed;
       short = b.short;
@@ -43,7 +43,7 @@ invariant_of-self c =
           (omega (arith, t.ticks_are)) (omega (arith, t.frames_are)) (omega (arith, t.items_are)) b.room);
       some = ∥∥₁_map b.some (λ some. (
         some.0,
-        strode c.deref_mut.result.now c.tick-written.new.self b.streams b.happened c.add_ticks.new.self pass 1 (option_to_list c.tick-written.result) c.requires.above
+        strode c.deref_mut.result.now c.tick-written.new.self b.streams b.happened c.add_ticks.new.self pass 1 (option_to_list c.tick-written.result) c.requires.ticks.0
             c.tick-written.ensures.gives c.tick-written.ensures.stands c.add_ticks.ensures.goes some.0
             (subst (λ (k : Cabinet). RoundStands k b.streams b.happened some.0) (sym same) some.1),
       ));
@@ -58,13 +58,13 @@ returns c =
     let o = taken b.left pass 1 (get_or b.left pass 0 - 1) (omega arith) (omega (arith, c.requires.some)) in
     record {
       stands = λ cabinet_history so. strode c.deref_mut.result.now c.tick-written.new.self b.streams b.happened c.add_ticks.new.self pass 1 (option_to_list c.tick-written.result)
-          c.requires.above c.tick-written.ensures.gives c.tick-written.ensures.stands c.add_ticks.ensures.goes cabinet_history
+          c.requires.ticks.0 c.tick-written.ensures.gives c.tick-written.ensures.stands c.add_ticks.ensures.goes cabinet_history
           (subst (λ (k : Cabinet). RoundStands k b.streams b.happened cabinet_history) (sym same) so);
       streams = refl;
       journal = c.add_ticks.ensures.goes.journal;
       acts = act-next b.streams b.happened c.add_ticks.new.self pass c.add_ticks.ensures.goes.journal;
       own = o.own;
       others = o.others;
-      ticks = omega (arith, ap (λ (k : Cabinet). k.ticks) same, c.tick-written.ensures.ticks, (ticks-taken b.left rest pass 1 c.requires.above c.requires.within o).ticks_are);
-      ignored = λ cabinet_history octets so frame asks. absurd (tick-no-frame b.streams pass (times pass (journal_in b.happened)) octets c.requires.above frame);
+      ticks = omega (arith, ap (λ (k : Cabinet). k.ticks) same, c.tick-written.ensures.ticks, (ticks-taken b.left rest pass 1 c.requires.ticks.0 c.requires.ticks.1 o).ticks_are);
+      ignored = λ cabinet_history octets so frame asks. absurd (tick-no-frame b.streams pass (times pass (journal_in b.happened)) octets c.requires.ticks.0 frame);
     }

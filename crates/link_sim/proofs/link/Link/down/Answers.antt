@@ -3,12 +3,12 @@ use Rattle.link_sim.proofs.Goes.{some_of}
 use Rattle.link_sim.proofs.link.Link.down.Goals as goal
 
 pub returns-in-Ok-clause-reaches : goal.returns-in-Ok-clause-reaches
-returns-in-Ok-clause-reaches c = λ place polls loads replied sending streams below stands is.
+returns-in-Ok-clause-reaches c = λ place polls loads replied below stands is sending streams.
     let lines = some_of c.args.self.now.down.items place below in
     (c.in-Ok.ensures.delivers place lines sending streams below).reaches polls loads stands.lists (stands.down lines) is
 
 pub returns-in-Ok-clause-stands : goal.returns-in-Ok-clause-stands
-returns-in-Ok-clause-stands c = λ place polls loads replied sending below stands is.
+returns-in-Ok-clause-stands c = λ place polls loads replied below stands is sending.
     let given = some_of c.in-Ok.all.items place (omega (arith, below, c.in-Ok.ensures.count)) in
     record {
       lists = stands.lists;

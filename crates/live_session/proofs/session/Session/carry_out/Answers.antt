@@ -4,7 +4,7 @@ use Rattle.sig_types.specs.Passes.{pass_of}
 use Rattle.safety_laws.specs.TraceText.{lines_text}
 use Rattle.session_words.specs.declared.request.Request.{Request}
 use Rattle.session_laws.specs.Session.{Brings, step_of, with_step, steps_with, items_brought, is_over}
-use Rattle.session_laws.specs.Told.{step_lines}
+use Rattle.session_laws.specs.Answers.{step_lines}
 use Rattle.live_session.specs.Standing.{has_ended}
 use Rattle.live_session.proofs.Steps.{ticks-same, items-more}
 use Rattle.live_session.proofs.Sessions.{made-stands, step-over, step-lines, brings-more}

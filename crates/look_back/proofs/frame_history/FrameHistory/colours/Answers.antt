@@ -5,7 +5,8 @@ use Rattle.sig_types.specs.declared.frame.Colour.TheVariants.{Green}
 use Rattle.sig_types.specs.Colour.{colour_of}
 use Rattle.sig_tables.specs.Looking.{last_frame}
 use Rattle.sig_tables.specs.Ticking.{colour_after}
-use Rattle.look_back.proofs.Filling.{filled-none, filled-more, filled-all, colour-there}
+use Rattle.sig_tables.proofs.FilledTo.{filled-none, filled-more, filled-all}
+use Rattle.look_back.proofs.Filling.{colour-there}
 use Rattle.look_back.proofs.frame_history.FrameHistory.colours.Goals as goal
 
 pub loop-p-init : goal.loop-p-init

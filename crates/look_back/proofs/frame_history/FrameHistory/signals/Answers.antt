@@ -7,7 +7,8 @@ use Rattle.sig_types.specs.Colour.{signal_of}
 use Rattle.sig_tables.specs.Looking.{last_frame}
 use Rattle.sig_tables.specs.Lesser.{signal_runs_within}
 use Rattle.sig_tables.proofs.Below.{phase-is}
-use Rattle.look_back.proofs.Filling.{filled-none, filled-more, filled-all, signal-there}
+use Rattle.sig_tables.proofs.FilledTo.{filled-none, filled-more, filled-all}
+use Rattle.look_back.proofs.Filling.{signal-there}
 use Rattle.look_back.proofs.frame_history.FrameHistory.signals.Goals as goal
 
 pub loop-p-init : goal.loop-p-init

@@ -9,7 +9,7 @@ use Rattle.sig_tables.specs.Lesser.{Lesser, InFull, signal_runs_within}
 use Rattle.sig_tables.specs.Layout.{Has}
 use Rattle.look_back.specs.Cuts.{lesser_of}
 use Rattle.look_back.specs.FrameHistories.{LooksOver}
-use Rattle.look_back.proofs.Filling.{FilledTo}
+use Rattle.sig_tables.proofs.FilledTo.{FilledTo}
 use Rattle.look_back.proofs.frame_history.FrameHistory.signals.Given as goal
 
 abbrev pub invariant-loop-p : goal.invariant-loop-p

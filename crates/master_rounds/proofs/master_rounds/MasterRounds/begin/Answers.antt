@@ -31,8 +31,8 @@ returns-in-Ok-down-clause-begun c = λ done answered h.
     let within : place < length sendings = omega (arith, each, slice_get_within s.cabinets place k there) in
     let sending : Sending = record { poll = None; load = None } in
     let sent = sent_to sendings s (λ n. arrivals s n (answered n)) place k sending are there within in
-    c.in-Ok-down.ensures.reaches place (polls_before s cab k (answered cab)) (loads_before s cab k (answered cab)) (replied_before (answered cab)) sending e
-    (has_lines master_rounds s place k h.cabinets there) (h.link place k there) (comes_next master_rounds s done c.args.round answered h c.requires.order place k there)
+    c.in-Ok-down.ensures.reaches place (polls_before s cab k (answered cab)) (loads_before s cab k (answered cab)) (replied_before (answered cab))
+    (has_lines master_rounds s place k h.cabinets there) (h.link place k there) (comes_next master_rounds s done c.args.round answered h c.requires.order place k there) sending e
     ∙ delivers s cab k (answered cab) (get_or sendings place sending) sent in
     let cabinet : (place : ℕ) → place < length s.cabinets → CabinetContent = λ place low. get_or s.cabinets place (some_of s.cabinets place low) in
     let is_there : (place : ℕ) (low : place < length s.cabinets) → slice_get s.cabinets place ≡ Some (cabinet place low) =
@@ -69,8 +69,8 @@ returns-in-Ok-down-clause-stands c = λ done answered h.
           let sending : Sending = record { poll = None; load = None } in
           let sent = sent_to sendings s (λ n. arrivals s n (answered n)) place k sending are there within in
           link_goes c.down.new.self s place k (answered cab) (replied_before (answered cab)) (get_or sendings place sending) sent
-          (c.in-Ok-down.ensures.stands place (polls_before s cab k (answered cab)) (loads_before s cab k (answered cab)) (replied_before (answered cab)) sending
-          (has_lines master_rounds s place k h.cabinets there) (h.link place k there) (comes_next master_rounds s done c.args.round answered h c.requires.order place k there));
+          (c.in-Ok-down.ensures.stands place (polls_before s cab k (answered cab)) (loads_before s cab k (answered cab)) (replied_before (answered cab))
+          (has_lines master_rounds s place k h.cabinets there) (h.link place k there) (comes_next master_rounds s done c.args.round answered h c.requires.order place k there) sending);
     }
 
 pub returns-in-Err-down-clause-again : goal.returns-in-Err-down-clause-again

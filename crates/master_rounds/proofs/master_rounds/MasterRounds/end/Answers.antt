@@ -12,8 +12,7 @@ use Rattle.master_rounds.proofs.Turn.{has_lines}
 use Rattle.master_rounds.proofs.master_rounds.MasterRounds.end.Goals as goal
 
 pub returns-in-Ok-clause-stands : goal.returns-in-Ok-clause-stands
-returns-in-Ok-clause-stands c = λ answered replies h are.
-    let s = scenario_content c.args.s.now in
+returns-in-Ok-clause-stands c = λ s answered replies h are.
     let master_rounds = c.args.self.now in
     let answers = c.args.answers.now in
     let arrived = c.in-Ok.arrived.items in
@@ -32,8 +31,8 @@ returns-in-Ok-clause-stands c = λ answered replies h are.
           let a = some_of answers place (given place low) in
           subst (λ replied. LinkStands c.up.new.self s place (polls_sent s cab k (answered cab)) (loads_sent s cab k (answered cab)) replied)
           (replied_is (get_or answers place a) (replies cab) (answered cab) (are place a (given place low)))
-          (c.in-Ok.ensures.stands place (polls_sent s cab k (answered cab)) (loads_sent s cab k (answered cab)) (replied_before (answered cab)) a
-          (has_lines master_rounds s place k h.cabinets there) (h.link place k there) (next place low));
+          (c.in-Ok.ensures.stands s place (polls_sent s cab k (answered cab)) (loads_sent s cab k (answered cab)) (replied_before (answered cab))
+          (has_lines master_rounds s place k h.cabinets there) (h.link place k there) (next place low) a);
       arrived = λ place low.
           let cab = place + 1 in
           let k = get_or s.cabinets place (some_of s.cabinets place low) in
@@ -45,15 +44,14 @@ returns-in-Ok-clause-stands c = λ answered replies h are.
           let a = some_of answers place (given place low) in
           let b = some_of arrived place within in
           let lines = has_lines master_rounds s place k h.cabinets there in
+          let arrive = c.in-Ok.ensures.arrive s place polls loads replied lines (h.link place k there) (next place low) a b in
           ap arrived_in (slice_get-get_or arrived place b within)
           ∙ arrived_is s cab (get_or answers place a) (get_or arrived place b) (replies cab) (answered cab) (are place a (given place low))
-          (c.in-Ok.ensures.polls place polls loads replied a b lines (h.link place k there) (next place low))
-          (c.in-Ok.ensures.loads place polls loads replied a b lines (h.link place k there) (next place low));
+          arrive.polls arrive.loads;
     }
 
 pub returns-in-Err-clause-again : goal.returns-in-Err-clause-again
-returns-in-Err-clause-again c = λ answered h.
-    let s = scenario_content c.args.s.now in
+returns-in-Err-clause-again c = λ s answered h.
     let master_rounds = c.args.self.now in
     record {
       cabinets = h.cabinets;
@@ -63,6 +61,6 @@ returns-in-Err-clause-again c = λ answered h.
       link = λ place k there.
           let cab = place + 1 in
           let low = slice_get_within s.cabinets place k there in
-          c.in-Err.ensures.again place (polls_sent s cab k (answered cab)) (loads_sent s cab k (answered cab)) (replied_before (answered cab))
+          c.in-Err.ensures.again s place (polls_sent s cab k (answered cab)) (loads_sent s cab k (answered cab)) (replied_before (answered cab))
           (has_lines master_rounds s place k h.cabinets there) (h.link place k there) (omega (arith, h.counted place low, length-map (answered cab) (replied_on 1)));
     }

@@ -8,14 +8,14 @@ use Rattle.master_rounds.proofs.master_rounds.MasterRounds.open.Goals as goal
 pub returns-clause-stands : goal.returns-clause-stands
 returns-clause-stands c =
     let s = scenario_content c.args.s.now in
-    let arrived = c.in-Ok-nothing_from.arrived.items in
-    let count : length arrived ≡ length s.cabinets = omega (arith, c.in-Ok-nothing_from.ensures.count, c.len.ensures, length-map c.args.s.now.cabinets.items cabinet_content) in
+    let arrived = c.in-Ok.arrived.items in
+    let count : length arrived ≡ length s.cabinets = omega (arith, c.in-Ok.ensures.count, c.len.ensures, length-map c.args.s.now.cabinets.items cabinet_content) in
     record {
       cabinets = count;
-      rounds = c.in-Ok.ensures.rounds;
+      rounds = c.in_ok-master.ensures.rounds;
       counted = λ place low. refl;
-      master = c.in-Ok.ensures.stands;
+      master = c.in_ok-master.ensures.stands;
       link = λ place k there.
-          c.in-Ok-open.ensures.stands place (omega (arith, slice_get_within s.cabinets place k there, length-map c.args.s.now.cabinets.items cabinet_content));
-      arrived = λ place low. nothing_at arrived place c.in-Ok-nothing_from.ensures.none (omega (arith, low, count));
+          c.in_ok-link.ensures.stands place (omega (arith, slice_get_within s.cabinets place k there, length-map c.args.s.now.cabinets.items cabinet_content));
+      arrived = λ place low. nothing_at arrived place c.in-Ok.ensures.none (omega (arith, low, count));
     }

@@ -18,5 +18,5 @@ returns-in-Ok-end-clause-between c = λ ts next so ended within.
     let s = scenario_content c.args.s.now in
     let books = c.args.self.now.books.items in
     between-next ts next books ended s c.args.done _ so.answered refl so.cabinets within so.told
-    (c.in-Ok-end.ensures.stands so.answered (replied books) so.master_rounds
+    (c.in-Ok-end.ensures.stands s so.answered (replied books) so.master_rounds
     (subst (λ (all : List Answers). AreAllReplies all (replied books)) (sym c.as_slice.ensures.value) (all-replied c.in-Ok.replies.items books c.in-Ok.ensures)))

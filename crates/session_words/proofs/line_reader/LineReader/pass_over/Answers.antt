@@ -1,7 +1,7 @@
-use Rattle.std.proofs.Common.{◌∙◌, List, ℕ, take, ap, subst, arith}
+use Rattle.std.proofs.Common.{◌≡◌, ◌≤◌, ◌∙◌, List, ℕ, take, length, ap, subst, arith}
 use Rattle.session_words.specs.Lines.{Lacks}
 use Rattle.session_words.specs.Unread.{held_of, unread, ahead_of}
-use Rattle.session_words.proofs.Held.{ahead-none, passes-line, passes-on, cut-held}
+use Rattle.session_words.proofs.Held.{ahead-none, passes-line, passes-on, cut-held, one_read}
 use Rattle.session_words.proofs.line_reader.LineReader.pass_over.Goals as goal
 
 pub returns-in-Some-clause-next : goal.returns-in-Some-clause-next
@@ -19,6 +19,11 @@ pieces-preserved g c =
       passed =
           passes-on (unread c.args.self.now (g.S.Source.left c.args.source.now)) (g.S.Source.left c.pieces.source) (g.S.Source.left c.fill.new.source)
           (held_of c.fill.new.self) c.pieces.invariant.passed same (subst (Lacks 10) c.rest.ensures (c.place_of.ensures.none c.in-None.is));
+      read =
+          let none : length (held_of c.pieces.self) ≡ 0 = ap length c.pieces.invariant.empty in
+          let some : 1 ≤ length (held_of c.fill.new.self) = grind arith in
+          one_read c.pieces.counter (g.S.Source.left c.args.source.now) (g.S.Source.left c.pieces.source) (g.S.Source.left c.fill.new.source)
+          (held_of c.fill.new.self) c.pieces.invariant.read same some;
       same = λ exact. c.in-Ok.ensures.exact exact ∙ c.pieces.invariant.same exact;
       kept = omega (arith, c.pieces.invariant.kept, c.in-Ok.ensures.kept);
     }

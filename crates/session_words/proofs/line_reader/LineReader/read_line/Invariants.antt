@@ -9,6 +9,7 @@ abbrev pub invariant-loop-self : goal.invariant-loop-self
 invariant-loop-self g l = record {
   lacks : Lacks 10 (held_of l.self);
   unread : unread l.self (g.S.Source.left l.source) ≡ unread l.fn.self (g.S.Source.left l.fn.source);
+  longer : length (held_of l.fn.self) ≤ length (held_of l.self);
   told : told_as [] (g.S.Source.left l.source) ≡ told_as [] (g.S.Source.left l.fn.source);
   same : Stays g.S.Source.counts_exactly (g.S.Source.faults l.fn.source) (g.S.Source.faults l.source);
   kept : g.S.Source.faults l.fn.source ≤ g.S.Source.faults l.source;

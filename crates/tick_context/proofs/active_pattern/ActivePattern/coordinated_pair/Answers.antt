@@ -14,8 +14,8 @@ returns c = record {
   pair = λ t n b p h.
       let phases : c.args.self.now.plan.coordinated ≡ coordinated_phases t n = ap (λ (x : Plan). x.coordinated) b.plan in
       c.union.ensures.has p
-      ∙ ap (λ (x : Bool). x || has c.lone-2.result p) (c.lone.ensures p h)
-      ∙ ap (λ (x : Bool). (p == get_or c.args.self.now.plan.coordinated 0 0) || x) (c.lone-2.ensures p h)
+      ∙ ap (λ (x : Bool). x || has c.of-2.result p) (c.of.ensures p h)
+      ∙ ap (λ (x : Bool). (p == get_or c.args.self.now.plan.coordinated 0 0) || x) (c.of-2.ensures p h)
       ∙ ap (λ (xs : List ℕ). (p == get_or xs 0 0) || (p == get_or xs 1 0)) phases
       ∙ either _ _;
 }

@@ -1,0 +1,103 @@
+"""Volumes in a study: measures of vehicles beside those of the trace, seeds, and what is refused."""
+
+import json
+import os
+
+import pytest
+
+from .conftest import program_here
+from streettools.cosim import queues_study, report
+from streettools.cosim.queues_study import Asked
+from streettools.cosim.queues_volumes import volumes_of
+from streettools.sweep.faults import Fault
+from streettools.sweep.prepared import modules, prepared
+
+SCENARIO = {"version": 1, "rounds": 100, "ticks": 10, "cabinets": [{"pattern": 1}]}
+VOLUMES = b"""\
+[[cabinet]]
+number = 1
+movements = [
+  { name = "EBT", phase = 2, volume = 700, lanes = 2 },
+  { name = "WBT", phase = 6, volume = 500, lanes = 2 },
+  { name = "NBT", phase = 8, volume = 200 },
+  { name = "SBT", phase = 4, volume = 200 },
+]
+idle = [1, 3, 5, 7]
+"""
+FILES = {"one.json": json.dumps(SCENARIO).encode(), "one.volumes.toml": VOLUMES}
+STUDY = {
+    "scenario": "one.json",
+    "seeds": 2,
+    "measures": ["delay_mean", "delay_mean each phase", "vehicles", "queue_greatest", "services phase 4"],
+    "volumes": {"file": "one.volumes.toml"},
+    "vary": [{"name": "offset", "cell": ["pattern", 1, 3], "values": [0, 95]}],
+}
+
+
+def ready(**more):
+    """Returns a study made ready."""
+    return prepared(STUDY | more, FILES.__getitem__, program_here())
+
+
+def rows(**more) -> list[dict]:
+    """Returns the rows of a study that has run."""
+    study = ready(**more)
+    runner = study.runner("--check" in os.environ, 600)
+    names = study.names()[1:]
+    variants = (study.variants.at(it) for it in range(study.variants.count()))
+    return [dict(zip(names, study.line(it.index, runner.row(it))[1:])) for it in variants]
+
+
+def test_a_study_with_volumes_has_the_measures_of_the_report_and_those_of_the_trace():
+    one, other, refused, _ = rows()
+    asked = Asked(100.0, 10, 1)
+    ran = queues_study.run(str(program_here()), volumes_of(__import__("tomllib").loads(VOLUMES.decode())), SCENARIO, asked,
+                           lambda step: None)  # fmt: skip
+    import pathlib
+
+    value = report.collect(queues_study.study_of(ran, pathlib.Path()), ran.signals.greens)
+    east = next(it for it in value["movements"] if it["movement"] == "EBT")
+    assert round(one["delay_mean_c1_p2"], 1) == pytest.approx(east["delay"], abs=0.051)
+    assert one["vehicles"] == sum(it["vehicles"] for it in value["movements"])
+    assert one["services_p4"] > 0 and one["delay_mean_c1_p1"] is None
+    assert one["outcome"] == "done" and one["delay_mean"] != other["delay_mean"]
+    assert (refused["outcome"], refused["words"]) == ("refused", "scenario: cabinet 1 breaks rule 15 at row 1")
+
+
+def test_the_factor_of_the_volumes_may_vary():
+    vary = [{"name": "factor", "path": "volumes.factor", "values": [0.5, 2.0]}]
+    few, many = rows(vary=vary, seeds=[1], measures=["vehicles", "split_failures"])
+    assert few["vehicles"] < many["vehicles"]
+
+
+@pytest.mark.parametrize(
+    ("more", "line"),
+    [
+        ({"volumes": {"file": "one.volumes.toml", "fil": 1}}, "study: volumes.fil is unknown: is file meant?"),
+        ({"traffic": {"flow": [{"cabinet": 1, "phase": 2, "vehicles": 9}]}},
+         "study: traffic.flow and volumes don't go together: each tells what the detectors see"),
+    ],
+)  # fmt: skip
+def test_a_table_of_volumes_that_can_not_be_taken_is_refused(more, line):
+    with pytest.raises(Fault) as fault:
+        ready(**more)
+    assert str(fault.value) == line
+
+
+def test_measures_of_vehicles_need_volumes():
+    study = {name: it for name, it in STUDY.items() if name not in ("volumes", "seeds")}
+    with pytest.raises(Fault, match="study: delay_mean needs the table volumes, which tells who comes"):
+        prepared(study, FILES.__getitem__, program_here())
+
+
+def test_volumes_that_do_not_fit_the_scenario_are_a_refused_row():
+    files = FILES | {"one.volumes.toml": VOLUMES.replace(b"idle = [1, 3, 5, 7]", b"")}
+    study = prepared(STUDY | {"seeds": [1], "vary": []}, files.__getitem__, program_here())
+    outcome, words, *_ = study.runner(False, 600).row(study.variants.at(0))
+    assert outcome == "refused" and words.startswith("volumes: phase 1 of cabinet 1 has no movement")
+
+
+def test_the_modules_that_a_worker_needs_go_along():
+    given = modules()
+    assert {"cosim/queues_study.py", "cosim/movements.py", "cosim/records.py", "cosim/__init__.py"} <= set(given)
+    assert not any("pictures" in name and name.startswith("cosim") for name in given)
