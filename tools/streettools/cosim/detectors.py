@@ -62,6 +62,7 @@ class Detectors:
                     kind = self.loops if name in loops else self.areas
                     kind.setdefault((signal.cabinet, detector.phase), []).append(name)
         self.keys = sorted({*self.areas, *self.loops})
+        self.rows = [(key, self.areas.get(key, ()), self.loops.get(key, ())) for key in self.keys]
         self.on = dict.fromkeys(self.keys, False)
         self.words = {key: {True: b"veh %d %d on" % key, False: b"veh %d %d off" % key} for key in self.keys}
         self.in_area = sumo.lanearea.getLastStepVehicleNumber
@@ -70,16 +71,16 @@ class Detectors:
 
     def changes(self) -> Iterator[bytes]:
         """Yields the requests that tell what has changed since the last look."""
-        in_area = self.in_area
-        for key in self.keys:
+        in_area, was_on = self.in_area, self.on
+        for key, areas, loops in self.rows:
             on = passed = False
-            for name in self.areas.get(key, ()):
+            for name in areas:
                 if in_area(name):
                     on = True
                     break
-            if not on and key in self.loops:
-                on, passed = self.loop_state(self.loops[key])
-            if on != self.on[key]:
+            if loops and not on:
+                on, passed = self.loop_state(loops)
+            if on != was_on[key]:
                 self.on[key] = on
                 yield self.words[key][on]
             elif passed and not on:

@@ -3,7 +3,7 @@
 from collections.abc import Iterable
 from typing import Any, NamedTuple
 
-from .network import CROSSING, Network
+from .network import CROSSING, Network, edge_of
 
 STANDING = 0.1
 """SUMO's own bound: who is slower than this, in metres a second, stands."""
@@ -51,7 +51,8 @@ class Halts:
 
     def __init__(self, network: Network, signals: Iterable[str]) -> None:
         edges = {it for chain in approaches(network, signals).values() for it in chain}
-        self.lanes = [(lane, lane.rpartition("_")[0]) for lane in network.lanes if lane.rpartition("_")[0] in edges]
+        driven = [lane for lane in network.lanes if lane not in network.sidewalks and edge_of(lane) in edges]
+        self.lanes = [(lane, edge_of(lane)) for lane in driven]
         self.found: list[Halt] = []
 
     def look(self, sumo: Any, second: float) -> None:

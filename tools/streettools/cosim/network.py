@@ -98,6 +98,7 @@ class Network:
     yields: dict[str, set[tuple[int, int]]] = field(default_factory=dict)
     crossings: dict[str, tuple[str, ...]] = field(default_factory=dict)
     lanes: dict[str, float] = field(default_factory=dict)
+    sidewalks: set[str] = field(default_factory=set)
     inner: dict[tuple[str, str], Part] = field(default_factory=dict)
     programs: dict[str, Program] = field(default_factory=dict)
 
@@ -156,6 +157,8 @@ def read_edges(root: xml.Element, found: Network) -> None:
         name, lanes = edge.get("id"), edge.findall("lane")
         for lane in lanes:
             found.lanes[lane.get("id")] = float(lane.get("length"))
+            if lane.get("allow") == "pedestrian":
+                found.sidewalks.add(lane.get("id"))
         if edge.get("function") == "crossing":
             found.crossings[name] = tuple(edge.get("crossingEdges", "").split())
         if edge.get("function", "normal") != "normal" or not lanes:
@@ -165,7 +168,7 @@ def read_edges(root: xml.Element, found: Network) -> None:
             name,
             edge.get("from"),
             edge.get("to"),
-            sum("pedestrian" != lane.get("allow") for lane in lanes),
+            sum(lane.get("id") not in found.sidewalks for lane in lanes),
             max(float(lane.get("length")) for lane in lanes),
             max(float(lane.get("speed")) for lane in lanes),
             int(edge.get("priority", 0)),

@@ -59,12 +59,15 @@ class Buttons:
                     near = tuple(sorted(it for it in known if it.startswith(f":{link.junction}_w")))
                     row = signal.cabinet, movement.name, movement.phase
                     self.crossings.append(Crossing(*row, edge_of(link.end), near))
+        self.areas = sorted({area for it in self.crossings for area in it.areas})
 
     def look(self, sumo: Any, signals: Signals, second: float) -> Iterator[bytes]:
         """Yields the requests of buttons that are pressed, and keeps who waits and who goes."""
-        areas = {area for it in self.crossings for area in it.areas}
+        if not self.there and not sumo.person.getIDCount():
+            self.pressed.clear()
+            return
         coming: dict[str, list[str]] = {}
-        for area in areas:
+        for area in self.areas:
             for person in sumo.edge.getLastStepPersonIDs(area):
                 coming.setdefault(sumo.person.getNextEdge(person), []).append(person)
         for crossing in self.crossings:

@@ -84,10 +84,11 @@ def run(given: Given, program: pathlib.Path, out: pathlib.Path, progress: Callab
                     loop.run(progress)
                 finally:
                     types = types_of(sumo)
-        except Fault as raised:
+        except (Fault, KeyboardInterrupt) as raised:
             if loop is None or not loop.times.steps:
                 raise
-            fault = raised
+            is_fault = isinstance(raised, Fault)
+            fault = raised if is_fault else Fault("interrupted; what was recorded is kept", Status.INTERRUPTED)
         session.finish()
     finally:
         session.end()

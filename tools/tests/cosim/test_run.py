@@ -1,9 +1,13 @@
 """SUMO and the cabinets side by side: a run of 120 s, and runs that end before their time."""
 
+import contextlib
 import json
 import pathlib
+import signal
 import stat
 import subprocess
+import sys
+import time
 import xml.etree.ElementTree as xml
 
 import pytest
@@ -11,7 +15,7 @@ import pytest
 from streettools.cosim import records
 from streettools.cosim.records import Kind
 
-from .conftest import PROGRAM, STREET, change, cosim, needs_sumo, run_tee
+from .conftest import PROGRAM, SECONDS, STREET, TOP, change, cosim, needs_sumo, run_tee
 
 pytestmark = needs_sumo
 
@@ -138,6 +142,31 @@ def test_a_configuration_that_sumo_refuses_is_one_line(tee):
     (tee / "tee.rou.xml").unlink()
     ran = run_tee(tee)
     assert ran.status == 1 and len(ran.said) == 1 and "SUMO ended by an error" in ran.said[0]
+
+
+def test_ctrl_c_keeps_what_was_recorded(tee):
+    """A run of an hour, interrupted as soon as SUMO has told of a vehicle."""
+    words = ["--sumo", tee / "tee.sumocfg", "--map", tee / "tee.map.toml", "--scenario", tee / "tee.json"]
+    words += ["--step", 0.1, "-o", tee / "out"]
+    command = [sys.executable, "-B", TOP / "tools/streettools", "cosim", "run", "--program", PROGRAM, *words]
+    with subprocess.Popen([str(it) for it in command], stderr=subprocess.PIPE, stdout=subprocess.DEVNULL) as running:
+        wait_for(lambda: "vType" in (tee / "out/tripinfo.xml").read_text(), running)
+        running.send_signal(signal.SIGINT)
+        said = running.communicate(timeout=SECONDS)[1]
+    assert running.returncode == 130 and said.endswith(b"cosim: interrupted; what was recorded is kept\n")
+    trace = (tee / "out/session.trace").read_bytes()
+    assert subprocess.run([PROGRAM, "check"], input=trace).returncode == 0
+
+
+def wait_for(is_so, running):
+    """Waits until something is so, while a process runs."""
+    for _ in range(20 * SECONDS):
+        assert running.poll() is None
+        with contextlib.suppress(OSError):
+            if is_so():
+                return
+        time.sleep(0.05)
+    raise AssertionError("it did not come about")
 
 
 ALL_GREEN = """#!/usr/bin/python3
