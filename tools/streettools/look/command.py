@@ -130,10 +130,17 @@ def events(words, course, names):
 
 DOES = {it.__name__: it for it in (rings, coordination, offset, page, report, events)}
 
+TRAFFIC = ("paths", "purdue", "splits", "queues")
+"""Pictures of a run with traffic, which are drawn from its folder (docs/QUEUES.md)."""
+
 
 def main(arguments=None):
     """Does what the words ask for, and returns the exit status."""
     arguments = sys.argv[1:] if arguments is None else arguments
+    if arguments and arguments[0] in TRAFFIC:
+        from ..cosim.pictures_command import main as draw
+
+        return draw(arguments)
     words = parser(arguments[:1]).parse_args(arguments)
     from ..shared.lines import NotATrace
     from .reading import opened

@@ -12,6 +12,7 @@ EPILOG = """examples:
   ./look coordination --start 06:30:00 --travel 20,20,20 -o street.svg trace
   ./look page --travel 20,20,20 -o street.html trace       one file to move about in: any second of any cabinet
   ./look events --start 2026-11-27T06:00:00 -o log.csv trace
+  ./look purdue OUT --cabinet 2 -o purdue.svg              of a run with traffic; also paths, splits, queues
 
 Where a proved program is there, `arterial check` reads the text too, and one that isn't a trace is refused.
 Exit status: 0 done, 1 a file can't be read or written, or a package is missing, 2 the words or the text can't be
