@@ -108,7 +108,7 @@ def parser() -> argparse.ArgumentParser:
     words = argparse.ArgumentParser(
         prog="cabinet",
         description="Answers SNMP version 1 on loopback as a live cabinet, until Ctrl-C. A tick is 0.1 s.",
-        epilog="`./arterial street --as ntcip1202` answers version 2c too, and the objects that central software asks first.",
+        epilog="`./arterial street --as ntcip1202` answers version 2c too, and what central software asks first.",
     )
     words.add_argument(
         "--port", type=number(0, 65_535), default=10_161, help="the UDP port (10161); 0 for one that is free"
@@ -128,7 +128,9 @@ def parser() -> argparse.ArgumentParser:
     words.add_argument(
         "--record", metavar="FILE", help="at the end write the scenario of all that came, for arterial run"
     )
-    words.add_argument("--program", metavar="PATH", help="the program (the one that ./arterial prove has built; the model until then)")
+    words.add_argument(
+        "--program", metavar="PATH", help="the program (the one that ./arterial prove has built; the model until then)"
+    )
     return words
 
 

@@ -1,4 +1,5 @@
-"""The proved program's check of a text, which goes on while the text is read. Its answer is told before anything is shown.
+"""The proved program's check of a text, which goes on while the text is read. Its answer is told before anything is
+shown.
 
 The program is started without Python's subprocess: to import that takes as long as to read an hour of one cabinet.
 """

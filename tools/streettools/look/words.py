@@ -181,8 +181,8 @@ COMMANDS = {
 
 
 def parser(first=()):
-    """Returns the reader of the words, of which these come first; of those of one command alone where they name it, since
-    each takes a while."""
+    """Returns the reader of the words, of which these come first; of those of one command alone where they name it,
+    since each takes a while."""
     words = argparse.ArgumentParser(
         prog="look", description="Shows a trace that `arterial run` wrote. Ticks are 0.1 s.",
         epilog=EPILOG, formatter_class=RawFormatter,

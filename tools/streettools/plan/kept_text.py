@@ -12,8 +12,9 @@ from .reading import Street
 
 
 def with_splits(text: str, changes: list[tuple[int, Change]], aim: Street) -> str | None:
-    """Returns the text of a sheet with the splits of some changes, each with the number of its intersection from 1. None
-    where the text can't say it so that it comes to the street that is aimed at; ModuleNotFoundError without TOML Kit."""
+    """Returns the text of a sheet with the splits of some changes, each with the number of its intersection from 1.
+    None where the text can't say it so that it comes to the street that is aimed at; ModuleNotFoundError without TOML
+    Kit."""
     import tomlkit
     from tomlkit.exceptions import TOMLKitError
 
@@ -30,8 +31,8 @@ def with_splits(text: str, changes: list[tuple[int, Change]], aim: Street) -> st
 
 
 def put(times: MutableMapping, after: dict[int, int], partners: list[int]) -> bool:
-    """Puts times into the splits of a sheet, in which a name may stand for several phases; returns whether these have one
-    time still. A partner of which nothing is said gets its time by itself."""
+    """Puts times into the splits of a sheet, in which a name may stand for several phases; returns whether these have
+    one time still. A partner of which nothing is said gets its time by itself."""
     left = dict(after)
     for key, before in list(times.items()):
         phases = [int(word) for word in key.replace(",", " ").split()]

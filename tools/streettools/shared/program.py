@@ -1,5 +1,5 @@
-"""The proved program: where it is, and what it answers to a scenario. What takes a while is imported where it is needed.
-"""
+"""The proved program: where it is, and what it answers to a scenario. What takes a while is imported where it is
+needed."""
 
 import os
 from collections.abc import Callable
@@ -46,8 +46,8 @@ def found(name: str | None = None):
 
 
 def answering(name: str | None, tell: Callable[[str], None]):
-    """Returns the path of the program as `found` does. In a checkout in which none was proved yet it is that of the model,
-    which answers the same, and is slower; that is told."""
+    """Returns the path of the program as `found` does. In a checkout in which none was proved yet it is that of the
+    model, which is slower; that is told."""
     try:
         return found(name)
     except NotProved as fault:
