@@ -47,8 +47,8 @@ class Cabinets:
         self.shown = self.asked([json.dumps(scenario, separators=(",", ":")).encode() + b"\n"])
 
     def asked(self, requests: list[bytes]) -> list[bytes]:
-        """Writes requests, each with its newline, and returns the lines of all their answers. They come to less than a
-        pipe holds: 64 cabinets with all detectors have 28,672 octets."""
+        """Writes requests, each with its newline, and returns the frame lines of all their answers. The requests come
+        to less than a pipe holds: 64 cabinets with all detectors have 28,672 octets."""
         text = b"".join(requests)
         if self.dialogue is not None:
             self.dialogue.append(text)
@@ -61,7 +61,7 @@ class Cabinets:
         return self.answers(len(requests))
 
     def answers(self, count: int) -> list[bytes]:
-        """Returns the lines of so many answers, without their dots."""
+        """Reads so many answers, and returns their frame lines."""
         got = b""
         while True:
             more = os.read(self.read, PIECE)
@@ -74,13 +74,14 @@ class Cabinets:
                     break
         if self.dialogue is not None:
             self.output.append(got)
-        found = [line for line in lines if line and line != b"."]
-        if refused := next((line for line in found if line.startswith(b"? ")), None):
+        if b"?" in got:
+            refused = next(line for line in lines if line.startswith(b"? "))
             raise Fault(f"a request of the session was refused: {refused.decode()}")
-        return found
+        return [line for line in lines if line[:1] == b"F"]
 
     def step(self, inputs: list[bytes], count: int) -> list[bytes]:
-        """Brings inputs, then takes ticks, over the ends of rounds where need be; returns all lines that come."""
+        """Brings inputs, then takes ticks, over the ends of rounds where need be; returns the frame lines that
+        come."""
         requests = inputs
         while count:
             now = min(count, self.left)
