@@ -84,7 +84,7 @@ def folder(tmp_path):
         pytest.skip(f"Python's packages are missing: {', '.join(missing)}")
     shutil.copytree(TOP / "scenarios", tmp_path / "scenarios")
     shutil.copytree(TOP / "docs/pictures", tmp_path / "docs/pictures")
-    for name in ("look", "model", "vectors", "mibs"):
+    for name in ("look", "model", "vectors", "mibs", "crates"):
         (tmp_path / name).symlink_to(TOP / name)
     (tmp_path / "arterial").write_text(LAUNCHER.format(program=PROGRAM, top=TOP))
     (tmp_path / "arterial").chmod(0o755)
