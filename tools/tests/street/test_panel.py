@@ -162,7 +162,7 @@ def test_messages_of_management_software_are_told_by_their_names(panel, browser)
     awaited(browser, "messages", "badValue")
     browser.get(f"{address}#1")
     browser.refresh()
-    text = awaited(browser, "messages", "badValue")
+    text = " ".join(awaited(browser, "messages", "badValue").split())
     time.sleep(1)
     assert browser.find_element("id", "messages").text.count("badValue") == 1
     assert "Set systemPatternControl.0 = 255 systemPatternControl.0 = 255" in text
