@@ -1,10 +1,13 @@
 """Three cabinets of a street and clients of others: net-snmp's tools, messages that were recorded or damaged."""
 
+import asyncio
 import json
 import os
 import shutil
 import socket
 import subprocess
+import threading
+import time
 
 import pytest
 from streettools.cabinet.messages import reply_of
@@ -70,18 +73,56 @@ def listed():
             yield bytes.fromhex(it["hex"]), found["id"] if is_due else None
 
 
-def test_every_message_of_the_corpora_is_answered_or_met_with_silence(three):
+class Page(threading.Thread):
+    """A page that looks at the panel: it counts what it is told, until the street ends."""
+
+    def __init__(self, address: str) -> None:
+        super().__init__(daemon=True)
+        self.address, self.told = address, 0
+        self.start()
+
+    def run(self) -> None:
+        asyncio.run(self.look())
+
+    async def look(self) -> None:
+        """Reads the news of the panel."""
+        aiohttp = pytest.importorskip("aiohttp")
+        feed, origin = f"{self.address}feed", self.address.rstrip("/")
+        async with aiohttp.ClientSession() as session, session.ws_connect(feed, origin=origin) as news:
+            async for _ in news:
+                self.told += 1
+
+
+def tell_all(street):
+    """Sends every message of the corpora, one cabinet after the other, and counts those that are answered as is due."""
     answered = 0
     for at, (octets, number) in enumerate(listed()):
         cabinet = 1 + at % 3
         if number is None or len(octets) > 1472:
-            three.send(octets, cabinet)
+            street.send(octets, cabinet)
             continue
-        assert reply_of(three.ask(octets, cabinet)).number == number, octets.hex()
+        assert reply_of(street.ask(octets, cabinet)).number == number, octets.hex()
         answered += 1
-    assert answered > 150
-    three.socket.settimeout(0.5)
-    assert reply_of(three.ask(get(77, VERSION), 1)).number == 77
+    street.socket.settimeout(0.5)
+    assert reply_of(street.ask(get(77, VERSION), 1)).number == 77
     with pytest.raises(socket.timeout):
-        three.socket.recv(65_536)
+        street.socket.recv(65_536)
+    return answered
+
+
+def test_every_message_of_the_corpora_is_answered_or_met_with_silence(three):
+    assert tell_all(three) > 150
     assert three.end() == 0
+
+
+def test_the_corpora_change_nothing_for_a_panel_that_is_looked_at(street, tmp_path):
+    words = ("--ports", free_ports(3), "--speed", "step", "--step", 0, "--panel", 0)
+    running = street("--scenario", written(tmp_path, THREE), *words)
+    page = Page(running.told(r"panel at (http://[0-9.:]+/)")[1])
+    assert tell_all(running) > 150
+    before = page.told
+    until = time.monotonic() + SECONDS
+    while page.told == before and time.monotonic() < until:
+        time.sleep(0.1)
+    assert page.told > before > 0
+    assert running.end() == 0
