@@ -1,6 +1,5 @@
 //! Histories of whole ticks against what an independent program says of them, computed by the check: that the definitions of a
-//! tick mean what the rules of signal control say, in every mode. The functions have no bodies. Plain histories of one rule
-//! each, as of a correction or a force-off, stand in `vectors/worked.jsonl`, with which the program is compared.
+//! tick mean what the rules of signal control say, in every mode. The functions have no bodies.
 #![tactic(auto)]
 
 ghost use Rattle.std.specs.Prelude.{◌≡◌, [], ◌∷◌};
@@ -8,9 +7,20 @@ ghost use Rattle.sig_types.specs.declared.frame.Colour.TheVariants.{Green, Yello
 ghost use Rattle.sig_tables.specs.Standard.{max8, std8};
 ghost use Rattle.known_histories.specs.Changes.{changed, shown, two_cars, long_six, ticks};
 ghost use Rattle.known_histories.specs.Told.{told_of};
+ghost use Rattle.known_histories.specs.WholeWalk.{whole_walk_history, whole_walk_told};
+ghost use Rattle.known_histories.specs.ForcedOff.{forced_off_history, forced_off_told};
+ghost use Rattle.known_histories.specs.Dwells.{dwells_history, dwells_told};
+ghost use Rattle.known_histories.specs.Adds.{adds_history, adds_told};
+ghost use Rattle.known_histories.specs.PastMidnight.{past_midnight_history, past_midnight_told};
+ghost use Rattle.known_histories.specs.Preempted.{preempted_history, preempted_told};
+ghost use Rattle.known_histories.specs.PreemptedLate.{preempted_late_history, preempted_late_told};
+ghost use Rattle.known_histories.specs.HeldByRequest.{held_by_request_history, held_by_request_told};
 ghost use Rattle.known_histories.specs.SetsEmptied.{sets_emptied_history, sets_emptied_told};
 ghost use Rattle.known_histories.specs.SetsEmptiedAgain.{sets_emptied_again_history, sets_emptied_again_told};
 ghost use Rattle.known_histories.specs.Switched.{switched_history, switched_told};
+ghost use Rattle.known_histories.specs.FixedForce.{fixed_force_history, fixed_force_told};
+ghost use Rattle.known_histories.specs.FloatingForce.{floating_force_history, floating_force_told};
+ghost use Rattle.known_histories.specs.EndOfGreen.{end_of_green_history, end_of_green_told};
 ghost use Rattle.known_histories.specs.Loses.{loses_history, loses_told};
 ghost use Rattle.known_histories.specs.GainsOften.{gains_often_history, gains_often_told};
 ghost use Rattle.known_histories.specs.MixedFirst.{mixed_first_history, mixed_first_told};
@@ -58,6 +68,48 @@ pub fn waits_at_the_barrier()
         ∷ [] }
 {}
 
+/// A pattern is picked up as start-up ends; a pressed button gives a walk at the next local zero, in full.
+pub fn whole_walk()
+    ensures { told_of whole_walk_history ≡ whole_walk_told }
+{}
+
+/// A pattern in step releases its coordinated phases at their force point, forces off the turn that was called, and
+/// comes back.
+pub fn forced_off()
+    ensures { told_of forced_off_history ≡ forced_off_told }
+{}
+
+/// Correction by dwell: the counter stands at local zero for as long as one cycle may.
+pub fn dwells()
+    ensures { told_of dwells_history ≡ dwells_told }
+{}
+
+/// The shorter way, where both are equal, is to add: the counter stands at every other tick.
+pub fn adds()
+    ensures { told_of adds_history ≡ adds_told }
+{}
+
+/// Midnight moves the target of a cycle that does not divide the day, and the counter is brought after it.
+pub fn past_midnight()
+    ensures { told_of past_midnight_history ≡ past_midnight_told }
+{}
+
+/// A preempt cuts a pedestrian clearance short, clears what is in its way, dwells and lets go.
+pub fn preempted()
+    ensures { told_of preempted_history ≡ preempted_told }
+{}
+
+/// The same, called later into the clearance: it ends at the same tick.
+pub fn preempted_late()
+    ensures { told_of preempted_late_history ≡ preempted_late_told }
+{}
+
+/// A priority request holds a coordinated phase, so that the turn that was called no longer fits and waits for the next
+/// cycle.
+pub fn held_by_request()
+    ensures { told_of held_by_request_history ≡ held_by_request_told }
+{}
+
 /// Downloads that empty the sets of preempts while these are served.
 pub fn sets_emptied()
     ensures { told_of sets_emptied_history ≡ sets_emptied_told }
@@ -72,6 +124,21 @@ pub fn sets_emptied_again()
 /// moves the target.
 pub fn switched()
     ensures { told_of switched_history ≡ switched_told }
+{}
+
+/// With fixed force-offs the cross street keeps its green to its force point, far past its split.
+pub fn fixed_force()
+    ensures { told_of fixed_force_history ≡ fixed_force_told }
+{}
+
+/// With floating force-offs a phase ends once it has had its split.
+pub fn floating_force()
+    ensures { told_of floating_force_history ≡ floating_force_told }
+{}
+
+/// Offsets that refer to the end of green: the target stands the window ahead, and the counter dwells towards it.
+pub fn end_of_green()
+    ensures { told_of end_of_green_history ≡ end_of_green_told }
 {}
 
 /// A clock that loses a tick: local zero finds the target one tick behind.

@@ -7,7 +7,7 @@ from typing import NamedTuple
 
 from .records import Kind, Trip
 
-T95 = (
+TWO_SIDED_95 = (
     12.706, 4.303, 3.182, 2.776, 2.571, 2.447, 2.365, 2.306, 2.262, 2.228,
     2.201, 2.179, 2.160, 2.145, 2.131, 2.120, 2.110, 2.101, 2.093, 2.086,
     2.080, 2.074, 2.069, 2.064, 2.060, 2.056, 2.052, 2.048, 2.045, 2.042,
@@ -38,8 +38,8 @@ class Mean(NamedTuple):
 def point(freedom: int) -> float:
     """Returns the two-sided point of 95 % of Student's distribution: by the table, and behind it by a series in one
     over the degrees of freedom, which is right to 0.001 there."""
-    if freedom <= len(T95):
-        return T95[freedom - 1]
+    if freedom <= len(TWO_SIDED_95):
+        return TWO_SIDED_95[freedom - 1]
     first = (NORMAL**3 + NORMAL) / 4
     second = (5 * NORMAL**5 + 16 * NORMAL**3 + 3 * NORMAL) / 96
     return NORMAL + first / freedom + second / freedom**2

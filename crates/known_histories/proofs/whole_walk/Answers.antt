@@ -1,0 +1,7 @@
+use Rattle.std.proofs.Common.{refl}
+use Rattle.sig_tables.specs.Standard.{std8, standard}
+use Rattle.known_histories.proofs.whole_walk.Goals as goal
+
+pub returns : goal.returns
+unfolding std8 standard
+returns c = refl

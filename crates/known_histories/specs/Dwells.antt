@@ -1,0 +1,37 @@
+-- The history dwells, and what is due of it.
+use Rattle.std.specs.Prelude.{List, [], codes, ◌∷◌}
+use Rattle.sig_types.specs.declared.frame.Mode.TheVariants.{Coord}
+use Rattle.sig_tables.specs.declared.tables.Tables.{Tables}
+use Rattle.sig_tables.specs.Past.{History}
+use Rattle.sig_tables.specs.Standard.{std8}
+use Rattle.known_histories.specs.Timeline.{Step, ticks, told_in_order}
+use Rattle.known_histories.specs.Told.{Told, line}
+
+-- the tables that the cabinet opens with
+abbrev pub dwells_tables : Tables
+dwells_tables = std8
+
+-- what happens to it, in order
+abbrev pub dwells_timeline : List Step
+dwells_timeline =
+    []
+
+-- its history: these steps, and the ticks after the last
+abbrev pub dwells_history : History
+dwells_history = record { tables = dwells_tables; command = 1; clock = 841; events = ticks 1100 (told_in_order dwells_timeline []) }
+
+-- what an independent program says of it, the newest line first
+abbrev pub dwells_told : Told
+dwells_told = record {
+  command = 1;
+  clock = 1941;
+  version = 0;
+  requests = 0 ∷ 0 ∷ 0 ∷ 0 ∷ 0 ∷ 0 ∷ 0 ∷ 0 ∷ 0 ∷ 0 ∷ [];
+  vehicle = [];
+  pedestrian = [];
+  sums = record { counter = 404550; target = 414561; command = 1100; clock = 1530650; active = 0 };
+  lines =
+      line 1060 (codes "RGRRRGRRRRRRRRRR") (codes "DDDDDDDDDDDDDDDD") (Coord 1) 0 101 0
+      ∷ line 60 (codes "RGRRRGRRRRRRRRRR") (codes "DDDDDDDDDDDDDDDD") (Coord 1) 0 1 0
+      ∷ [];
+}
