@@ -12,6 +12,7 @@ mod frame_history;
 mod frame_runs;
 mod lasting;
 mod latched;
+mod left;
 mod long_counts;
 mod reach;
 mod readiness;

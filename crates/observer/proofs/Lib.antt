@@ -1,8 +1,7 @@
-pub mod AtRest
 pub mod Bound
 pub mod Crossing
 pub mod Ending
 pub mod InStep
 pub mod Inputs
 pub mod Open
-pub mod Passing
+pub mod Passed

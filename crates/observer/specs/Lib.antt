@@ -1,3 +1,3 @@
 pub mod Remembers
 pub mod Runs
-pub mod Rests
+pub mod Passed

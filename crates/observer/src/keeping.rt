@@ -3,9 +3,8 @@
 ghost use Rattle.std.specs.Prelude.{◌≡◌, ◌<◌, ◌+◌};
 
 use crate::Observer;
-use call_store::signalling;
 use look_back::Seen;
-use sig_types::{Colour, Frame, Ped, showing};
+use sig_types::Frame;
 use tick_context::{TickInputs, TickState};
 
 impl Observer {
@@ -31,10 +30,8 @@ impl Observer {
         };
         self.frame_history
             .push(&seen, &self.context.tables, self.inputs, self.commanded);
-        self.context.calls.step(
-            showing(&frame.veh, Colour::Green),
-            signalling(&frame.ped, Ped::Walk),
-        );
+        let shown = self.frame_history.shown();
+        self.context.calls.step(shown.green, shown.walk);
         self.context.requests.step(tick_state.active);
         self.context
             .unit_commands

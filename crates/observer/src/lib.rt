@@ -16,9 +16,10 @@ use tick_context::{TickContext, first_frame, is_flash};
 
 mod framing;
 mod keeping;
+mod lasting;
 mod moving;
+mod passing;
 mod reasons;
-mod resting;
 mod tick_inputs;
 mod tick_state;
 mod ticking;

@@ -16,6 +16,7 @@ impl Observer {
     ghost use Rattle.sig_tables.specs.Layout.{Has};
     ghost use Rattle.sig_tables.specs.Seen.{frame_seen};
     ghost use Rattle.tick_context.specs.Sees.{Sees};
+    ghost use Rattle.tick_context.specs.Shows.{is_clearing, is_signalling};
     ghost use Rattle.observer.specs.Remembers.{Remembers};
     ghost use Rattle.observer.specs.Runs.{Runs};
 
@@ -31,6 +32,22 @@ impl Observer {
         ensures red { (past : Past) → Remembers self.now past → Has result (λ p. same_colour (colour_of (frame_seen past) p) Red) }
     {
         self.frame_history.shown().in_colour(Colour::Red)
+    }
+
+    /// The phases that the last frame shows in yellow or red clearance.
+    pub(crate) fn clearing(&self) -> PhaseSet
+        ensures clearing { (past : Past) → Remembers self.now past → Has result (is_clearing (frame_seen past).veh) }
+    {
+        let shown = self.frame_history.shown();
+        shown.yellow.union(shown.clear)
+    }
+
+    /// The phases that show walk or flashing don't walk in the last frame.
+    pub(crate) fn signalling(&self) -> PhaseSet
+        ensures signalling { (past : Past) → Remembers self.now past → Has result (is_signalling (frame_seen past)) }
+    {
+        let shown = self.frame_history.shown();
+        shown.walk.union(shown.flash)
     }
 
     /// What this tick sees of the phases.
@@ -52,10 +69,13 @@ impl Observer {
     }
 
     /// The green phases to which an incompatible one of these with demand is there.
-    fn opposed(&self, demand: PhaseSet) -> PhaseSet
+    pub(crate) fn opposed(&self, demand: PhaseSet) -> PhaseSet
         ensures opposed { (past : Past) (phases : List ℕ) → Remembers self.now past → phases_of demand ≡ phases
             → Has result (is_in (opposed_of past.tables (frame_seen past) phases)) }
     {
+        if demand.is_empty() {
+            return PhaseSet::empty();
+        }
         let mut opposed = PhaseSet::empty();
         for phase in 1..17u8 {
             opposed = opposed.with_if(phase, self.is_opposed(phase, demand));

@@ -1,5 +1,6 @@
-use Rattle.std.proofs.Common.{◌&&◌, ℕ, List, Bool, refl, sym, ◌∙◌, ap, arith, subst}
-use Rattle.sig_types.specs.declared.frame.Frame.{Frame}
+use Rattle.std.proofs.Common.{◌&&◌, ◌∷◌, ℕ, List, Bool, refl, sym, ◌∙◌, ap, arith}
+use Rattle.sig_types.specs.declared.frame.Colour.TheVariants.{Green}
+use Rattle.sig_types.specs.declared.frame.Ped.TheVariants.{Walk}
 use Rattle.sig_types.specs.Phases.{is_in}
 use Rattle.sig_tables.specs.Past.{Moment}
 use Rattle.sig_tables.specs.Calls.{is_green}
@@ -8,13 +9,13 @@ use Rattle.sig_tables.specs.Preempts.{preempts_on}
 use Rattle.sig_tables.specs.Decide.{next_moment, colours_of}
 use Rattle.sig_tables.specs.Seen.{frame_seen, moment_seen, moves_seen}
 use Rattle.sig_tables.specs.Layout.{Has}
-use Rattle.sig_tables.proofs.Below.{is-above, is-within}
 use Rattle.call_store.specs.Stands.{is_walking}
 use Rattle.preempt_stages.proofs.Inputs.{seen-is}
 use Rattle.preempt_stages.proofs.OnPhases.{names-phases}
 use Rattle.tick_context.proofs.Seen.{opposed-green}
 use Rattle.tick_context.proofs.Sought.{start-again}
 use Rattle.tick_context.proofs.Pickups.{few-next, one-more, same-most}
+use Rattle.look_back.specs.FrameHistories.{LooksOver}
 use Rattle.observer.proofs.Inputs.{seen-on}
 use Rattle.observer.proofs.InStep.{next-within}
 use Rattle.observer.proofs.Observer.keep.Goals as goal
@@ -23,10 +24,17 @@ pub returns-clause-keeps : goal.returns-clause-keeps
 returns-clause-keeps c = λ past r s f.
     let m : Moment = next_moment past in
     let k = r.keeps in
-    let green : Has c.showing.result (is_green m.frame) =
-    subst (λ (x : Frame). Has c.showing.result (is_green x)) f (λ p h. c.showing.ensures.shown p (is-above p h) (is-within p h)) in
-    let walking : Has c.signalling.result (is_walking m.frame) =
-    subst (λ (x : Frame). Has c.signalling.result (is_walking x)) f (λ p h. c.signalling.ensures.shown p (is-above p h) (is-within p h)) in
+    let looks : LooksOver c.push.new.self (m ∷ past.moments) =
+    c.push.ensures past.moments m k.frame_history
+    (record {
+      frame = sym f;
+      quiet = s.quiet;
+      opposed = λ p i. opposed-green past p i ∙ ap (λ (b : Bool). is_green (frame_seen past) p && b) (sym (s.opposed p i));
+    })
+    (sym k.context.tables) (λ i a b. k.inputs i a b ∙ ap (λ (xs : List ℕ). is_in xs i) (seen-is past)) k.commanded in
+    let shown = c.shown-shown.ensures (m ∷ past.moments) looks in
+    let green : Has c.shown-shown.result.green (is_green m.frame) = shown.colours Green in
+    let walking : Has c.shown-shown.result.walk (is_walking m.frame) = shown.signals Walk in
     record {
       context = record {
         tables = k.context.tables;
@@ -48,12 +56,6 @@ returns-clause-keeps c = λ past r s f.
       };
       inputs = seen-on c.args.self.now.inputs past m (sym (seen-is past)) k.inputs;
       commanded = refl;
-      frame_history = c.push.ensures past.moments m k.frame_history
-          (record {
-            frame = sym f;
-            quiet = s.quiet;
-            opposed = λ p i. opposed-green past p i ∙ ap (λ (b : Bool). is_green (frame_seen past) p && b) (sym (s.opposed p i));
-          })
-          (sym k.context.tables) (λ i a b. k.inputs i a b ∙ ap (λ (xs : List ℕ). is_in xs i) (seen-is past)) k.commanded;
+      frame_history = looks;
       within = λ n. next-within c.args.tick_state.now past n r.tick_state;
     }

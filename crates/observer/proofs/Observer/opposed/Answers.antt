@@ -1,9 +1,16 @@
-use Rattle.std.proofs.Common.{arith}
+use Rattle.std.proofs.Common.{sym, ◌∙◌, arith}
 use Rattle.sig_types.specs.Phases.{is_in}
 use Rattle.sig_tables.specs.Calls.{opposed_of}
 use Rattle.sig_tables.specs.Seen.{frame_seen}
 use Rattle.sig_tables.proofs.Below.{below-start, below-more, below-end}
+use Rattle.tick_context.proofs.Again.{unopposed}
 use Rattle.observer.proofs.Observer.opposed.Goals as goal
+
+pub returns-then-is_empty : goal.returns-then-is_empty
+returns-then-is_empty c = record {
+  opposed = λ past phases k d p h.
+      c.empty.ensures.has p ∙ sym (unopposed past.tables (frame_seen past) phases p h (sym d ∙ c.is_empty.ensures.empty.0 c.if-is_empty.true));
+}
 
 pub loop-phase-init : goal.loop-phase-init
 loop-phase-init c = λ past phases k d.

@@ -1,11 +1,24 @@
-use Rattle.sig_types.specs.declared.frame.Mode.TheVariants.{Free}
-use Rattle.sig_tables.specs.Decide.{ticked}
+use Rattle.std.proofs.Common.{◌<◌, refl, arith}
+use Rattle.sig_tables.specs.Past.{Past}
+use Rattle.sig_tables.specs.Decide.{past_at, ticked}
 use Rattle.tick_context.proofs.Striding.{lasts-plain}
 use Rattle.observer.proofs.Observer.pass_on.Goals as goal
 
 pub returns-clause-stands : goal.returns-clause-stands
-returns-clause-stands c = λ h k. c.pass.ensures.stands (ticked h) k (c.is_at_rest.ensures.rests h k c.if-not-is_at_rest.false)
+returns-clause-stands c = λ h k.
+    let past : Past = past_at (ticked h) in
+    let some : 0 < c.lasting-ticks.result = omega arith in
+    let bound = c.can_pass.ensures.bound past k c.if-not-can_pass.false in
+    let looks = c.tick_inputs_kept-tick_inputs.ensures.looks past k bound in
+    c.pass.ensures.stands (ticked h) k bound looks
+    (c.lasting-ticks.ensures.lasts past k bound (record { heard = refl; commanded = refl; clock_set = refl })
+    (c.can_pass.ensures.beside past k c.if-not-can_pass.false) looks some)
 
 pub returns-clause-plain : goal.returns-clause-plain
-returns-clause-plain c = λ h i k few.
-    lasts-plain i c.even_left-ticks.result Free (ticked h) few ((c.is_at_rest.ensures.rests h k c.if-not-is_at_rest.false).lasts c.even_left-ticks.result)
+returns-clause-plain c = λ h j k less.
+    let past : Past = past_at (ticked h) in
+    let some : 0 < c.lasting-ticks.result = omega (arith, less) in
+    let bound = c.can_pass.ensures.bound past k c.if-not-can_pass.false in
+    lasts-plain j c.lasting-ticks.result c.args.self.now.context.frame.mode (ticked h) less
+    (c.lasting-ticks.ensures.lasts past k bound (record { heard = refl; commanded = refl; clock_set = refl })
+    (c.can_pass.ensures.beside past k c.if-not-can_pass.false) (c.tick_inputs_kept-tick_inputs.ensures.looks past k bound) some)

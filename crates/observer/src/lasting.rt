@@ -1,0 +1,253 @@
+//! For how many ticks a phase goes on with what it shows, by what was seen of it: until the first of its intervals is over, or a
+//! point of the plan comes at which it may end. An answer that is too small makes a stride shorter, and no frame another.
+
+ghost use Rattle.std.specs.Prelude.{◌≡◌, ◌<◌, ◌≤◌, ◌+◌, ◌&&◌, ◌⊎◌, ℕ, true, not, Option, None, Some, []};
+
+use crate::Observer;
+use sig_types::{Colour, Ped, PhaseSet};
+use tick_context::{TickInputs, is_coord};
+
+impl Observer {
+    ghost use Rattle.sig_types.specs.Phases.{is_phase, is_in};
+    ghost use Rattle.sig_types.specs.PhaseSet.{has};
+    ghost use Rattle.sig_types.specs.Colour.{colour_of, signal_of};
+    ghost use Rattle.sig_tables.specs.Past.{Past};
+    ghost use Rattle.sig_tables.specs.Tables.{is_enabled};
+    ghost use Rattle.sig_tables.specs.Calls.{is_green};
+    ghost use Rattle.sig_tables.specs.Modes.{bound};
+    ghost use Rattle.sig_tables.specs.Seen.{frame_seen, demand_with, quiet_with};
+    ghost use Rattle.call_store.specs.Signals.{SignalLasts};
+    ghost use Rattle.tick_context.specs.Binds.{ActivePatternIs, IsBound};
+    ghost use Rattle.tick_context.specs.Lasting.{Looks, ColourLasts, StaysUnserved, HasNoGap, HasNoMaximum, ComesBefore, HasNoReason, StaysUnforced, PhaseLasts, opposed_with};
+    ghost use Rattle.observer.specs.Remembers.{Remembers};
+
+    /// For how many ticks more a phase, 1 to 16, keeps its colour where it neither ends nor begins.
+    fn colour_left(&self, phase: u8) -> u32
+        requires above { 0 < phase }
+        requires within { phase ≤ 16 }
+        ensures left { (past : Past) (k : ℕ) → Remembers self.now past → 0 < k → k ≤ result
+            → ColourLasts k phase past.tables past.moments (colour_of (frame_seen past) phase) }
+    {
+        match self.context.frame.veh[phase as usize - 1] {
+            Colour::Green => u32::MAX,
+            Colour::Red => u32::MAX,
+            Colour::Yellow => self.frame_history.colour_left(phase, Colour::Yellow),
+            Colour::Clear => self.frame_history.colour_left(phase, Colour::Clear),
+        }
+    }
+
+    /// For how many ticks more a phase, 1 to 16, keeps its signal where no walk begins.
+    fn signal_left(&self, phase: u8) -> u32
+        requires above { 0 < phase }
+        requires within { phase ≤ 16 }
+        ensures left { (past : Past) (k : ℕ) → Remembers self.now past → 0 < k → k ≤ result
+            → SignalLasts k phase past.tables past.moments (signal_of (frame_seen past) phase) }
+    {
+        match self.context.frame.ped[phase as usize - 1] {
+            Ped::Dont => u32::MAX,
+            Ped::Walk => self.frame_history.signal_left(phase, Ped::Walk),
+            Ped::Flash => self.frame_history.signal_left(phase, Ped::Flash),
+        }
+    }
+
+    /// For how many ticks more a Green phase, 1 to 16, is not served. While it shows Walk or Flash it is not.
+    fn unserved_left(&self, phase: u8) -> u32
+        requires above { 0 < phase }
+        requires within { phase ≤ 16 }
+        ensures left { (past : Past) (k : ℕ) → Remembers self.now past → is_green (frame_seen past) phase ≡ true → 0 < k → k ≤ result
+            → StaysUnserved k past phase }
+    {
+        if self.signalling().has(phase) {
+            u32::MAX
+        } else {
+            self.frame_history.colour_left(phase, Colour::Green)
+        }
+    }
+
+    /// For how many ticks more a Green phase, 1 to 16, that is active or is not, has no gap.
+    fn gap_left(&self, phase: u8, active: bool) -> u32
+        requires above { 0 < phase }
+        requires within { phase ≤ 16 }
+        ensures left { (past : Past) (o : Option ℕ) (k : ℕ) → Remembers self.now past → active ≡ not (is_in (quiet_with o past) phase) → 0 < k → k ≤ result
+            → HasNoGap o k past phase }
+    {
+        if active {
+            u32::MAX
+        } else {
+            self.frame_history
+                .window()
+                .gap_left(&self.context.tables, phase)
+        }
+    }
+
+    /// For how many ticks more a Green phase, 1 to 16, that is opposed or is not, is not at its maximum.
+    fn maximum_left(&self, phase: u8, opposed: bool) -> u32
+        requires above { 0 < phase }
+        requires within { phase ≤ 16 }
+        ensures left { (past : Past) (o : Option ℕ) (k : ℕ) → Remembers self.now past → opposed ≡ is_in (opposed_with o past) phase → 0 < k → k ≤ result
+            → HasNoMaximum o k past phase }
+    {
+        if self.context.tables.phase(phase).maximum == 0 {
+            0
+        } else if opposed {
+            self.frame_history
+                .window()
+                .maximum_left(&self.context.tables, phase)
+        } else {
+            u32::MAX
+        }
+    }
+
+    /// How many ticks more come before the force point of a phase, 1 to 16, in the pattern that is kept.
+    fn force_left(&self, phase: u8) -> u32
+        requires above { 0 < phase }
+        requires within { phase ≤ 16 }
+        ensures left { (past : Past) (n k : ℕ) → Remembers self.now past → ActivePatternIs self.now.context.active_pattern past.tables n → 0 < k → k ≤ result
+            → ComesBefore n k past phase }
+    {
+        let force = self.context.active_pattern.plan.force[phase as usize - 1];
+        force
+            .saturating_sub(1)
+            .saturating_sub(self.context.frame.counter)
+    }
+
+    /// For how many ticks more there is no reason to end a Green phase, 1 to 16, where the pattern that is kept binds.
+    fn bound_left(&self, phase: u8, active: bool) -> u32
+        requires above { 0 < phase }
+        requires within { phase ≤ 16 }
+        ensures left { (past : Past) (n k : ℕ) → Remembers self.now past → ActivePatternIs self.now.context.active_pattern past.tables n
+            → active ≡ not (is_in (quiet_with (Some n) past) phase) → 0 < k → k ≤ result → HasNoReason (Some n) k past phase }
+    {
+        if self.context.active_pattern.options.coordinated.has(phase) {
+            self.force_left(phase)
+        } else if self.context.active_pattern.plan.floating {
+            0
+        } else {
+            self.gap_left(phase, active)
+        }
+    }
+
+    /// For how many ticks more there is no reason to end a Green phase, 1 to 16, where no pattern binds.
+    fn unbound_left(&self, phase: u8, active: bool, opposed: bool) -> u32
+        requires above { 0 < phase }
+        requires within { phase ≤ 16 }
+        ensures left { (past : Past) (k : ℕ) → Remembers self.now past → active ≡ not (is_in (quiet_with None past) phase)
+            → opposed ≡ is_in (opposed_with None past) phase → 0 < k → k ≤ result → HasNoReason None k past phase }
+    {
+        let gap = self.gap_left(phase, active);
+        gap.min(self.maximum_left(phase, opposed))
+    }
+
+    /// For how many ticks more there is no reason to end a Green phase, 1 to 16, in the mode of the last frame.
+    fn reason_left(&self, phase: u8, active: bool, opposed: bool) -> u32
+        requires above { 0 < phase }
+        requires within { phase ≤ 16 }
+        ensures left { (past : Past) (k : ℕ) → Remembers self.now past → IsBound self.now.context.active_pattern past.tables self.now.context.frame.mode
+            → active ≡ not (is_in (quiet_with (bound self.now.context.frame.mode) past) phase)
+            → opposed ≡ is_in (opposed_with (bound self.now.context.frame.mode) past) phase → 0 < k → k ≤ result
+            → HasNoReason (bound self.now.context.frame.mode) k past phase }
+    {
+        if is_coord(self.context.frame.mode) {
+            self.bound_left(phase, active)
+        } else {
+            self.unbound_left(phase, active, opposed)
+        }
+    }
+
+    /// For how many ticks more no pattern forces a phase, 1 to 16, off.
+    fn unforced_left(&self, phase: u8) -> u32
+        requires above { 0 < phase }
+        requires within { phase ≤ 16 }
+        ensures left { (past : Past) (k : ℕ) → Remembers self.now past → IsBound self.now.context.active_pattern past.tables self.now.context.frame.mode → 0 < k → k ≤ result
+            → StaysUnforced (bound self.now.context.frame.mode) k past phase }
+    {
+        if !is_coord(self.context.frame.mode) {
+            u32::MAX
+        } else if self.context.active_pattern.options.coordinated.has(phase) {
+            u32::MAX
+        } else {
+            self.force_left(phase)
+        }
+    }
+
+    /// For how many ticks more an enabled Green phase, 1 to 16, stays: it is not served, or there is no reason to end it.
+    fn stay_left(&self, tick_inputs: &TickInputs, phase: u8) -> u32
+        requires above { 0 < phase }
+        requires within { phase ≤ 16 }
+        ensures left { (past : Past) (k : ℕ) → Remembers self.now past → IsBound self.now.context.active_pattern past.tables self.now.context.frame.mode
+            → Looks (bound self.now.context.frame.mode) tick_inputs.now past → is_green (frame_seen past) phase ≡ true → 0 < k → k ≤ result
+            → StaysUnserved k past phase ⊎ HasNoReason (bound self.now.context.frame.mode) k past phase }
+    {
+        let unserved = self.unserved_left(phase);
+        let active = tick_inputs.active.has(phase);
+        let opposed = tick_inputs.opposed.has(phase);
+        unserved.max(self.reason_left(phase, active, opposed))
+    }
+
+    /// For how many ticks more a phase, 1 to 16, is not ended where it is Green: it is not forced off, and nothing has demand,
+    /// or it stays.
+    fn green_left(&self, tick_inputs: &TickInputs, phase: u8) -> u32
+        requires above { 0 < phase }
+        requires within { phase ≤ 16 }
+        ensures unforced { (past : Past) (k : ℕ) → Remembers self.now past → IsBound self.now.context.active_pattern past.tables self.now.context.frame.mode
+            → (is_enabled past.tables phase && is_green (frame_seen past) phase) ≡ true → 0 < k → k ≤ result
+            → StaysUnforced (bound self.now.context.frame.mode) k past phase }
+        ensures stays { (past : Past) (k : ℕ) → Remembers self.now past → IsBound self.now.context.active_pattern past.tables self.now.context.frame.mode
+            → Looks (bound self.now.context.frame.mode) tick_inputs.now past
+            → (is_enabled past.tables phase && is_green (frame_seen past) phase) ≡ true → 0 < k → k ≤ result
+            → (demand_with (bound self.now.context.frame.mode) past ≡ [])
+            ⊎ (StaysUnserved k past phase ⊎ HasNoReason (bound self.now.context.frame.mode) k past phase) }
+    {
+        if !self.green().has(phase) {
+            return u32::MAX;
+        }
+        let unforced = self.unforced_left(phase);
+        if tick_inputs.demand.is_empty() {
+            unforced
+        } else {
+            unforced.min(self.stay_left(tick_inputs, phase))
+        }
+    }
+
+    /// For how many ticks more a phase, 1 to 16, goes on with what it shows.
+    fn phase_left(&self, tick_inputs: &TickInputs, phase: u8) -> u32
+        requires above { 0 < phase }
+        requires within { phase ≤ 16 }
+        ensures left { (past : Past) (k : ℕ) → Remembers self.now past → IsBound self.now.context.active_pattern past.tables self.now.context.frame.mode
+            → Looks (bound self.now.context.frame.mode) tick_inputs.now past → 0 < k → k ≤ result → PhaseLasts (bound self.now.context.frame.mode) k past phase }
+    {
+        let colour = self.colour_left(phase);
+        let signal = self.signal_left(phase);
+        colour.min(signal).min(self.green_left(tick_inputs, phase))
+    }
+
+    /// For how many ticks more all of these phases go on with what they show.
+    fn least_left(&self, tick_inputs: &TickInputs, phases: PhaseSet) -> u32
+        ensures left { (past : Past) (k p : ℕ) → Remembers self.now past → IsBound self.now.context.active_pattern past.tables self.now.context.frame.mode
+            → Looks (bound self.now.context.frame.mode) tick_inputs.now past → 0 < k → k ≤ result → is_phase p ≡ true → has phases p ≡ true
+            → PhaseLasts (bound self.now.context.frame.mode) k past p }
+    {
+        let mut rest = phases;
+        let mut left = u32::MAX;
+        for _ in 0u32..17 {
+            if rest.is_empty() {
+                return left;
+            }
+            let phase = rest.least();
+            rest = rest.without(phase);
+            left = left.min(self.phase_left(tick_inputs, phase));
+        }
+        0
+    }
+
+    /// For how many ticks more all phases go on with what they show; one in red with steady don't walk has no end.
+    pub(crate) fn phases_left(&self, tick_inputs: &TickInputs) -> u32
+        ensures left { (past : Past) (k p : ℕ) → Remembers self.now past → IsBound self.now.context.active_pattern past.tables self.now.context.frame.mode
+            → Looks (bound self.now.context.frame.mode) tick_inputs.now past → 0 < k → k ≤ result → is_phase p ≡ true
+            → PhaseLasts (bound self.now.context.frame.mode) k past p }
+    {
+        let lit = self.green().union(self.clearing());
+        let busy = lit.union(self.signalling());
+        self.least_left(tick_inputs, busy)
+    }
+}

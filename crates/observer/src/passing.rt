@@ -1,0 +1,314 @@
+//! Ticks that are passed over at once, in free operation and in step with a pattern: each shows what the last frame shows and sees
+//! what the last tick saw. The frame history has so many frames more, and beside it only what counts moves: the number of the
+//! tick, the clock, how long the command has stood, the counter of the cycle and its target.
+
+ghost use Rattle.std.specs.Prelude.{◌≡◌, ◌<◌, ◌≤◌, ◌+◌, ◌&&◌, ◌⊎◌, ◌∷◌, [], ℕ, Bool, suc, true, false, not, IsTrue, None};
+
+use crate::Observer;
+use pattern_plan::SplitOptions;
+use sig_types::{Mode, PhaseSet};
+use tick_context::{TickInputs, are_both_on, is_coord, is_defined, shows_sixteen};
+
+/// The command that asks for flash.
+const FLASH_COMMAND: u8 = 255;
+
+/// Whether these are on in the rings.
+fn are_on(on: [u8; 2], first: u8, second: u8) -> bool
+    ensures { IsTrue result → on ≡ first ∷ second ∷ [] }
+{
+    on[0] == first && on[1] == second
+}
+
+impl Observer {
+    ghost use Rattle.sig_types.specs.Phases.{is_phase, is_in};
+    ghost use Rattle.sig_types.specs.declared.frame.Colour.TheVariants.{Green};
+    ghost use Rattle.sig_types.specs.Colour.{same_colour, colour_of};
+    ghost use Rattle.sig_tables.specs.Modes.{bound};
+    ghost use Rattle.sig_tables.specs.Slots.{cycle_time, window};
+    ghost use Rattle.sig_tables.specs.Clock.{target_at};
+    ghost use Rattle.sig_tables.specs.Walking.{has_walk};
+    ghost use Rattle.sig_tables.specs.Ticking.{on_of};
+    ghost use Rattle.sig_tables.specs.Past.{Past, History};
+    ghost use Rattle.sig_tables.specs.Decide.{past_at, ticked};
+    ghost use Rattle.sig_tables.specs.Layout.{Has};
+    ghost use Rattle.sig_tables.specs.Seen.{frame_seen, moment_seen, pedestrian_seen};
+    ghost use Rattle.preempt_stages.specs.Inputs.{preempts_seen};
+    ghost use Rattle.prio_queue.specs.Idle.{IsIdle};
+    ghost use Rattle.pattern_plan.specs.Options.{AreActivePattern};
+    ghost use Rattle.tick_context.specs.Binds.{ActivePatternIs, IsBound};
+    ghost use Rattle.tick_context.specs.Even.{IsEven};
+    ghost use Rattle.tick_context.specs.Shows.{is_signalling};
+    ghost use Rattle.tick_context.specs.Strides.{is_told, ticks_more};
+    ghost use Rattle.tick_context.specs.Lasting.{IsFresh, Looks, StaysFree, StaysInStep, ModeLasts, Lasts, opposed_with};
+    ghost use Rattle.observer.specs.Passed.{GoesEvenly};
+    ghost use Rattle.observer.specs.Remembers.{Remembers, ObserverStands, tick_count, install_count};
+
+    /// Whether the cabinet runs free, or is in step with the pattern that is kept.
+    fn is_bound(&self) -> bool
+        ensures { (past : Past) → Remembers self.now past → IsTrue result → IsBound self.now.context.active_pattern past.tables self.now.context.frame.mode }
+    {
+        match self.context.frame.mode {
+            Mode::Free => true,
+            Mode::Coord(pattern) => {
+                if pattern == 0 {
+                    false
+                } else {
+                    pattern == self.context.active_pattern.pattern
+                }
+            }
+            _ => false,
+        }
+    }
+
+    /// What the split of the pattern asks that the last frame is in step with; none where it is with none.
+    fn options_kept(&self) -> Option<&SplitOptions>
+        ensures options { (past : Past) → IsBound self.now.context.active_pattern past.tables self.now.context.frame.mode
+            → AreActivePattern result (bound self.now.context.frame.mode) past.tables }
+    {
+        if is_coord(self.context.frame.mode) {
+            Some(&self.context.active_pattern.options)
+        } else {
+            None
+        }
+    }
+
+    /// What is seen of the phases, where the mode goes on.
+    fn tick_inputs_kept(&self) -> TickInputs
+        ensures looks { (past : Past) → Remembers self.now past → IsBound self.now.context.active_pattern past.tables self.now.context.frame.mode
+            → Looks (bound self.now.context.frame.mode) result past }
+    {
+        let options = self.options_kept();
+        let active = self.context.calls.active(&self.context.layout, options);
+        let demand = self
+            .context
+            .calls
+            .demand(&self.context.layout, self.red(), options);
+        TickInputs {
+            demand,
+            active,
+            opposed: self.opposed(demand),
+        }
+    }
+
+    /// Whether the last frame has the version of the tables in force, and what is on by their rings.
+    fn is_laid_out(&self) -> bool
+        ensures version { (past : Past) → Remembers self.now past → IsTrue result → (frame_seen past).version ≡ past.version }
+        ensures on { (past : Past) → Remembers self.now past → IsTrue result
+            → (frame_seen past).on ≡ on_of past.tables (frame_seen past).veh 1 ∷ on_of past.tables (frame_seen past).veh 2 ∷ [] }
+    {
+        let red = self.red();
+        if self.context.frame.version != self.context.version {
+            false
+        } else {
+            are_on(
+                self.context.frame.on,
+                self.context.on_in_ring(red, 1),
+                self.context.on_in_ring(red, 2),
+            )
+        }
+    }
+
+    /// Whether no walk begins on a phase that stays green: of those that show steady don't walk and are not opposed none is called
+    /// to.
+    fn is_uncalled(&self, opposed: PhaseSet) -> bool
+        ensures walks { (past : Past) (against : ℕ → Bool) (p : ℕ) → Remembers self.now past → Has opposed against → IsTrue result → is_phase p ≡ true
+            → ((has_walk past.tables p && is_in (pedestrian_seen past) p)
+            && ((same_colour (colour_of (frame_seen past) p) Green && not (is_signalling (frame_seen past) p))
+            && not (against p))) ≡ false }
+    {
+        let called = self
+            .context
+            .layout
+            .walks
+            .meet(self.context.calls.pedestrian());
+        let steady = self.green().minus(self.signalling());
+        called.meet(steady.minus(opposed)).is_empty()
+    }
+
+    /// Whether free operation goes on, and no walk begins, where these phases are opposed.
+    fn stays_at_free(&self, opposed: PhaseSet) -> bool
+        ensures free { (past : Past) → Remembers self.now past → IsFresh past → Has opposed (is_in (opposed_with None past)) → IsTrue result
+            → StaysFree past }
+        ensures zero { IsTrue result → self.now.context.frame.counter ≡ 0 }
+    {
+        let command = self.context.unit_commands.command();
+        if command == FLASH_COMMAND {
+            false
+        } else if is_defined(&self.context.tables, command) {
+            false
+        } else if self.context.frame.counter != 0 {
+            false
+        } else if self.context.frame.target != 0 {
+            false
+        } else {
+            self.is_uncalled(opposed)
+        }
+    }
+
+    /// For how many ticks more the counter of the pattern that is kept goes on as time does, before the end of its cycle. While
+    /// it is to be corrected this says none.
+    fn counter_left(&self) -> u32
+        ensures cycle { (past : Past) (n k : ℕ) → ActivePatternIs self.now.context.active_pattern past.tables n → 0 < k → k ≤ result
+            → self.now.context.frame.counter + k < cycle_time past.tables n }
+        ensures even { (past : Past) (n : ℕ) → Remembers self.now past → ActivePatternIs self.now.context.active_pattern past.tables n → IsFresh past → 0 < result
+            → (window past.tables n ≤ self.now.context.frame.counter)
+            ⊎ (target_at past.tables n (moment_seen past).clock ≡ self.now.context.frame.counter) }
+        ensures room { 0 < result → self.now.context.frame.counter + result ≤ 4294967295 }
+    {
+        let counter = self.context.frame.counter;
+        let plan = &self.context.active_pattern.plan;
+        let left = (plan.cycle - 1).saturating_sub(counter);
+        if plan.window <= counter {
+            left
+        } else if self
+            .context
+            .active_pattern
+            .target(self.context.unit_commands.clock())
+            == counter
+        {
+            left
+        } else {
+            0
+        }
+    }
+
+    /// For how many ticks more the cabinet stays in step with this pattern, which is the one that is kept, and the counter goes
+    /// on as time does.
+    fn step_left(&self, pattern: u8) -> u32
+        ensures left { (past : Past) (k : ℕ) → Remembers self.now past → ActivePatternIs self.now.context.active_pattern past.tables pattern → IsFresh past
+            → GoesEvenly self.now k → 0 < k → k ≤ result → StaysInStep pattern k past }
+        ensures room { 0 < result → self.now.context.frame.counter + result ≤ 4294967295 }
+    {
+        if self.context.unit_commands.command() != pattern {
+            0
+        } else if !is_defined(&self.context.tables, pattern) {
+            0
+        } else if !self
+            .context
+            .requests
+            .is_over(self.context.unit_commands.ticks())
+        {
+            0
+        } else {
+            self.counter_left()
+        }
+    }
+
+    /// For how many ticks more the mode goes on, where these phases are opposed.
+    fn mode_left(&self, opposed: PhaseSet) -> u32
+        ensures left { (past : Past) (k : ℕ) → Remembers self.now past → IsBound self.now.context.active_pattern past.tables self.now.context.frame.mode → IsFresh past
+            → GoesEvenly self.now k → Has opposed (is_in (opposed_with (bound self.now.context.frame.mode) past)) → 0 < k → k ≤ result
+            → ModeLasts self.now.context.frame.mode k past }
+        ensures room { 0 < result → self.now.context.frame.counter + result ≤ 4294967295 }
+    {
+        match self.context.frame.mode {
+            Mode::Free => {
+                if self.stays_at_free(opposed) {
+                    u32::MAX
+                } else {
+                    0
+                }
+            }
+            Mode::Coord(pattern) => self.step_left(pattern),
+            _ => 0,
+        }
+    }
+
+    /// For how many ticks more the mode and all phases go on, where this is seen of them.
+    fn all_left(&self, tick_inputs: &TickInputs) -> u32
+        ensures lasts { (past : Past) (k : ℕ) → Remembers self.now past → IsBound self.now.context.active_pattern past.tables self.now.context.frame.mode → IsFresh past
+            → GoesEvenly self.now k → preempts_seen past ≡ [] → Looks (bound self.now.context.frame.mode) tick_inputs.now past → 0 < k
+            → k ≤ result → Lasts self.now.context.frame.mode k past }
+        ensures room { 0 < result → self.now.context.frame.counter + result ≤ 4294967295 }
+    {
+        shows_sixteen(self.context.frame);
+        if !are_both_on(self.context.frame.on) {
+            return 0;
+        }
+        if !self.is_laid_out() {
+            return 0;
+        }
+        let mode = self.mode_left(tick_inputs.opposed);
+        if mode == 0 {
+            0
+        } else {
+            mode.min(self.phases_left(tick_inputs))
+        }
+    }
+
+    /// Whether the mode of the last frame is one that can go on, no preempt input is on and no request is active: else no tick is
+    /// passed over.
+    fn can_pass(&self) -> bool
+        ensures bound { (past : Past) → Remembers self.now past → IsTrue result → IsBound self.now.context.active_pattern past.tables self.now.context.frame.mode }
+        ensures beside { (past : Past) → Remembers self.now past → IsTrue result → preempts_seen past ≡ [] }
+        ensures idle { IsTrue result → IsIdle self.now.context.requests }
+    {
+        if !self.inputs.is_empty() {
+            false
+        } else if !self.context.requests.is_idle() {
+            false
+        } else {
+            self.is_bound()
+        }
+    }
+
+    /// For how many of so many ticks at the most the cabinet shows what it shows and sees this, where nothing has been told since
+    /// the last frame. It may be fewer than there are.
+    fn lasting(&self, tick_inputs: &TickInputs, most: u32) -> u32
+        ensures within { result ≤ most }
+        ensures even { 0 < result → GoesEvenly self.now result }
+        ensures lasts { (past : Past) → Remembers self.now past → IsBound self.now.context.active_pattern past.tables self.now.context.frame.mode → IsFresh past
+            → preempts_seen past ≡ [] → Looks (bound self.now.context.frame.mode) tick_inputs.now past → 0 < result
+            → Lasts self.now.context.frame.mode result past }
+        ensures room { 0 < result → self.now.context.frame.counter + result ≤ 4294967295 }
+    {
+        let left = self.all_left(tick_inputs);
+        self.context
+            .unit_commands
+            .even(&self.context.tables, most.min(left))
+    }
+
+    /// Passes over so many ticks that see this.
+    fn pass(&mut self, tick_inputs: &TickInputs, ticks: u32)
+        requires some { 0 < ticks }
+        requires few { tick_count self.old + ticks ≤ 4294967295 }
+        requires even { GoesEvenly self.old ticks }
+        requires idle { IsIdle self.old.context.requests }
+        requires room { self.old.context.frame.counter + ticks ≤ 4294967295 }
+        ensures stands { (h : History) → ObserverStands self.old h → IsBound self.old.context.active_pattern (past_at h).tables self.old.context.frame.mode
+            → Looks (bound self.old.context.frame.mode) tick_inputs.now (past_at h) → Lasts self.old.context.frame.mode ticks (past_at h)
+            → ObserverStands self.new (ticks_more ticks h) }
+        ensures ticks { tick_count self.new ≡ tick_count self.old + ticks }
+        ensures installs { install_count self.new ≡ install_count self.old }
+    {
+        let counter = self.context.frame.counter + ticks;
+        self.context.pass(ticks, counter);
+        self.frame_history
+            .push_again(tick_inputs.active, tick_inputs.opposed, ticks);
+    }
+
+    /// Passes over ticks that come, at most so many, and says how many, where nothing has been told since the last tick. It may
+    /// stop before the first whose frame has a line.
+    pub(crate) fn pass_on(&mut self, most: u32) -> u32
+        requires few { tick_count self.old + most ≤ 4294967295 }
+        ensures within { result ≤ most }
+        ensures stands { (h : History) → ObserverStands self.old (ticked h) → ObserverStands self.new (ticks_more result (ticked h)) }
+        ensures plain { (h : History) (k : ℕ) → ObserverStands self.old (ticked h) → k < result → is_told (ticked h) (suc k) ≡ false }
+        ensures ticks { tick_count self.new ≡ tick_count self.old + result }
+        ensures installs { install_count self.new ≡ install_count self.old }
+    {
+        if most == 0 {
+            return 0;
+        }
+        if !self.can_pass() {
+            return 0;
+        }
+        let tick_inputs = self.tick_inputs_kept();
+        let ticks = self.lasting(&tick_inputs, most);
+        if ticks == 0 {
+            return 0;
+        }
+        self.pass(&tick_inputs, ticks);
+        ticks
+    }
+}
