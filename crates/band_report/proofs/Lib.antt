@@ -6,3 +6,4 @@ pub mod Reports
 pub mod Windows
 pub mod OneAnswer
 pub mod LimitNames
+pub mod Kept

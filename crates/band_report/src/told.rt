@@ -9,7 +9,8 @@ ghost use Rattle.band_report.specs.Told.{band_text, two_lines, TellsOf, TellsBan
 
 use crate::asked::asked_in;
 use crate::{Band, greatest};
-use scenario_data::{ReadFail, Refusal};
+use scenario_cut::{Form, kept_of};
+use scenario_data::ReadFail;
 use serde_json::Value;
 use std::alloc::{AllocError, Global};
 
@@ -82,17 +83,17 @@ fn report_of(alloc: Global, value: &Value) -> Result<Vec<u8>, ReadFail>
 /// The greatest bands, outbound and inbound, that the bytes of one JSON object ask of: two lines, `outbound START WIDTH A B`
 /// and `inbound START WIDTH A B`, or `none` behind the word where no time is open. The refusal is the first fault in the
 /// order of the checks: the JSON reading, the four names and what stands there, those of the scenario with their paths behind
-/// `scenario.`, and then what stands against any band.
+/// `scenario.`, and then what stands against any band. Only what these hang on is kept of the object.
 pub fn report(alloc: Global, bytes: &[u8]) -> Result<Vec<u8>, ReadFail>
     ensures told { IfOk result (λ text. TellsBands bytes.now text.items) }
     ensures refused { IfErr result (λ fail. OnRefusal fail (IsFirstBandFault bytes.now)) }
 {
-    match Value::from_slice(alloc, bytes) {
-        Ok(value) => report_of(alloc, &value),
-        Err(e) => Err(if e.is_memory() {
-            ReadFail::NoMemory
-        } else {
-            ReadFail::Refused(Refusal::Syntax)
-        }),
+    let kept = match kept_of(alloc, bytes, Form::Street) {
+        Ok(kept) => kept,
+        Err(fail) => return Err(fail),
+    };
+    match report_of(alloc, &kept) {
+        Ok(text) => Ok(text),
+        Err(fail) => Err(fail),
     }
 }

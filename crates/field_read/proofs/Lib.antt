@@ -11,3 +11,4 @@ pub mod Names
 pub mod Standing
 pub mod Narrow
 pub mod Saying
+pub mod Kept

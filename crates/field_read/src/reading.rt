@@ -15,7 +15,8 @@ ghost use Rattle.field_read.specs.Answers.{IsFirstFieldFault};
 
 use crate::across::lists_fit;
 use crate::named::{Field, named_in};
-use scenario_data::{ReadFail, Refusal};
+use scenario_cut::{Form, kept_of};
+use scenario_data::ReadFail;
 use serde_json::Value;
 use std::alloc::Global;
 
@@ -45,7 +46,8 @@ pub struct Source {
 
 /// Reads a field file with its value, in time and memory that grow with its bytes. The refusal is the first fault in the order
 /// of the checks: the JSON reading, the names and values in the order of their table, those of the scenario with their paths
-/// behind `scenario.`, and then what lies across the lists. The compact text of its scenario reads as that scenario.
+/// behind `scenario.`, and then what lies across the lists. The compact text of its scenario reads as that scenario. Of a value with a
+/// fault only that is kept on which its first fault may hang.
 pub fn read_source(alloc: Global, bytes: &[u8]) -> Result<Source, ReadFail>
     ensures value { IfOk result (λ s. Reads bytes.now (view s.value)) }
     ensures nests { IfOk result (λ s. depth (view s.value) ≤ max_depth) }
@@ -54,15 +56,12 @@ pub fn read_source(alloc: Global, bytes: &[u8]) -> Result<Source, ReadFail>
     ensures refused { IfErr result (λ fail. OnRefusal fail (IsFirstFieldFault bytes.now)) }
     ensures scenario { IfOk result (λ s. IsScenario s.field.scenario.compact.items (scenario_content s.field.scenario)) }
 {
-    match Value::from_slice(alloc, bytes) {
-        Ok(value) => match field_in(alloc, &value) {
-            Ok(field) => Ok(Source { field, value }),
-            Err(fail) => Err(fail),
-        },
-        Err(e) => Err(if e.is_memory() {
-            ReadFail::NoMemory
-        } else {
-            ReadFail::Refused(Refusal::Syntax)
-        }),
+    let value = match kept_of(alloc, bytes, Form::Field) {
+        Ok(value) => value,
+        Err(fail) => return Err(fail),
+    };
+    match field_in(alloc, &value) {
+        Ok(field) => Ok(Source { field, value }),
+        Err(fail) => Err(fail),
     }
 }

@@ -1,17 +1,17 @@
 -- What is kept of a list that grows at its end, and of an object to which a member is put.
-use Rattle.std.proofs.Common.{◌≡◌, ℕ, suc, ◌&&◌, true, false, if◌then◌else◌, List, Ordering, Less, Equal, Greater, nat_cmp, is_eq, codes, bytes_eq, refl, sym, ap, ap₂, ◌∙◌, subst}
-use Rattle.std.proofs.lemmas.Map.Text.{is_eq-slice_cmp}
-use Rattle.std.proofs.lemmas.Slice.Eq.{bytes_eq-Decides}
+use Rattle.std.proofs.Common.{◌≡◌, ℕ, suc, ◌&&◌, true, false, if◌then◌else◌, List, Ordering, Less, Equal, Greater, nat_cmp, codes, refl, sym, ap, ap₂, ◌∙◌}
 use Rattle.std.specs.Cmp.Lexicographic.{slice_cmp}
 use Rattle.std.specs.Ordering.{match_ordering}
 use Rattle.serde_json.specs.Data.{Data, null, array, object, Items, no_items, item, Members, no_members, member, put}
-use Rattle.scenario_cut.specs.Cutting.{Form, Whole, Cabinets, Cabinet, Events, Event, Master, Entries, Entry, Rows, Row, Bare, opens_array, opens_object, item_form, member_form, room, room_behind, cut, cut_items, cut_members}
+use Rattle.scenario_cut.specs.Cutting.{Form, Street, Field, Whole, Cabinets, Cabinet, Events, Event, Master, Entries, Entry, Respond, Sections, Section, Rows, Row, Bare, opens_array, opens_object, item_form, member_form, room, room_behind, cut, cut_items, cut_members}
 use Rattle.scenario_cut.specs.Growing.{both}
 use Rattle.scenario_cut.proofs.Members.{IsObject, some-cut, equal-names}
 use Rattle.scenario_cut.proofs.Turns.{both-more}
 
 -- what is kept of an item leaves as much room behind it
 pub room-same : (f : Form) (n : ℕ) (d : Data) → room_behind f n (cut f d) ≡ room_behind f n d
+room-same Street n d = refl
+room-same Field n d = refl
 room-same Whole n d = refl
 room-same Cabinets n d = refl
 room-same Cabinet n d = refl
@@ -22,6 +22,9 @@ room-same Event n d =
 room-same Master n d = refl
 room-same Entries n d = refl
 room-same Entry n d = refl
+room-same Respond n d = refl
+room-same Sections n d = refl
+room-same Section n d = refl
 room-same Rows n d = refl
 room-same Row n d = refl
 room-same Bare n d = refl

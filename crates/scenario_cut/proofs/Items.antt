@@ -1,11 +1,10 @@
 -- Lists of which less is kept: they are as long, and as long as no item is at fault their items are kept.
-use Rattle.std.proofs.Common.{◌≡◌, ◌≤◌, ℕ, zero, suc, ◌+◌, ◌&&◌, nat_le, Bool, true, false, if◌then◌else◌, List, [], ◌∷◌, ◌++◌, Option, Some, None, option_map, refl, sym, ap, ◌∙◌, subst, arith}
+use Rattle.std.proofs.Common.{◌≡◌, ◌≤◌, ℕ, zero, suc, ◌+◌, ◌&&◌, nat_le, Bool, true, false, if◌then◌else◌, List, [], ◌∷◌, ◌++◌, refl, sym, ap, ◌∙◌, subst, arith}
 use Rattle.serde_json.specs.Data.{Data, null, boolean, number, string, array, object, Items, no_items, item, Members}
 use Rattle.serde_json.specs.Events.{items_len}
-use Rattle.scenario_data.specs.Causes.{Cause}
 use Rattle.scenario_read.specs.Faults.{first_cause}
 use Rattle.scenario_read.specs.Paths.{Step, then_item}
-use Rattle.scenario_read.specs.Kinds.{Fit, Fits, Wrong, Beyond, Kind, fault_at, within, each, each_behind, list_of, list_behind, array_fits, items_in}
+use Rattle.scenario_read.specs.Kinds.{Fits, Beyond, Kind, fault_at, within, each, each_behind, list_of, list_behind}
 use Rattle.scenario_read.specs.Content.{each_of}
 use Rattle.scenario_cut.specs.Cutting.{Form, Events, Event, opens_array, opens_object, item_form, is_of_a_round, room, room_behind, cut, cut_items, cut_members}
 use Rattle.scenario_cut.proofs.Same.{Same, Faulty, same-both, same-ended}

@@ -1,23 +1,21 @@
 -- At each place of a scenario what is kept has the same first fault.
-use Rattle.std.proofs.Common.{◌≡◌, ◌≤◌, ℕ, suc, ◌&&◌, ◌==◌, nat_lt, nat_le, Bool, true, false, if◌then◌else◌, List, [], ◌∷◌, ◌++◌, codes, Option, Some, None, is_some, refl, sym, ap, ap₂, ◌∙◌, subst, arith}
+use Rattle.std.proofs.Common.{◌≡◌, ◌≤◌, ℕ, ◌&&◌, ◌==◌, nat_lt, nat_le, Bool, true, false, if◌then◌else◌, List, [], ◌∷◌, codes, Option, Some, None, is_some, refl, sym, ap, ap₂, ◌∙◌, subst, arith}
 use Rattle.std.proofs.lemmas.Bool.{leb-true}
 use Rattle.serde_json.specs.Data.{Data, null, boolean, number, string, array, object, Items, Members}
 use Rattle.serde_json.specs.Events.{items_len}
 use Rattle.serde_json.specs.Find.{get}
-use Rattle.scenario_data.specs.Causes.{Cause}
-use Rattle.scenario_data.specs.declared.scenario.PriorityAct.{PriorityAct}
 use Rattle.scenario_data.specs.declared.scenario.PriorityAct.TheVariants.{Request as AskRequest, Cancel}
 use Rattle.scenario_read.specs.Faults.{first_cause}
 use Rattle.scenario_read.specs.Paths.{Step, then_named}
-use Rattle.scenario_read.specs.Kinds.{Fit, Fits, Wrong, Beyond, Kind, fault_at, whole, rare, text, word, flag, whole_fits, rare_fits, text_fits, word_fits, flag_fits, each, list_of}
+use Rattle.scenario_read.specs.Kinds.{Fit, Fits, Wrong, Kind, fault_at, whole, rare, text, word, flag, whole_fits, rare_fits, text_fits, word_fits, flag_fits, list_of}
 use Rattle.scenario_read.specs.CellLists.{whole_of, cell, octets_fits, hex_text}
-use Rattle.scenario_read.specs.Fields.{Field, held, either, faults_of, field_faults, fields_faults, object_of, Shape, stands, unknown_faults, known_fields, names, alternative_faults}
+use Rattle.scenario_read.specs.Fields.{Field, either, faults_of, field_faults, fields_faults, object_of, unknown_faults, known_fields, names}
 use Rattle.scenario_read.specs.Table
 use Rattle.scenario_read.specs.Table.{number_at, act_of, request_of, load, full_faults, load_cabinet, priority_item, departure_faults, drift_faults, drifts_both_ways, round, cabinet_number}
-use Rattle.scenario_cut.specs.Cutting.{Form, Whole, Cabinets, Cabinet, Events, Event, Master, Entries, Entry, Rows, Row, Bare, is_of_a_round, cut, member_form}
+use Rattle.scenario_cut.specs.Cutting.{Cabinet, Event, Master, Entries, Entry, Rows, Row, Bare, is_of_a_round, cut}
 use Rattle.scenario_cut.proofs.Same.{Same, Faulty, same-both, faulty-first, faulty-later}
-use Rattle.scenario_cut.proofs.Members.{IsObject, CutKeeps, AllKeep, object-same, held-cut, some-cut}
-use Rattle.scenario_cut.proofs.Items.{IsArray, KeepsItem, Stops, each-kept, each-counted, list-same}
+use Rattle.scenario_cut.proofs.Members.{IsObject, AllKeep, object-same, held-cut, some-cut}
+use Rattle.scenario_cut.proofs.Items.{KeepsItem, Stops, each-kept, each-counted, list-same}
 use Rattle.scenario_cut.proofs.Bare.{bare-says, cell-fits}
 
 -- ---- a place where only a number, a text or a word may stand
@@ -87,9 +85,13 @@ entry-same path d = object-same Entry (record { opens = refl; closed = refl }) T
 pub le-of : (n m : ℕ) → nat_le n m ≡ true → n ≤ m
 le-of n m e = leb-true n m e
 
+-- a list of no more entries than are kept
+pub entries-same : (most : ℕ) → most ≤ 1000 → (kind : Kind) → KeepsItem Entry kind → KeepsItem Entries (list_of 0 most kind)
+entries-same most low kind keeps path d =
+    list-same Entries (record { opens = refl; closed = refl }) 0 most kind path d (λ ds few. each-counted Entry kind keeps (λ n d. refl) path 1000 0 ds (omega (arith, low, le-of (items_len ds) most few)))
+
 schedule-same : KeepsItem Entries (list_of 0 1000 (object_of Table.entry_shape))
-schedule-same path d =
-    list-same Entries (record { opens = refl; closed = refl }) 0 1000 (object_of Table.entry_shape) path d (λ ds few. each-counted Entry (object_of Table.entry_shape) entry-same (λ n d. refl) path 1000 0 ds (le-of (items_len ds) 1000 few))
+schedule-same = entries-same 1000 (omega arith) (object_of Table.entry_shape) entry-same
 
 pub master-same : KeepsItem Master (object_of Table.master_shape)
 master-same path d = object-same Master (record { opens = refl; closed = refl }) Table.master_shape path d

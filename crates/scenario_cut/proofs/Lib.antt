@@ -1,8 +1,13 @@
 pub mod Same
+pub mod Known
 pub mod Members
 pub mod Items
 pub mod Bare
+pub mod Plain
 pub mod Kept
 pub mod Scenario
+pub mod Entire
+pub mod Right
+pub mod Shapes
 pub mod Turns
 pub mod Growth

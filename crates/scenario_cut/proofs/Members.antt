@@ -6,11 +6,11 @@ use Rattle.std.specs.Cmp.Lexicographic.{slice_cmp}
 use Rattle.std.specs.Ordering.{match_ordering}
 use Rattle.serde_json.specs.Data.{Data, null, boolean, number, string, array, object, Items, Members, no_members, member}
 use Rattle.serde_json.specs.Find.{get, get_member}
-use Rattle.scenario_data.specs.Causes.{Cause, Field as FieldCause}
+use Rattle.scenario_data.specs.Causes.{Field as FieldCause}
 use Rattle.scenario_read.specs.Faults.{first_cause}
 use Rattle.scenario_read.specs.Paths.{Step, path_text, then_named}
-use Rattle.scenario_read.specs.Kinds.{Wrong, Kind, fault_at, is_among}
-use Rattle.scenario_read.specs.Fields.{Field, Shape, either, value_of, held, faults_of, field_faults, fields_faults, stands, only_one, chosen, all_of, known_fields, names, unknown_faults, chosen_faults, alternative_faults, members_faults, object_of}
+use Rattle.scenario_read.specs.Kinds.{is_among}
+use Rattle.scenario_read.specs.Fields.{Field, Shape, either, held, faults_of, field_faults, fields_faults, stands, only_one, all_of, known_fields, names, unknown_faults, chosen_faults, alternative_faults, object_of}
 use Rattle.scenario_cut.specs.Cutting.{Form, opens_array, opens_object, item_form, member_form, room, cut, cut_items, cut_members}
 use Rattle.scenario_cut.proofs.Same.{Same, same-both}
 

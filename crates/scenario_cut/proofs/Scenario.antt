@@ -1,5 +1,5 @@
 -- What is kept of a scenario's value has its first fault.
-use Rattle.std.proofs.Common.{◌≡◌, ◌≤◌, ℕ, suc, ◌+◌, ◌*◌, ◌==◌, ◌&&◌, nat_le, Bool, true, false, if◌then◌else◌, List, [], ◌∷◌, ◌++◌, length, codes, Option, Some, None, option_map, unwrap_or, refl, sym, ap, ap₂, ◌∙◌, subst}
+use Rattle.std.proofs.Common.{◌≡◌, ℕ, suc, ◌*◌, ◌==◌, ◌&&◌, nat_le, Bool, true, false, if◌then◌else◌, List, [], ◌∷◌, ◌++◌, length, codes, Option, Some, None, option_map, unwrap_or, refl, sym, ap, ap₂, ◌∙◌, subst}
 use Rattle.serde_json.specs.Data.{Data, null, boolean, number, string, array, object, Items, no_items, item, Members}
 use Rattle.serde_json.specs.Events.{items_len}
 use Rattle.serde_json.specs.Find.{get}
@@ -7,20 +7,19 @@ use Rattle.scenario_data.specs.declared.refusal.ReadFail.{ReadFail}
 use Rattle.scenario_data.specs.declared.refusal.ReadFail.TheVariants.{Refused, NoMemory}
 use Rattle.scenario_read.specs.Readers.{Refuses}
 use Rattle.scenario_data.specs.Causes.{Cause, Names}
-use Rattle.scenario_data.specs.declared.scenario.Base.{Base}
 use Rattle.scenario_data.specs.Content.{CabinetContent}
 use Rattle.scenario_read.specs.Paths.{Step, then_named}
-use Rattle.scenario_read.specs.Kinds.{Fit, Fits, Wrong, Beyond, Kind, fault_at, within, list_fits, list_of, list_behind, items_in, each}
-use Rattle.scenario_read.specs.Fields.{Field, held, either, value_of, faults_of, field_faults, fields_faults, object_of, unknown_faults, names, known_fields}
+use Rattle.scenario_read.specs.Kinds.{Fit, Fits, Wrong, Beyond, Kind, fault_at, list_fits, list_of, list_behind, items_in, each}
+use Rattle.scenario_read.specs.Fields.{Field, held, either, faults_of, field_faults, fields_faults, object_of, unknown_faults, names, known_fields}
 use Rattle.scenario_read.specs.CellLists.{cell_of, whole_of}
 use Rattle.scenario_read.specs.Table
 use Rattle.scenario_read.specs.Table.{number_at, load, load_cabinet}
 use Rattle.scenario_read.specs.Content.{each_of, list_in, base_of, cabinet_of, drift_at, version_number, round_count, tick_count, cabinets_of, cabinet_count}
 use Rattle.scenario_read.specs.Faults.{named_faults, product_faults, all_table_faults, faults, first_cause}
-use Rattle.scenario_cut.specs.Cutting.{Form, Whole, Cabinets, Cabinet, Events, Event, Rows, Row, Bare, cut, cut_items, member_form}
+use Rattle.scenario_cut.specs.Cutting.{Whole, Cabinets, Cabinet, Events, Event, Rows, Row, Bare, cut, member_form}
 use Rattle.scenario_cut.proofs.Same.{Same, Faulty, same-both, same-ended}
-use Rattle.scenario_cut.proofs.Members.{IsObject, CutKeeps, AllKeep, object-same, held-cut, get-cut}
-use Rattle.scenario_cut.proofs.Items.{KeepsItem, Stops, items-len, kept, list-same, each-counted, each-event, each-behind-event, behind-same, says-kept, says-counted}
+use Rattle.scenario_cut.proofs.Members.{IsObject, AllKeep, object-same, held-cut, get-cut}
+use Rattle.scenario_cut.proofs.Items.{KeepsItem, Stops, items-len, list-same, each-counted, each-event, each-behind-event, behind-same, says-kept, says-counted}
 use Rattle.scenario_cut.proofs.Bare.{bare-says, cell-said}
 use Rattle.scenario_cut.proofs.Kept.{whole-same, text-same, bare-number, is-cabinet, cabinet-same, master-same, input-same, load-same, load-cabinet-same, priority-same, frame-same, fault-same, object-stops, load-stops, priority-stops, le-of}
 
@@ -33,7 +32,7 @@ cabinets-same : (version : ℕ) → KeepsItem Cabinets (list_of 1 64 (Table.cabi
 cabinets-same version path d =
     list-same Cabinets (record { opens = refl; closed = refl }) 1 64 (Table.cabinet version) path d (λ ds few. each-counted Cabinet (Table.cabinet version) (cabinet-same version) (λ n d. refl) path 64 0 ds (le-of (items_len ds) 64 few))
 
-events-same : (most : ℕ) (kind : Kind) → KeepsItem Event kind → Stops kind → KeepsItem Events (list_of 0 most kind)
+pub events-same : (most : ℕ) (kind : Kind) → KeepsItem Event kind → Stops kind → KeepsItem Events (list_of 0 most kind)
 events-same most kind keeps stops path d = list-same Events (record { opens = refl; closed = refl }) 0 most kind path d (λ ds few. each-event kind keeps stops path 0 0 ds)
 
 loads-same : (rounds cabinets : ℕ) → KeepsItem Events (list_behind (load rounds cabinets) (load_cabinet cabinets))
@@ -83,7 +82,7 @@ all-keep version rounds cabinets = (
 version-same : (d : Data) → version_number (cut Whole d) ≡ version_number d
 version-same = held-cut Whole is-whole Table.version whole_of bare-number
 
-rounds-same : (d : Data) → round_count (cut Whole d) ≡ round_count d
+pub rounds-same : (d : Data) → round_count (cut Whole d) ≡ round_count d
 rounds-same = held-cut Whole is-whole Table.rounds whole_of bare-number
 
 ticks-same : (d : Data) → tick_count (cut Whole d) ≡ tick_count d
@@ -105,7 +104,7 @@ each_of-len says (item d ds) = ap suc (each_of-len says ds)
 counted : (version : ℕ) (d : Data) → length (list_in (cabinet_of version) (held (Table.cabinets version) d)) ≡ items_len (items_in (held (Table.cabinets 1) d))
 counted version d = each_of-len (cabinet_of version) (items_in (held (Table.cabinets version) d))
 
-count-same : (d : Data) → cabinet_count (cut Whole d) ≡ cabinet_count d
+pub count-same : (d : Data) → cabinet_count (cut Whole d) ≡ cabinet_count d
 count-same d =
     counted (version_number (cut Whole d)) (cut Whole d) ∙ held-cut Whole is-whole (Table.cabinets 1) (λ v. items_len (items_in v)) count-kept d ∙ sym (counted (version_number d) d)
 

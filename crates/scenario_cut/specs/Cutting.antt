@@ -1,28 +1,33 @@
--- What is kept of a scenario's value whose first fault is asked, in little memory. null stands for an array or an object where only a
+-- What is kept of a scenario's value whose first fault is asked, in little memory; and of an object around a scenario. null stands for an array or an object where only a
 -- number, a text or a word may stand, since it is at fault there whatever it holds; for an item behind one that is at fault; and for an item past
 -- the most that a list may have.
 use Rattle.std.specs.Prelude.{ℕ, zero, suc, ◌&&◌, ◌||◌, Bool, true, false, if◌then◌else◌, List, codes, bytes_eq, is_some}
 use Rattle.serde_json.specs.Data.{Data, null, boolean, number, string, array, object, Items, no_items, item, Members, no_members, member}
 use Rattle.serde_json.specs.Find.{get}
 pub use Rattle.scenario_cut.specs.declared.form.Form.{Form}
-pub use Rattle.scenario_cut.specs.declared.form.Form.TheVariants.{Whole, Cabinets, Cabinet, Events, Event, Master, Entries, Entry, Rows, Row, Bare}
+pub use Rattle.scenario_cut.specs.declared.form.Form.TheVariants.{Street, Field, Whole, Cabinets, Cabinet, Events, Event, Master, Entries, Entry, Respond, Sections, Section, Rows, Row, Bare}
 
 -- an array may stand there
 abbrev pub opens_array : Form → Bool
 opens_array Cabinets = true
 opens_array Events = true
 opens_array Entries = true
+opens_array Sections = true
 opens_array Rows = true
 opens_array Row = true
 opens_array _ = false
 
 -- an object may stand there
 abbrev pub opens_object : Form → Bool
+opens_object Street = true
+opens_object Field = true
 opens_object Whole = true
 opens_object Cabinet = true
 opens_object Event = true
 opens_object Master = true
 opens_object Entry = true
+opens_object Respond = true
+opens_object Section = true
 opens_object _ = false
 
 -- the place of each item
@@ -30,6 +35,7 @@ abbrev pub item_form : Form → Form
 item_form Cabinets = Cabinet
 item_form Events = Event
 item_form Entries = Entry
+item_form Sections = Section
 item_form Rows = Row
 item_form _ = Bare
 
@@ -39,6 +45,14 @@ is_event_list name = bytes_eq name (codes "inputs") || (bytes_eq name (codes "lo
 
 -- the place of the member of this name
 abbrev pub member_form : Form → List ℕ → Form
+member_form Street name =
+    if bytes_eq name (codes "scenario") then Whole else
+    if bytes_eq name (codes "travel") then Row else Bare
+member_form Field name =
+    if bytes_eq name (codes "scenario") then Whole else
+    if bytes_eq name (codes "bank") then Entries else
+    if bytes_eq name (codes "pulses") then Events else
+    if bytes_eq name (codes "respond") then Respond else Bare
 member_form Whole name =
     if bytes_eq name (codes "cabinets") then Cabinets else
     if bytes_eq name (codes "master") then Master else
@@ -46,6 +60,8 @@ member_form Whole name =
 member_form Cabinet name = if bytes_eq name (codes "cells") then Rows else Bare
 member_form Event name = if bytes_eq name (codes "cells") then Rows else Bare
 member_form Master name = if bytes_eq name (codes "schedule") then Entries else Bare
+member_form Respond name = if bytes_eq name (codes "sections") then Sections else Bare
+member_form Section name = if bytes_eq name (codes "steps") then Entries else Bare
 member_form _ name = Bare
 
 -- what happens is of a round and a cabinet, or is at fault
@@ -56,11 +72,13 @@ is_of_a_round d = is_some (get (codes "round") d) && is_some (get (codes "cabine
 abbrev pub room : Form → ℕ
 room Cabinet = 64
 room Entry = 1000
+room Section = 8
 room _ = 1
 
 abbrev pub room_behind : Form → ℕ → Data → ℕ
 room_behind Cabinet n d = n
 room_behind Entry n d = n
+room_behind Section n d = n
 room_behind Event n d = if is_of_a_round d then suc n else 0
 room_behind _ n d = suc n
 

@@ -1,4 +1,5 @@
-//! The places of a scenario's value, by what may open there and how much of it is kept.
+//! The places of a value that is read, by what may open there and how much of it is kept: a scenario, and the objects around one
+//! that ask of through bands or tell of detectors.
 
 ghost use Rattle.std.specs.Prelude.{◌≡◌, ◌<◌, ◌≤◌, ◌+◌};
 ghost use Rattle.serde_json.specs.View.{view};
@@ -6,10 +7,13 @@ ghost use Rattle.scenario_cut.specs.Cutting.{opens_array, opens_object, item_for
 
 use serde_json::Value;
 
-/// A place: the whole; its lists of cabinets and of what happens, with their items; the master with its entries; cells, one
-/// of them, and any other place, where only a number, a text or a word may stand.
+/// A place: an object that asks of bands, and a field file; a whole scenario; its lists of cabinets and of what happens, with their
+/// items; the master with its entries; the rules by which patterns follow traffic, with their sections; cells, one of them, and any
+/// other place, where only a number, a text or a word may stand.
 #[derive(Clone, Copy)]
-pub(crate) enum Form {
+pub enum Form {
+    Street,
+    Field,
     Whole,
     Cabinets,
     Cabinet,
@@ -18,6 +22,9 @@ pub(crate) enum Form {
     Master,
     Entries,
     Entry,
+    Respond,
+    Sections,
+    Section,
     Rows,
     Row,
     Bare,
@@ -29,7 +36,7 @@ pub(crate) fn opens_array(form: Form) -> bool
 {
     matches!(
         form,
-        Form::Cabinets | Form::Events | Form::Entries | Form::Rows | Form::Row
+        Form::Cabinets | Form::Events | Form::Entries | Form::Sections | Form::Rows | Form::Row
     )
 }
 
@@ -39,7 +46,15 @@ pub(crate) fn opens_object(form: Form) -> bool
 {
     matches!(
         form,
-        Form::Whole | Form::Cabinet | Form::Event | Form::Master | Form::Entry
+        Form::Street
+            | Form::Field
+            | Form::Whole
+            | Form::Cabinet
+            | Form::Event
+            | Form::Master
+            | Form::Entry
+            | Form::Respond
+            | Form::Section
     )
 }
 
@@ -51,6 +66,7 @@ pub(crate) fn item_form(form: Form) -> Form
         Form::Cabinets => Form::Cabinet,
         Form::Events => Form::Event,
         Form::Entries => Form::Entry,
+        Form::Sections => Form::Section,
         Form::Rows => Form::Row,
         _ => Form::Bare,
     }
@@ -72,6 +88,24 @@ pub(crate) fn member_form(form: Form, name: &str) -> Form
     ensures { result ≡ member_form form name.now }
 {
     match form {
+        Form::Street => if name == "scenario" {
+            Form::Whole
+        } else if name == "travel" {
+            Form::Row
+        } else {
+            Form::Bare
+        },
+        Form::Field => if name == "scenario" {
+            Form::Whole
+        } else if name == "bank" {
+            Form::Entries
+        } else if name == "pulses" {
+            Form::Events
+        } else if name == "respond" {
+            Form::Respond
+        } else {
+            Form::Bare
+        },
         Form::Whole => if name == "cabinets" {
             Form::Cabinets
         } else if name == "master" {
@@ -87,6 +121,16 @@ pub(crate) fn member_form(form: Form, name: &str) -> Form
             Form::Bare
         },
         Form::Master => if name == "schedule" {
+            Form::Entries
+        } else {
+            Form::Bare
+        },
+        Form::Respond => if name == "sections" {
+            Form::Sections
+        } else {
+            Form::Bare
+        },
+        Form::Section => if name == "steps" {
             Form::Entries
         } else {
             Form::Bare
@@ -110,6 +154,7 @@ pub(crate) fn room(form: Form) -> usize
     match form {
         Form::Cabinet => 64,
         Form::Entry => 1000,
+        Form::Section => 8,
         _ => 1,
     }
 }
@@ -121,7 +166,7 @@ pub(crate) fn room_behind(form: Form, more: usize, item: &Value) -> usize
     ensures few { result ≤ more + 1 }
 {
     match form {
-        Form::Cabinet | Form::Entry => more,
+        Form::Cabinet | Form::Entry | Form::Section => more,
         Form::Event => if is_of_a_round(item) { more + 1 } else { 0 },
         _ => more + 1,
     }

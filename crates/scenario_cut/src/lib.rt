@@ -1,20 +1,30 @@
-//! What is kept of a scenario's value whose first fault is asked: less than the value, with the same first fault.
+//! What is kept of a scenario's value of which the first fault is asked: less than the value, with the same first fault, and the value
+//! itself where it has none.
 #![tactic(auto)]
 
 mod form;
 mod keeping;
 mod numbers;
 mod passing;
-mod refusing;
+mod reading;
+mod texts;
 
-ghost use Rattle.std.specs.Prelude.{◌≡◌};
+ghost use Rattle.std.specs.Prelude.{◌≡◌, []};
 ghost use Rattle.serde_json.specs.Data.{Data};
 ghost use Rattle.scenario_read.specs.Faults.{faults, first_cause};
+ghost use Rattle.scenario_read.specs.Sorted.{Sorted};
 ghost use Rattle.scenario_cut.specs.Cutting.{Whole, cut};
 
-pub use refusing::first_fault;
+pub use form::Form;
+pub use reading::read;
+pub use texts::kept_of;
 
 /// A law: what is kept of a value has the first fault of the value.
 pub fn first_fault_is_kept()
     ensures { (d : Data) → first_cause (faults (cut Whole d)) ≡ first_cause (faults d) }
+{}
+
+/// A law: a value without faults is kept whole, where each object has each name once, rising by bytes, as it is read.
+pub fn right_values_are_kept_whole()
+    ensures { (d : Data) → Sorted d → faults d ≡ [] → cut Whole d ≡ d }
 {}

@@ -1,6 +1,6 @@
 //! The scenario file: bytes in, a scenario or the first fault out. A right scenario is read with little memory; of any other text that
-//! is kept on which its first fault may hang. The reader of the whole value is left what neither decides: a right scenario in
-//! which an earlier of equal names holds what none may hold.
+//! is kept on which its first fault may hang. This also tells a right scenario in which an earlier of equal names holds what
+//! none may hold. No tree of the whole value is made.
 
 ghost use Rattle.std.specs.Prelude.{IfOk, IfErr, IfSome};
 ghost use Rattle.scenario_data.specs.Content.{scenario_content};
@@ -8,7 +8,6 @@ ghost use Rattle.scenario_read.specs.Answers.{IsScenario, IsFirstFault, OnRefusa
 
 use crate::source::{Source, source_of};
 use crate::top::whole_of;
-use scenario_cut::first_fault;
 use scenario_data::{ReadFail, Scenario};
 use std::alloc::Global;
 
@@ -33,9 +32,6 @@ pub fn read(alloc: Global, bytes: &[u8]) -> Result<Scenario, ReadFail>
 {
     match scenario_of(alloc, bytes) {
         Some(scenario) => Ok(scenario),
-        None => match first_fault(alloc, bytes) {
-            Some(fail) => Err(fail),
-            None => scenario_read::read(alloc, bytes),
-        },
+        None => scenario_cut::read(alloc, bytes),
     }
 }

@@ -1,17 +1,17 @@
-//! The first fault of a text that is no scenario, in little memory.
+//! What is kept of a text: nothing, where it is no JSON.
 
-ghost use Rattle.std.specs.Prelude.{◌≡◌, false, IfOk, IfSome};
+ghost use Rattle.std.specs.Prelude.{◌≡◌, false, IfOk, IfErr, IfSome};
 ghost use Rattle.serde_json.specs.Data.{Data};
 ghost use Rattle.serde_json.specs.View.{view};
-ghost use Rattle.scenario_read.specs.Answers.{IsFirstFault, OnRefusal, Reads};
-ghost use Rattle.scenario_cut.specs.Cutting.{Whole, cut};
+ghost use Rattle.scenario_read.specs.Answers.{OnRefusal, Reads};
+ghost use Rattle.scenario_cut.specs.Cutting.{cut};
+ghost use Rattle.scenario_cut.specs.Texts.{IsNoText};
 
 use crate::form::Form;
 use crate::keeping::keep;
 use crate::passing::pass;
 use json::{Reader, Scratch};
 use scenario_data::{ReadFail, Refusal};
-use scenario_read::checked_parts;
 use serde_json::Value;
 use sig_types::NoMemory;
 use std::alloc::Global;
@@ -34,8 +34,8 @@ fn is_json(alloc: Global, bytes: &[u8]) -> Result<bool, NoMemory>
 }
 
 /// What is kept of the value of the bytes; none, where memory is wanting or they are no JSON.
-fn kept_of(alloc: Global, bytes: &[u8]) -> Option<Value>
-    ensures { IfSome result (λ kept. (d : Data) × Reads bytes.now d × (view kept ≡ cut Whole d)) }
+fn kept_value(alloc: Global, bytes: &[u8], form: Form) -> Option<Value>
+    ensures { IfSome result (λ kept. (d : Data) × Reads bytes.now d × (view kept ≡ cut form d)) }
 {
     let Ok(text) = std::str::from_utf8(bytes) else {
         return None;
@@ -44,28 +44,26 @@ fn kept_of(alloc: Global, bytes: &[u8]) -> Option<Value>
     let Ok(mut reader) = Reader::new(text, &mut scratch) else {
         return None;
     };
-    let kept = keep(alloc, &mut reader, 127, Form::Whole)?;
+    let kept = keep(alloc, &mut reader, 127, form)?;
     match reader.next() {
         Some(_) => None,
         None => Some(kept),
     }
 }
 
-/// Why the bytes are no scenario: their first fault, in the order of the checks. None, where what is kept of them has no
-/// fault: then they are a scenario.
-pub fn first_fault(alloc: Global, bytes: &[u8]) -> Option<ReadFail>
-    ensures { IfSome result (λ fail. OnRefusal fail (IsFirstFault bytes.now)) }
+/// What is kept of the value of the bytes, at a place of this form; refused where they are no JSON, which is found before anything is
+/// kept of them.
+pub fn kept_of(alloc: Global, bytes: &[u8], form: Form) -> Result<Value, ReadFail>
+    ensures kept { IfOk result (λ kept. (d : Data) × Reads bytes.now d × (view kept ≡ cut form d)) }
+    ensures none { IfErr result (λ fail. OnRefusal fail (IsNoText bytes.now)) }
 {
     match is_json(alloc, bytes) {
         Ok(true) => {}
-        Ok(false) => return Some(ReadFail::Refused(Refusal::Syntax)),
-        Err(NoMemory) => return Some(ReadFail::NoMemory),
+        Ok(false) => return Err(ReadFail::Refused(Refusal::Syntax)),
+        Err(NoMemory) => return Err(ReadFail::NoMemory),
     }
-    match kept_of(alloc, bytes) {
-        Some(kept) => match checked_parts(alloc, &kept) {
-            Ok(_) => None,
-            Err(fail) => Some(fail),
-        },
-        None => Some(ReadFail::NoMemory),
+    match kept_value(alloc, bytes, form) {
+        Some(kept) => Ok(kept),
+        None => Err(ReadFail::NoMemory),
     }
 }

@@ -1,0 +1,175 @@
+-- What is kept of a field file's value has its first fault; where it has none, that is the value.
+use Rattle.std.proofs.Common.{◌≡◌, ◌≤◌, ℕ, List, [], ◌∷◌, ◌++◌, codes, refl, sym, ap, ◌∙◌, subst, arith}
+use Rattle.serde_json.specs.Data.{Data, depth}
+use Rattle.serde_json.specs.Events.{items_len}
+use Rattle.serde_json.specs.Read.{max_depth}
+use Rattle.serde_json.proofs.Nesting.{depth-read}
+use Rattle.scenario_data.specs.declared.refusal.ReadFail.{ReadFail}
+use Rattle.scenario_data.specs.declared.refusal.ReadFail.TheVariants.{Refused, NoMemory}
+use Rattle.scenario_data.specs.declared.refusal.Refusal.{Refusal}
+use Rattle.scenario_data.specs.declared.refusal.Refusal.TheVariants.{Syntax, Field as FieldRefusal, Limit, Broken}
+use Rattle.scenario_data.specs.Causes.{Cause, Names}
+use Rattle.scenario_read.specs.Answers.{Reads, OnRefusal}
+use Rattle.scenario_read.specs.Content.{round_count, cabinet_count}
+use Rattle.scenario_read.specs.Faults.{faults, first_cause}
+use Rattle.scenario_read.specs.Fields.{object_of}
+use Rattle.scenario_read.specs.Kinds.{list_of}
+use Rattle.scenario_read.specs.Readers.{Refuses}
+use Rattle.scenario_read.specs.Sorted.{Sorted}
+use Rattle.scenario_read.specs.Table.{on}
+use Rattle.scenario_read.proofs.Rising.{read-sorted}
+use Rattle.scenario_cut.specs.declared.form.Form.TheVariants.{Field, Whole, Events, Event, Entries, Entry, Respond, Sections, Section}
+use Rattle.scenario_cut.specs.Cutting.{cut}
+use Rattle.scenario_cut.specs.Texts.{IsNoText}
+use Rattle.scenario_cut.proofs.Same.{Same, same-map, map-none, same-more, kept-right}
+use Rattle.scenario_cut.proofs.Known.{none-left, AllGive}
+use Rattle.scenario_cut.proofs.Members.{IsObject, AllKeep, object-same, held-cut}
+use Rattle.scenario_cut.proofs.Items.{KeepsItem, list-same, each-counted}
+use Rattle.scenario_cut.proofs.Kept.{whole-same, flag-same, le-of, is-event, entries-same, object-stops}
+use Rattle.scenario_cut.proofs.Scenario.{first-kept, events-same, rounds-same, count-same}
+use Rattle.scenario_cut.proofs.Entire.{Entire, KeptAt, whole-entire, flag-entire, list-entire, counted-entire, entries-entire, events-entire, object-entire, faultless-entire}
+use Rattle.scenario_cut.proofs.Shapes.{sorted-kept, depth-kept}
+use Rattle.scenario_checked.specs.Inside.{inner_cause, inner_scenario, scenario}
+use Rattle.field_read.specs.Table.{detector, detector_shape, pulse_shape, step_shape, section_shape, respond_shape, field_shape}
+use Rattle.field_read.specs.Content.{field_of, rounds_run, cabinets_run}
+use Rattle.field_read.specs.Checks.{named_faults, across_faults, file_faults}
+use Rattle.field_read.specs.Answers.{IsFirstFieldFault}
+
+-- ---- the scenario
+
+scenario-same : KeepsItem Whole inner_scenario
+scenario-same path d = same-map inner_cause (faults (cut Whole d)) (faults d) (first-kept d)
+
+scenario-entire : Entire Whole inner_scenario
+scenario-entire path d sorted e = faultless-entire d sorted (map-none inner_cause (faults d) e)
+
+-- ---- detectors and pulses
+
+is-entry : IsObject Entry
+is-entry = record { opens = refl; closed = refl }
+
+detector-same : (cabinets : ℕ) → KeepsItem Entry (object_of (detector_shape cabinets))
+detector-same cabinets path d =
+    object-same Entry is-entry (detector_shape cabinets) path d
+    (whole-same 1 cabinets, (whole-same 1 64, (whole-same 1 16, (whole-same 0 255, (whole-same 0 255, (whole-same 0 65535, (whole-same 0 65535, (whole-same 0 255, tt)))))))) tt
+
+detector-entire : (cabinets : ℕ) → Entire Entry (object_of (detector_shape cabinets))
+detector-entire cabinets =
+    object-entire Entry is-entry (detector_shape cabinets)
+    (whole-entire 1 cabinets, (whole-entire 1 64, (whole-entire 1 16, (whole-entire 0 255, (whole-entire 0 255, (whole-entire 0 65535, (whole-entire 0 65535, (whole-entire 0 255, tt)))))))) tt
+
+pulse-same : (rounds cabinets : ℕ) → KeepsItem Event (object_of (pulse_shape rounds cabinets))
+pulse-same rounds cabinets path d =
+    object-same Event is-event (pulse_shape rounds cabinets) path d (whole-same 1 rounds, (whole-same 1 cabinets, (whole-same 1 64, (flag-same, tt)))) tt
+
+pulse-entire : (rounds cabinets : ℕ) → Entire Event (object_of (pulse_shape rounds cabinets))
+pulse-entire rounds cabinets =
+    object-entire Event is-event (pulse_shape rounds cabinets) (whole-entire 1 rounds, (whole-entire 1 cabinets, (whole-entire 1 64, (flag-entire, tt)))) tt
+
+-- ---- the rules of the sections
+
+step-same : KeepsItem Entry (object_of step_shape)
+step-same path d = object-same Entry is-entry step_shape path d (whole-same 1 1000000, (whole-same 1 1000000, (whole-same 0 255, tt))) tt
+
+step-entire : Entire Entry (object_of step_shape)
+step-entire = object-entire Entry is-entry step_shape (whole-entire 1 1000000, (whole-entire 1 1000000, (whole-entire 0 255, tt))) tt
+
+is-section : IsObject Section
+is-section = record { opens = refl; closed = refl }
+
+section-same : KeepsItem Section (object_of section_shape)
+section-same path d =
+    object-same Section is-section section_shape path d (whole-same 1 8, (whole-same 0 255, (entries-same 8 (omega arith) (object_of step_shape) step-same, tt))) tt
+
+section-entire : Entire Section (object_of section_shape)
+section-entire = object-entire Section is-section section_shape (whole-entire 1 8, (whole-entire 0 255, (entries-entire 8 (omega arith) (object_of step_shape) step-entire, tt))) tt
+
+sections-same : KeepsItem Sections (list_of 1 8 (object_of section_shape))
+sections-same path d =
+    list-same Sections (record { opens = refl; closed = refl }) 1 8 (object_of section_shape) path d
+    (λ ds few. each-counted Section (object_of section_shape) section-same (λ n d. refl) path 8 0 ds (le-of (items_len ds) 8 few))
+
+sections-entire : Entire Sections (list_of 1 8 (object_of section_shape))
+sections-entire =
+    list-entire Sections (record { opens = refl; closed = refl }) 1 8 (object_of section_shape)
+    (λ path ds sorted few e. counted-entire Section (object_of section_shape) section-entire (λ n d. refl) path 8 0 ds sorted (le-of (items_len ds) 8 few) e)
+
+is-respond : IsObject Respond
+is-respond = record { opens = refl; closed = refl }
+
+respond-same : KeepsItem Respond (object_of respond_shape)
+respond-same path d = object-same Respond is-respond respond_shape path d (whole-same 1 3600, (sections-same, tt)) tt
+
+respond-entire : Entire Respond (object_of respond_shape)
+respond-entire = object-entire Respond is-respond respond_shape (whole-entire 1 3600, (sections-entire, tt)) tt
+
+-- ---- the whole
+
+is-field : IsObject Field
+is-field = record { opens = refl; closed = refl }
+
+rounds-kept : (d : Data) → rounds_run (cut Field d) ≡ rounds_run d
+rounds-kept = held-cut Field is-field scenario round_count rounds-same
+
+cabinets-kept : (d : Data) → cabinets_run (cut Field d) ≡ cabinets_run d
+cabinets-kept = held-cut Field is-field scenario cabinet_count count-same
+
+shape-same : (rounds cabinets : ℕ) (d : Data) → Same (object_of (field_shape rounds cabinets) [] (cut Field d)) (object_of (field_shape rounds cabinets) [] d)
+shape-same rounds cabinets d =
+    object-same Field is-field (field_shape rounds cabinets) [] d
+    (scenario-same, (entries-same 512 (omega arith) (object_of (detector_shape cabinets)) (detector-same cabinets), (events-same 1000000 (object_of (pulse_shape rounds cabinets)) (pulse-same rounds cabinets) (object-stops rounds cabinets (detector ∷ on ∷ []) []), (respond-same, tt)))) tt
+
+names-same : (d : Data) → Same (named_faults (cut Field d)) (named_faults d)
+names-same d =
+    ap (λ r. first_cause (object_of (field_shape r (cabinets_run (cut Field d))) [] (cut Field d))) (rounds-kept d)
+    ∙ ap (λ c. first_cause (object_of (field_shape (rounds_run d) c) [] (cut Field d))) (cabinets-kept d)
+    ∙ shape-same (rounds_run d) (cabinets_run d) d
+
+shape-entire : (rounds cabinets : ℕ) → Entire Field (object_of (field_shape rounds cabinets))
+shape-entire rounds cabinets =
+    object-entire Field is-field (field_shape rounds cabinets)
+    (scenario-entire, (entries-entire 512 (omega arith) (object_of (detector_shape cabinets)) (detector-entire cabinets), (events-entire 1000000 (object_of (pulse_shape rounds cabinets)) (pulse-entire rounds cabinets) (object-stops rounds cabinets (detector ∷ on ∷ []) []), (respond-entire, tt)))) tt
+
+names-entire : (d : Data) → Sorted d → named_faults d ≡ [] → cut Field d ≡ d
+names-entire d sorted e = shape-entire (rounds_run d) (cabinets_run d) [] d sorted e
+
+abbrev across : Data → List Cause
+across d = across_faults (field_of d)
+
+field-same : (d : Data) → Sorted d → Same (file_faults (cut Field d)) (file_faults d)
+field-same d sorted = same-more named_faults across (cut Field d) d (names-same d) (names-entire d sorted)
+
+-- ---- its text
+
+module _ (bytes : List ℕ) (d v : Data) (reads : Reads bytes d) (is : v ≡ cut Field d) where
+  sorted : Sorted d
+  sorted = read-sorted bytes d reads.1
+
+  same : Same (file_faults v) (file_faults d)
+  same = ap (λ w. first_cause (file_faults w)) is ∙ field-same d sorted
+
+  pub kept-sorted : Sorted v
+  kept-sorted = subst Sorted (sym is) (sorted-kept Field d sorted)
+
+  pub kept-low : depth v ≤ max_depth
+  kept-low = subst (λ w. depth w ≤ max_depth) (sym is) (omega (arith, depth-kept Field d, depth-read bytes d reads.1))
+
+  -- what is kept of the value of a text, where it has no faults, is the value
+  pub field-right : file_faults v ≡ [] → v ≡ d
+  field-right none = kept-right file_faults v d same (λ clean. is ∙ names-entire d sorted (none-left (named_faults d) (across d) clean).0) none
+
+  named : (refusal : Refusal) → Names refusal (first_cause (file_faults d)) → IsFirstFieldFault bytes refusal
+  named Syntax h = absurd h
+  named (FieldRefusal path) h = (d, reads, h)
+  named (Limit path) h = (d, reads, h)
+  named (Broken cabinet rule row) h = (d, reads, h)
+
+  -- its first fault is that of the text
+  pub field-refused : (fail : ReadFail) → Refuses fail (file_faults v) → OnRefusal fail (IsFirstFieldFault bytes)
+  field-refused (Refused refusal) h = named refusal (subst (λ o. Names refusal o) same h)
+  field-refused NoMemory h = tt
+
+-- bytes that are no JSON have that as their first fault
+pub no-field : (bytes : List ℕ) (fail : ReadFail) → OnRefusal fail (IsNoText bytes) → OnRefusal fail (IsFirstFieldFault bytes)
+no-field bytes (Refused refusal) none = subst (IsFirstFieldFault bytes) (sym none.0) none.1
+no-field bytes NoMemory none = tt
