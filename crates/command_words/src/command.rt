@@ -14,13 +14,13 @@ pub struct Seeding {
 #[derive(PartialEq, Drop)]
 pub struct Overlap {
     pub cabinet: u32,
-    /// One octet for each parent, of any value.
+    /// One octet for each parent, of any value; by the rules each is to be an enabled phase, and none is to stand twice.
     pub parents: ArrayVec<u8, 16>,
     /// How long Green is held when no parent shows it any more.
     pub trail: u8,
-    /// Yellow change.
+    /// Yellow change; by the rules three seconds at least.
     pub yellow: u8,
-    /// Red clearance.
+    /// Red clearance, left out where it is 0.
     pub red: u8,
 }
 

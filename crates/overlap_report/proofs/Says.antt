@@ -34,7 +34,7 @@ use Rattle.overlap_run.specs.Street.{CanOverlap, IsCovered, IsApart}
 use Rattle.overlap_run.specs.Trace.{frames_told, frames_written, AreByVersion, IsToldOf, text_of}
 use Rattle.trace_laws.specs.declared.seen.Seen.{Seen}
 use Rattle.trace_laws.specs.Seen.{HasSeen, IsSeenOf}
-use Rattle.overlap_report.specs.declared.asking.Asked.{Asked}
+use Rattle.command_words.specs.declared.command.Overlap.{Overlap}
 use Rattle.overlap_report.specs.Overlaps.{HasEnded, AreInForce, AtCabinet, NoCabinet, times_of, verdict_of, BreaksRule, street_of, TellsOverlap}
 use Rattle.overlap_report.specs.BySeen.{IsUnbroken, SaysOfOverlap}
 use Rattle.overlap_report.proofs.Cabinets.{SomeOrNone, some-or-none, one-cabinet_state, one-by-version}
@@ -138,7 +138,7 @@ one-fault f g r e d = same (sym e ∙ d)
     same h = cc
 
 -- tables by which no rule is broken are some
-some-tables : (tables : List Tables) (asked : Asked) → verdict_of tables asked ≡ Ok tt → tables ≢ []
+some-tables : (tables : List Tables) (asked : Overlap) → verdict_of tables asked ≡ Ok tt → tables ≢ []
 some-tables [] asked ok = absurd (fault-not-ok _ _ refl ok)
 some-tables (t ∷ tables) asked ok = λ none. absurd (let empty : length (t ∷ tables) ≡ 0 = ap length none in omega (arith, empty))
 
@@ -158,7 +158,7 @@ in-force text cab seen hs = from (some-or-none cab 1 hs.scenario.cabinets)
         AtCabinet c k.end is k.come (hs.own c k.end is k.come).tables
     from (inr none) = NoCabinet none (hs.none none)
 
-breaks : (text : List ℕ) (asked : Asked) (seen : Seen) → HasSeen text asked.cabinet seen → (fault : OverlapFault)
+breaks : (text : List ℕ) (asked : Overlap) (seen : Seen) → HasSeen text asked.cabinet seen → (fault : OverlapFault)
     → verdict_of seen.tables.items asked ≡ Err fault → BreaksRule text asked fault
 breaks text asked seen hs fault is = record {
   run = run_of text asked.cabinet seen hs;
@@ -167,7 +167,7 @@ breaks text asked seen hs fault is = record {
   broken = is;
 }
 
-due : Laws → (text : List ℕ) (asked : Asked) (seen : Seen) → HasSeen text asked.cabinet seen → (fault : OverlapFault)
+due : Laws → (text : List ℕ) (asked : Overlap) (seen : Seen) → HasSeen text asked.cabinet seen → (fault : OverlapFault)
     → BreaksRule text asked fault → verdict_of seen.tables.items asked ≡ Err fault
 due laws text asked seen hs fault b =
     let (one, order) = laws.one_run hs.scenario b.run.scenario hs.journals b.run.journals hs.told b.run.told hs.are b.run.are (sym hs.text_is ∙ b.run.text_is) in
@@ -179,7 +179,7 @@ due laws text asked seen hs fault b =
 
 -- ---- overlaps that break none
 
-module _ (laws : Laws) (text : List ℕ) (asked : Asked) (seen : Seen) (hs : HasSeen text asked.cabinet seen) where
+module _ (laws : Laws) (text : List ℕ) (asked : Overlap) (seen : Seen) (hs : HasSeen text asked.cabinet seen) where
   found-here : IsUnbroken seen asked → Found text asked.cabinet seen
   found-here ok = found laws text asked.cabinet seen hs (some-tables seen.tables.items asked ok)
 

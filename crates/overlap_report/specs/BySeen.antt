@@ -5,16 +5,16 @@ use Rattle.overlap_run.specs.Text.{overlap_text}
 use Rattle.overlap_run.specs.Parents.{green_at, AreFrames}
 use Rattle.overlap_run.specs.declared.faults.OverlapFault.{OverlapFault}
 use Rattle.trace_laws.specs.declared.seen.Seen.{Seen}
-use Rattle.overlap_report.specs.declared.asking.Asked.{Asked}
+use Rattle.command_words.specs.declared.command.Overlap.{Overlap}
 use Rattle.overlap_report.specs.Overlaps.{times_of, verdict_of, BreaksRule, TellsOverlap}
 
 -- it breaks no rule by the tables that were seen
-abbrev pub IsUnbroken : Seen → Asked → Type 0
+abbrev pub IsUnbroken : Seen → Overlap → Type 0
 IsUnbroken seen asked = verdict_of seen.tables.items asked ≡ Ok tt
 
 -- it breaks a rule by the tables that were seen exactly where it does by those that were in force. Where it breaks none its text by the
 -- frames that were seen is what is to be told of it; these frames are of all ticks; its parents are phases, and yellow lasts a tick or more
-pub record SaysOfOverlap (text : List ℕ) (asked : Asked) (seen : Seen) : Type 0 where
+pub record SaysOfOverlap (text : List ℕ) (asked : Overlap) (seen : Seen) : Type 0 where
   pub breaks : (fault : OverlapFault) → verdict_of seen.tables.items asked ≡ Err fault → BreaksRule text asked fault
   pub due : (fault : OverlapFault) → BreaksRule text asked fault → verdict_of seen.tables.items asked ≡ Err fault
   pub tells : IsUnbroken seen asked → TellsOverlap text asked (overlap_text (times_of asked) (green_at asked.parents.items seen.frames.items) seen.ticks)

@@ -17,7 +17,7 @@ use Rattle.overlap_run.specs.declared.faults.OverlapFault.{OverlapFault}
 use Rattle.overlap_run.specs.Rules.{verdict}
 use Rattle.overlap_run.specs.Street.{IsCovered, IsApart}
 use Rattle.overlap_run.specs.Trace.{AreByVersion, text_of}
-use Rattle.overlap_report.specs.declared.asking.Asked.{Asked}
+use Rattle.command_words.specs.declared.command.Overlap.{Overlap}
 
 -- by the end of a run with these journals the cabinet with this number has come to this
 abbrev pub HasEnded : ScenarioContent → List (List (List ℕ)) → ℕ → CabinetState → Type 0
@@ -31,15 +31,15 @@ pub data AreInForce (s : ScenarioContent) (journals : List (List (List ℕ))) (c
   NoCabinet : ((c : CabinetContent) → IsCabinet s cab c → ⊥) → tables ≡ [] → AreInForce s journals cab tables
 
 -- the times of the overlap that is asked for
-abbrev pub times_of : Asked → Timing
+abbrev pub times_of : Overlap → Timing
 times_of asked = timed asked.trail asked.yellow asked.red
 
 -- what the rules say of it at these tables
-abbrev pub verdict_of : List Tables → Asked → Result (Unit {0}) OverlapFault
+abbrev pub verdict_of : List Tables → Overlap → Result (Unit {0}) OverlapFault
 verdict_of tables asked = verdict tables asked.parents.items asked.trail asked.yellow asked.red
 
 -- the text is a trace, and by the tables that were in force at its cabinet the overlap breaks this rule first
-pub record BreaksRule (text : List ℕ) (asked : Asked) (fault : OverlapFault) : Type 0 where
+pub record BreaksRule (text : List ℕ) (asked : Overlap) (fault : OverlapFault) : Type 0 where
   pub run : TellsOfRun text
   pub tables : List Tables
   pub in_force : AreInForce run.scenario run.journals asked.cabinet tables
@@ -52,7 +52,7 @@ street_of cab end lines = intersection_of cab (tables_of (history_of end.cabinet
 -- the text is a trace with such a cabinet, at which the overlap breaks no rule. What is written is the text of the overlap over all ticks of
 -- the cabinet, by the lines of the trace; and by these lines, at every tick at which the overlap isn't Red some parent isn't either, so
 -- that each phase that is incompatible with all parents is
-pub record TellsOverlap (text : List ℕ) (asked : Asked) (written : List ℕ) : Type 0 where
+pub record TellsOverlap (text : List ℕ) (asked : Overlap) (written : List ℕ) : Type 0 where
   pub run : TellsOfRun text
   pub cabinet : CabinetContent
   pub end : CabinetState

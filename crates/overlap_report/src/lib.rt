@@ -2,9 +2,7 @@
 //! (NEMA TS 2, overlaps). What is promised is said of the trace and its lines.
 #![tactic(auto)]
 
-mod asking;
 mod reporting;
 mod telling;
 
-pub use asking::Asked;
 pub use reporting::{ReportFail, report};

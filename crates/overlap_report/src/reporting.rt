@@ -6,8 +6,8 @@ ghost use Rattle.sig_types.specs.PhaseSet.{has};
 ghost use Rattle.trace_laws.specs.Seen.{HasSeen};
 ghost use Rattle.overlap_report.specs.Overlaps.{verdict_of, BreaksRule, TellsOverlap};
 
-use crate::asking::Asked;
 use crate::telling::overlaps_are_told;
+use command_words::Overlap;
 use overlap_run::{OverlapFault, judge, text};
 use sig_types::{NoMemory, PhaseSet};
 use std::alloc::Global;
@@ -23,7 +23,7 @@ pub enum ReportFail {
 }
 
 /// The parents that are asked for as a set, where the overlap breaks no rule by the tables that were seen.
-fn asked_parents(seen: &Seen, asked: &Asked) -> Result<PhaseSet, OverlapFault>
+fn asked_parents(seen: &Seen, asked: &Overlap) -> Result<PhaseSet, OverlapFault>
     ensures ok { OnOk result (verdict_of seen.now.tables.items asked.now ≡ Ok tt) }
     ensures set { IfOk result (λ set. (p : ℕ) → 0 < p → p ≤ 16 → has set p ≡ is_in asked.now.parents.items p) }
     ensures err { IfErr result (λ fault. verdict_of seen.now.tables.items asked.now ≡ Err fault) }
@@ -39,7 +39,7 @@ fn asked_parents(seen: &Seen, asked: &Asked) -> Result<PhaseSet, OverlapFault>
 
 /// The text of an overlap over a trace, by all that was seen of its cabinet there; or the first rule that the overlap breaks, exactly where it
 /// breaks one. By the lines of the trace the overlap is never green, yellow or clearing unless one of its parents is.
-pub fn report(alloc: Global, seen: &Seen, asked: &Asked) -> Result<Vec<u8>, ReportFail>
+pub fn report(alloc: Global, seen: &Seen, asked: &Overlap) -> Result<Vec<u8>, ReportFail>
     requires seen { (text : List ℕ) × HasSeen text asked.now.cabinet seen.now }
     ensures told { IfOk result (λ written. (text : List ℕ) → HasSeen text asked.now.cabinet seen.now → TellsOverlap text asked.now written.items) }
     ensures refused { (fault : OverlapFault) → result ≡ Err (ReportFail.Overlap fault)

@@ -1,7 +1,7 @@
 -- From what an answer to `overlaps` tells to the answer that an input is due.
 use Rattle.std.proofs.Common.{◌≡◌, ◌⊎◌, inl, inr, ℕ, List, Option, Some, None, IfSome, subst, refl, sym, ap}
 use Rattle.overlap_run.specs.declared.faults.OverlapFault.{OverlapFault}
-use Rattle.overlap_report.specs.declared.asking.Asked.{Asked}
+use Rattle.command_words.specs.declared.command.Overlap.{Overlap}
 use Rattle.overlap_report.specs.Overlaps.{TellsOverlap, BreaksRule}
 use Rattle.trace_check.specs.declared.faults.TraceFault.{TraceFault}
 use Rattle.trace_laws.specs.Traces.{IsTrace, IsCheckable}
@@ -32,7 +32,7 @@ of_input P None bytes slice all same so = tt
 of_input P (Some input) bytes slice all same so = subst P all (subst P same so)
 
 -- the text of the overlap was written, or a front of it
-pub told_overlap : (asked : Asked) (status : Status) (left ends : Option (List ℕ)) (unread : Type 0) (old new : Option (List ℕ)) (unwritten : Type 0) (text : List ℕ)
+pub told_overlap : (asked : Overlap) (status : Status) (left ends : Option (List ℕ)) (unread : Type 0) (old new : Option (List ℕ)) (unwritten : Type 0) (text : List ℕ)
     → IsTextRead (λ bytes. TellsOverlap bytes asked text) left ends → WritesText status text unwritten old new
     → Overlapped asked status (io left ends unread old new unwritten)
 told_overlap asked Done left ends unread old new unwritten text is so = (text, is, so)
@@ -55,10 +55,10 @@ written_done ReadFault old new unwritten text so put = absurd so
 written_done NoMemory old new unwritten text so put = absurd so
 
 -- the answer is the one that the input is due, or memory was wanting
-abbrev pub DueOrNone : Asked → Status → Type 0 → List ℕ → Type 0
+abbrev pub DueOrNone : Overlap → Status → Type 0 → List ℕ → Type 0
 DueOrNone asked status unwritten input = IsOverlapDue asked status input unwritten ⊎ (status ≡ NoMemory)
 
-module _ (faultless : TracesHaveNoFault) (one : FaultsAreDetermined) (asked : Asked) (unwritten : Type 0) where
+module _ (faultless : TracesHaveNoFault) (one : FaultsAreDetermined) (asked : Overlap) (unwritten : Type 0) where
   pub due_told : (status : Status) (left ends old new : Option (List ℕ)) (text : List ℕ) → IsTextRead (λ bytes. TellsOverlap bytes asked text) left ends
       → WritesText status text unwritten old new → IfSome left (DueOrNone asked status unwritten)
   due_told status None ends old new text is so = tt

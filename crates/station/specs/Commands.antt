@@ -22,7 +22,7 @@ use Rattle.station.specs.Io.{Io}
 use Rattle.station.specs.Answers.{WritesText, StopsShort, RunAnswer, IsRefused}
 use Rattle.station.specs.Replied.{ReplyAnswer}
 use Rattle.station.specs.Checked.{CheckAnswer}
-use Rattle.station.specs.Overlapped.{asked_by, OverlapAnswer}
+use Rattle.station.specs.Overlapped.{OverlapAnswer}
 use Rattle.station.specs.Lived.{IsLineRefused, LivesShort, LiveAnswer}
 
 -- a text that the program makes was written whole; or a write failed, and a front of it was written and not all of it; or there was not
@@ -41,7 +41,7 @@ Answered (Generate from) status io = MakesText status (generated_text from.seed 
 Answered (Survey from) status io = MakesText status (surveyed_text (generated from.seed from.cabinets from.rounds)) io.unwritten io.old io.new
 Answered Band status io = ReplyAnswer TellsBands AsksOfBands IsFirstBandFault status io
 Answered Respond status io = ReplyAnswer TellsResult HasResult IsFirstResultFault status io
-Answered (Overlaps o) status io = OverlapAnswer (asked_by o) status io
+Answered (Overlaps o) status io = OverlapAnswer o status io
 Answered Live status io = LiveAnswer status io
 Answered Help status io = WritesText status HELP.now io.unwritten io.old io.new
 Answered Version status io = WritesText status VERSION.now io.unwritten io.old io.new
@@ -97,7 +97,7 @@ pub record Answers (words : List (List ℕ)) (status : Status) (io : Io) : Type 
       → MakesText status (surveyed_text (generated from.seed from.cabinets from.rounds)) io.unwritten io.old io.new
   pub run : (workers : ℕ) → IsRun words workers → RunAnswer workers status io
   pub check : IsCheck words → CheckAnswer status io
-  pub overlaps : (o : Overlap) → IsOverlaps words o → OverlapAnswer (asked_by o) status io
+  pub overlaps : (o : Overlap) → IsOverlaps words o → OverlapAnswer o status io
   pub band : IsBand words → ReplyAnswer TellsBands AsksOfBands IsFirstBandFault status io
   pub respond : IsRespond words → ReplyAnswer TellsResult HasResult IsFirstResultFault status io
   pub live : IsLive words → LiveAnswer status io

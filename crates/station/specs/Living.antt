@@ -82,7 +82,7 @@ StopsAtOpening NoMemory unwritten old new s = new ≡ old
 StopsAtOpening _ unwritten old new s = ⊥
 
 -- a session that has gone on from an earlier state of it: it is under way, and whatever the earlier state was answering it is answering now
-pub record GoesOn (from now : Session) (ahead_from ahead written_from written : Option (List ℕ)) : Type 0 where
+pub record SessionGoesOn (from now : Session) (ahead_from ahead written_from written : Option (List ℕ)) : Type 0 where
   pub stands : (s : ScenarioContent) × (h : SessionHistory) × SessionStands now s h
   pub goes : (left old : Option (List ℕ)) (s : ScenarioContent) (h : SessionHistory) → SessionStands from s h → IsAnswering left ahead_from old written_from s h
       → (h_now : SessionHistory) × SessionStands now s h_now × IsAnswering left ahead old written s h_now

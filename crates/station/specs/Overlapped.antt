@@ -4,7 +4,6 @@ use Rattle.io_edge.specs.Edge.{Appends}
 use Rattle.whole_run.specs.Bytes.{AppendsFront}
 use Rattle.command_words.specs.declared.command.Overlap.{Overlap}
 use Rattle.overlap_run.specs.declared.faults.OverlapFault.{OverlapFault}
-use Rattle.overlap_report.specs.declared.asking.Asked.{Asked}
 use Rattle.overlap_report.specs.Overlaps.{TellsOverlap, BreaksRule}
 use Rattle.trace_check.specs.declared.faults.TraceFault.{TraceFault}
 use Rattle.trace_laws.specs.Traces.{IsTrace, IsCheckable}
@@ -14,10 +13,6 @@ use Rattle.station.specs.declared.status.Status.TheVariants.{Done, NotATrace, Ov
 use Rattle.station.specs.Bytes.{AreInput, nothing_left}
 use Rattle.station.specs.Io.{Io}
 use Rattle.station.specs.Checked.{IsNoTrace}
-
--- the overlap that the words ask for
-abbrev pub asked_by : Overlap → Asked
-asked_by o = record { cabinet = o.cabinet; parents = o.parents; trail = o.trail; yellow = o.yellow; red = o.red }
 
 -- the source was read to its end; its bytes have at most 67,108,864, and of them this is so
 pub record IsTextRead (IsSo : List ℕ → Type 0) (left ends : Option (List ℕ)) : Type 0 where
@@ -29,7 +24,7 @@ pub record IsTextRead (IsSo : List ℕ → Type 0) (left ends : Option (List ℕ
 
 -- what an answer to `overlaps` tells: the input is a trace and the text of the overlap at its cabinet was written whole, or a write failed and
 -- a front of it was; or the input is no trace, or the overlap breaks a rule there, and nothing was written
-abbrev pub Overlapped : Asked → Status → Io → Type 0
+abbrev pub Overlapped : Overlap → Status → Io → Type 0
 Overlapped asked Done io = (text : List ℕ) × IsTextRead (λ bytes. TellsOverlap bytes asked text) io.left io.ends × Appends io.old io.new text
 Overlapped asked (NotATrace fault) io = IsNoTrace fault io.left io.ends × (io.new ≡ io.old)
 Overlapped asked (BrokenOverlap fault) io = IsTextRead (λ bytes. BreaksRule bytes asked fault) io.left io.ends × (io.new ≡ io.old)
@@ -40,12 +35,12 @@ Overlapped asked NoMemory io = io.new ≡ io.old
 Overlapped asked _ io = ⊥
 
 -- the answer that an input is due, where no read fails: one that is no trace has its first fault; at a trace the overlap breaks a rule, or it breaks none
-pub record IsOverlapDue (asked : Asked) (status : Status) (input : List ℕ) (unwritten : Type 0) : Type 0 where
+pub record IsOverlapDue (asked : Overlap) (status : Status) (input : List ℕ) (unwritten : Type 0) : Type 0 where
   pub fault : (fault : TraceFault) → FirstFault input fault.line fault.rule → status ≡ NotATrace fault
   pub broken : (fault : OverlapFault) → IsCheckable input → BreaksRule input asked fault → status ≡ BrokenOverlap fault
   pub done : IsCheckable input → IsTrace input → ((fault : OverlapFault) → BreaksRule input asked fault → ⊥) → ¬ unwritten → status ≡ Done
 
 -- what an answer to `overlaps` tells; and where no read fails it is the one that the input is due, or memory was wanting
-pub record OverlapAnswer (asked : Asked) (status : Status) (io : Io) : Type 0 where
+pub record OverlapAnswer (asked : Overlap) (status : Status) (io : Io) : Type 0 where
   pub told : Overlapped asked status io
   pub due : ¬ io.unread → IfSome io.left (λ input. IsOverlapDue asked status input io.unwritten ⊎ (status ≡ NoMemory))

@@ -40,10 +40,7 @@ fn read_scenario<S: Source>(alloc: Global, source: &mut S) -> Result<Scenario, U
     ensures exact { OnOk result (Stays S.counts_exactly (S.faults source.old) (S.faults source.new)) }
     ensures kept { S.faults source.old ≤ S.faults source.new }
 {
-    let input = match whole_input(alloc, source) {
-        Ok(input) => input,
-        Err(unread) => return Err(unread),
-    };
+    let input = whole_input(alloc, source)?;
     match read(alloc, &input) {
         Ok(scenario) => Ok(scenario),
         Err(ReadFail::Refused(refusal)) => Err(Unread::Refused(refusal)),

@@ -29,15 +29,10 @@ fn run_round(
     ensures { OnOk result ((ts : List CabinetState) → Between (scenario_content s.now) done ts closed_loop.old
         → HasRunSerial (scenario_content s.now) done ts closed_loop.new) }
 {
-    match closed_loop.begin_round(alloc, done, s) {
-        Ok(_) => {}
-        Err(NoMemory) => return Err(NoMemory),
-    }
+    closed_loop.begin_round(alloc, done, s)?;
     serial_round(&mut closed_loop.books);
-    match closed_loop.end_round(alloc, done, s) {
-        Ok(()) => Ok(()),
-        Err(NoMemory) => Err(NoMemory),
-    }
+    closed_loop.end_round(alloc, done, s)?;
+    Ok(())
 }
 
 /// Runs all rounds of a closed loop that was just opened, and counts what they tell beside what was counted before.
@@ -56,10 +51,7 @@ pub fn run_rounds(
 {
     let mut tally = before;
     for done in 0..s.rounds {
-        match run_round(alloc, closed_loop, done, s) {
-            Ok(()) => {}
-            Err(NoMemory) => return Err(NoMemory),
-        }
+        run_round(alloc, closed_loop, done, s)?;
         tally = with_books(tally, &closed_loop.books);
     }
     Ok(tally)

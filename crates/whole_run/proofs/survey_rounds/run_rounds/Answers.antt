@@ -16,7 +16,7 @@ pub with_books-tally-requires-clause-few : goal.with_books-tally-requires-clause
 with_books-tally-requires-clause-few c =
     let s = scenario_content c.args.s.now in
     let so = c.loop-done.invariant in
-    let run = c.in-Ok.ensures so.ts so.between in
+    let run = c.in_ok-run_round.ensures {u = tt} so.ts so.between in
     omega (arith, run.run.many, many-of s so.ts so.between.cabinets, c.requires.runnable.few_cabinets)
 
 pub with_books-tally-requires-clause-room : goal.with_books-tally-requires-clause-room
@@ -25,13 +25,13 @@ with_books-tally-requires-clause-room c =
 
 pub with_books-tally-requires-clause-run : goal.with_books-tally-requires-clause-run
 with_books-tally-requires-clause-run c =
-    let so = c.loop-done.invariant in (scenario_content c.args.s.now, so.ts, (c.in-Ok.ensures so.ts so.between).run)
+    let so = c.loop-done.invariant in (scenario_content c.args.s.now, so.ts, (c.in_ok-run_round.ensures {u = tt} so.ts so.between).run)
 
 pub loop-done-preserved : goal.loop-done-preserved
 loop-done-preserved c =
     let s = scenario_content c.args.s.now in
     let so = c.loop-done.invariant in
-    let run = c.in-Ok.ensures so.ts so.between in
+    let run = c.in_ok-run_round.ensures {u = tt} so.ts so.between in
     so-next s c.args.before c.loop-done.done c.loop-done.tally c.with_books-tally.result c.loop-done.closed_loop c.run_round.new.closed_loop so run
     (c.with_books-tally.ensures.adds s so.ts (serial_round s 1 so.ts) run.run)
     (at-most c.with_books-tally.result (64 + c.loop-done.done * 8796093022208 + 64 * 137438953472) (64 + (c.loop-done.done + 1) * 8796093022208) (omega arith)
