@@ -1,4 +1,5 @@
-"""The through bands that are due for an object of `band`, by testing each time of the cycle; nothing is shared with the program.
+"""The through bands that are due for an object of `band`, by testing each time of the cycle; nothing is shared with the
+program.
 
     bands.py FILE      prints each line of FILE whose lines aren't those that are due
 

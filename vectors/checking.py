@@ -18,7 +18,8 @@ def listed(name):
 
 
 def bytes_of(part):
-    """Returns the bytes of a part of a text: a text, each character of which is a byte, or such a text and how often it stands."""
+    """Returns the bytes of a part of a text: a text, each character of which is a byte, or such a text and how often it
+    stands."""
     return part.encode("latin-1") if isinstance(part, str) else part[0].encode("latin-1") * part[1]
 
 
@@ -28,7 +29,8 @@ def spelled(parts):
 
 
 def in_order(order):
-    """Returns the trace in another order that an object of orders.jsonl tells: lines of the trace in `whole`, and its own."""
+    """Returns the trace in another order that an object of orders.jsonl tells: lines of the trace in `whole`, and its
+    own."""
     lines = (HERE / f"{order['of']}.trace").read_bytes().splitlines(keepends=True)
     told = (f"{it}\n".encode() if isinstance(it, str) else b"".join(lines[it[0] - 1 : it[1]]) for it in order["lines"])
     return b"".join(told)

@@ -10,7 +10,9 @@ def changed(draw, data):
     for _ in range(draw.randint(1, 3)):
         at = draw.randrange(len(data))
         old = data[at]
-        data[at] = draw.choice([draw.randrange(256), draw.choice(TELLING), (old + 1) % 256, (old - 1) % 256, old ^ 1 << draw.randrange(8)])
+        data[at] = draw.choice(
+            [draw.randrange(256), draw.choice(TELLING), (old + 1) % 256, (old - 1) % 256, old ^ 1 << draw.randrange(8)]
+        )
     return bytes(data)
 
 

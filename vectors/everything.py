@@ -6,7 +6,13 @@ GET = "3082002b02010004067075626c6963a01e02010102010002010030133011060d2b0601040
 """A Get of one object, by the community `public`."""
 
 ROUNDS, CABINETS, STREAMS = 14, 3, ("poll", "load", "priority")
-KINDS = [{"kind": "lose"}, {"kind": "repeat"}, {"kind": "late", "by": 2}, {"kind": "flip", "by": 9, "octet": 1}, {"kind": "cut", "by": 9}]
+KINDS = [
+    {"kind": "lose"},
+    {"kind": "repeat"},
+    {"kind": "late", "by": 2},
+    {"kind": "flip", "by": 9, "octet": 1},
+    {"kind": "cut", "by": 9},
+]
 
 
 def cabinets():
@@ -43,12 +49,26 @@ def everything():
     every = range(1, CABINETS + 1)
     lists = {
         "inputs": list(inputs()),
-        "loads": [{"round": 1 + 5 * (at % 2), "cabinet": it, "cells": [["phase", 2, 6, 40 + at]]} for at, it in enumerate((*every, *every))],
-        "priority": [{"round": 3 * it, "cabinet": it, **request} for it in every] + [{"round": 10, "cabinet": it, "cancel": 1} for it in every],
-        "frames": [{"round": 2 * at + 3, "cabinet": it, "stream": stream, "hex": GET} for it in every for at, stream in enumerate(STREAMS)],
+        "loads": [
+            {"round": 1 + 5 * (at % 2), "cabinet": it, "cells": [["phase", 2, 6, 40 + at]]}
+            for at, it in enumerate((*every, *every))
+        ],
+        "priority": [{"round": 3 * it, "cabinet": it, **request} for it in every]
+        + [{"round": 10, "cabinet": it, "cancel": 1} for it in every],
+        "frames": [
+            {"round": 2 * at + 3, "cabinet": it, "stream": stream, "hex": GET}
+            for it in every
+            for at, stream in enumerate(STREAMS)
+        ],
         "faults": list(faults()),
     }
-    schedule = [{"second": second, "section": section, "pattern": section} for second in (0, 86300) for section in (1, 2)]
-    master = {"clock": 863_500, "poll_every": 2, "clock_every": 5, "pattern_every": 3, "retries": 2, "schedule": schedule}
-    head = {"version": 2, "rounds": ROUNDS, "ticks": 50, "community": "public", "cabinets": cabinets(), "master": master}
+    schedule = [
+        {"second": second, "section": section, "pattern": section} for second in (0, 86300) for section in (1, 2)
+    ]
+    master = {
+        "clock": 863_500, "poll_every": 2, "clock_every": 5, "pattern_every": 3, "retries": 2, "schedule": schedule
+    }
+    head = {
+        "version": 2, "rounds": ROUNDS, "ticks": 50, "community": "public", "cabinets": cabinets(), "master": master
+    }
     return json.dumps(head | lists).encode()

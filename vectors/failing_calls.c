@@ -1,4 +1,5 @@
-/* Stands before the C library's read and write, and lets those of standard input and standard output fail or move little:
+/* Stands before the C library's read and write, and lets those of standard input and standard output fail or move
+   little:
 
        READ_FAILS=3     the third read fails, and no other
        WRITE_FAILS=3    the third write fails, and no other

@@ -1,7 +1,9 @@
-"""The scenarios that field files come to, worked out apart from the program: what each vector of worked_fields.jsonl is due.
+"""The scenarios that field files come to, worked out apart from the program: what each vector of worked_fields.jsonl is
+due.
 
-A detector is read off lists by round: its pulses, when it is active, its edges; and then, by looking back over them, when it has failed and when it
-calls. The rules of tables are left out. `python3 fields.py` works every vector out again, and prints those that differ.
+A detector is read off lists by round: its pulses, when it is active, its edges; and then, by looking back over them,
+when it has failed and when it calls. The rules of tables are left out. `python3 fields.py` works every vector out
+again, and prints those that differ.
 """
 
 import json
@@ -10,7 +12,8 @@ import sys
 sys.dont_write_bytecode = True
 
 from checking import listed, spelled  # noqa: E402
-from first_fault import BYTE, MOST_BYTES, NOT_JSON, WHOLE, WORD, Fault, flag, listing, may, members, must, read, require, scenario, thing, whole  # noqa: E402
+from first_fault import BYTE, MOST_BYTES, NOT_JSON, WHOLE, WORD, Fault  # noqa: E402
+from first_fault import flag, listing, may, members, must, read, require, scenario, thing, whole  # noqa: E402
 
 MOST_INPUTS, MOST_ENTRIES, DAY = 1_000_000, 1000, 864_000
 PHASES = range(1, 17)
@@ -28,13 +31,20 @@ def inside(path, value):
 def lists(rounds, cabinets):
     """Returns what tests the names behind the scenario, for so many rounds and cabinets."""
     at = {"cabinet": must(whole(1, cabinets)), "detector": must(whole(1, 64))}
-    times = {name: must(test) for name, test in (("delay", BYTE), ("extend", BYTE), ("no_activity", WORD), ("max_presence", WORD), ("erratic", BYTE))}
+    times = {
+        name: must(test)
+        for name, test in (
+            ("delay", BYTE), ("extend", BYTE), ("no_activity", WORD), ("max_presence", WORD), ("erratic", BYTE)
+        )
+    }
     detector = thing({**at, "phase": must(whole(1, 16)), **times})
     pulse = thing({"round": must(whole(1, rounds)), **at, "on": must(flag)})
     step = thing({"up": must(whole(1, 1_000_000)), "down": must(whole(1, 1_000_000)), "pattern": must(BYTE)})
     section = thing({"section": must(whole(1, 8)), "base": must(BYTE), "steps": must(listing(0, 8, step))})
     respond = thing({"period": must(whole(1, 3600)), "sections": must(listing(1, 8, section))})
-    return {"bank": may(listing(0, 512, detector)), "pulses": may(listing(0, 1_000_000, pulse)), "respond": may(respond)}
+    return {
+        "bank": may(listing(0, 512, detector)), "pulses": may(listing(0, 1_000_000, pulse)), "respond": may(respond)
+    }
 
 
 def named(value):
@@ -43,7 +53,9 @@ def named(value):
     def rest(_, it):
         members(WHOLE, it, lists(it["scenario"]["rounds"], len(it["scenario"]["cabinets"])))
 
-    thing({"scenario": must(inside), **{name: may(lambda *_: None) for name in ("bank", "pulses", "respond")}}, after=rest)(WHOLE, value)
+    thing(
+        {"scenario": must(inside), **{name: may(lambda *_: None) for name in ("bank", "pulses", "respond")}}, after=rest
+    )(WHOLE, value)
 
 
 def where(it):
@@ -66,7 +78,9 @@ def across(value):
 def rules(sections):
     """Tests the rules of sections against one another, and the steps of each."""
     for place, it in enumerate(sections):
-        require(it["section"] not in [other["section"] for other in sections[:place]], "field", f"respond.sections[{place}]")
+        require(
+            it["section"] not in [other["section"] for other in sections[:place]], "field", f"respond.sections[{place}]"
+        )
     for place, it in enumerate(sections):
         before = {"up": 0, "down": 0}
         for number, step in enumerate(it["steps"]):
@@ -156,7 +170,10 @@ def schedule(inner, respond, bank, seen):
         changes = [k for k in range(len(starts)) if k == 0 or found[k] != found[k - 1]]
         entries += [(starts[k], place, {"section": rule["section"], "pattern": found[k]}) for k in changes]
     clock = inner.get("master", {}).get("clock", 0)
-    return [{"second": (clock + (j - 1) * inner["ticks"]) % DAY // 10, **it} for j, _, it in sorted(entries, key=lambda entry: entry[:2])]
+    return [
+        {"second": (clock + (j - 1) * inner["ticks"]) % DAY // 10, **it}
+        for j, _, it in sorted(entries, key=lambda entry: entry[:2])
+    ]
 
 
 def result(value):

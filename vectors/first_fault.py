@@ -62,7 +62,11 @@ def digits(most):
     """Returns what tests a text for being hexadecimal, of so many octets at the most."""
 
     def test(path, value):
-        require(type(value) is str and len(value) % 2 == 0 and all(digit in "0123456789abcdefABCDEF" for digit in value), "field", path)
+        require(
+            type(value) is str and len(value) % 2 == 0 and all(digit in "0123456789abcdefABCDEF" for digit in value),
+            "field",
+            path,
+        )
         require(len(value) <= 2 * most, "limit", path)
 
     return test
@@ -81,8 +85,8 @@ def listing(low, high, item):
 
 
 def thing(names, alternatives=(), after=None):
-    """Returns what tests an object: its names in order, each with its test and whether it must stand; then the one of the alternatives
-    that stands, known by its first name; then what is to hold of it all."""
+    """Returns what tests an object: its names in order, each with its test and whether it must stand; then the one of
+    the alternatives that stands, known by its first name; then what is to hold of it all."""
 
     def test(path, value):
         require(type(value) is dict, "field", path)
@@ -124,12 +128,27 @@ BYTE, WORD = whole(0, 255), whole(0, 65535)
 COLUMNS = {
     "phase": ((16,), {**{column: BYTE for column in range(2, 23)}, 20: whole(1, 6), 21: WORD, 23: LIST_OF_PHASES}),
     "sequence": ((16, 2), LIST_OF_PHASES),
-    "unit": ((), {1: whole(1, 4), **{column: whole(0, 2550) for column in (2, 3, 4, 6)}, 5: WORD, 7: whole(1, 2), 8: whole(1, 2)}),
+    "unit": (
+        (),
+        {
+            1: whole(1, 4),
+            **{column: whole(0, 2550) for column in (2, 3, 4, 6)},
+            5: WORD,
+            7: whole(1, 2),
+            8: whole(1, 2),
+        },
+    ),
     "pattern": ((48,), {column: BYTE for column in (2, 3, 4, 5)}),
     "split": ((32, 16), {3: BYTE, 4: whole(1, 7), 5: whole(0, 1)}),
     "preempt": (
         (8,),
-        {4: whole(0, 600), 5: WORD, 11: WORD, **{column: BYTE for column in (6, 7, 8, 9, 10)}, **{column: LIST_OF_PHASES for column in (12, 13, 14, 15)}},
+        {
+            4: whole(0, 600),
+            5: WORD,
+            11: WORD,
+            **{column: BYTE for column in (6, 7, 8, 9, 10)},
+            **{column: LIST_OF_PHASES for column in (12, 13, 14, 15)},
+        },
     ),
 }
 """The greatest number in each place of a table's rows, and what tests the value in each column, or in each row."""
@@ -168,7 +187,9 @@ def cabinet(version):
         "section": may(whole(1, 8)),
     }
     drift = whole(12000, 864000, also=0)
-    return thing({**names, "gain": may(drift), "lose": may(drift)}, after=only_one_drift) if version == 2 else thing(names)
+    return (
+        thing({**names, "gain": may(drift), "lose": may(drift)}, after=only_one_drift) if version == 2 else thing(names)
+    )
 
 
 def few_loads(loads):
@@ -203,7 +224,9 @@ def lists(rounds, cabinets):
     """Returns what tests the lists of what happens in some rounds to some cabinets."""
     where = {"round": must(whole(1, rounds)), "cabinet": must(whole(1, cabinets))}
     inputs = ({"veh": PHASE, "on": ON}, {"ped": PHASE}, {"preempt": must(whole(1, 8)), "on": ON})
-    request = {"number": TEN, "class": TEN, "level": TEN, "phase": PHASE, "arrival": must(WORD), "departure": must(WORD)}
+    request = {
+        "number": TEN, "class": TEN, "level": TEN, "phase": PHASE, "arrival": must(WORD), "departure": must(WORD)
+    }
     fault = {
         "stream": STREAM,
         "way": must(word("down", "up")),
@@ -230,7 +253,12 @@ def scenario(value):
         members(WHOLE, it, lists(it["rounds"], len(it["cabinets"])))
         require(ticks_of(it) <= MOST_TICKS, "limit", "rounds")
 
-    head = {"version": must(whole(1, 2)), "rounds": must(whole(1, 86400)), "ticks": must(whole(1, 600)), "community": may(community)}
+    head = {
+        "version": must(whole(1, 2)),
+        "rounds": must(whole(1, 86400)),
+        "ticks": must(whole(1, 600)),
+        "community": may(community),
+    }
     names = ("cabinets", "master", "inputs", "loads", "priority", "frames", "faults")
     thing({**head, **{name: may(lambda *_: None) for name in names}}, after=rest)(WHOLE, value)
 
@@ -260,7 +288,8 @@ def unknown(name):
 
 
 def members_of(pairs):
-    """Returns an object; of two equal names the last counts. Texts with half a character are no JSON."""
+    """Returns an object; of two equal names the last counts. Texts with half a character, which can only be written by
+    escapes, are no JSON."""
     for name, value in pairs:
         depth_of([name, value])
     return dict(pairs)
@@ -275,16 +304,25 @@ def depth_of(value):
 
 
 def read(data):
-    """Returns the value that some bytes are in JSON (RFC 8259), as a tuple of one; the empty one where they are none."""
+    """Returns the value that some bytes are in JSON (RFC 8259), as a tuple of one; the empty one where they are
+    none."""
     try:
-        value = json.loads(data.decode(), object_pairs_hook=members_of, parse_int=number_of, parse_float=real_of, parse_constant=unknown)
+        text = data.decode()
+        value = json.loads(
+            text,
+            object_pairs_hook=members_of if "\\u" in text else dict,
+            parse_int=number_of,
+            parse_float=real_of,
+            parse_constant=unknown,
+        )
         return (value,) if depth_of(value) <= DEEPEST else ()
     except (ValueError, RecursionError):
         return ()
 
 
 def first_fault(data):
-    """Returns the first fault of some bytes, in the words that the program has for it, or None; then the scenario too."""
+    """Returns the first fault of some bytes, in the words that the program has for it, or None; then the scenario
+    too."""
     if len(data) > MOST_BYTES:
         return "limit .", None
     for value in read(data):

@@ -1,4 +1,5 @@
-"""Which octets are a message of SNMP version 1 (RFC 1157), by the encoding rules of ITU-T X.690 and the limits that corpora/snmp/README.md names.
+"""Which octets are a message of SNMP version 1 (RFC 1157), by the encoding rules of ITU-T X.690 and the limits that
+corpora/snmp/README.md names.
 
 It is written for the scripts beside, from the standards, and shares nothing with the program.
 """
@@ -15,7 +16,8 @@ class NoMessage(Exception):
 
 
 class Message(NamedTuple):
-    """A message: its community, kind, number, status and index, and its bindings, each a name's arcs, the tag and the value."""
+    """A message: its community, kind, number, status and index, and its bindings, each a name's arcs, the tag and the
+    value."""
 
     community: bytes
     kind: int
@@ -32,7 +34,8 @@ def need(holds):
 
 
 def length_at(octets):
-    """Returns the length at the front of some octets, and the octets behind it: one octet, or a count of up to four (8.1.3)."""
+    """Returns the length at the front of some octets, and the octets behind it: one octet, or a count of up to four
+    (8.1.3)."""
     need(octets)
     first, rest = octets[0], octets[1:]
     if first < 128:

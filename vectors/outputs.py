@@ -11,15 +11,16 @@ from running import SECONDS  # noqa: E402
 
 
 def into_file(command, given, most):
-    """Runs a command into a file that takes so many bytes, with the signal of files that are too large ignored. Returns its status, what
-    was written and what was said."""
+    """Runs a command into a file that takes so many bytes, with the signal of files that are too large ignored. Returns
+    its status, what was written and what was said."""
 
     def limit():
         resource.setrlimit(resource.RLIMIT_FSIZE, (most, most))
 
     with tempfile.TemporaryFile() as file:
         ran = subprocess.run(
-            command, input=given, stdout=file, stderr=subprocess.PIPE, timeout=SECONDS, restore_signals=False, preexec_fn=limit
+            command, input=given, stdout=file, stderr=subprocess.PIPE, timeout=SECONDS, restore_signals=False,
+            preexec_fn=limit
         )
         file.seek(0)
         return ran.returncode, file.read(), ran.stderr

@@ -1,7 +1,7 @@
 """Overlaps over traces, worked out apart from the program: what each vector of worked_overlaps.jsonl is due.
 
-An overlap is read off lists by tick: which ticks see a parent green, and then, by looking back, what the overlap shows at each. Nothing is
-counted down here. `python3 overlaps.py` works every vector out again, and prints those that differ.
+An overlap is read off lists by tick: which ticks see a parent green, and then, by looking back, what the overlap shows
+at each. Nothing is counted down here. `python3 overlaps.py` works every vector out again, and prints those that differ.
 """
 
 import json
@@ -34,7 +34,9 @@ def put(tables, cells):
 
 def versions(scenario, lines, number):
     """Returns the tables of each version that a cabinet had in a trace, the opening ones first."""
-    loads = sorted((load for load in scenario.get("loads", []) if load["cabinet"] == number), key=lambda load: load["round"])
+    loads = sorted(
+        (load for load in scenario.get("loads", []) if load["cabinet"] == number), key=lambda load: load["round"]
+    )
     tables = [opened(scenario["cabinets"][number - 1])]
     for line in lines:
         words = line.split()

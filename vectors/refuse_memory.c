@@ -1,6 +1,6 @@
-/* Stands before the C library's allocator and refuses the request whose number REFUSED names, counted from 1, and no other;
-   with a `+` behind the number also all that follow. A block is made larger or smaller by a request as well. Each refusal writes
-   a byte to the open file whose number TOLD names. For glibc, by LD_PRELOAD:
+/* Stands before the C library's allocator and refuses the request whose number REFUSED names, counted from 1, and no
+   other; with a `+` behind the number also all that follow. A block is made larger or smaller by a request as well.
+   Each refusal writes a byte to the open file whose number TOLD names. For glibc, by LD_PRELOAD:
 
        cc -O2 -shared -fPIC -o refuse_memory.so refuse_memory.c
 */

@@ -33,8 +33,8 @@ def built():
 
 
 def library(folder, name):
-    """Returns the library that stands before the C library's calls, compiled into the folder; None where it can't be had on this
-    machine."""
+    """Returns the library that stands before the C library's calls, compiled into the folder; None where it can't be
+    had on this machine."""
     if shutil.which("cc") is None:
         return None
     made = pathlib.Path(folder) / f"{name}.so"
@@ -43,14 +43,15 @@ def library(folder, name):
 
 
 def run_behind(made, program, given, names, words=("run",)):
-    """Runs the program once behind such a library, which reads the names; with these words. Returns whether it told of anything, the exit
-    status, and both outputs."""
+    """Runs the program once behind such a library, which reads the names; with these words. Returns whether it told of
+    anything, the exit status, and both outputs."""
     told, telling = os.pipe()
     with open(told, "rb") as reader:
         try:
             names = {"LD_PRELOAD": str(made), "TOLD": str(telling), **names}
             ran = subprocess.run(
-                [program, *words], input=given, capture_output=True, timeout=SECONDS, pass_fds=(telling,), env={**os.environ, **names}
+                [program, *words], input=given, capture_output=True, timeout=SECONDS, pass_fds=(telling,),
+                env={**os.environ, **names}
             )
         finally:
             os.close(telling)
@@ -58,7 +59,8 @@ def run_behind(made, program, given, names, words=("run",)):
 
 
 def ended(program, given, word="run"):
-    """Returns what a command answered, which may take 10 seconds and 1 GB: its status and both outputs; in words where it didn't end."""
+    """Returns what a command answered, which may take 10 seconds and 1 GB: its status and both outputs; in words where
+    it didn't end."""
     words = ["sh", "-c", f'ulimit -v {ALLOWED_KILOBYTES}; exec "$0" "$1"', program, word]
     try:
         ran = subprocess.run(words, input=given, capture_output=True, timeout=ALLOWED_SECONDS)

@@ -20,7 +20,10 @@ RUNS = rb"((?: (?:0|[1-9][0-9]{0,9})\*[1-9][0-9]{0,9})+)"
 WORD, HALF, BYTE = 1 << 32, 1 << 16, 1 << 8
 SIGN = range(-(1 << 31), 1 << 31)
 FORMS = [
-    (rb"F %b %b [GYCR]{16} [WFD]{16} %b %b %b %b" % (NUMBER, NUMBER, MODE, NUMBER, NUMBER, NUMBER), (WORD, WORD, BYTE, BYTE, WORD, WORD, WORD)),
+    (
+        rb"F %b %b [GYCR]{16} [WFD]{16} %b %b %b %b" % (NUMBER, NUMBER, MODE, NUMBER, NUMBER, NUMBER),
+        (WORD, WORD, BYTE, BYTE, WORD, WORD, WORD),
+    ),
     (rb"R %b" % NUMBER, (WORD,)),
     (rb"M %b (?:fail|good)" % NUMBER, (WORD,)),
     (rb"M %b pattern %b" % (NUMBER, NUMBER), (WORD, BYTE)),
@@ -58,7 +61,9 @@ def runs_of(piece):
     if not found or not is_within(found[1], WORD):
         return None
     runs = [tuple(map(int, run.split(b"*"))) for run in found[2].split()]
-    is_proper = all(number < WORD for run in runs for number in run) and all(a[0] != b[0] for a, b in zip(runs, runs[1:]))
+    is_proper = (
+        all(number < WORD for run in runs for number in run) and all(a[0] != b[0] for a, b in zip(runs, runs[1:]))
+    )
     return runs if is_proper else None
 
 
@@ -75,7 +80,8 @@ def is_line(piece):
 
 
 def head_of(piece):
-    """Returns what a line must have in common with the one due, not to be of another kind: its kind, and its cabinet or number."""
+    """Returns what a line must have in common with the one due, not to be of another kind: its kind, and its cabinet or
+    number."""
     return piece.split()[:2]
 
 
@@ -97,11 +103,13 @@ def is_scenario(piece):
 
 
 def first_fault(text, trace):
-    """Returns the first fault of a text as its line and its rule, where a trace is known that it departs from: None where it is that trace.
-    Where the text has another scenario, or brings what comes in a round in another order, the line is the one that tells it, and the rule
-    None: what is due behind that line isn't told."""
+    """Returns the first fault of a text as its line and its rule, where a trace is known that it departs from: None
+    where it is that trace. Where the text has another scenario, or brings what comes in a round in another order, the
+    line is the one that tells it, and the rule None: what is due behind that line isn't told."""
     lines, due = pieces(text), pieces(trace)
-    at = next((place for place, (line, other) in enumerate(zip(lines, due)) if line != other), min(len(lines), len(due)))
+    at = next(
+        (place for place, (line, other) in enumerate(zip(lines, due)) if line != other), min(len(lines), len(due))
+    )
     if at == len(due):
         return None if len(lines) == len(due) else (at + 1, BEHIND)
     if at == len(lines):
