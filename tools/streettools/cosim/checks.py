@@ -4,8 +4,8 @@ import itertools
 from collections.abc import Callable, Iterator
 from typing import Any
 
+from ..shared.fault import Fault
 from ..shared.tables import Tables
-from .faults import Fault
 from .mapping import Map, MappedMovement, MappedSignal
 from .network import Link, Network
 
@@ -30,6 +30,10 @@ def check(street: Map, network: Network, scenario: dict[str, Any]) -> None:
             raise refused(street, f"preempt {item.number}", f"the scenario has no cabinet {item.cabinet}")
         if missing := next((it for it in item.edges if it not in network.edges), None):
             raise refused(street, f"preempt {item.number}", f"the network has no edge {missing}")
+        enabled = tables[item.cabinet - 1].enabled()
+        if strange := next((it for it in item.phases if it not in enabled), None):
+            words = f"phase {strange} is not enabled in cabinet {item.cabinet}"
+            raise refused(street, f"preempt {item.number}", words)
 
 
 def refused(street: Map, place: str, words: str) -> Fault:
@@ -125,28 +129,28 @@ def movement_of(signal: MappedSignal, link: Link) -> MappedMovement:
 
 
 def clashes(signal: MappedSignal, network: Network, tables: Tables) -> Iterator[tuple[Link, Link, int, int]]:
-    """Yields pairs of links whose paths cross, neither of which gives way, with phases that may be on at once."""
+    """Yields pairs of links whose paths cross, with phases that may be on at once, under which neither gives way."""
     for a, b in network.conflicts(signal.id):
         one, other = movement_of(signal, a), movement_of(signal, b)
-        if (one.yields and network.gives_way(a, b)) or (other.yields and network.gives_way(b, a)):
-            continue
-        for p, q in itertools.product(one.phases(), other.phases()):
-            if may_be_on(p, q, tables):
+        for (p, one_yields), (q, other_yields) in itertools.product(one.ways(), other.ways()):
+            is_sound = one_yields and network.gives_way(a, b) or other_yields and network.gives_way(b, a)
+            if not is_sound and may_be_on(p, q, tables):
                 yield a, b, p, q
 
 
-def together_in(street: Map, scenario: dict[str, Any]) -> Callable[[Link, Link], bool]:
-    """Returns what tells whether two links of a signal have phases that may be on at once."""
+def yielding_in(street: Map, scenario: dict[str, Any]) -> Callable[[Link, Link], bool]:
+    """Returns what tells whether a link has a phase under which it yields, and which may be on along with one of
+    another link."""
     tables = tables_of(scenario)
     signals = {it.id: it for it in street.signals}
 
-    def together(a: Link, b: Link) -> bool:
+    def may_yield(a: Link, b: Link) -> bool:
         signal = signals[a.signal]
         own = tables[signal.cabinet - 1]
-        pairs = itertools.product(movement_of(signal, a).phases(), movement_of(signal, b).phases())
-        return any(may_be_on(p, q, own) for p, q in pairs)
+        pairs = itertools.product(movement_of(signal, a).ways(), movement_of(signal, b).phases())
+        return any(yields and may_be_on(p, q, own) for (p, yields), q in pairs)
 
-    return together
+    return may_yield
 
 
 def check_conflicts(street: Map, signal: MappedSignal, network: Network, tables: Tables) -> None:

@@ -4,10 +4,10 @@ import importlib
 import pathlib
 from collections.abc import Callable
 
-from ..shared.commandline import say
+from ..shared.fault import Fault
 from ..shared.program import NoProgram
+from ..shared.saying import say
 from ..shared.status import Status
-from .faults import Fault
 
 HERE = pathlib.Path(__file__).resolve().parent
 WORDS = {

@@ -4,8 +4,10 @@ import argparse
 import json
 import pathlib
 
-from ..shared.commandline import number, say
+from ..shared.commandline import number
+
 from ..shared.progress import bar
+from ..shared.saying import say
 from ..shared.status import Status
 from .comparing import Comparison, Row, do_all, jobs_of, read_comparison, rows_of
 from .totals import Mean

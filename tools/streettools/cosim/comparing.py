@@ -9,11 +9,11 @@ from concurrent.futures.process import BrokenProcessPool
 from dataclasses import dataclass
 from typing import Any
 
+from ..shared.fault import Fault
 from ..shared.program import found
 from ..shared.status import Status
 from . import drive, network, run, yardsticks
 from .drive import read_config
-from .faults import Fault
 from .given import NUMBER, Given, read_toml
 from .loop import Given as RunGiven
 from .loop import Times

@@ -3,7 +3,8 @@ against it, 4 and 8 on the side street, 5, 1, 7 and 3 are the left turns of 2, 6
 straight ones.
 
 An approach that has none opposite takes its left turns along with its own phase, as the stem of a T does. A left turn
-that shares its lane with another movement goes with the phase of that lane, and yields.
+that shares its lane with another movement goes with the phase of that lane, and yields. Where it is asked for, a left
+turn with a phase of its own is permissive under the phase of those who come from opposite.
 """
 
 from collections import defaultdict
@@ -20,12 +21,14 @@ LETTER = {LEFT: "L", RIGHT: "R", TURN: "U"}
 
 @dataclass
 class Told:
-    """What could be told of a link: its movement's name, and its phase, None where it is to be asked for, with why."""
+    """What could be told of a link: its movement's name, and its phase, None where it is to be asked for, with why; and
+    under which phase it is permissive."""
 
     link: Link
     name: str
     phase: int | None
     why: str = ""
+    permissive: int | None = None
 
 
 def way_of(heading: float) -> int:
@@ -47,8 +50,8 @@ def main_way(network: Network, approaches: list[str]) -> int:
 class Compass:
     """A signal's approaches by their compass."""
 
-    def __init__(self, network: Network, signal: str, main: int | None) -> None:
-        self.network, self.links = network, network.links[signal]
+    def __init__(self, network: Network, signal: str, main: int | None, is_permissive: bool = False) -> None:
+        self.network, self.links, self.is_permissive = network, network.links[signal], is_permissive
         self.approaches = sorted({it.approach for it in self.links if it.turn != CROSSING})
         self.main = main_way(network, self.approaches) if main is None else main
         self.ways: dict[int, list[str]] = defaultdict(list)
@@ -77,7 +80,8 @@ class Compass:
         is_left = link.turn in (LEFT, TURN)
         has_opposite = bool(self.ways.get((way + 2) % 4))
         if is_left and has_opposite and self.turns[link.start] <= {LEFT, TURN}:
-            return Told(link, name, LEFT_PHASES[(way - self.main) % 4])
+            permissive = self.straight((way + 2) % 4) if self.is_permissive else None
+            return Told(link, name, LEFT_PHASES[(way - self.main) % 4], permissive=permissive)
         return Told(link, name, self.straight(way))
 
     def crossing(self, link: Link) -> Told:
@@ -100,14 +104,18 @@ class Compass:
 
 
 def by_nema(network: Network, signal: str) -> list[Told]:
-    """Tells of each link by SUMO's own NEMA logic: its phase is the one whose state gives it way."""
-    stages = network.programs[signal].stages
+    """Tells of each link by SUMO's own NEMA logic: its phase is the one whose state gives it way. A left turn that has
+    way under one phase and gives way under another is permissive there."""
+    stages = [it for it in network.programs[signal].stages if it.name.isdigit()]
     compass = Compass(network, signal, None)
     found = []
     for told in compass.told():
-        phases = [it.name for it in stages if it.state[told.link.index] in "Gg" and it.name.isdigit()]
-        own = sorted({int(it) for it in phases})
-        told.phase = own[0] if len(own) == 1 else None
-        told.why = "" if len(own) == 1 else f"NEMA phases {own} give it way" if own else "no NEMA phase gives it way"
+        first, second = ({int(it.name) for it in stages if it.state[told.link.index] == letter} for letter in "Gg")
+        own = sorted(first | second)
+        if told.link.turn in (LEFT, TURN) and len(first) == len(second) == 1 and first != second:
+            (told.phase,), (told.permissive,), told.why = first, second, ""
+        else:
+            told.phase = own[0] if len(own) == 1 else None
+            told.why = "" if told.phase else f"NEMA phases {own} give it way" if own else "no NEMA phase gives it way"
         found.append(told)
     return found

@@ -8,12 +8,12 @@ import os
 import pathlib
 import sys
 import xml.etree.ElementTree as xml
-from collections.abc import Iterator
+from collections.abc import Callable, Iterator
 from dataclasses import dataclass
 from typing import Any
 
+from ..shared.fault import Fault
 from ..shared.status import Status
-from .faults import Fault
 
 TOOLS = "/usr/share/sumo/tools"
 TRIPS, ROUTES, STOPS, LOG = "tripinfo.xml", "vehroutes.xml", "stops.xml", "sumo.log"
@@ -30,6 +30,16 @@ def module() -> Any:
         with contextlib.suppress(ImportError):
             return importlib.import_module(name)
     raise Fault(f"SUMO is missing: {PACKAGES}", Status.FILE)
+
+
+def call(sumo: Any, kind: str, name: str) -> Callable[..., Any]:
+    """Returns a call of SUMO that is made in each step. In libsumo that is the call itself, without the function around
+    it that takes as long again; a step, which gathers what was subscribed to of each kind, takes a tenth less so, and
+    nothing is subscribed to here."""
+    bare = getattr(getattr(getattr(sumo, "libsumo", None), "_libsumo", None), f"{kind}_{name}", None)
+    if bare is not None:
+        return bare
+    return sumo.simulationStep if (kind, name) == ("simulation", "step") else getattr(getattr(sumo, kind), name)
 
 
 @dataclass(frozen=True)

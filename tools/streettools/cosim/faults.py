@@ -1,14 +1,6 @@
-"""What can't be done, in one line."""
+"""What can't be done in a run with traffic, beside what all tools share."""
 
-from ..shared.status import Status
-
-
-class Fault(Exception):
-    """Something that can't be done: one line, and the exit status that goes with it."""
-
-    def __init__(self, words: str, status: Status = Status.REFUSED) -> None:
-        super().__init__(words)
-        self.status = status
+from ..shared.fault import Fault
 
 
 class Conflict(Fault):

@@ -6,8 +6,8 @@ import tomllib
 from collections.abc import Callable
 from typing import Any
 
+from ..shared.fault import Fault
 from ..shared.status import Status
-from .faults import Fault
 
 NUMBER = (int, float)
 KINDS = {

@@ -3,6 +3,7 @@
 from collections.abc import Iterable
 from typing import Any, NamedTuple
 
+from .drive import call
 from .network import CROSSING, Network, edge_of
 
 STANDING = 0.1
@@ -10,11 +11,11 @@ STANDING = 0.1
 
 
 class Halt(NamedTuple):
-    """A vehicle that stands on an edge at a second, and not at a stop of its line."""
+    """Vehicles that stand on a lane of an edge at a second, and not at a stop of their line."""
 
     second: float
-    vehicle: str
     edge: str
+    vehicles: list[str]
 
 
 def approaches(network: Network, signals: Iterable[str]) -> dict[str, list[str]]:
@@ -47,20 +48,54 @@ def is_back(network: Network, one: str, other: str) -> bool:
 
 
 class Halts:
-    """Looks at the lanes of approaches."""
+    """Looks at the lanes of approaches, and at further ones where somebody else asks who stands there."""
 
-    def __init__(self, network: Network, signals: Iterable[str]) -> None:
+    def __init__(self, network: Network, signals: Iterable[str], sumo: Any, further: Iterable[str] = ()) -> None:
         edges = {it for chain in approaches(network, signals).values() for it in chain}
         driven = [lane for lane in network.lanes if lane not in network.sidewalks and edge_of(lane) in edges]
         self.lanes = [(lane, edge_of(lane)) for lane in driven]
+        self.further = [lane for lane in dict.fromkeys(further) if lane not in set(driven)]
         self.found: list[Halt] = []
+        self.standing: dict[str, list[str]] = {}
+        """Who stands on each lane, at stops of their lines too, by the last look."""
+        self.without_stop: set[str] = set()
+        self.sumo = sumo
+        self.halting = call(sumo, "lane", "getLastStepHaltingNumber")
+        self.there = call(sumo, "lane", "getLastStepVehicleIDs")
+        self.speed = call(sumo, "vehicle", "getSpeed")
 
-    def look(self, sumo: Any, second: float) -> None:
+    def look(self, second: float) -> None:
         """Keeps who stands now."""
-        halting, there = sumo.lane.getLastStepHaltingNumber, sumo.lane.getLastStepVehicleIDs
-        speed, is_at_stop = sumo.vehicle.getSpeed, sumo.vehicle.isStopped
+        halting, is_without_stop, standing = self.halting, self.without_stop.issuperset, {}
         for lane, edge in self.lanes:
-            if halting(lane):
-                for vehicle in there(lane):
-                    if speed(vehicle) < STANDING and not is_at_stop(vehicle):
-                        self.found.append(Halt(second, vehicle, edge))
+            if count := halting(lane):
+                own = standing[lane] = self.who(lane, count)
+                if not is_without_stop(own):
+                    own = [it for it in own if not self.is_at_stop(it)]
+                self.found.append(Halt(second, edge, own))
+        for lane in self.further:
+            if count := halting(lane):
+                standing[lane] = self.who(lane, count)
+        self.standing = standing
+
+    def who(self, lane: str, count: int) -> list[str]:
+        """Returns who stands on a lane, where so many do; they are looked for from its end on."""
+        there = self.there(lane)
+        if count == len(there):
+            return list(there)
+        speed, found = self.speed, []
+        for vehicle in reversed(there):
+            if speed(vehicle) < STANDING:
+                found.append(vehicle)
+                if len(found) == count:
+                    break
+        return found
+
+    def is_at_stop(self, vehicle: str) -> bool:
+        """Tells whether a vehicle stands at a stop of its line. One that has no stop before it is not asked again."""
+        if vehicle in self.without_stop:
+            return False
+        if not self.sumo.vehicle.getStops(vehicle, 1):
+            self.without_stop.add(vehicle)
+            return False
+        return self.sumo.vehicle.isStopped(vehicle)

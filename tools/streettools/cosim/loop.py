@@ -9,13 +9,13 @@ from collections.abc import Callable
 from dataclasses import dataclass
 from typing import Any
 
+from ..shared.fault import Fault
 from ..shared.session_record import LISTS
 from ..shared.status import Status
 from ..street.record import Room
-from .checks import together_in
+from .checks import yielding_in
 from .detectors import Areas, Detectors
-from .drive import Config
-from .faults import Fault
+from .drive import Config, call
 from .halts import Halts
 from .mapping import Map
 from .network import Network
@@ -75,7 +75,7 @@ def is_later(item: Any, rounds: int) -> bool:
 
 @dataclass
 class Times:
-    """Seconds of the wall clock: of the whole loop, in SUMO, waiting for the cabinets."""
+    """Seconds by the loop's clock: of the whole loop, in SUMO, for talking with the cabinets."""
 
     whole: float = 0.0
     sumo: float = 0.0
@@ -86,26 +86,35 @@ class Times:
 class Loop:
     """A run while SUMO and a session are open."""
 
-    def __init__(self, given: Given, sumo: Any, session: Session, areas: Areas) -> None:
-        self.given, self.sumo, self.session = given, sumo, session
+    def __init__(
+        self,
+        given: Given,
+        sumo: Any,
+        session: Session,
+        areas: Areas,
+        clock: Callable[[], float] = time.perf_counter,
+    ) -> None:
+        self.given, self.sumo, self.session, self.clock = given, sumo, session, clock
         street, network = given.street, given.network
         names = [it.id for it in street.signals]
-        self.signals, self.halts = Signals(street, network), Halts(network, names)
-        self.watch = Watch(network, names, together_in(street, given.scenario))
-        self.detectors = Detectors(street, areas, sumo)
+        self.signals = Signals(street, network)
+        self.halts = Halts(network, names, sumo, (it.lane for it in areas.places.values()))
+        self.watch = Watch(network, names, yielding_in(street, given.scenario), sumo)
+        self.detectors = Detectors(street, areas, sumo, given.step)
         self.buttons = Buttons(street, network, sumo)
         self.priority = Priority(street, network, given.scenario.get("community", "public"))
-        self.preempts = Preempts(street)
-        self.watched = Watched(self.preempts.names() | (self.priority.names() if given.priority else set()))
+        self.preempts = Preempts(street, network)
+        self.watched = Watched(self.preempts.names() | (self.priority.names() if given.priority else set()), sumo)
         self.room = Room(given.scenario)
         self.times = Times()
         self.second = 0.0
         self.is_slow = any(it.walk for signal in street.signals for it in signal.movements)
+        self.take_step, self.ticks = call(sumo, "simulation", "step"), given.ticks()
 
     def run(self, progress: Callable[[int], object]) -> None:
         """Takes all steps. A conflict, an error of SUMO, a record that is full ends it as a fault."""
         self.signals.show(self.sumo, self.session.opened, 0)
-        begun = time.perf_counter()
+        begun = self.clock()
         a_second = max(round(1 / self.given.step), 1)
         try:
             for step in range(self.given.steps()):
@@ -114,36 +123,39 @@ class Loop:
                 if is_whole:
                     progress(1)
         finally:
-            self.times.whole = time.perf_counter() - begun
+            self.times.whole = self.clock() - begun
             self.priority.end()
             self.buttons.end()
 
     def step(self, step: int, is_whole: bool) -> None:
         """Takes a step of SUMO, then that of the cabinets."""
-        start = time.perf_counter()
-        self.sumo.simulationStep()
-        stepped = time.perf_counter()
+        start = self.clock()
+        self.take_step()
+        stepped = self.clock()
         self.second = round((step + 1) * self.given.step, 1)
         requests = self.requests(is_whole)
-        asked = time.perf_counter()
-        lines = self.session.tick(self.given.ticks(), requests)
-        came = time.perf_counter()
+        asked = self.clock()
+        lines = self.session.tick(self.ticks, requests)
+        came = self.clock()
         if lines:
             self.priority.heard(lines)
-        self.signals.show(self.sumo, lines, (step + 1) * self.given.ticks())
-        self.watch.look(self.sumo, self.second)
+        if lines or self.signals.always:
+            self.signals.show(self.sumo, lines, (step + 1) * self.ticks)
+        self.watch.look(self.second)
         self.times.sumo += stepped - start
         self.times.cabinets += came - asked
         self.times.steps += 1
 
     def requests(self, is_whole: bool) -> list[bytes]:
         """Returns what the cabinets are told before the ticks; slow things are looked at once a second."""
+        if is_whole:
+            self.halts.look(self.second)
+            self.detectors.look_for_strays(self.halts.standing)
         requests = list(self.detectors.changes())
         if self.watched.names:
             self.watched.step(self.sumo)
             requests += self.preempts.look(self.sumo, self.watched)
         if is_whole:
-            self.halts.look(self.sumo, self.second)
             if self.is_slow:
                 requests += self.buttons.look(self.sumo, self.signals, self.second)
             if self.given.priority:
@@ -162,7 +174,7 @@ def types_of(sumo: Any) -> dict[str, tuple[str, float]]:
 def built_areas(street: Map, network: Network, out: pathlib.Path) -> tuple[Areas, tuple[pathlib.Path, ...]]:
     """Returns the detectors that the tool builds, and the files that have them."""
     areas = Areas(street, network)
-    if not areas.rows:
+    if not areas.places:
         return areas, ()
     path = out / "detectors.add.xml"
     areas.write(path)

@@ -4,7 +4,7 @@ import argparse
 import pathlib
 
 from ..shared import files
-from ..shared.commandline import say
+from ..shared.saying import say
 from ..shared.status import Status
 from . import network
 from .compass import WAYS
@@ -16,6 +16,7 @@ examples:
   ./arterial cosim map street.net.xml -o map.toml              by the approaches' compass and turns
   ./arterial cosim map street.sumocfg --main E -o map.toml     phase 2 drives east at each signal
   ./arterial cosim map street.net.xml --phase 'c0 SB2T=8'      answers a question that was asked
+  ./arterial cosim map street.net.xml --permissive             left turns also yield under the phase from opposite
 
 Where a network has SUMO's NEMA logic, its phases are taken. What can't be told stands as "?" in the map, and is asked
 for on standard error; `run` refuses a map with a question left. docs/COSIM.md says how a map is written."""
@@ -43,6 +44,9 @@ def parser() -> argparse.ArgumentParser:
     words.add_argument("-o", "--out", metavar="MAP", help="the map to write (standard output)")
     words.add_argument("--main", choices=list(WAYS), help="the way in which phase 2 drives, at each signal")
     words.add_argument("--phase", type=answer, action="append", default=[], metavar="'SIGNAL MOVEMENT=N'")
+    words.add_argument(
+        "--permissive", action="store_true", help="left turns with a phase of their own also yield under the opposite's"
+    )
     words.add_argument("--length", type=float, default=LENGTH, metavar="M", help="metres of a detector (15)")
     return words
 
@@ -52,7 +56,7 @@ def main(given: list[str]) -> int:
     words = parser().parse_args(given)
     path = read_config(words.network).network if words.network.suffix == ".sumocfg" else words.network
     main_way = None if words.main is None else WAYS.index(words.main)
-    maker = Maker(network.read(path), main_way, dict(words.phase), words.length)
+    maker = Maker(network.read(path), main_way, dict(words.phase), words.length, words.permissive)
     text = maker.text(path.name)
     with files.output(words.out) as out:
         out.write(text)

@@ -1,10 +1,11 @@
 """A map written from a network: what can be told, and what is to be asked for."""
 
+import itertools
 from collections.abc import Iterable
 from dataclasses import dataclass, field
 
+from ..shared.fault import Fault
 from .compass import Compass, Told, by_nema
-from .faults import Fault
 from .network import CROSSING, Link, Network
 
 RINGS = range(1, 9)
@@ -28,11 +29,18 @@ class Row:
     phase: int | None
     links: list[Link] = field(default_factory=list)
     yields: bool = False
+    permissive: int | None = None
 
     @property
     def walk(self) -> bool:
         """Tells whether persons walk there."""
         return self.links[0].turn == CROSSING
+
+    def ways(self) -> list[tuple[int | None, bool, bool]]:
+        """Returns the phases under which the movement may have way, each with whether it gives way then, and whether
+        the phase is its own."""
+        own = [(self.phase, self.yields, True)]
+        return own if self.permissive is None else [*own, (self.permissive, True, False)]
 
 
 def may_be_on(one: int, other: int) -> bool:
@@ -44,21 +52,28 @@ def rows_of(told: list[Told]) -> list[Row]:
     """Gathers links by movement."""
     rows: dict[str, Row] = {}
     for it in told:
-        row = rows.setdefault(it.name, Row(it.name, it.phase))
-        if row.phase != it.phase:
-            row = rows.setdefault(f"{it.name}{it.phase}", Row(f"{it.name}{it.phase}", it.phase))
+        row = rows.setdefault(it.name, Row(it.name, it.phase, permissive=it.permissive))
+        if (row.phase, row.permissive) != (it.phase, it.permissive):
+            name = f"{it.name}{it.phase}"
+            row = rows.setdefault(name, Row(name, it.phase, permissive=it.permissive))
         row.links.append(it.link)
     return list(rows.values())
 
 
 class Maker:
     """Makes a map. `main` is the way of phase 2 (0 north, 1 east ..), None where each signal's is looked for;
-    `answers` has phases by signal and movement."""
+    `answers` has phases by signal and movement; `is_permissive` lets left turns be permissive beside their phases."""
 
     def __init__(
-        self, network: Network, main: int | None, answers: dict[tuple[str, str], int], length: float = LENGTH
+        self,
+        network: Network,
+        main: int | None,
+        answers: dict[tuple[str, str], int],
+        length: float = LENGTH,
+        is_permissive: bool = False,
     ) -> None:
         self.network, self.main, self.answers, self.length = network, main, answers, length
+        self.is_permissive = is_permissive
         self.questions: list[Question] = []
         self.used: set[tuple[str, str]] = set()
 
@@ -77,7 +92,7 @@ class Maker:
         if program is not None and program.kind == "NEMA":
             found = by_nema(self.network, signal)
         else:
-            found = Compass(self.network, signal, self.main).told()
+            found = Compass(self.network, signal, self.main, self.is_permissive).told()
         for it in found:
             if (signal, it.name) in self.answers:
                 self.used.add((signal, it.name))
@@ -112,17 +127,17 @@ class Maker:
         of = {link: row for row in rows for link in row.links}
         for a, b in self.network.conflicts(signal):
             one, other = of[a], of[b]
-            if one.phase is None or other.phase is None or not may_be_on(one.phase, other.phase):
-                continue
-            if one.yields and self.network.gives_way(a, b) or other.yields and self.network.gives_way(b, a):
-                continue
-            if self.network.gives_way(a, b) and not one.walk:
-                one.yields = True
-            elif self.network.gives_way(b, a) and not other.walk:
-                other.yields = True
-            else:
-                why = f"it crosses {other.name}, and SUMO lets neither give way"
-                self.questions.append(Question(signal, one.name, why))
+            a_gives, b_gives = self.network.gives_way(a, b), self.network.gives_way(b, a)
+            for (p, a_yields, a_own), (q, b_yields, b_own) in itertools.product(one.ways(), other.ways()):
+                if p is None or q is None or not may_be_on(p, q) or a_yields and a_gives or b_yields and b_gives:
+                    continue
+                if a_gives and a_own and not one.walk:
+                    one.yields = True
+                elif b_gives and b_own and not other.walk:
+                    other.yields = True
+                else:
+                    why = f"it crosses {other.name}, and SUMO lets neither give way"
+                    self.questions.append(Question(signal, one.name, why))
 
     def movement(self, row: Row) -> list[str]:
         """Returns the lines of a movement."""
@@ -130,6 +145,7 @@ class Maker:
         lines = ["[[signal.movement]]", f'name = "{row.name}"', f"phase = {phase}"]
         lines += ["walk = true"] if row.walk else []
         lines += ["yields = true"] if row.yields else []
+        lines += [f"permissive = {row.permissive}"] if row.permissive is not None else []
         return [*lines, listed("links", [it.name for it in row.links])]
 
 

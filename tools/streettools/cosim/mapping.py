@@ -24,7 +24,8 @@ class Overlap:
 @dataclass(frozen=True)
 class MappedMovement:
     """A movement: its name, the links of it, its phase or its overlap. Where it `yields` its green gives way, as that
-    of a right turn over a crossing; a `walk` is a crossing of pedestrians."""
+    of a right turn over a crossing; a `walk` is a crossing of pedestrians. A left turn may be `permissive` under
+    another phase than its own: while that one is green it has way, too, and gives way."""
 
     name: str
     links: tuple[str, ...]
@@ -32,10 +33,18 @@ class MappedMovement:
     overlap: Overlap | None
     yields: bool
     walk: bool
+    permissive: int | None = None
 
     def phases(self) -> tuple[int, ...]:
-        """Returns the phases under which the movement may have way."""
-        return self.overlap.parents if self.overlap else (self.phase,)
+        """Returns the phases under which the movement may have way, its own first."""
+        return tuple(phase for phase, _ in self.ways())
+
+    def ways(self) -> tuple[tuple[int, bool], ...]:
+        """Returns the phases under which the movement may have way, each with whether it gives way then."""
+        if self.overlap:
+            return tuple((phase, self.yields) for phase in self.overlap.parents)
+        own = ((self.phase, self.yields),)
+        return own if self.permissive is None else (*own, (self.permissive, True))
 
 
 @dataclass(frozen=True)
@@ -75,12 +84,15 @@ class MappedBus:
 
 @dataclass(frozen=True)
 class MappedPreempt:
-    """A preempt's input: on while a vehicle of these classes or types is on one of these edges."""
+    """A preempt's input: on while a vehicle of these classes or types is on one of these edges, or within `ahead`
+    metres before a stop line of the cabinet, on a way that one of `phases` serves (any, where none are named)."""
 
     cabinet: int
     number: int
     vehicles: tuple[str, ...]
     edges: tuple[str, ...]
+    ahead: float | None = None
+    phases: tuple[int, ...] = ()
 
 
 @dataclass(frozen=True)
@@ -117,9 +129,12 @@ def movement_of(given: Given) -> MappedMovement:
         overlap,
         given.take("yields", bool, False),
         given.take("walk", bool, False),
+        given.within("permissive", int, 1, MOST_PHASE),
     )
     if not found.links:
         raise given.refuse("links", "is missing")
+    if found.permissive is not None and (overlap or found.walk or found.permissive == phase):
+        raise given.refuse("permissive", "is another phase than that of vehicles, and goes with no overlap and no walk")
     return found
 
 
@@ -169,12 +184,21 @@ def preempt_of(given: Given) -> MappedPreempt:
     """Reads a preempt's input."""
     for name in ("cabinet", "number"):
         given.need(name, int)
-    return MappedPreempt(
+    found = MappedPreempt(
         given.within("cabinet", int, 1, MOST_CABINETS),
         given.within("number", int, 1, MOST_PREEMPT),
         given.texts("vehicles"),
         given.texts("edges"),
+        given.within("ahead", NUMBER, 1, 5000),
+        given.numbers("phases", MOST_PHASE),
     )
+    if not found.vehicles:
+        raise given.refuse("vehicles", "is missing: classes or types of SUMO")
+    if not found.edges and found.ahead is None:
+        raise given.refuse("edges", "is needed, or ahead in its place: metres before the stop line")
+    if found.phases and found.ahead is None:
+        raise given.refuse("phases", "goes with ahead")
+    return found
 
 
 def read_map(path: pathlib.Path) -> Map:

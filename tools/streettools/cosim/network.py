@@ -15,8 +15,8 @@ from collections.abc import Iterator
 from dataclasses import dataclass, field
 from typing import NamedTuple
 
+from ..shared.fault import Fault
 from ..shared.status import Status
-from .faults import Fault
 
 OF_TRAINS = ("rail_crossing", "rail_signal")
 """Kinds of junctions whose signals SUMO switches by the trains themselves; no cabinet has them."""

@@ -5,6 +5,7 @@ the signal before (or since it started); so the loss of getting away from the si
 """
 
 import bisect
+import math
 import pathlib
 import xml.etree.ElementTree as xml
 from collections import defaultdict
@@ -20,6 +21,8 @@ from .signals import GREEN
 KINDS = {"bus": Kind.BUS, "coach": Kind.BUS, "tram": Kind.BUS, "emergency": Kind.EMERGENCY}
 RAIL = ("rail", "rail_urban", "rail_electric", "rail_fast")
 UNKNOWN_SPEED = 1000.0
+Counts = dict[float, int]
+"""How many stood at each second."""
 
 
 class Served(NamedTuple):
@@ -41,6 +44,14 @@ class Way(NamedTuple):
     entered: float
     passed: float | None
     parts: tuple[Part, ...]
+
+
+class Spell(NamedTuple):
+    """From when to when a vehicle was on its way to a stop line, and where it counts if it stands there."""
+
+    entered: float
+    passed: float
+    counts: Counts
 
 
 class Routes:
@@ -156,14 +167,27 @@ class Traffic:
             )
         return tuple(found)
 
+    def places(self, standing: dict[tuple[int, str], Counts]) -> dict[tuple[str, str], list[Spell]]:
+        """Returns the spells of each vehicle on each edge on its way to stop lines."""
+        found = defaultdict(list)
+        for vehicle, ways in self.ways.items():
+            for way in ways:
+                passed = math.inf if way.passed is None else way.passed
+                counts = standing[way.served.cabinet, way.served.movement]
+                for edge in way.edges:
+                    found[vehicle, edge].append(Spell(way.entered, passed, counts))
+        return found
+
     def queues(self, halts: list[Halt], movements: list[Movement], seconds: float) -> list[QueueSample]:
         """Returns how many stood before each stop line, at each second at which it changed."""
-        standing: dict[tuple[int, str], dict[float, int]]
-        standing = {(it.cabinet, it.name): defaultdict(int) for it in movements}
-        for halt in halts:
-            way = next((it for it in self.ways.get(halt.vehicle, ()) if is_on(it, halt)), None)
-            if way:
-                standing[way.served.cabinet, way.served.movement][halt.second] += 1
+        standing: dict[tuple[int, str], Counts] = {(it.cabinet, it.name): defaultdict(int) for it in movements}
+        places = self.places(standing)
+        for second, edge, vehicles in halts:
+            for vehicle in vehicles:
+                for entered, passed, counts in places.get((vehicle, edge), ()):
+                    if entered <= second <= passed:
+                        counts[second] += 1
+                        break
         found = []
         for key, counts in standing.items():
             before = 0
@@ -175,11 +199,6 @@ class Traffic:
         return found
 
 
-def is_on(way: Way, halt: Halt) -> bool:
-    """Tells whether a vehicle stood on its way to a stop line."""
-    return halt.edge in way.edges and way.entered <= halt.second and (way.passed is None or halt.second <= way.passed)
-
-
 def kind_of(vehicle_class: str) -> Kind:
     """Returns the kind of a vehicle of a class of SUMO."""
     return Kind.TRAIN if vehicle_class in RAIL else KINDS.get(vehicle_class, Kind.CAR)
@@ -189,7 +208,7 @@ def trips_of(
     path: pathlib.Path, traffic: Traffic, begin: float, types: dict[str, tuple[str, float]], halts: list[Halt]
 ) -> list[Trip]:
     """Returns the trips in SUMO's file of trips; `types` has the class and the greatest speed of each type."""
-    stood = {(it.vehicle, it.edge) for it in halts}
+    stood = {(vehicle, it.edge) for it in halts for vehicle in it.vehicles}
     found = []
     for _, element in xml.iterparse(path):
         if element.tag != "tripinfo":

@@ -4,10 +4,11 @@ import argparse
 import pathlib
 
 from ..look.words import daytime, numbers, picture, travel
-from ..shared.commandline import number, say
+from ..shared.commandline import number
+from ..shared.fault import Fault
 from ..shared.lines import NotATrace
+from ..shared.saying import say
 from ..shared.status import Status
-from ..sweep.faults import Fault
 from . import pictures_seen, records
 from .pictures_seen import View
 from .records import Study

@@ -9,7 +9,7 @@ from matplotlib.patches import Patch
 
 from ..look import called, coordination, pictures
 from ..shared.course import Course
-from ..sweep.faults import Fault
+from ..shared.fault import Fault
 from .pictures_seen import View
 from .records import Kind, Study, Trip
 

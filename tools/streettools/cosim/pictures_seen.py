@@ -4,7 +4,7 @@ import pathlib
 from typing import Any, NamedTuple
 
 from ..look import pictures
-from ..sweep.faults import Fault
+from ..shared.fault import Fault
 from .movements import is_of_persons
 from .records import Movement, Study
 

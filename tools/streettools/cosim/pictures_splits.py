@@ -7,8 +7,8 @@ from matplotlib.lines import Line2D
 from ..look import pictures
 from ..shared.cabinet import changes, mode_of, opened
 from ..shared.course import Course, Ended, Input
+from ..shared.fault import Fault
 from ..shared.lines import Frame
-from ..sweep.faults import Fault
 from .pictures_seen import View, label, room
 from .records import Study
 

@@ -3,8 +3,8 @@
 import difflib
 from typing import Any
 
+from ..shared.fault import Fault
 from ..shared.tables import Tables
-from ..sweep.faults import Fault
 from .queues_volumes import Crossing, Flow, Volumes
 
 

@@ -5,10 +5,12 @@ import pathlib
 import sys
 from collections.abc import Callable
 
-from ..shared.commandline import number, say
+from ..shared.commandline import number
+from ..shared.fault import Fault
+
 from ..shared.program import NoProgram, found
+from ..shared.saying import say
 from ..shared.status import Status
-from ..sweep.faults import Fault
 from . import queues_study, report
 from .queues_study import Asked, Ran
 from .queues_volumes import Volumes, volumes_of

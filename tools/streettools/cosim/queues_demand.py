@@ -10,7 +10,7 @@ from collections.abc import Iterator
 from dataclasses import dataclass
 from typing import NamedTuple
 
-from ..sweep.faults import Fault
+from ..shared.fault import Fault
 from .queues_volumes import Flow, Onward, Volumes
 
 LONGEST = 500

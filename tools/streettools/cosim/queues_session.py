@@ -9,8 +9,8 @@ import os
 import subprocess
 from typing import Any
 
+from ..shared.fault import Fault
 from ..shared.status import Status
-from ..sweep.faults import Fault
 
 LISTS = ("inputs", "loads", "priority", "frames", "faults")
 PIECE = 1 << 16

@@ -6,7 +6,7 @@ from collections.abc import Callable
 from dataclasses import dataclass
 from typing import Any
 
-from ..sweep.faults import Fault
+from ..shared.fault import Fault
 from . import queues_checks
 from .queues_demand import Demand, demand_of
 from .queues_session import Cabinets, scenario_of

@@ -8,7 +8,7 @@ import re
 from dataclasses import dataclass, field
 from typing import Any
 
-from ..sweep.faults import Fault
+from ..shared.fault import Fault
 from ..sweep.given import NUMBER, Given
 
 CLOCK = re.compile(r"([01]?\d|2[0-4]):([0-5]\d)")

@@ -27,7 +27,8 @@ class Kind(enum.StrEnum):
 
 class Movement(NamedTuple):
     """A movement at an intersection: its cabinet (from 1), a name that is its own there (as `EBT`, `NBL`, or
-    `ped 4`), and the phase that serves it, None where an overlap does; `parents` are the phases of that overlap."""
+    `ped 4`), and the phase that serves it, None where an overlap does; `parents` are the phases of that overlap, or
+    the phase and the one under which it has way beside it, giving way."""
 
     cabinet: int
     name: str
@@ -36,7 +37,7 @@ class Movement(NamedTuple):
 
     def phases(self) -> tuple[int, ...]:
         """Returns the phases under which the movement may have way."""
-        return self.parents if self.phase is None else (self.phase,)
+        return self.parents or (self.phase,)
 
 
 class Passage(NamedTuple):

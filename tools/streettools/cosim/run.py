@@ -6,11 +6,11 @@ from collections.abc import Callable
 from dataclasses import dataclass
 from typing import Any
 
+from ..shared.fault import Fault
 from ..shared.status import Status
 from . import drive, report
 from .checks import check
 from .drive import Start
-from .faults import Fault
 from .halts import Halt
 from .loop import Given, Loop, Times, built_areas, types_of
 from .mapping import Map
@@ -52,7 +52,7 @@ def read_scenario(path: pathlib.Path) -> dict[str, Any]:
 def movements_of(street: Map) -> list[Movement]:
     """Returns the movements of a map."""
     return [
-        Movement(it.cabinet, row.name, row.phase, row.overlap.parents if row.overlap else ())
+        Movement(it.cabinet, row.name, row.phase, () if row.phases() == (row.phase,) else row.phases())
         for it in street.signals
         for row in it.movements
     ]

@@ -3,13 +3,15 @@
 import argparse
 import pathlib
 
-from ..shared.commandline import number, say
-from ..shared.progress import bar
+from ..shared.commandline import number
+from ..shared.fault import Fault
+
 from ..shared.program import found
+from ..shared.progress import bar
+from ..shared.saying import say
 from ..shared.status import Status
 from . import network
 from .drive import read_config
-from .faults import Fault
 from .loop import Given
 from .mapping import read_map
 from .run import REPORT, TRACE, Done, read_scenario, run

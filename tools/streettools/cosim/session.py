@@ -9,13 +9,15 @@ import pathlib
 import subprocess
 from typing import Any
 
+from ..shared.fault import Fault
 from ..shared.session_record import SessionRecord
 from ..shared.status import Status
-from .faults import Fault
 
 PIECE = 4096
 """So many octets of requests may be written before their answers are read."""
 PIPE = 65_536
+EMPTY = b".\n"
+"""An answer that has no lines."""
 
 
 class Session:
@@ -49,17 +51,18 @@ class Session:
 
     def answers(self, count: int) -> list[list[bytes]]:
         """Returns the next answers, each as its lines without the dot."""
-        data = b""
+        data = os.read(self.output, PIPE)
+        if data == EMPTY and count == 1:
+            return [[]]
         while True:
+            if data.endswith(EMPTY):
+                lines = data.split(b"\n")
+                if lines.count(b".") == count:
+                    break
             piece = os.read(self.output, PIPE)
             if not piece:
                 raise self.death()
             data += piece
-            if not data.endswith(b".\n"):
-                continue
-            lines = data.split(b"\n")
-            if lines.count(b".") == count:
-                break
         found: list[list[bytes]] = [[]]
         for line in lines[:-2]:
             if line == b".":

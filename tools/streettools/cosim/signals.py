@@ -3,6 +3,7 @@
 from collections.abc import Callable, Iterable
 from typing import Any, NamedTuple
 
+from .drive import call
 from .faults import Conflict
 from .mapping import Map, MappedMovement, MappedSignal
 from .network import Link, Network
@@ -10,12 +11,13 @@ from .overlaps import OverlapLight
 
 COLOUR = {"G": "G", "Y": "y", "C": "r", "R": "r"}
 """SUMO's letters for colours: red clearance is red to a driver."""
+YIELDING_COLOUR = {"G": "g", "Y": "y", "C": "r", "R": "r"}
 GREEN = "Gg"
 RED = "rR"
 YIELDING = "gy"
-"""Letters of who gives way; yellow is told from that of a green with way by the phases alone."""
-Together = Callable[[Link, Link], bool]
-"""Tells whether two links have phases that may be on at once."""
+"""Letters of who gives way; to the watch `Y` is the yellow behind a green with way."""
+MayYield = Callable[[Link, Link], bool]
+"""Tells whether a link may have a green that yields while another has way."""
 
 
 class Light:
@@ -37,8 +39,10 @@ class Light:
         if movement.walk:
             return "G" if walks[movement.phase - 1] == "W" else "r"
         shown = overlaps[movement.name] if movement.overlap else vehicles[movement.phase - 1]
-        letter = COLOUR[shown]
-        return "g" if letter == "G" and movement.yields else letter
+        letter = (YIELDING_COLOUR if movement.yields else COLOUR)[shown]
+        if letter == "r" and movement.permissive is not None:
+            return YIELDING_COLOUR[vehicles[movement.permissive - 1]]
+        return letter
 
     def wanted(self, vehicles: str, walks: str, tick: int) -> str:
         """Returns the state of all links at a tick."""
@@ -64,28 +68,34 @@ class Crossing(NamedTuple):
 
 class Watch:
     """The look for two links whose paths cross and that both have way, by what SUMO has in force. A link may yield to
-    another only where SUMO lets it give way there, and where the two are of phases that may be on at once
-    (`together`)."""
+    another only where SUMO lets it give way there, and where it has a phase under which it yields that may be on along
+    with one of the other's (`may_yield`). Yellow yields as the green before it did."""
 
-    def __init__(self, network: Network, signals: Iterable[str], together: Together) -> None:
+    def __init__(self, network: Network, signals: Iterable[str], may_yield: MayYield, sumo: Any) -> None:
+        self.state_of = call(sumo, "trafficlight", "getRedYellowGreenState")
         self.crossing = {name: [] for name in signals}
         for name, rows in self.crossing.items():
             for a, b in network.conflicts(name):
-                may = together(a, b)
-                rows.append(Crossing(a, b, may and network.gives_way(a, b), may and network.gives_way(b, a)))
+                a_yields = network.gives_way(a, b) and may_yield(a, b)
+                b_yields = network.gives_way(b, a) and may_yield(b, a)
+                rows.append(Crossing(a, b, a_yields, b_yields))
         self.sound: dict[str, set[str]] = {name: set() for name in self.crossing}
-        self.last: dict[str, str] = {}
+        self.last = dict.fromkeys(self.crossing, "")
+        self.judged: dict[str, str] = {}
+        """What each signal has in force, with `Y` for the yellow behind a green with way."""
         self.history: dict[str, list[tuple[float, str]]] = {name: [] for name in self.crossing}
 
-    def look(self, sumo: Any, second: float) -> None:
+    def look(self, second: float) -> None:
         """Looks at all signals; a conflict is raised. What changed is kept."""
-        for name in self.crossing:
-            state = sumo.trafficlight.getRedYellowGreenState(name)
-            if state != self.last.get(name):
+        for name, before in self.last.items():
+            state = self.state_of(name)
+            if state != before:
                 self.last[name] = state
                 self.history[name].append((second, state))
-                if state not in self.sound[name]:
-                    self.judge(name, state, second)
+                judged = behind(self.judged.get(name, state), state)
+                self.judged[name] = judged
+                if judged not in self.sound[name]:
+                    self.judge(name, judged, second)
 
     def judge(self, name: str, state: str, second: float) -> None:
         """Raises a conflict where a state has one."""
@@ -94,10 +104,15 @@ class Watch:
             if one in RED or other in RED or one in YIELDING and a_yields or other in YIELDING and b_yields:
                 continue
             raise Conflict(
-                f"second {second:.1f}: signal {name} shows {state}: links {a.index} ({a.name}) and {b.index} ({b.name})"
-                " cross, and both have way"
+                f"second {second:.1f}: signal {name} shows {self.last[name]}: links {a.index} ({a.name}) and {b.index}"
+                f" ({b.name}) cross, and both have way"
             )
         self.sound[name].add(state)
+
+
+def behind(before: str, state: str) -> str:
+    """Returns a state with `Y` for each yellow behind a green with way."""
+    return "".join("Y" if now == "y" and was in "GY" else now for was, now in zip(before, state))
 
 
 class Signals:

@@ -2,17 +2,20 @@
 
 from typing import Any
 
+from .drive import call
+
 
 class Watched:
     """Which vehicles of the classes and types that are asked for are under way, with class and type of each."""
 
-    def __init__(self, names: set[str]) -> None:
+    def __init__(self, names: set[str], sumo: Any) -> None:
         self.names = names
+        self.departed = call(sumo, "simulation", "getDepartedIDList")
         self.kinds: dict[str, tuple[str, str]] = {}
 
     def step(self, sumo: Any) -> None:
         """Takes who has come and who has gone in a step."""
-        for vehicle in sumo.simulation.getDepartedIDList():
+        for vehicle in self.departed():
             kinds = sumo.vehicle.getVehicleClass(vehicle), sumo.vehicle.getTypeID(vehicle).partition("@")[0]
             if not self.names.isdisjoint(kinds):
                 self.kinds[vehicle] = kinds

@@ -1,8 +1,8 @@
 """The same street under SUMO's own controllers, with the times of a scenario: NEMA in two rings, and actuated stages.
 
 NEMA has the pattern in command as the cabinets open; where that is none it runs free. Neither has walk times,
-preempts or priority. Under actuated stages a crossing has way with its phase; under NEMA it is always red, since SUMO
-1.15 dies of a phase that gives way to a crossing.
+preempts or priority: a crossing has way with its phase. Under NEMA it has way as one that yields (SUMO's g), since SUMO
+1.15 dies of a NEMA phase in which a crossing has G; vehicles that yield let persons go first all the same.
 """
 
 import itertools
@@ -12,12 +12,12 @@ import xml.etree.ElementTree as xml
 from collections.abc import Callable
 from typing import Any
 
+from ..shared.fault import Fault
 from ..shared.plans import coordinated
 from ..shared.tables import Tables
 from . import drive
-from .checks import together_in
+from .checks import yielding_in
 from .drive import Start
-from .faults import Fault
 from .halts import Halts
 from .loop import Given, Times, types_of
 from .mapping import MappedSignal
@@ -31,16 +31,17 @@ LOOP = 15
 
 
 def states(
-    signal: MappedSignal, network: Network, phases: set[int], letter: str | None = None, has_walks: bool = True
+    signal: MappedSignal, network: Network, phases: set[int], letter: str | None = None, walk: str = "G"
 ) -> str:
-    """Returns the state in which some phases have way, or show a letter to vehicles."""
+    """Returns the state in which some phases have way, or show a letter to vehicles; persons have way by `walk`."""
     links = {link.name: link.index for link in network.links[signal.id]}
     shown = ["r"] * (1 + max(links.values()))
     for movement in signal.movements:
-        if not phases & set(movement.phases()) or movement.walk and (letter or not has_walks):
+        ways = [yields for phase, yields in movement.ways() if phase in phases]
+        if not ways or movement.walk and letter:
             continue
         for name in movement.links:
-            shown[links[name]] = letter or ("g" if movement.yields else "G")
+            shown[links[name]] = letter or (walk if movement.walk else "g" if all(ways) else "G")
     return "".join(shown)
 
 
@@ -93,7 +94,7 @@ def nema(signal: MappedSignal, network: Network, tables: Tables, pattern: int) -
         yellow, red = tables.phase(phase, 8) / 10, tables.phase(phase, 9) / 10
         split = tables.split(tables.pattern(pattern, 4), phase, 3) - yellow - red if pair else tables.phase(phase, 6)
         times = {"minDur": tables.phase(phase, 4), "maxDur": split, "vehext": tables.phase(phase, 5) / 10}
-        state = states(signal, network, {phase}, has_walks=False)
+        state = states(signal, network, {phase}, walk="g")
         rows.append(stage(99, state, name=phase, yellow=yellow, red=red, **times))
     offset = tables.pattern(pattern, 3) if pair else 0
     return {"id": signal.id, "type": "NEMA", "programID": "arterial", "offset": offset}, rows
@@ -141,17 +142,17 @@ def run(
     path = out / "programs.add.xml"
     programs(given, controller).write(path, encoding="unicode")
     names = [it.id for it in given.street.signals]
-    watch = Watch(given.network, names, together_in(given.street, given.scenario))
-    halts, times = Halts(given.network, names), Times()
+    watch = Watch(given.network, names, yielding_in(given.street, given.scenario), sumo)
+    halts, times = Halts(given.network, names, sumo), Times()
     begun = time.perf_counter()
     with drive.running(sumo, Start(given.config, (path.resolve(),), given.step, given.seconds, given.seed, out)):
-        a_second = max(round(1 / given.step), 1)
+        a_second, take_step = max(round(1 / given.step), 1), drive.call(sumo, "simulation", "step")
         for step in range(given.steps()):
-            sumo.simulationStep()
+            take_step()
             second = round((step + 1) * given.step, 1)
-            watch.look(sumo, second)
+            watch.look(second)
             if (step + 1) % a_second == 0:
-                halts.look(sumo, second)
+                halts.look(second)
                 progress(1)
         types = types_of(sumo)
     times.whole, times.steps = time.perf_counter() - begun, given.steps()

@@ -4,11 +4,14 @@ spot.
 Where no program is named the built one is taken if it has `live`, else the model, which has the same form.
 """
 
+import contextlib
+import io
 import os
 import pathlib
 import shutil
 import subprocess
 import sys
+from collections.abc import Callable
 from typing import NamedTuple
 
 import pytest
@@ -16,6 +19,8 @@ import pytest
 TOP = pathlib.Path(__file__).resolve().parents[3]
 sys.dont_write_bytecode = True
 sys.path.insert(0, str(TOP / "tools"))
+
+from streettools.cosim import command  # noqa: E402
 
 SECONDS = 600
 """How long anything may take, on a machine that is busy with other things."""
@@ -63,6 +68,14 @@ def cosim(*words: object) -> Ran:
     return Ran(ran.returncode, ran.stdout, said)
 
 
+def here(*words: object) -> Ran:
+    """Runs `arterial cosim` within the tests' own process: for what is refused before SUMO starts."""
+    out, err = io.StringIO(), io.StringIO()
+    with contextlib.redirect_stdout(out), contextlib.redirect_stderr(err):
+        status = command.main([*map(str, words), "--program", str(PROGRAM)])
+    return Ran(status, out.getvalue(), err.getvalue().splitlines())
+
+
 @pytest.fixture
 def tee(tmp_path: pathlib.Path) -> pathlib.Path:
     """Returns a folder with the files of the T-intersection, which a test may change."""
@@ -71,10 +84,10 @@ def tee(tmp_path: pathlib.Path) -> pathlib.Path:
     return folder
 
 
-def run_tee(folder: pathlib.Path, *more: object) -> Ran:
+def run_tee(folder: pathlib.Path, *more: object, by: Callable[..., Ran] = cosim) -> Ran:
     """Runs the T-intersection in a folder for 60 seconds; further words count more."""
     words = ["--sumo", folder / "tee.sumocfg", "--map", folder / "tee.map.toml", "--scenario", folder / "tee.json"]
-    return cosim("run", *words, "--seconds", 60, "--step", 1, "-o", folder / "out", *more)
+    return by("run", *words, "--seconds", 60, "--step", 1, "-o", folder / "out", *more)
 
 
 def change(path: pathlib.Path, old: str, new: str) -> None:

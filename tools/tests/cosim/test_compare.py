@@ -5,7 +5,7 @@ import json
 import pytest
 
 from streettools.cosim import comparing
-from streettools.cosim.faults import Fault
+from streettools.shared.fault import Fault
 
 from .conftest import PROGRAM, STREET, TEE, cosim, needs_sumo
 

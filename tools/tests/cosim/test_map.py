@@ -7,7 +7,11 @@ import tomllib
 
 import pytest
 
-from .conftest import STREET, TEE, change, cosim, needs_sumo, run_tee
+from streettools.cosim import checks, network
+from streettools.shared.fault import Fault
+from streettools.cosim.mapping import read_map
+
+from .conftest import STREET, TEE, change, cosim, here, needs_sumo, run_tee
 
 NEMA = {"EBL": 5, "EBT": 2, "WBL": 1, "WBT": 6, "NBL": 7, "NBT": 4, "SBL": 3, "SBT": 8}
 """The usual numbers: phase 2 eastbound, left turns opposite to their straight ways, 4 northbound."""
@@ -104,7 +108,7 @@ def test_a_network_with_sumos_own_nema_logic_gives_its_phases(tee):
 
 def refused(folder: pathlib.Path) -> str:
     """Returns the one line with which a run is refused before anything ran."""
-    ran = run_tee(folder)
+    ran = run_tee(folder, by=here)
     assert ran.status == 2 and len(ran.said) == 1, ran
     assert not (folder / "out/session.trace").exists()
     return ran.said[0]
@@ -145,6 +149,68 @@ def test_conflicting_links_on_phases_that_may_be_on_at_once_are_refused(tee):
     change(tee / "tee.map.toml", "[[signal.detector]]\nphase = 1", "[[signal.detector]]\nphase = 5")
     line = refused(tee)
     assert "may be on at once" in line and "WBL" in line and "EB" in line
+
+
+def test_left_turns_may_be_permissive_under_the_phase_from_opposite():
+    """Those of phase 2 turn left on 5 and meet 6, and so on; of the stem of a T nobody comes from opposite."""
+    text = cosim("map", STREET / "street.net.xml", "--main", "E", "--permissive").out
+    found = {it["name"]: it.get("permissive") for it in tomllib.loads(text)["signal"][0]["movement"]}
+    assert {name: it for name, it in found.items() if it} == {"EBL": 6, "WBL": 2, "NBL": 8, "SBL": 4}
+    text = cosim("map", TEE / "tee.net.xml", "--permissive").out
+    found = {it["name"]: it.get("permissive") for it in tomllib.loads(text)["signal"][0]["movement"]}
+    assert {name: it for name, it in found.items() if it} == {"WBL": 2}
+
+
+def checked(folder: pathlib.Path, permissive: int) -> str:
+    """Returns why a map is refused whose eastbound left turns at c0 are permissive under a phase; nothing where not."""
+    shutil.copy(STREET / "street.map.toml", folder / "map.toml")
+    own = 'name = "EBL"\nphase = 5'
+    change(folder / "map.toml", own, f"{own}\npermissive = {permissive}")
+    try:
+        checks.check(read_map(folder / "map.toml"), network.read(STREET / "street.net.xml"), {"cabinets": [{}] * 4})
+    except Fault as fault:
+        return str(fault)
+    return ""
+
+
+def test_a_permissive_turn_that_meets_traffic_to_which_it_doesnt_yield_is_refused(tmp_path):
+    """The main street's left turn gives way to who comes from opposite (6), not to the side street (8 beside 4)."""
+    assert checked(tmp_path, 6) == ""
+    line = checked(tmp_path, 4)
+    assert "EBL (e0_3 up0_2)" in line and "cross, and phases" in line and "may be on at once" in line
+
+
+@needs_sumo
+@pytest.mark.parametrize(
+    ("old", "new", "line"),
+    [
+        ('name = "WBL"\nphase = 1', 'name = "WBL"\nphase = 1\npermissive = 1', "permissive is another phase"),
+        ('name = "WBL"\nphase = 1', 'name = "WBL"\nphase = 1\npermissive = 9', "phase 9 is not enabled in cabinet 1"),
+        ('name = "EBT"', 'parents = [2, 3]\nname = "EBT"', "phase is needed, or parents in its place"),
+    ],
+)
+def test_a_permissive_phase_that_cant_be_is_refused(tee, old, new, line):
+    change(tee / "tee.map.toml", old, new)
+    assert line in refused(tee)
+
+
+PREEMPT = '\n[[preempt]]\ncabinet = 1\nnumber = 3\nvehicles = ["emergency"]\n'
+
+
+@needs_sumo
+@pytest.mark.parametrize(
+    ("more", "line"),
+    [
+        ("", "preempt 1: edges is needed, or ahead in its place"),
+        ('edges = ["in-east"]\nphases = [2]', "phases goes with ahead"),
+        ("ahead = 200\nphases = [9]", "phase 9 is not enabled in cabinet 1"),
+        ("ahead = 0", "ahead is 0, and has to be 1 to 5000"),
+    ],
+)
+def test_a_preempt_that_cant_be_is_refused(tee, more, line):
+    path = tee / "tee.map.toml"
+    path.write_text(path.read_text() + PREEMPT + more + "\n")
+    assert line in refused(tee)
 
 
 @needs_sumo

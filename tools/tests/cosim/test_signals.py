@@ -6,8 +6,9 @@ import subprocess
 import pytest
 
 from streettools.cosim import detectors, network
-from streettools.cosim.checks import together_in
+from streettools.cosim.checks import yielding_in
 from streettools.cosim.faults import Conflict
+from streettools.cosim.map_making import Maker
 from streettools.cosim.mapping import Overlap, read_map
 from streettools.cosim.overlaps import OverlapLight
 from streettools.cosim.signals import Signals, Watch
@@ -80,7 +81,7 @@ def test_the_watch_finds_each_pair_of_crossing_links_that_both_have_way(one, oth
         state = ["r"] * size
         state[a.index], state[b.index] = one, other
         with pytest.raises(Conflict, match=f"links {a.index} .* and {b.index} .* cross, and both have way"):
-            Watch(known, ["t"], lambda a, b: False).look(Shown({"t": "".join(state)}), 1.0)
+            Watch(known, ["t"], lambda a, b: False, Shown({"t": "".join(state)})).look(1.0)
 
 
 def test_a_link_that_yields_may_be_on_beside_its_foe_only_where_their_phases_may():
@@ -88,7 +89,7 @@ def test_a_link_that_yields_may_be_on_beside_its_foe_only_where_their_phases_may
     street."""
     known = network.read(TEE / "tee.net.xml")
     street = read_map(TEE / "tee.map.toml")
-    together = together_in(street, {"cabinets": [{}]})
+    may_yield = yielding_in(street, {"cabinets": [{}]})
     by_name = {link.name: link.index for link in known.links["t"]}
     places = {it.name: [by_name[name] for name in it.links] for it in street.signals[0].movements}
 
@@ -99,10 +100,10 @@ def test_a_link_that_yields_may_be_on_beside_its_foe_only_where_their_phases_may
                 shown[place] = letter
         return "".join(shown)
 
-    Watch(known, ["t"], together).look(Shown({"t": state(NBR="g", ped_E="G")}), 1.0)
+    Watch(known, ["t"], may_yield, Shown({"t": state(NBR="g", ped_E="G")})).look(1.0)
     for letters in ({"NBR": "G", "ped_E": "G"}, {"NBL": "g", "EBT": "G"}, {"NBL": "g", "WBT": "y"}):
         with pytest.raises(Conflict):
-            Watch(known, ["t"], together).look(Shown({"t": state(**letters)}), 1.0)
+            Watch(known, ["t"], may_yield, Shown({"t": state(**letters)})).look(1.0)
 
 
 def test_the_watch_lets_links_be_on_that_do_not_cross():
@@ -112,7 +113,7 @@ def test_the_watch_lets_links_be_on_that_do_not_cross():
     for i, j in itertools.combinations(range(size), 2):
         if frozenset((i, j)) not in crossing:
             state = "".join("G" if k in (i, j) else "r" for k in range(size))
-            Watch(known, ["t"], lambda a, b: False).look(Shown({"t": state}), 1.0)
+            Watch(known, ["t"], lambda a, b: False, Shown({"t": state})).look(1.0)
 
 
 FRAME = b"F 1 %d RGRRRGRRRRRRRRRR DWDDDFDDDDDDDDDD C1 0 0 0"
@@ -132,36 +133,121 @@ def test_signals_show_green_with_and_without_way_walk_and_red():
     assert signals.walks(1, 2) and not signals.walks(1, 6)
 
 
+def letters(sumo: Shown, street, known, signal: str = "c0") -> dict[str, str]:
+    """Returns the letter that each movement of a signal shows."""
+    (own,) = (it for it in street.signals if it.id == signal)
+    places = {link.name: link.index for link in known.links[signal]}
+    return {it.name: sumo.states[signal][places[it.links[0]]] for it in own.movements}
+
+
+@pytest.fixture
+def permissive(tmp_path):
+    """Returns the street with left turns that are protected by their own phase and permissive under the opposite's."""
+    known = network.read(STREET / "street.net.xml")
+    (tmp_path / "map.toml").write_text(Maker(known, 1, {}, is_permissive=True).text("street.net.xml"))
+    return known, read_map(tmp_path / "map.toml")
+
+
+def test_a_left_turn_is_protected_by_its_own_phase_and_yields_under_the_opposite_one(permissive):
+    """Eastbound left turns: phase 5, against the traffic of phase 6."""
+    known, street = permissive
+    sumo, signals = Shown({}), Signals(street, known)
+    own = {"RGRRGRRR": "GGr", "RGRRYRRR": "yGr", "RGRRCRRR": "rGr"}
+    opposite = {"RGRRRGRR": "gGG", "RGRRRYRR": "yGy", "RGRRRCRR": "rGr"}
+    for tick, (colours, shown) in enumerate((own | opposite).items(), 1):
+        signals.show(sumo, [b"F 1 %d %bRRRRRRRR DDDDDDDDDDDDDDDD C1 0 0 0" % (10 * tick, colours.encode())], 10 * tick)
+        found = letters(sumo, street, known)
+        assert (found["EBL"], found["EBT"], found["WBT"]) == tuple(shown), colours
+
+
+def test_the_watch_lets_a_permissive_left_turn_yield_and_refuses_one_that_has_way(permissive):
+    known, street = permissive
+    may_yield = yielding_in(street, {"cabinets": [{}] * 4})
+    places = {link.name: link.index for link in known.links["c0"]}
+    (own,) = (it for it in street.signals if it.id == "c0")
+    of = {it.name: [places[name] for name in it.links] for it in own.movements}
+
+    def state(**shown: str) -> Shown:
+        row = ["r"] * len(places)
+        for name, letter in shown.items():
+            for place in of[name]:
+                row[place] = letter
+        return Shown({"c0": "".join(row)})
+
+    def watch(**shown: str) -> Watch:
+        return Watch(known, ["c0"], may_yield, state(**shown))
+
+    watch(EBL="g", WBT="G", EBT="G").look(1.0)
+    seen = watch()
+    for second, shown in enumerate(({"EBL": "g", "WBT": "G"}, {"EBL": "y", "WBT": "y"}, {"EBL": "r", "WBT": "r"})):
+        seen.state_of = state(**shown).getRedYellowGreenState
+        seen.look(float(second))
+    for crossing in ({"EBL": "G", "WBT": "G"}, {"EBL": "g", "SBT": "G"}):
+        with pytest.raises(Conflict, match="cross, and both have way"):
+            watch(**crossing).look(1.0)
+    seen = watch(EBL="G")
+    seen.look(1.0)
+    seen.state_of = state(EBL="y", WBT="G").getRedYellowGreenState
+    with pytest.raises(Conflict, match="cross, and both have way"):
+        seen.look(2.0)
+
+
 class Loops:
-    """A SUMO with one loop and one area, whose vehicles a test sets: of a loop the times at which each left (-1: not
-    yet)."""
+    """A SUMO with one loop, whose vehicles a test sets: for how many seconds nobody is over it, and who stands on its
+    lane at which metre."""
 
     def __init__(self) -> None:
-        self.leaves: list[float] = []
-        self.inside = 0
-        self.inductionloop = self.lanearea = self
+        self.seconds, self.places = 0.0, {}
+        self.inductionloop = self.lane = self.vehicle = self
+        self.lanearea = Shown({})
+        self.lanearea.getIDList = lambda: ()
+        self.lanearea.getLastStepVehicleNumber = None
 
     def getIDList(self):
-        """Returns the one name that both kinds have here."""
-        return ("loop",) if self.leaves is not None else ()
+        """Returns the names of the loops."""
+        return ("loop",)
 
-    def getLastStepVehicleNumber(self, name):
-        """Returns how many were there in the last step."""
-        return len(self.leaves)
+    def getTimeSinceDetection(self, name):
+        """Returns for how long nobody is over the loop: 0 while somebody is."""
+        return self.seconds
 
-    def getVehicleData(self, name):
-        """Returns who was there."""
-        return [("v", 4.5, 0.0, leave, "car") for leave in self.leaves]
+    def getLastStepVehicleIDs(self, lane):
+        """Returns who is on the lane."""
+        return tuple(self.places)
+
+    def getLanePosition(self, vehicle):
+        """Returns at which metre somebody is."""
+        return self.places[vehicle]
+
+
+ON, OFF = b"veh 1 4 on", b"veh 1 4 off"
+
+
+def looking(tmp_path, which: str, step: float) -> tuple[Loops, detectors.Detectors]:
+    """Returns a SUMO with a detector of phase 4, and what looks at it."""
+    text = f'network = "x"\n[[signal]]\nid = "t"\ncabinet = 1\n[[signal.detector]]\nphase = 4\n{which}\n'
+    (tmp_path / "map.toml").write_text(text)
+    street, sumo = read_map(tmp_path / "map.toml"), Loops()
+    known = network.Network(tmp_path, lanes={"in_1": 100.0})
+    return sumo, detectors.Detectors(street, detectors.Areas(street, known), sumo, step)
 
 
 def test_a_loop_that_was_crossed_between_two_looks_is_told_as_on_and_off(tmp_path):
-    text = 'network = "x"\n[[signal]]\nid = "t"\ncabinet = 1\n[[signal.detector]]\nphase = 4\nids = ["loop"]\n'
-    (tmp_path / "map.toml").write_text(text)
-    street, sumo = read_map(tmp_path / "map.toml"), Loops()
-    seen = detectors.Detectors(street, detectors.Areas(street, None), sumo)
+    sumo, seen = looking(tmp_path, 'ids = ["loop"]', 1)
     told = []
-    for leaves in ([], [0.5], [-1], [-1], [0.2], []):
-        sumo.leaves = leaves
+    for sumo.seconds in (9.0, 0.5, 0, 0, 0.2, 1.2):
         told.append(list(seen.changes()))
-    on, off = b"veh 1 4 on", b"veh 1 4 off"
-    assert told == [[], [on, off], [on], [], [off], []]
+    assert told == [[], [ON, OFF], [ON], [], [OFF], []]
+
+
+def test_who_changes_lanes_within_a_long_loop_and_stands_there_is_seen(tmp_path):
+    """The loop of 15 m before the line of a lane of 100 m doesn't see them; who stands behind it doesn't count."""
+    sumo, seen = looking(tmp_path, 'lanes = ["in_1"]', 0.1)
+    sumo.seconds, sumo.places = 60.0, {"behind": 84.0}
+    seen.look_for_strays({"in_1": ["behind"]})
+    assert list(seen.changes()) == []
+    sumo.places = {"behind": 84.0, "changed": 95.0}
+    seen.look_for_strays({"in_1": ["behind", "changed"]})
+    assert list(seen.changes()) == [ON] and list(seen.changes()) == []
+    del sumo.places["changed"]
+    assert list(seen.changes()) == [OFF] and list(seen.changes()) == []

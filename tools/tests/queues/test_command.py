@@ -105,7 +105,9 @@ def test_files_that_are_not_there_and_texts_that_are_no_toml_are_told(folder):
 
 def test_a_program_that_dies_is_told_and_no_process_is_left(folder, tmp_path):
     dies = tmp_path / "dies"
-    dies.write_text("#!/bin/sh\nread line\nprintf 'F 1 0 RRRRRRRRRRRRRRRR DDDDDDDDDDDDDDDD S 0 0 0\\nR 1\\n.\\n'\nexit 6\n")
+    dies.write_text(
+        "#!/bin/sh\nread line\nprintf 'F 1 0 RRRRRRRRRRRRRRRR DDDDDDDDDDDDDDDD S 0 0 0\\nR 1\\n.\\n'\nexit 6\n"
+    )
     dies.chmod(0o755)
     ran = queues(folder, program=dies)
     assert (ran.returncode, ran.stderr) == (1, "cosim: the program ended with status 6\n")

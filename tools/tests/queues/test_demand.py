@@ -8,7 +8,7 @@ import pytest
 
 from .conftest import Flow, Onward, Volumes, flow
 from streettools.cosim.queues_demand import arrivals, demand_of, travel
-from streettools.cosim.queues_volumes import Crossing, Profile
+from streettools.cosim.queues_volumes import Crossing, Profile, volumes_of
 
 HOUR = 3600.0
 
@@ -40,6 +40,17 @@ def test_a_profile_multiplies_the_volume_from_its_times_of_day_on():
     by_hour = [sum(hour * HOUR <= it < (hour + 1) * HOUR for it in came) for hour in range(4)]
     assert by_hour[0] == pytest.approx(500, abs=90) and by_hour[1] == pytest.approx(1000, abs=130)
     assert by_hour[2:] == [0, 0]
+
+
+def test_volumes_are_those_of_an_hour_under_a_profile_by_the_half_hour():
+    """900 vehicles an hour, half of that from 7:00 on, all from 7:30 on, twice from 8:00 to 8:30."""
+    steps = {"07:00": 0.5, "07:30": 1, "08:00": 2, "until": "08:30"}
+    movement = {"name": "EBT", "phase": 2, "volume": 900, "profile": "halves"}
+    read = volumes_of({"cabinet": [{"number": 1, "movements": [movement]}], "profiles": {"halves": steps}})
+    came = entries(read, 1.5 * HOUR, start=7 * HOUR)
+    for half, due in enumerate((225, 450, 900)):
+        found = sum(half * HOUR / 2 <= it < (half + 1) * HOUR / 2 for it in came)
+        assert found == pytest.approx(due, abs=4 * math.sqrt(due))
 
 
 def test_nobody_comes_where_the_rate_is_zero_and_arrivals_go_on_after_it():
@@ -83,7 +94,8 @@ def test_without_dispersion_everybody_drives_exactly_the_time_of_travel():
 @pytest.mark.parametrize(("alpha", "seconds"), [(0.35, 20.0), (0.25, 40.0), (0.5, 30.0)])
 def test_platoons_spread_as_robertsons_recurrence_says(alpha, seconds):
     """q'(t + beta T) = F q(t) + (1 - F) q'(t + beta T - 1), with F = 1 / (1 + alpha beta T), beta = 1 / (1 + alpha) and
-    T in steps: so 1 - (1 - F)^(k + 1) of a platoon has come k steps after the first can be there. Here a step is 0.1 s."""
+    T in steps: so 1 - (1 - F)^(k + 1) of a platoon has come k steps after the first can be there. Here a step is 0.1
+    s."""
     draw, beta = random.Random(1), 1 / (1 + alpha)
     drawn = [travel(draw, Onward(2, "EB", seconds, 1.0, alpha)) for _ in range(20_000)]
     assert min(drawn) >= beta * seconds - 1e-9

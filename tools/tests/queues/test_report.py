@@ -93,7 +93,9 @@ def test_who_started_before_the_time_that_is_left_out_is_not_counted():
 def test_routes_have_the_time_of_travel_of_those_who_came_to_their_end():
     two = [*FOUR, trip("5", passage(120, 130, True, True), arrive=False)]
     routes = report.collect(study(two), GREENS)["routes"]
-    assert routes == [{"kind": "car", "route": "EBT 1", "trips": 5, "arrived": 4, "travel": 21.0, "delay": 21.0, "stops": 0.75}]
+    assert routes == [
+        {"kind": "car", "route": "EBT 1", "trips": 5, "arrived": 4, "travel": 21.0, "delay": 21.0, "stops": 0.75}
+    ]
 
 
 def test_persons_are_told_by_their_crossing_and_not_among_vehicles():

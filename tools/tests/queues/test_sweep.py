@@ -9,7 +9,7 @@ from .conftest import program_here
 from streettools.cosim import queues_study, report
 from streettools.cosim.queues_study import Asked
 from streettools.cosim.queues_volumes import volumes_of
-from streettools.sweep.faults import Fault
+from streettools.shared.fault import Fault
 from streettools.sweep.prepared import modules, prepared
 
 SCENARIO = {"version": 1, "rounds": 100, "ticks": 10, "cabinets": [{"pattern": 1}]}
@@ -51,8 +51,8 @@ def rows(**more) -> list[dict]:
 def test_a_study_with_volumes_has_the_measures_of_the_report_and_those_of_the_trace():
     one, other, refused, _ = rows()
     asked = Asked(100.0, 10, 1)
-    ran = queues_study.run(str(program_here()), volumes_of(__import__("tomllib").loads(VOLUMES.decode())), SCENARIO, asked,
-                           lambda step: None)  # fmt: skip
+    volumes = volumes_of(__import__("tomllib").loads(VOLUMES.decode()))
+    ran = queues_study.run(str(program_here()), volumes, SCENARIO, asked, lambda step: None)
     import pathlib
 
     value = report.collect(queues_study.study_of(ran, pathlib.Path()), ran.signals.greens)

@@ -9,7 +9,7 @@ from .conftest import TOP
 from streettools.cosim import queues_study
 from streettools.cosim.queues_checks import check
 from streettools.cosim.queues_volumes import Detectors, Onward, Saturation, volumes_of
-from streettools.sweep.faults import Fault
+from streettools.shared.fault import Fault
 
 SCENARIO = {"version": 1, "rounds": 60, "ticks": 10, "cabinets": [{"pattern": 1, "clock": 252_000}, {"pattern": 1}]}
 VOLUMES = """\
@@ -73,7 +73,10 @@ def changed(one: str, other: str, count: int = 1) -> str:
             changed("idle = [1, 3, 5, 7]", "idle = [1, 3, 5]"),
             "volumes: phase 7 of cabinet 1 has no movement and no crossing (idle lists phases without traffic)",
         ),
-        (changed("volume = 600", "volume = -1"), "volumes: cabinet[0].movements[0].volume is -1, and has to be 0 to 100000"),
+        (
+            changed("volume = 600", "volume = -1"),
+            "volumes: cabinet[0].movements[0].volume is -1, and has to be 0 to 100000",
+        ),
         (changed("phase = 6", "phase = 9"), "volumes: WBT of cabinet 1: phase 9 is not enabled in cabinet 1"),
         (changed("number = 2", "number = 3"), "volumes: EBT of cabinet 3: the scenario has no cabinet 3"),
         (changed("number = 2", "number = 1"), "volumes: cabinet 1 stands there twice"),
@@ -81,7 +84,10 @@ def changed(one: str, other: str, count: int = 1) -> str:
             changed('until = "8:00"', 'until = "7:00:30"'),
             'volumes: profiles.day.until has to be a time of day, as "09:00"',
         ),
-        (changed('"06:30" = 0.5', '"07:30" = 0.5'), "volumes: profiles.day needs rising times of day, all before until"),
+        (
+            changed('"06:30" = 0.5', '"07:30" = 0.5'),
+            "volumes: profiles.day needs rising times of day, all before until",
+        ),
         (
             changed('"06:30" = 0.5\n"07:00" = 1\n', '"07:10" = 1\n'),
             "volumes: profile day covers 7:10 to 8:00, and the run is from 7:00 to 7:01",
@@ -89,8 +95,14 @@ def changed(one: str, other: str, count: int = 1) -> str:
         (changed('until = "8:00"', 'until = "7:00"').replace('"07:00" = 1\n', ""),
          "volumes: profile day covers 6:30 to 7:00, and the run is from 7:00 to 7:01"),
         (changed('profile = "day"', 'profile = "dai"'), "volumes: EBT of cabinet 1: no profile dai: is day meant?"),
-        (changed('to = "2 EB"', 'to = "2 WX"'), "volumes: EBT of cabinet 1 goes to 2 WX, and there is no such approach"),
-        (changed('to = "2 EB"', 'to = "next"'), 'volumes: cabinet[0].movements[0].to has to be a cabinet and an approach, as "2 EB"'),
+        (
+            changed('to = "2 EB"', 'to = "2 WX"'),
+            "volumes: EBT of cabinet 1 goes to 2 WX, and there is no such approach",
+        ),
+        (
+            changed('to = "2 EB"', 'to = "next"'),
+            'volumes: cabinet[0].movements[0].to has to be a cabinet and an approach, as "2 EB"',
+        ),
         (
             changed("travel = 20, ", ""),
             "volumes: cabinet[0].movements[0].travel is missing: the seconds from stop line to stop line",
@@ -103,7 +115,10 @@ def changed(one: str, other: str, count: int = 1) -> str:
             changed("headway = 1.5", "headway = 40"),
             "volumes: NBT of cabinet 1: 100 vehicles an hour can't come 40 s apart in 1 lane",
         ),
-        (changed("{ phase = 4, persons", "{ phase = 1, persons"), "volumes: crossing of cabinet 1: phase 1 of cabinet 1 has no walk"),
+        (
+            changed("{ phase = 4, persons", "{ phase = 1, persons"),
+            "volumes: crossing of cabinet 1: phase 1 of cabinet 1 has no walk",
+        ),
         (changed("title", "titel"), "volumes: titel is unknown: is title meant?"),
     ],
 )  # fmt: skip
