@@ -13,6 +13,13 @@ python() {
     exec "$found" -B "$tools/streettools" "$@"
 }
 
+# Runs `look`, which is to start fast: Python keeps compiled modules here.
+look() {
+    set_python
+    trap '' INT
+    exec "$found" "$tools/streettools/look/__main__.py" "$@"
+}
+
 # Finds Python: that of a virtual environment, that of the system, any other.
 set_python() {
     found=${VIRTUAL_ENV:+$VIRTUAL_ENV/bin/python3}
@@ -50,7 +57,8 @@ run_and_tell() {
     1:*) tell_meant "$1" ;;
     2:*"not JSON" | 5:*)
         if has_mark; then
-            say "the text begins with a byte order mark (EF BB BF), which does not belong to it: save it as UTF-8 without one"
+            mark="a byte order mark (EF BB BF), which does not belong to it"
+            say "the text begins with $mark: save it as UTF-8 without one"
         elif [ "$status" = 2 ] && [ -p /dev/stdin ]; then
             say "one cause can be a byte order mark (EF BB BF) at its beginning, which does not belong to JSON"
         elif [ "$status" = 5 ] && [ "$1" = check ]; then
@@ -95,6 +103,7 @@ run | check | overlaps | band | respond | generate | survey)
         case $word in --help | -h) help_of "$1" ;; esac
     done
     ;;
+look) [ -f "$tools/streettools/look/command.py" ] && shift && look "$@" ;;
 *[!a-z]* | launch | shared | "") ;;
 *) [ -f "$tools/streettools/$1/command.py" ] && python "$@" ;;
 esac

@@ -2,10 +2,10 @@
 # sh scripts that have set `checkout` and `program`.
 #
 # crates/arterial/out/proved/ is written where a proof ends (streettools/launch/record.py):
-#   sums             SHA-256 of the program and of every file that its proof has read
-#   first, second    the names of these files and of the folders between them, each name ended by a NUL
-#   kit              the kit's folder, then its own WHAT, which has the checksums of what it was made of
-#   tested           its time is that of the last test of the sums
+#   sums      SHA-256 of the program and of every file that its proof has read
+#   names     the names of these files and of the folders between them, each ended by a NUL
+#   kit       the kit's folder, then its own WHAT, which has the checksums of what it was made of
+#   tested    its time is that of the last test of the sums
 # A file whose time of change (ctime) is not past that of `tested` has not been written, moved or replaced since. So
 # one look at times is enough as long as nothing was touched; else all sums are tested again. A clock that was set
 # back can deceive it, and so can who writes `proved` anew, which everybody can who may write the checkout.
@@ -14,11 +14,9 @@ proved=$checkout/crates/arterial/out/proved
 # Whether nothing was touched since the sums were tested.
 is_untouched() {
     [ -e "$proved/tested" ] && [ -x "$program" ] && is_kit || return 1
-    touched=$(cd "$checkout" && {
-        find -files0-from crates/arterial/out/proved/first -prune -cnewer crates/arterial/out/proved/tested -print -quit &
-        find -files0-from crates/arterial/out/proved/second -prune -cnewer crates/arterial/out/proved/tested -print -quit
-        wait
-    } 2>&1)
+    # one process alone, and no texts in the reader's language: the start of another takes as long as a thousand looks
+    touched=$(cd "$checkout" && LC_ALL=C exec find -files0-from crates/arterial/out/proved/names \
+        -prune -cnewer crates/arterial/out/proved/tested -print -quit 2>&1)
     [ -z "$touched" ]
 }
 

@@ -9,7 +9,7 @@ import subprocess
 from dataclasses import dataclass
 from typing import Any
 
-from ..shared import commandline, files
+from ..shared import files, saying
 from ..shared.commandline import number
 from ..shared.program import NoProgram, Refused, answering, trace_of
 from ..shared.session_record import SessionRecord
@@ -33,7 +33,7 @@ class Full(Exception):
 
 def say(words: object) -> None:
     """Tells something on standard error."""
-    commandline.say("cabinet", words)
+    saying.say("cabinet", words)
 
 
 class Sets(Hearer):

@@ -9,7 +9,8 @@ GET, GET_NEXT, RESPONSE, SET = 0xA0, 0xA1, 0xA2, 0xA3
 
 
 class Reply(NamedTuple):
-    """A Response: the number of its request, status and index, and the bindings, each a name, a tag and the octets of the value."""
+    """A Response: the number of its request, status and index, and the bindings, each a name, a tag and the octets of
+    the value."""
 
     number: int
     status: int

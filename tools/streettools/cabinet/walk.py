@@ -1,7 +1,7 @@
 """A walk over all that a cabinet has to read: from the first name by GetNext to the last (RFC 1157).
 
-A run answers many messages at once. So with the name that the walk has reached the names are asked for that are likely to come
-behind it; an answer counts only once the walk has come to its name.
+A run answers many messages at once. So with the name that the walk has reached the names are asked for that are likely
+to come behind it; an answer counts only once the walk has come to its name.
 """
 
 from streettools.shared.program import trace_of

@@ -5,7 +5,7 @@ import json
 import pathlib
 import sys
 
-from streettools.shared.commandline import say
+from streettools.shared.saying import say
 from streettools.shared.status import Status
 
 from . import crates, due, help, hint, prove, record, unproved

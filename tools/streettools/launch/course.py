@@ -5,7 +5,7 @@ import threading
 import time
 
 from streettools.shared import progress
-from streettools.shared.commandline import say
+from streettools.shared.saying import say
 
 from . import shares
 

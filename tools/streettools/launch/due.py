@@ -13,7 +13,7 @@ import subprocess
 import sys
 import time
 
-from streettools.shared.commandline import say
+from streettools.shared.saying import say
 from streettools.shared.status import Status
 
 HERE = pathlib.Path(__file__).resolve()

@@ -5,7 +5,7 @@ import subprocess
 import sys
 
 from streettools import words
-from streettools.shared.commandline import say
+from streettools.shared.saying import say
 from streettools.shared.status import Status
 
 from . import crates, source
@@ -29,8 +29,8 @@ def beside() -> str:
     return (
         head
         + "".join(lines)
-        + "\nA file can be named behind run, check, overlaps, band and respond, in place of < FILE. Of a file that is no trace"
-        + "\ncheck also shows the line read and the line due.\n"
+        + "\nA file can be named behind run, check, overlaps, band and respond, in place of < FILE. "
+        + "Of a file that is no trace\ncheck also shows the line read and the line due.\n"
     )
 
 

@@ -14,7 +14,7 @@ import time
 from collections.abc import Iterator
 from typing import BinaryIO
 
-from streettools.shared.commandline import say
+from streettools.shared.saying import say
 from streettools.shared.status import Status
 
 from . import crates, kit, lanes, record
@@ -35,8 +35,9 @@ def parser() -> argparse.ArgumentParser:
     """Returns the reader of the words of `prove`."""
     words = argparse.ArgumentParser(
         prog="arterial prove",
-        description="Proves all that the program stands on, and builds it. Interrupted, it goes on where it was; of two calls at "
-        "once one proves and the other waits. Some half an hour on four processors, 15 GB of disk meanwhile.",
+        description="Proves all that the program stands on, and builds it. Interrupted, it goes on where it was; "
+        "of two calls at once one proves and the other waits. Some half an hour on four processors, 15 GB of disk "
+        "meanwhile.",
         epilog="example: ./arterial prove && ./arterial run scenarios/one-cabinet.json",
     )
     words.add_argument(
@@ -83,7 +84,8 @@ def look_around(top: pathlib.Path) -> str:
         kept = sum(size_of(it) for it in top.glob("crates/*/out"))
         if free + kept < LEAST:
             raise Failed(
-                f"{free / 1e9:.0f} GB of the disk are free at {top}, and the proofs need {LEAST / 1e9:.0f} while they run"
+                f"{free / 1e9:.0f} GB of the disk are free at {top}, and the proofs need {LEAST / 1e9:.0f} while they "
+                "run"
             )
     return rt
 
@@ -133,7 +135,8 @@ def prove(rt: str, top: pathlib.Path, keep: bool) -> None:
             failed = name
         if failed:
             raise Failed(
-                f"the program could not be built, since {failed} failed:\n{why_of(log)}\narterial: all that was said is in {log}"
+                f"the program could not be built, since {failed} failed:\n{why_of(log)}\narterial: all that was said "
+                f"is in {log}"
             )
         course.done(crates.PROGRAM)
     try:

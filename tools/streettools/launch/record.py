@@ -33,8 +33,7 @@ def write(top: pathlib.Path, before: dict[str, str]) -> None:
     made.chmod(0o755)
     lines = [f"{sum}  {name}\n" for name, sum in {own: crates.sum_of(program), **now}.items()]
     (made / "sums").write_text("".join(lines))
-    for file, part in (("first", names[::2]), ("second", names[1::2])):
-        (made / file).write_bytes(b"".join(os.fsencode(name) + b"\0" for name in part))
+    (made / "names").write_bytes(b"".join(os.fsencode(name) + b"\0" for name in names))
     folder = kit.folder()
     (made / "kit").write_text(f"{folder}\n{kit.identity(folder)}" if folder else "none\n")
     (made / "tested").touch()

@@ -14,8 +14,8 @@ import tempfile
 from typing import BinaryIO
 
 from streettools import words
-from streettools.shared.commandline import say
 from streettools.shared.progress import waiting
+from streettools.shared.saying import say
 from streettools.shared.status import Status
 
 from . import crates, due, help, hint, kit, source
@@ -148,7 +148,8 @@ def main(given: list[str]) -> int:
         path = os.environ.get("PATH", "")
         say(
             "arterial",
-            f"{why}, and the Rattle kit's command rt is not on the path ({path}): README.md says under Start what is needed",
+            f"{why}, and the Rattle kit's command rt is not on the path ({path}): README.md says under Start what is "
+            "needed",
         )
         return Status.NO_PROGRAM
     say(

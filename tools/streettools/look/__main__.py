@@ -1,4 +1,4 @@
-"""Runs `./look` by the folder's name, with as few imports as its start allows."""
+"""Runs `./look` and `arterial look`, with as few imports as their start allows."""
 
 import os
 import signal

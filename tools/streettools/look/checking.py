@@ -8,8 +8,8 @@ import os
 import signal
 
 from ..shared import program
-from ..shared.commandline import say
-from .fault import Fault
+from ..shared.fault import Fault
+from ..shared.saying import say
 
 NO_TRACE = 5
 """The program's exit status where a text is no trace."""

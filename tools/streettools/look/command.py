@@ -1,12 +1,12 @@
-"""The command `./look`: does what its words ask for, and says what is wrong."""
+"""The command `./look`: does what its words ask for, and says what is wrong. What takes a while to import is imported
+where it is needed."""
 
 import os
 import sys
 
+from ..shared.fault import Fault
 from ..shared.status import Status
-from . import called
-from .fault import Fault
-from .words import parser
+from . import called, plain_words
 
 PACKAGES = "python3-matplotlib python3-pandas python3-tqdm"
 MOST = 36_000
@@ -116,7 +116,7 @@ def report(words, course, names):
 def events(words, course, names):
     """Writes the event log."""
     from ..shared import files
-    from ..shared.commandline import say
+    from ..shared.saying import say
     from . import events
 
     course.answered()
@@ -134,6 +134,15 @@ TRAFFIC = ("paths", "purdue", "splits", "queues")
 """Pictures of a run with traffic, which are drawn from its folder (docs/QUEUES.md)."""
 
 
+def words_of(arguments):
+    """Returns what the words say; Python's argparse reads those that aren't plain."""
+    if (found := plain_words.read(arguments)) is not None:
+        return found
+    from .words import parser
+
+    return parser(arguments[:1]).parse_args(arguments)
+
+
 def main(arguments=None):
     """Does what the words ask for, and returns the exit status."""
     arguments = sys.argv[1:] if arguments is None else arguments
@@ -141,7 +150,7 @@ def main(arguments=None):
         from ..cosim.pictures_command import main as draw
 
         return draw(arguments)
-    words = parser(arguments[:1]).parse_args(arguments)
+    words = words_of(arguments)
     from ..shared.lines import NotATrace
     from .reading import opened
 

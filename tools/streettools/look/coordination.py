@@ -1,7 +1,7 @@
 """The time-space diagram of a street: the coordinated greens of several cabinets, and the bands through them.
 
-Outbound goes with ring 1's coordinated phases from the first cabinet to the last, inbound with ring 2's back again. The bands are those of the
-greens that were shown; beside them those of a plan can be drawn.
+Outbound goes with ring 1's coordinated phases from the first cabinet to the last, inbound with ring 2's back again. The
+bands are those of the greens that were shown; beside them those of a plan can be drawn.
 """
 
 import textwrap
@@ -159,8 +159,8 @@ def draw_bands(axes, found, heights, start, end):
                 continue
             left = [((low + delay) / 10, height) for delay, height in zip(delays, heights)]
             right = [((high + delay) / 10, height) for delay, height in zip(delays, heights)]
-            axes.add_patch(Polygon(left + right[::-1], closed=True, facecolor=colour, alpha=0.25, linewidth=0, zorder=0.5,
-                                   gid=f"{name}-band-{low}"))  # fmt: skip
+            axes.add_patch(Polygon(left + right[::-1], closed=True, facecolor=colour, alpha=0.25, linewidth=0,
+                                   zorder=0.5, gid=f"{name}-band-{low}"))  # fmt: skip
             text = f"{(high - low) / 10:g} s"
             place = 0 if name == "outbound" else -2
             share = 0.5 if len(heights) > 2 else 0.6 if name == "outbound" else 0.4
@@ -171,7 +171,8 @@ def draw_bands(axes, found, heights, start, end):
 
 
 def draw_planned(axes, found, delays, heights, corner):
-    """Draws dashed outlines of a plan's bands, outbound and inbound, cycle by cycle, by the clock of a cabinet. Returns what explains them."""
+    """Draws dashed outlines of a plan's bands, outbound and inbound, cycle by cycle, by the clock of a cabinet. Returns
+    what explains them."""
     keys = []
     for band, colour, name, away in zip(found, (OUTBOUND, INBOUND), ("outbound", "inbound"), delays):
         look = {"facecolor": "none", "edgecolor": colour, "linewidth": 1.2, "linestyle": (0, (4, 2))}
@@ -180,7 +181,10 @@ def draw_planned(axes, found, delays, heights, corner):
         if not band:
             continue
         if corner.beat is None:
-            raise planned.NoBands(f"cabinet {corner.cabinet.number} is in no pattern in what is shown, so the times of its cycle aren't told")
+            raise planned.NoBands(
+                f"cabinet {corner.cabinet.number} is in no pattern in what is shown, so the times of its cycle aren't "
+                "told"
+            )
         for low, high in planned.spans(band, corner.beat, corner.start - max(away), corner.end):
             left = [((low + it) / 10, height) for it, height in zip(away, heights)]
             right = [((high + it) / 10, height) for it, height in zip(away, heights)]
@@ -211,12 +215,18 @@ def draw(corners, travel, path, plan=None, began=None):
     spacing = 1 if even else min(travel)
     for corner, height in zip(corners, heights):
         draw_corner(axes, corner, height, 0.16 * spacing)
-    keys = [Patch(color=pictures.GREEN, label="green"), Patch(color=pictures.YELLOW, label="yellow"), Patch(color=STOP, label="red")]
+    keys = [
+        Patch(color=pictures.GREEN, label="green"),
+        Patch(color=pictures.YELLOW, label="yellow"),
+        Patch(color=STOP, label="red"),
+    ]
     if travel:
         found = ways(corners, travel)
         draw_bands(axes, found, heights, start, end)
         for (spans, _), colour, name in zip(found, (OUTBOUND, INBOUND), ("outbound", "inbound")):
-            keys.append(Patch(color=colour, alpha=0.25 if spans else 0, label=f"{name} band" if spans else f"no {name} band"))
+            keys.append(
+                Patch(color=colour, alpha=0.25 if spans else 0, label=f"{name} band" if spans else f"no {name} band")
+            )
         if plan:
             keys += draw_planned(axes, plan, [delays for _, delays in found], heights, corners[0])
     axes.set_ylim(heights[0] - 0.35 * spacing, heights[-1] + 0.35 * spacing)

@@ -17,7 +17,9 @@ PHASE_ON, BEGIN_GREEN, GAP_OUT, MAX_OUT, FORCE_OFF, GREEN_TERMINATION = 0, 1, 4,
 BEGIN_YELLOW, END_YELLOW, BEGIN_RED_CLEARANCE, END_RED_CLEARANCE, PHASE_INACTIVE = 8, 9, 10, 11, 12
 BEGIN_WALK, BEGIN_PEDESTRIAN_CLEARANCE, BEGIN_DONT_WALK, BARRIER_TERMINATION = 21, 22, 23, 31
 DETECTOR_OFF, DETECTOR_ON, PEDESTRIAN_DETECTOR_ON = 81, 82, 90
-PREEMPT_INPUT_ON, PREEMPT_INPUT_OFF, PREEMPT_ENTRY, PREEMPT_TRACK, PREEMPT_DWELL, PREEMPT_EXIT = 102, 104, 105, 106, 107, 111
+PREEMPT_INPUT_ON, PREEMPT_INPUT_OFF, PREEMPT_ENTRY, PREEMPT_TRACK, PREEMPT_DWELL, PREEMPT_EXIT = (
+    102, 104, 105, 106, 107, 111
+)
 PRIORITY_CHECK_IN, PRIORITY_CHECK_OUT = 112, 115
 PATTERN_CHANGE, CYCLE_LENGTH_CHANGE, OFFSET_LENGTH_CHANGE, CYCLE_STATE_CHANGE = 131, 132, 133, 150
 SPLIT_CHANGE = 133
@@ -120,7 +122,8 @@ class Log:
             self.add(tick, PREEMPT_EXIT, before.number)
 
     def selected(self, pattern, tick):
-        """Keeps cycle, offset and splits of the pattern that is selected, in seconds, where they differ from those before."""
+        """Keeps cycle, offset and splits of the pattern that is selected, in seconds, where they differ from those
+        before."""
         tables = self.cabinet.tables
         if not self.cabinet.told:
             return
@@ -204,7 +207,8 @@ def write(course, start: datetime, out, names):
 
 
 def round_rows(touched, tick):
-    """Returns the events of a round that ends at this tick, in the order of time, and forgets the cabinets that are done."""
+    """Returns the events of a round that ends at this tick, in the order of time, and forgets the cabinets that are
+    done."""
     rows = []
     for number in sorted(touched):
         log = touched[number]

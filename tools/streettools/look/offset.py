@@ -74,7 +74,11 @@ class Seen:
         """Notes a change to another pattern, or from patterns to what isn't one."""
         if mode.letter in "KC" and before.number != mode.number and before.letter in "KC":
             self.disturb(tick, f"pattern {mode.number}")
-        elif mode.letter in "SFEXP" and (mode.letter, mode.number) != (before.letter, before.number) and before.letter not in "S":
+        elif (
+            mode.letter in "SFEXP"
+            and (mode.letter, mode.number) != (before.letter, before.number)
+            and before.letter not in "S"
+        ):
             if not (before.letter == "E" and mode.letter == "X"):
                 self.disturb(tick, f"{WORDS[mode.letter]} {mode.number or ''}".strip())
 
@@ -118,8 +122,8 @@ def draw_errors(axes, seen):
         for word, colour, met in (("met", MET, True), ("away", AWAY, False)):
             shown = [it for it, its in told if it.pickup == (name == "pickup") and its == met]
             if shown:
-                axes.scatter([it.tick / 10 for it in shown], [it.error / 10 for it in shown], s=size, marker=marker, zorder=3,
-                             color=colour, gid=f"{name}-{word}")  # fmt: skip
+                axes.scatter([it.tick / 10 for it in shown], [it.error / 10 for it in shown], s=size, marker=marker,
+                             zorder=3, color=colour, gid=f"{name}-{word}")  # fmt: skip
     axes.set_ylabel("local zero by the clock (s)\nabove 0 late, below 0 early")
     axes.margins(y=0.15)
     low, high = axes.get_ylim()
@@ -139,7 +143,13 @@ def draw_lengths(axes, seen):
     for name, shown, look in rows:
         if shown:
             starts = [(it.tick - it.elapsed) / 10 for it, _ in shown]
-            axes.hlines([length / 10 for _, length in shown], starts, [it.tick / 10 for it, _ in shown], gid=f"cycles-{name}", **look)
+            axes.hlines(
+                [length / 10 for _, length in shown],
+                starts,
+                [it.tick / 10 for it, _ in shown],
+                gid=f"cycles-{name}",
+                **look,
+            )
     axes.set_ylabel("cycle (s)")
     low, high = axes.get_ylim()
     axes.set_ylim(low - 2, high + 2)
@@ -151,16 +161,16 @@ def draw_disturbances(rows, seen):
     low, high = rows[0].get_xlim()
     scale = (high - low) / pictures.room(rows[0], seen.start, seen.end)
     for axes in rows:
-        axes.vlines([tick / 10 for tick, _ in seen.disturbances], 0, 1, transform=axes.get_xaxis_transform(), color=TROUBLE,
-                    linewidth=0.8, linestyle=(0, (1, 2)), zorder=0, gid="disturbances")  # fmt: skip
+        axes.vlines([tick / 10 for tick, _ in seen.disturbances], 0, 1, transform=axes.get_xaxis_transform(),
+                    color=TROUBLE, linewidth=0.8, linestyle=(0, (1, 2)), zorder=0, gid="disturbances")  # fmt: skip
     for tick, word in seen.disturbances:
         width = scale * pictures.width_of(word, 7)
         x = min(tick / 10, high - width)
         level = next((it for it, end in enumerate(taken) if x > end), None)
         if level is not None:
             taken[level] = x + width + 4 * scale
-            rows[0].annotate(word, (x, 1), xycoords=("data", "axes fraction"), xytext=(0, 3 + 9 * level), textcoords="offset points",
-                             fontsize=7, color=TROUBLE, annotation_clip=False)  # fmt: skip
+            rows[0].annotate(word, (x, 1), xycoords=("data", "axes fraction"), xytext=(0, 3 + 9 * level),
+                             textcoords="offset points", fontsize=7, color=TROUBLE, annotation_clip=False)  # fmt: skip
 
 
 def draw(seen, path, names, began=None):

@@ -6,7 +6,8 @@ import warnings
 
 from matplotlib.ticker import FuncFormatter, MultipleLocator
 
-from streettools.shared.pictures import FAINT, INK, STYLE, plt, save  # noqa: F401 (the other pictures take them from here)
+# the other pictures take these from here
+from streettools.shared.pictures import FAINT, INK, STYLE, plt, save  # noqa: F401
 
 GREEN, YELLOW, CLEARANCE, RED = "#2f9e53", "#f4c20d", "#c9302c", "#e9ecef"
 WALK, FLASHING = "#ffffff", "#f58220"
@@ -100,4 +101,6 @@ def figure(height, title, rows=1, ratios=None, under="", labels=()):
 
 def legend(drawn, keys):
     """Explains colours and lines in one row at the foot."""
-    drawn.legend(handles=keys, ncol=len(keys), loc="lower center", frameon=False, fontsize=8, handlelength=1.4, borderaxespad=0.2)
+    drawn.legend(
+        handles=keys, ncol=len(keys), loc="lower center", frameon=False, fontsize=8, handlelength=1.4, borderaxespad=0.2
+    )

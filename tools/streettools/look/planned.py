@@ -1,7 +1,7 @@
 """The greatest bands of a plan, as `arterial band` writes them, and at which ticks of a trace they come.
 
-A time of the cycle is the cabinets' clock modulo the cycle. Where the clock stands is told by the target of a frame, which is the clock less the
-offset; where offsets refer to the end of green, the window is added.
+A time of the cycle is the cabinets' clock modulo the cycle. Where the clock stands is told by the target of a frame,
+which is the clock less the offset; where offsets refer to the end of green, the window is added.
 """
 
 from typing import NamedTuple
@@ -34,9 +34,12 @@ def beat(plan, frame):
 
 
 def spans(band, beat, start, end):
-    """Returns the ticks at which a vehicle may start in the band, cycle by cycle, that reach into those from start to end."""
+    """Returns the ticks at which a vehicle may start in the band, cycle by cycle, that reach into those from start to
+    end."""
     if band.start >= beat.cycle or band.width >= beat.cycle:
-        raise NoBands(f"a band of {band.width / 10:g} s from {band.start / 10:g} s on is none of a cycle of {beat.cycle / 10:g} s")
+        raise NoBands(
+            f"a band of {band.width / 10:g} s from {band.start / 10:g} s on is none of a cycle of {beat.cycle / 10:g} s"
+        )
     first = (band.start - beat.ahead) % beat.cycle
     turns = range(-((first + band.width - start) // beat.cycle), (end - first) // beat.cycle + 1)
     shown = [(first + turn * beat.cycle, first + turn * beat.cycle + band.width) for turn in turns]

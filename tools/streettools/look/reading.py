@@ -6,11 +6,11 @@ import os
 import sys
 
 from ..shared.course import Course
+from ..shared.fault import Fault
 from ..shared.lines import NotATrace
 from ..shared.progress import bar
 from ..shared.status import Status
 from .checking import Check
-from .fault import Fault
 
 AT_ONCE = 1 << 20
 

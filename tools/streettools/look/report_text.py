@@ -70,8 +70,8 @@ def cabinet_text(value, whole, names):
     parts.append(table(rows))
     parts.append(table(list(pattern_rows(value["patterns"]))))
     parts += message_parts(value)
-    notes = [{"note of the master": it["note"], "times": it["times"], "first round": it["first"], "last round": it["last"]}
-             for it in value["notes"]]  # fmt: skip
+    names = {"note of the master": "note", "times": "times", "first round": "first", "last round": "last"}
+    notes = [{name: it[key] for name, key in names.items()} for it in value["notes"]]
     parts.append(table(notes))
     return "\n".join(part for part in parts if part)
 

@@ -130,7 +130,14 @@ def draw_ring(axes, seen, ring, low, names):
             look = {"facecolor": COLOURS[letter], "edgecolor": "white", "linewidth": 0.4}
             pictures.bars(axes, by_letter[letter], low, 0.8, group, **look)
         else:
-            pictures.bars(axes, by_letter[letter], low + 0.07, 0.2, group, **(FLASHING if letter == "F" else {"facecolor": "white"}))
+            pictures.bars(
+                axes,
+                by_letter[letter],
+                low + 0.07,
+                0.2,
+                group,
+                **(FLASHING if letter == "F" else {"facecolor": "white"}),
+            )
     for it in spans:
         space = pictures.room(axes, it.start, it.end)
         words = (f"{it.phase} {names.phase(seen.cabinet.number, it.phase)}".strip(), str(it.phase))
@@ -144,7 +151,9 @@ def draw_ring(axes, seen, ring, low, names):
 def draw_marks(axes, seen, top):
     """Draws barriers, local zeros and downloads over both rings."""
     if seen.barriers:
-        axes.vlines([tick / 10 for tick in seen.barriers], 0.9, 2.9, color=pictures.INK, linewidth=2.2, zorder=3, gid="barriers")
+        axes.vlines(
+            [tick / 10 for tick in seen.barriers], 0.9, 2.9, color=pictures.INK, linewidth=2.2, zorder=3, gid="barriers"
+        )
     if seen.zeros:
         places = [cycle.tick / 10 for cycle in seen.zeros]
         axes.vlines(places, 0.88, top, color=ZERO, linewidth=1, linestyle=(0, (4, 3)), zorder=3, gid="local-zeros")

@@ -10,7 +10,8 @@ STAGES = {"entry": "#e5dbff", "track": "#b197fc", "dwell": "#d0bfff", "exit": "#
 
 
 class Modes:
-    """The modes of a cabinet from one tick to another: `spans` are a mode as it is written, its first tick and its end."""
+    """The modes of a cabinet from one tick to another: `spans` are a mode as it is written, its first tick and its
+    end."""
 
     def __init__(self, start, end):
         self.start, self.end = start, end
@@ -50,6 +51,8 @@ def draw(axes, spans, low, height):
         space = pictures.room(axes, start, end)
         label = next((it for it in labels(mode) if pictures.width_of(it, 8) < space), None)
         if label:
-            axes.text((start + end) / 20, low + height / 2, label, ha="center", va="center", fontsize=8, color=pictures.INK)
+            axes.text(
+                (start + end) / 20, low + height / 2, label, ha="center", va="center", fontsize=8, color=pictures.INK
+            )
     for (word, colour), shown in groups.items():
         pictures.bars(axes, shown, low, height, f"mode-{word}", facecolor=colour, edgecolor="white", linewidth=0.6)

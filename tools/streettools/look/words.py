@@ -151,7 +151,8 @@ def add_page(commands):
     """Adds the command that writes a page."""
     found = add_reader(
         commands, "page",
-        "one file that a browser opens without a network: all cabinets, the street and any rings, to zoom and search in",
+        "one file that a browser opens without a network: all cabinets, the street and any rings, to zoom and "
+        "search in",
     )  # fmt: skip
     found.add_argument("-o", "--out", type=page, required=True, help="the page: .html")
     found.add_argument("--start", type=daytime, metavar="TIME", help=STARTED)

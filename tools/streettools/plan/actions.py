@@ -9,7 +9,7 @@ from dataclasses import replace
 from tqdm import tqdm
 
 from ..shared import files
-from ..shared.commandline import say
+from ..shared.saying import say
 from ..shared.status import Status
 from ..shared.tables import Tables
 from . import (
@@ -83,7 +83,8 @@ def to_scenario(words: argparse.Namespace) -> int:
     if street.is_field() and not words.field:
         say(
             "plan",
-            f"{len(street.bank)} detectors have no place in a scenario: --field writes a field file, for `./arterial respond`",
+            f"{len(street.bank)} detectors have no place in a scenario: --field writes a field file, for `./arterial "
+            "respond`",
         )
     write_scenario(words.output, street.field_file() if words.field else street.scenario)
     where = words.names_out or (words.output and str(names.beside(pathlib.Path(words.output))))

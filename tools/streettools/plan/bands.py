@@ -59,5 +59,8 @@ def told(street: Street, section: int, pattern: int, numbers: list[int], lines: 
         yield Finding(Level.WARNING, name, f"the offsets of pattern {pattern} leave no through band, {ends} or back")
     elif none:
         way, band = next((way, it) for way, it in ways.items() if way not in none)
-        words = f"the offsets of pattern {pattern} leave a through band of {int(band[1]) / 10:g} s {way} ({ends} is outbound), and none {none[0]}"
+        words = (
+            f"the offsets of pattern {pattern} leave a through band of {int(band[1]) / 10:g} s {way} ({ends} is "
+            f"outbound), and none {none[0]}"
+        )
         yield Finding(Level.NOTE, name, words)

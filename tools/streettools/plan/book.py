@@ -15,7 +15,8 @@ from .given import Fault, Unreadable
 STREET, FIRST = "Street", "Intersection"
 LISTS = ("inputs", "loads", "priority", "frames", "faults", "pulses")
 BLOCKS = {
-    "coordination": "Coordination", "phase": "Phases", "sequence": "Sequences", "pattern": "Patterns", "split": "Splits",
+    "coordination": "Coordination", "phase": "Phases", "sequence": "Sequences", "pattern": "Patterns",
+    "split": "Splits",
     "preempt": "Preempts", "detector": "Detectors",
 }  # fmt: skip
 PHASE_LISTS = ("concurrent", "coordinated", "track", "dwell", "dwell_walks", "exit")

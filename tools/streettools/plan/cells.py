@@ -37,7 +37,8 @@ UNIT = {1: Numbers(1, 4), 2: TICKS, 3: TICKS, 4: TICKS, 5: WORD, 6: TICKS, 7: Nu
 PATTERN = {column: BYTE for column in (2, 3, 4, 5)}
 SPLIT = {3: BYTE, 4: Numbers(1, 7), 5: Numbers(0, 1)}
 PREEMPT = {
-    4: Numbers(0, 600), 5: WORD, **{column: BYTE for column in range(6, 11)}, 11: WORD, **{column: Lists() for column in range(12, 16)},
+    4: Numbers(0, 600), 5: WORD, **{column: BYTE for column in range(6, 11)}, 11: WORD,
+    **{column: Lists() for column in range(12, 16)},
 }  # fmt: skip
 
 

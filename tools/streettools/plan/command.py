@@ -4,7 +4,9 @@ import argparse
 import os
 import sys
 
-from ..shared.commandline import number, say
+from ..shared.commandline import number
+
+from ..shared.saying import say
 from ..shared.status import Status
 from . import actions, explain, loads, names
 from .given import Unreadable

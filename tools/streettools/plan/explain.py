@@ -26,17 +26,21 @@ RULES = {
     15: "the offset is less than the cycle",
     16: "a pattern coordinates one phase of each ring; both may be on together, and neither is omitted",
     17: "the splits of each ring come to the cycle, and on each side those of both rings to the same",
-    18: "a phase that is neither coordinated nor omitted has time in its split for its least service and the clearances",
+    18: "a phase that is neither coordinated nor omitted has time in its split for its least service "
+    "and the clearances",
     19: "the coordinated phases stay green together long enough for the correction of offsets and their least service",
     20: "track, dwell and exit phases of a preempt are enabled, none twice, and may be on together",
     21: "a download leaves the enabled phases, their rings and lists as they are, unless the cabinet is in flash",
     22: "a phase without walk has no pedestrian clearance",
 }
 TRACE_RULES = {
-    1: "the text is longer than 67,108,864 bytes", 2: "these bytes are no line of a trace", 3: "line 1 is no S line of a scenario that can be run",
-    4: "a line of another kind, cabinet or number is due here", 5: "the journal doesn't take each item of the cabinet's round once",
+    1: "the text is longer than 67,108,864 bytes", 2: "these bytes are no line of a trace",
+    3: "line 1 is no S line of a scenario that can be run",
+    4: "a line of another kind, cabinet or number is due here",
+    5: "the journal doesn't take each item of the cabinet's round once",
     6: "another frame is due here", 7: "another reply is due here", 8: "another end of a download is due here",
-    9: "another note of the master is due here", 10: "the text ends before its Z line", 11: "something stands behind the Z line",
+    9: "another note of the master is due here", 10: "the text ends before its Z line",
+    11: "something stands behind the Z line",
 }  # fmt: skip
 OVERLAP_RULES = {
     1: "the trace has no cabinet of this number", 2: "this parent is no enabled phase, or is named twice",
@@ -44,7 +48,8 @@ OVERLAP_RULES = {
     4: "trail, yellow and red clearance together take longer than this parent may clear in",
 }  # fmt: skip
 OTHERS = {
-    "read fault": "the input couldn't be read", "write fault": "the output couldn't be written: a full disk, or a pipe that was closed",
+    "read fault": "the input couldn't be read",
+    "write fault": "the output couldn't be written: a full disk, or a pipe that was closed",
     "out of memory": "the program found no memory",
 }  # fmt: skip
 

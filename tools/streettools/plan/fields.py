@@ -130,18 +130,23 @@ def count(column: int, of: dict) -> Time:
 
 STARTUPS = {1: "other", 2: "red", 3: "green with walk", 4: "green", 5: "yellow", 6: "red clearance"}
 PHASE_FIELDS = {
-    "min_green": seconds(4, PHASE), "passage": tenths(5, PHASE), "max_green": seconds(6, PHASE), "yellow": tenths(8, PHASE),
-    "red_clear": tenths(9, PHASE), "red_revert": tenths(10, PHASE), "walk": seconds(2, PHASE), "ped_clear": seconds(3, PHASE),
+    "min_green": seconds(4, PHASE), "passage": tenths(5, PHASE), "max_green": seconds(6, PHASE),
+    "yellow": tenths(8, PHASE),
+    "red_clear": tenths(9, PHASE), "red_revert": tenths(10, PHASE), "walk": seconds(2, PHASE),
+    "ped_clear": seconds(3, PHASE),
     "startup": Word(20, STARTUPS), "max_green_2": seconds(7, PHASE), "added_initial": tenths(11, PHASE),
-    "max_initial": seconds(12, PHASE), "time_before_reduction": seconds(13, PHASE), "cars_before_reduction": count(14, PHASE),
+    "max_initial": seconds(12, PHASE), "time_before_reduction": seconds(13, PHASE),
+    "cars_before_reduction": count(14, PHASE),
     "time_to_reduce": seconds(15, PHASE), "reduce_by": tenths(16, PHASE), "min_gap": tenths(17, PHASE),
-    "dynamic_max_limit": seconds(18, PHASE), "dynamic_max_step": tenths(19, PHASE), "ring": count(22, PHASE), "concurrent": Phases(23),
+    "dynamic_max_limit": seconds(18, PHASE), "dynamic_max_step": tenths(19, PHASE), "ring": count(22, PHASE),
+    "concurrent": Phases(23),
 }  # fmt: skip
 """What a sheet may say of a phase, beside its options."""
 
 UNIT_FIELDS = {
     "correction": Word(1, {1: "other", 2: "dwell", 3: "shortway", 4: "add only"}),
-    "dwell_limit": tenths(2, UNIT), "add_limit": tenths(3, UNIT), "skip_limit": tenths(4, UNIT), "extension_limit": tenths(6, UNIT),
+    "dwell_limit": tenths(2, UNIT), "add_limit": tenths(3, UNIT), "skip_limit": tenths(4, UNIT),
+    "extension_limit": tenths(6, UNIT),
     "backup_time": seconds(5, UNIT), "force_off": Word(7, {1: "fixed", 2: "floating"}),
     "offset_to": Word(8, {1: "start of green", 2: "end of green"}),
 }  # fmt: skip
@@ -164,7 +169,8 @@ PREEMPT_FIELDS = {
 ENABLED, NON_LOCK, DUAL_ENTRY = 1, 32, 1024
 RECALLS = {64: "minimum", 128: "maximum", 256: "pedestrian"}
 KEPT_OPTIONS = {
-    2: "flash entry", 4: "flash exit", 8: "non-actuated 1", 16: "non-actuated 2", 512: "soft recall", 2048: "simultaneous gap disable",
+    2: "flash entry", 4: "flash exit", 8: "non-actuated 1", 16: "non-actuated 2", 512: "soft recall",
+    2048: "simultaneous gap disable",
     4096: "guaranteed passage", 8192: "actuated rest in walk", 16384: "conditional service", 32768: "added initial",
 }  # fmt: skip
 """Options after NTCIP 1202 that a cabinet keeps without effect."""

@@ -195,7 +195,8 @@ def refuse_shared(laid: Layout) -> None:
     other = next((it for it in users if Layout(tables, it).cycle != laid.cycle), None)
     if other is not None:
         raise NoChange(
-            f"pattern {laid.pattern} shares split {laid.split} with pattern {other}, which has another cycle: give it a split of its own"
+            f"pattern {laid.pattern} shares split {laid.split} with pattern {other}, which has another cycle: give it "
+            "a split of its own"
         )
 
 
@@ -228,8 +229,8 @@ def apply(tables: Tables, change: Change) -> None:
 
 
 def mend(tables: Tables, known: Intersection, made: list[Change]) -> Iterator[str]:
-    """Puts the least changes into tables that break rule 17, 18 or 19, adds them to `made`, and yields them in words; or
-    why there are none."""
+    """Puts the least changes into tables that break rule 17, 18 or 19, adds them to `made`, and yields them in words;
+    or why there are none."""
     broken = rules.broken(tables)
     first = next((it.rule for it in broken if it.rule in FIRST), None)
     patterns = sorted({it.row for it in broken if it.rule in SPLIT_RULES})

@@ -9,7 +9,8 @@ from .pattern_reading import SPLIT_NAMES, read_pattern, read_split
 from .started import Read, started, word_of
 
 NAMES = (
-    "name", "note", "standard", "command", "clock", "section", "gain", "lose", "rings", "coordination", "phase", "sequence",
+    "name", "note", "standard", "command", "clock", "section", "gain", "lose", "rings", "coordination", "phase",
+    "sequence",
     "pattern", "split", "preempt", "detector", "travel",
 )  # fmt: skip
 ABOUT = ("name", "kind", "speed", "grade", "crossing")
@@ -32,7 +33,8 @@ def read_phase(it: Given, number: int, found: Read) -> None:
         )
     about = names.Phase(
         name=it.take("name", given.text, ""), kind=it.take("kind", word_of("vehicle", "pedestrian"), "vehicle"),
-        speed=it.take("speed", given.measure), grade=it.take("grade", given.percent), crossing=it.take("crossing", given.measure),
+        speed=it.take("speed", given.measure), grade=it.take("grade", given.percent),
+        crossing=it.take("crossing", given.measure),
     )  # fmt: skip
     if about != names.Phase():
         found.names.phases[number] = about

@@ -8,16 +8,19 @@ from dataclasses import dataclass
 
 DEEPEST = 127
 LONE = re.compile(
-    r"\\u[dD][89abAB][0-9a-fA-F]{2}(?!\\u[dD][c-fC-F][0-9a-fA-F]{2})|(?<!\\u[dD][89abAB]..)\\u[dD][c-fC-F][0-9a-fA-F]{2}"
+    r"\\u[dD][89abAB][0-9a-fA-F]{2}(?!\\u[dD][c-fC-F][0-9a-fA-F]{2})"
+    r"|(?<!\\u[dD][89abAB]..)\\u[dD][c-fC-F][0-9a-fA-F]{2}"
 )
 EXPECTED = {
-    "Expecting value": "a value was expected: a number, a text in double quotes, true, false, null, a list or an object",
+    "Expecting value": "a value was expected: a number, a text in double quotes, true, false, null, a list "
+    "or an object",
     "Expecting property name enclosed in double quotes": "a name in double quotes was expected",
     "Expecting ',' delimiter": "a comma was expected, or the end of the list or object",
     "Expecting ':' delimiter": "a colon was expected behind the name",
     "Extra data": "the text was expected to end here, for its value is over",
     "Unterminated string starting at": "a text begins here, and its closing quote was expected",
-    "Invalid control character at": "a text goes on over the end of its line, or holds a character that must be escaped",
+    "Invalid control character at": "a text goes on over the end of its line, or holds a character that must be "
+    "escaped",
     "Invalid \\escape": "an escape was expected, as \\n or \\u00e9",
     "Invalid \\uXXXX escape": "four hexadecimal digits were expected",
 }

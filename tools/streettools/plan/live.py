@@ -15,7 +15,8 @@ COLUMNS = [
     *((*ASC, 6, 2, 1, column) for column in range(4, 16)),
     (*ASC, 7, 3, 1, 3),
     *((*ASC, 2, 2, 1, column) for column in (4, 6, 7, 9, 10, 11)),
-    (*ASC, 3, 3), (*ASC, 4, 2), (*ASC, 4, 4), (*ASC, 4, 14), *((*OWN, 3, number) for number in range(1, 8)), (*OWN, 2, 1),
+    (*ASC, 3, 3), (*ASC, 4, 2), (*ASC, 4, 4), (*ASC, 4, 14), *((*OWN, 3, number) for number in range(1, 8)),
+    (*OWN, 2, 1),
 ]  # fmt: skip
 """Under which names there is something of a plan. The long columns of splits are asked split by split, side by side."""
 

@@ -84,7 +84,8 @@ def read_pattern(it: Given, number: int, found: Read, used: dict[int, str]) -> N
         it.fault("say the number of the split in which these times stand, 1 to 32", "split")
     elif split in used:
         it.fault(
-            f"the times of split {split} stand with {used[split]} already: say them once, or give this pattern another split",
+            f"the times of split {split} stand with {used[split]} already: say them once, or give this pattern "
+            "another split",
             "splits",
         )
     else:

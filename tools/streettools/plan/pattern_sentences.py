@@ -44,7 +44,10 @@ class PatternSentences(Sentences):
     def rule_15(self, row: int) -> str:
         """The offset is less than the cycle."""
         cycle, offset = (value(self.tables, ("pattern", row, column)) for column in (2, 3))
-        return f"pattern {row} has an offset of {offset} s in a cycle of {cycle} s; it must be less: {offset % cycle} s is the same moment"
+        return (
+            f"pattern {row} has an offset of {offset} s in a cycle of {cycle} s; it must be less: {offset % cycle} s "
+            "is the same moment"
+        )
 
     def rule_16(self, row: int) -> str:
         """The split has one coordinated phase in each ring, concurrent, neither of them omitted."""
@@ -54,7 +57,10 @@ class PatternSentences(Sentences):
         head = f"pattern {row} (split {laid.split}) coordinates {many(pair)}"
         for ring, phases in by_ring.items():
             if len(phases) != 1:
-                return f"{head}: {many(phases)} of ring {ring}; it needs one phase of each ring that may be on together, as 2 and 6"
+                return (
+                    f"{head}: {many(phases)} of ring {ring}; it needs one phase of each ring that may be on together, "
+                    "as 2 and 6"
+                )
         one, other = by_ring[1][0], by_ring[2][0]
         if other not in self.listed(one):
             return f"{head}, which may not be on together; they must stand on one side of the barrier"
@@ -70,16 +76,17 @@ class PatternSentences(Sentences):
                 sums = " + ".join(f"{laid.time(it) // 10}" for it in order)
                 much, way = abs(total - laid.cycle) // 10, "take {} s off" if total > laid.cycle else "give {} s more"
                 return (
-                    f"pattern {row} (split {laid.split}): the splits of ring {ring}, phases {many(order)}, come to {sums} = {total // 10} s, but the "
-                    f"cycle is {laid.cycle // 10} s; {way.format(much)}"
+                    f"pattern {row} (split {laid.split}): the splits of ring {ring}, phases {many(order)}, come to "
+                    f"{sums} = {total // 10} s, but the cycle is {laid.cycle // 10} s; {way.format(much)}"
                 )
         for side in laid.sides:
             phases = [laid.of_side(side, ring) for ring in (1, 2)]
             total = [sum(map(laid.time, it)) // 10 for it in phases]
             if total[0] != total[1]:
                 return (
-                    f"pattern {row} (split {laid.split}): up to the barrier phases {many(phases[0])} of ring 1 have {total[0]} s, and "
-                    f"{many(phases[1])} of ring 2 {total[1]} s; both rings cross the barrier together, so these must be the same"
+                    f"pattern {row} (split {laid.split}): up to the barrier phases {many(phases[0])} of ring 1 have "
+                    f"{total[0]} s, and {many(phases[1])} of ring 2 {total[1]} s; both rings cross the barrier "
+                    "together, so these must be the same"
                 )
         raise AssertionError("the pattern keeps the rule")
 
@@ -112,12 +119,15 @@ class PatternSentences(Sentences):
         best = max(far, key=lambda it: spare(laid, it), default=None)
         if best is not None and spare(laid, best) >= missing:
             return (
-                f", e.g. from phase {best}, which has {spare(laid, best)} s to spare (in both rings then, since it stands on another side of the "
-                "barrier)"
+                f", e.g. from phase {best}, which has {spare(laid, best)} s to spare (in both rings then, since it "
+                "stands on another side of the barrier)"
             )
         if sum(spare(laid, it) for it in order if it != phase) >= missing:
             return "; no single phase of its ring has so much to spare: --fix tells whether several have together"
-        return f"; its ring hasn't so much to spare: a longer cycle than {laid.cycle // 10} s is needed, or a shorter service"
+        return (
+            f"; its ring hasn't so much to spare: a longer cycle than {laid.cycle // 10} s is needed, or a shorter "
+            "service"
+        )
 
     def rule_19(self, row: int) -> str:
         """The coordinated phases stay green long enough together."""
@@ -133,12 +143,18 @@ class PatternSentences(Sentences):
         else:
             phase = int(what.split()[1])
             service = least_service(self.tables, phase)
-            why = f"after a skip of {seconds(skip)} phase {phase} needs {service_words(self.tables, phase)}, {seconds(service + skip)} in all"
+            why = (
+                f"after a skip of {seconds(skip)} phase {phase} needs {service_words(self.tables, phase)}, "
+                f"{seconds(service + skip)} in all"
+            )
         green = f"both are green for {seconds(laid.window)}" if laid.window >= 0 else "they are never green together"
         mend = f"give them {ceiling(need - laid.window)} s more"
         if what == "add" and laid.window >= max([1, *(it for name, it in needs.items() if name != "add")]):
             mend += f", or make add_limit {laid.window / 10:g} s or less"
-        return f"pattern {row} coordinates {self.phase(one)} and {self.phase(other)}: from local zero on {green}, but {why}; {mend}"
+        return (
+            f"pattern {row} coordinates {self.phase(one)} and {self.phase(other)}: from local zero on {green}, but "
+            f"{why}; {mend}"
+        )
 
 
 def sentences(tables: Tables, known: Intersection, broken: rules.Broken, before: Tables | None = None) -> list[str]:

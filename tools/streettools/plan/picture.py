@@ -20,7 +20,8 @@ LIGHT, PALE = "#cfe8d6", "#f1f3f5"
 LETTERS, INCH_LINES = 165, 0.19
 SHORT = {"minimum": "min", "maximum": "max", "pedestrian": "ped", "none": "none"}
 ROWS = {
-    "min green": (4, 1), "passage": (5, 10), "max green": (6, 1), "yellow": (8, 10), "red clear": (9, 10), "walk": (2, 1), "ped clear": (3, 1),
+    "min green": (4, 1), "passage": (5, 10), "max green": (6, 1), "yellow": (8, 10), "red clear": (9, 10),
+    "walk": (2, 1), "ped clear": (3, 1),
 }  # fmt: skip
 
 

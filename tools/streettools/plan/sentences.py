@@ -59,8 +59,8 @@ class Sentences:
     def rule_1(self, row: int) -> str:
         """The ring is 1 or 2."""
         return (
-            f"{self.phase(row)} is enabled, but its ring is {self.ring(row)}, and a cabinet has rings 1 and 2; draw it in `rings`, or leave "
-            "it out there"
+            f"{self.phase(row)} is enabled, but its ring is {self.ring(row)}, and a cabinet has rings 1 and 2; draw "
+            "it in `rings`, or leave it out there"
         )
 
     def rule_2(self, row: int) -> str:
@@ -84,23 +84,25 @@ class Sentences:
         """Each phase of the list has this one in turn."""
         other = next(it for it in sorted(concurrent(self.tables, row)) if row not in self.listed(it))
         return (
-            f"{self.phase(row)} may be on beside {self.phase(other)}, but not the other way round: {other} lists {many(self.listed(other))}; "
-            f"put {row} into the list of {other}, or take {other} out of that of {row}"
+            f"{self.phase(row)} may be on beside {self.phase(other)}, but not the other way round: {other} lists "
+            f"{many(self.listed(other))}; put {row} into the list of {other}, or take {other} out of that of {row}"
         )
 
     def rule_4(self, row: int) -> str:
         """The list names phases of the other ring alone."""
         other = next(it for it in sorted(concurrent(self.tables, row)) if self.ring(it) == self.ring(row))
         return (
-            f"{self.phase(row)} and {self.phase(other)} are both in ring {self.ring(row)}, which shows one phase at a time, yet {row} lists "
-            f"{other} as one that may be on beside it; take it out, or put one of them into the other ring"
+            f"{self.phase(row)} and {self.phase(other)} are both in ring {self.ring(row)}, which shows one phase at a "
+            f"time, yet {row} lists {other} as one that may be on beside it; take it out, or put one of them into the "
+            "other ring"
         )
 
     def rule_5(self, row: int) -> str:
         """Some phase of the list is enabled."""
         return (
-            f"no enabled phase may be on beside {self.phase(row)} (its list is {many(self.listed(row))}); each side of the barrier needs a phase "
-            "in both rings: draw `-` in the other ring, and a partner that nobody calls is entered"
+            f"no enabled phase may be on beside {self.phase(row)} (its list is {many(self.listed(row))}); each side "
+            "of the barrier needs a phase in both rings: draw `-` in the other ring, and a partner that nobody calls "
+            "is entered"
         )
 
     def rule_6(self, row: int) -> str:
@@ -108,15 +110,19 @@ class Sentences:
         other = street_rules.partner_in_ring(self.tables, row)
         mine, theirs = (sorted(concurrent(self.tables, it)) for it in (row, other))
         return (
-            f"{self.phase(row)} may be on beside {many(mine)}, and {self.phase(other)} of the same ring beside {many(theirs)}; they share a phase, "
-            "so they stand on one side of the barrier and must have the same phases beside them"
+            f"{self.phase(row)} may be on beside {many(mine)}, and {self.phase(other)} of the same ring beside "
+            f"{many(theirs)}; they share a phase, so they stand on one side of the barrier and must have the same "
+            "phases beside them"
         )
 
     def rule_7(self, row: int) -> str:
         """There are two sides or more."""
         enabled = self.tables.enabled()
         what = f"phases {many(enabled)} all stand on one side of the barrier" if enabled else "no phase is enabled"
-        return f'{what}; there must be two sides or more, each with a phase in both rings, as in `rings = ["2 | 4", "6 | 8"]`'
+        return (
+            f"{what}; there must be two sides or more, each with a phase in both rings, "
+            'as in `rings = ["2 | 4", "6 | 8"]`'
+        )
 
     def rule_8(self, row: int) -> str:
         """Each ring of a sequence has each of its enabled phases once, and nothing else."""
@@ -133,7 +139,8 @@ class Sentences:
                 f"{many(twice)} {'stands' if len(twice) == 1 else 'stand'} there more than once" if twice else "",
             ]
             return (
-                f"sequence {row} has {' '.join(map(str, order)) or 'nothing'} in ring {ring}, whose enabled phases are {many(due)}: "
+                f"sequence {row} has {' '.join(map(str, order)) or 'nothing'} in ring {ring}, whose enabled phases "
+                f"are {many(due)}: "
                 + "; ".join(filter(None, wrong))
             )
         raise AssertionError("the sequence keeps the rule")
@@ -148,13 +155,14 @@ class Sentences:
                 between = order[at + 1 : order.index(behind[0])] if behind else ()
                 if between:
                     return (
-                        f"sequence {row} parts phases {phase} and {behind[0]} of ring {ring} by {many(between)}, which is on another side of the "
-                        "barrier; the phases of a side come one after another"
+                        f"sequence {row} parts phases {phase} and {behind[0]} of ring {ring} by {many(between)}, "
+                        "which is on another side of the barrier; the phases of a side come one after another"
                     )
         turns = [[many(sorted(it)) for it in street_rules.side_turns(self.tables, row, ring)] for ring in RINGS]
         return (
-            f"sequence {row} takes the sides of the barrier as {' | '.join(turns[0])} in ring 1, and as {' | '.join(turns[1])} in ring 2; both "
-            "rings cross each barrier together, so the order is the same in both"
+            f"sequence {row} takes the sides of the barrier as {' | '.join(turns[0])} in ring 1, and as "
+            f"{' | '.join(turns[1])} in ring 2; both rings cross each barrier together, so the order is the same in "
+            "both"
         )
 
     def rule_10(self, row: int) -> str:
@@ -168,8 +176,9 @@ class Sentences:
         other = street_rules.sooner(self.tables, row)
         least = least_service(self.tables, other) + self.tables.clearance(other)
         return (
-            f"{self.phase(row)} has a red revert of {seconds(value(self.tables, ('phase', row, 10)))}, but {self.phase(other)} may be over after "
-            f"{seconds(least)} ({service_words(self.tables, other)} + {clearance_words(self.tables, other)}); make the red revert that or less"
+            f"{self.phase(row)} has a red revert of {seconds(value(self.tables, ('phase', row, 10)))}, but "
+            f"{self.phase(other)} may be over after {seconds(least)} ({service_words(self.tables, other)} + "
+            f"{clearance_words(self.tables, other)}); make the red revert that or less"
         )
 
     def rule_12(self, row: int) -> str:
@@ -177,7 +186,8 @@ class Sentences:
         others = [it for it in street_rules.start_up(self.tables) if it != row and it not in self.listed(row)]
         word = STARTUPS[value(self.tables, ("phase", row, 20))]
         return (
-            f"{self.phase(row)} starts up {word}, and so {'does' if len(others) == 1 else 'do'} {' and '.join(map(self.phase, others))}, which may "
+            f"{self.phase(row)} starts up {word}, and so {'does' if len(others) == 1 else 'do'} "
+            f"{' and '.join(map(self.phase, others))}, which may "
             'not be on beside it; let one of them start up "red"'
         )
 
@@ -201,12 +211,18 @@ class Sentences:
                 continue
             off = [it for it in phases if it not in self.tables.enabled()]
             if off:
-                return f"{preempt} has {many(off)} among its {word} phases, which {'is' if len(off) == 1 else 'are'} not enabled"
+                return (
+                    f"{preempt} has {many(off)} among its {word} phases, which {'is' if len(off) == 1 else 'are'} not "
+                    "enabled"
+                )
             twice = [it for it in dict.fromkeys(phases) if phases.count(it) > 1]
             if twice:
                 return f"{preempt} has {many(twice)} twice among its {word} phases"
             one, other = next((a, b) for a in phases for b in phases if a != b and b not in self.listed(a))
-            return f"{preempt} is to show {self.phase(one)} and {self.phase(other)} together ({word}), which may not be on together"
+            return (
+                f"{preempt} is to show {self.phase(one)} and {self.phase(other)} together ({word}), which may not be "
+                "on together"
+            )
         raise AssertionError("the preempt keeps the rule")
 
     def rule_21(self, row: int) -> str:
@@ -225,4 +241,7 @@ class Sentences:
     def rule_22(self, row: int) -> str:
         """Where walk is 0, so is the pedestrian clearance."""
         clear = value(self.tables, ("phase", row, 3))
-        return f"{self.phase(row)} has a pedestrian clearance of {clear} s without a walk; give it a walk, or take the clearance out"
+        return (
+            f"{self.phase(row)} has a pedestrian clearance of {clear} s without a walk; give it a walk, or take the "
+            "clearance out"
+        )

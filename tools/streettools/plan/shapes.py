@@ -28,13 +28,15 @@ CLOCK = whole(0, 863_999, meaning="tenths of a second since midnight; 7:00 is 25
 SECOND = whole(0, 86_399, meaning="a second of the day; 7:00 is 25200")
 ENTRY = thing({"second": must(SECOND), "section": must(whole(1, 8)), "pattern": must(BYTE)})
 MASTER = thing({
-    "clock": may(CLOCK), "poll_every": EVERY, "clock_every": EVERY, "pattern_every": EVERY, "retries": may(whole(1, 10)),
+    "clock": may(CLOCK), "poll_every": EVERY, "clock_every": EVERY, "pattern_every": EVERY,
+    "retries": may(whole(1, 10)),
     "schedule": may(listing(0, 1000, ENTRY)),
 })  # fmt: skip
 REQUEST = {"number": TEN, "class": TEN, "level": TEN, "phase": PHASE, "arrival": must(WORD), "departure": must(WORD)}
 INPUTS = ({"veh": PHASE, "on": ON}, {"ped": PHASE}, {"preempt": must(whole(1, 8)), "on": ON})
 LINE_FAULT = {
-    "stream": STREAM, "way": must(word("down", "up")), "index": may(WORD), "kind": must(word("lose", "repeat", "late", "flip", "cut")),
+    "stream": STREAM, "way": must(word("down", "up")), "index": may(WORD),
+    "kind": must(word("lose", "repeat", "late", "flip", "cut")),
     "by": EVERY, "octet": may(whole(1, 255)),
 }  # fmt: skip
 
@@ -48,7 +50,8 @@ def one_drift(path: str, value: dict) -> Iterator[Fault]:
 def cabinet(version: object) -> Test:
     """Returns what tests a cabinet."""
     names = {
-        "base": may(word("std8", "max8")), "cells": may(listing(0, 4096, cell)), "pattern": may(BYTE), "clock": may(CLOCK),
+        "base": may(word("std8", "max8")), "cells": may(listing(0, 4096, cell)), "pattern": may(BYTE),
+        "clock": may(CLOCK),
         "section": may(whole(1, 8)),
     }  # fmt: skip
     if version != 2:

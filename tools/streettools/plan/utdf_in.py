@@ -23,7 +23,8 @@ COMPUTED = {
 
 TENTHS = {"VehExt": "passage", "Yellow": "yellow", "AllRed": "red_clear", "MinGap": "min_gap"}
 SECONDS = {
-    "MinGreen": "min_green", "MaxGreen": "max_green", "Walk": "walk", "DontWalk": "ped_clear", "TimeBeforeReduce": "time_before_reduction",
+    "MinGreen": "min_green", "MaxGreen": "max_green", "Walk": "walk", "DontWalk": "ped_clear",
+    "TimeBeforeReduce": "time_before_reduction",
     "TimeToReduce": "time_to_reduce",
 }  # fmt: skip
 DETECTORS = {"DetectPhase1", "DetectDelay1", "DetectExtend1"}

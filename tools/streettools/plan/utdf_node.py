@@ -6,7 +6,8 @@ from dataclasses import dataclass, field
 from .utdf_text import Utdf, number
 
 WAYS = {
-    "NB": "northbound", "SB": "southbound", "EB": "eastbound", "WB": "westbound", "NE": "northeastbound", "NW": "northwestbound",
+    "NB": "northbound", "SB": "southbound", "EB": "eastbound", "WB": "westbound", "NE": "northeastbound",
+    "NW": "northwestbound",
     "SE": "southeastbound", "SW": "southwestbound",
 }  # fmt: skip
 

@@ -58,8 +58,10 @@ def of_phases(tables: Tables, known: Intersection, pattern: int) -> dict[str, di
 
     crossings = [it for it in phases if value(tables, ("phase", it, 2))]
     return {
-        "BRP": {it: str(places.get(it, "")) for it in phases}, "MinGreen": each(4), "MaxGreen": {it: most(it) for it in phases},
-        "VehExt": each(5, 10), "TimeBeforeReduce": each(13), "TimeToReduce": each(15), "MinGap": each(17, 10), "Yellow": each(8, 10),
+        "BRP": {it: str(places.get(it, "")) for it in phases}, "MinGreen": each(4),
+        "MaxGreen": {it: most(it) for it in phases},
+        "VehExt": each(5, 10), "TimeBeforeReduce": each(13), "TimeToReduce": each(15), "MinGap": each(17, 10),
+        "Yellow": each(8, 10),
         "AllRed": each(9, 10), "Recall": {it: str(recall(value(tables, ("phase", it, 21)))) for it in phases},
         "Walk": {it: each(2)[it] for it in crossings}, "DontWalk": {it: each(3)[it] for it in crossings},
         "DualEntry": {it: str(int(bool(value(tables, ("phase", it, 21)) & fields.DUAL_ENTRY))) for it in phases},
@@ -77,7 +79,8 @@ def of_plan(tables: Tables, known: Intersection, pattern: int) -> dict[str, str]
         offset = (offset - laid.window / 10) % (laid.cycle / 10)
     return {
         "Control Type": str(COORDINATED), "Cycle Length": shown(laid.cycle / 10), "Referenced To": str(BEGIN_OF_GREEN),
-        "Reference Phase": str(sum(it * scale for it, scale in zip(pair, (100, 1), strict=False))), "Offset": shown(offset),
+        "Reference Phase": str(sum(it * scale for it, scale in zip(pair, (100, 1), strict=False))),
+        "Offset": shown(offset),
     }  # fmt: skip
 
 

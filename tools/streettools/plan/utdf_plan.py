@@ -44,8 +44,10 @@ def offset(node: Node, drawn: list[str], splits: dict[int, int], pair: list[int]
 
     clear = {it: (node.at("Yellow", it) or 0) + (node.at("AllRed", it) or 0) for it in pair}
     points = {
-        0: float(zero), 1: min(behind(clear[it], it) for it in pair), 2: min(behind(node.at("AllRed", it) or 0, it) for it in pair),
-        3: float(min(begin[it] for it in pair)), 4: min(behind(clear[it] + (node.at("DontWalk", it) or 0), it) for it in pair),
+        0: float(zero), 1: min(behind(clear[it], it) for it in pair),
+        2: min(behind(node.at("AllRed", it) or 0, it) for it in pair),
+        3: float(min(begin[it] for it in pair)),
+        4: min(behind(clear[it] + (node.at("DontWalk", it) or 0), it) for it in pair),
     }  # fmt: skip
     if point not in points:
         node.note(f"the offset refers to point {point}, which is not known; it is taken as the begin of green")
@@ -70,7 +72,8 @@ def pattern(node: Node, drawn: list[str]) -> dict | None:
         splits[phase] = round(total)
         if abs(total - splits[phase]) > 1e-9:
             node.note(
-                f"the split of phase {phase}, {total:g} s, is taken as {splits[phase]} s: a cabinet holds whole seconds here"
+                f"the split of phase {phase}, {total:g} s, is taken as {splits[phase]} s: a cabinet holds whole "
+                "seconds here"
             )
     found = {
         "cycle": node.whole(cycle, "the cycle", "pattern 1"),

@@ -9,7 +9,8 @@ from dataclasses import dataclass, field
 from .given import Fault, Unreadable
 
 TITLES = {
-    "network settings": "network", "node data": "nodes", "link data": "links", "lane group data": "lanes", "timing plan settings": "timeplans",
+    "network settings": "network", "node data": "nodes", "link data": "links", "lane group data": "lanes",
+    "timing plan settings": "timeplans",
     "phasing data": "phases", "timing plans": "plans",
 }  # fmt: skip
 HEADERS = ("RECORDNAME", "INTID", "PLANID")
@@ -73,7 +74,8 @@ def read(text: str) -> Utdf:
             [
                 Fault(
                     "",
-                    "no phases in it: a section [Phases], or a line `Phasing Data`, with a header RECORDNAME,INTID,D1,..",
+                    "no phases in it: a section [Phases], or a line `Phasing Data`, with a header "
+                    "RECORDNAME,INTID,D1,..",
                 )
             ]
         )

@@ -30,8 +30,10 @@ STATUS = ((1, 4), (4, 10), (4, 11), (4, 12), (4, 13))
 SUBJECTS = {
     (1, 1): "maxPhases", (1, 3): "maxPhaseGroups", (1, 5): "phaseControlGroupTable", (2,): "detector", (3,): "unit",
     (4, 1): "coordOperationalMode", (4, 3): "coordMaximumMode", (4, 4): "coordForceMode", (4, 5): "maxPatterns",
-    (4, 6): "patternTableType", (4, 8): "maxSplits", (4, 15): "systemSyncControl", (5,): "timebaseAsc", (6, 1): "maxPreempts",
-    (6, 2): "preemptTable", (6,): "preempt", (7, 1): "maxRings", (7, 2): "maxSequences", (7, 3): "sequenceTable", (8,): "channel",
+    (4, 6): "patternTableType", (4, 8): "maxSplits", (4, 15): "systemSyncControl", (5,): "timebaseAsc",
+    (6, 1): "maxPreempts",
+    (6, 2): "preemptTable", (6,): "preempt", (7, 1): "maxRings", (7, 2): "maxSequences", (7, 3): "sequenceTable",
+    (8,): "channel",
     (9,): "overlap", (10,): "ts2port1", (1, 2): "phaseTable", (4, 7): "patternTable", (4, 9): "splitTable",
 }  # fmt: skip
 
@@ -88,7 +90,10 @@ def read(text: str) -> dict[Name, int | bytes]:
     found = {name: value_of(value) for name, value in entries(text)}
     known = {name: value for name, value in found.items() if value is not None}
     if not known:
-        words = "no line is a name in numbers with its value, as `.1.3.6.1.4.1.1206.4.2.1.1.2.1.4.2 = INTEGER: 10`: walk with -On"
+        words = (
+            "no line is a name in numbers with its value, as `.1.3.6.1.4.1.1206.4.2.1.1.2.1.4.2 = INTEGER: 10`: walk "
+            "with -On"
+        )
         raise Unreadable([Fault("", words)])
     return known
 
@@ -236,7 +241,8 @@ def street_of(walks: list[dict[Name, int | bytes]], called: list[str]) -> Street
         street.notes.append(f"{called[number - 1]}: {walked.placed} cells taken")
         for subject, left in walked.without.items():
             street.notes.append(
-                f"{called[number - 1]}: no place for {len(left)} of {subject}: {left[0]}{' ..' if len(left) > 1 else ''}"
+                f"{called[number - 1]}: no place for {len(left)} of {subject}: "
+                f"{left[0]}{' ..' if len(left) > 1 else ''}"
             )
         street.bank += bank_of(walked, number, street.notes)
     return street

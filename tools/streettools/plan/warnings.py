@@ -46,8 +46,9 @@ def of_phases(tables: Tables, number: int, names: Names) -> Iterator[Finding]:
         if due is not None and row[2] and row[3] < due:
             counts = seconds(row[8] + row[9])
             yield warn(where, (
-                f"{name} has a pedestrian clearance of {row[3]} s; {about.crossing:g} {length} at {street_facts.WALKING} ft/s take {due} s (the "
-                f"{counts} of yellow and red behind it may count, if your practice allows)"
+                f"{name} has a pedestrian clearance of {row[3]} s; {about.crossing:g} {length} at "
+                f"{street_facts.WALKING} ft/s take {due} s (the {counts} of yellow and red behind it may count, if "
+                "your practice allows)"
             ))  # fmt: skip
         if due is not None and not row[2] and about.kind == "pedestrian":
             yield warn(where, f"{name} is a crossing and has no walk")
@@ -73,12 +74,15 @@ def of_patterns(tables: Tables, number: int, names: Names) -> Iterator[Finding]:
         for phase in laid.waited():
             if 0 <= laid.room(phase) < TIGHT and phase not in known.partners:
                 split = laid.time(phase) // 10
-                words = f"pattern {pattern} gives {known.phase_name(phase)} {split} s, which only just fits: {seconds(laid.room(phase))} to spare"
+                words = (
+                    f"pattern {pattern} gives {known.phase_name(phase)} {split} s, which only just fits: "
+                    f"{seconds(laid.room(phase))} to spare"
+                )
                 yield warn(where, words)
         if has_pair(tables, pattern) and 0 <= laid.window_room() < TIGHT:
             yield warn(where, (
-                f"pattern {pattern} gives its coordinated phases {many(laid.coordinated)} a green of {seconds(laid.window)} together, which "
-                f"only just fits: {seconds(laid.window_room())} to spare"
+                f"pattern {pattern} gives its coordinated phases {many(laid.coordinated)} a green of "
+                f"{seconds(laid.window)} together, which only just fits: {seconds(laid.window_room())} to spare"
             ))  # fmt: skip
 
 
@@ -143,8 +147,8 @@ def of_schedule(street: Street) -> Iterator[Finding]:
         for it in dict.fromkeys(clocklike):
             meant = 3600 * (it // 100) + 60 * (it % 100)
             yield warn("schedule", (
-                f"second {it} of the day is {it // 3600}:{it // 60 % 60:02}:{it % 60:02}; is {it // 100}:{it % 100:02} meant? That is second "
-                f"{meant}"
+                f"second {it} of the day is {it // 3600}:{it // 60 % 60:02}:{it % 60:02}; is "
+                f"{it // 100}:{it % 100:02} meant? That is second {meant}"
             ))  # fmt: skip
 
 

@@ -1,1 +1,2 @@
-"""What the tools share: reading traces, finding the program, words of the command line, exit statuses, files that are written whole."""
+"""What the tools share: reading traces, finding the program, words of the command line, exit statuses, files that are
+written whole."""

@@ -6,7 +6,7 @@ Get names the clock too, with the clock's own value; only who knows the clock ca
 refused repeats its bindings, too, and they have the value Null.
 """
 
-from typing import NamedTuple
+from collections import namedtuple
 
 OWN = "2b0601040181fd5901"
 CLOCK, REQUEST, CANCEL = OWN + "020100", OWN + "040100", OWN + "040200"
@@ -25,37 +25,26 @@ ERRORS = {1: "tooBig", 2: "noSuchName", 3: "badValue", 4: "readOnly", 5: "genErr
 INTEGER, OCTETS, NULL = 0x02, 0x04, 0x05
 
 
-class ClockNamed(NamedTuple):
-    """A reply names the clock with this value, in ticks since midnight."""
-
-    ticks: int
+ClockNamed = namedtuple("ClockNamed", "ticks")
+"""A reply names the clock with this value, in ticks since midnight."""
 
 
-class Requested(NamedTuple):
-    """A priority request was given: its number, and its departure in ticks from now."""
-
-    number: int
-    departure: int
+Requested = namedtuple("Requested", "number departure")
+"""A priority request was given: its number, and its departure in ticks from now."""
 
 
-class Cancelled(NamedTuple):
-    """A priority request was cancelled."""
-
-    number: int
+Cancelled = namedtuple("Cancelled", "number")
+"""A priority request was cancelled."""
 
 
-class RefusedSet(NamedTuple):
-    """A Set was refused: the error, and the object that it names with the value that was asked for; a download's
-    number is told where the Set has one."""
-
-    error: str
-    object: str
-    value: int | str | None
-    download: int | None
+RefusedSet = namedtuple("RefusedSet", "error object value download")
+"""A Set was refused: the error, and the object that it names with the value that was asked for; a download's
+number is told where the Set has one."""
 
 
 def fields(octets):
-    """Yields the tag and the content of each value in octets that stand one after another (ITU-T X.690, definite lengths)."""
+    """Yields the tag and the content of each value in octets that stand one after another (ITU-T X.690, definite
+    lengths)."""
     at = 0
     while at < len(octets):
         tag, length = octets[at], octets[at + 1]

@@ -1,8 +1,9 @@
-"""What a trace tells of one cabinet as it goes on: tables in force, detectors, cycles of a pattern, how each green ended."""
+"""What a trace tells of one cabinet as it goes on: tables in force, detectors, cycles of a pattern, how each green
+ended."""
 
 import functools
 import re
-from typing import NamedTuple
+from collections import namedtuple
 
 from . import answers
 from .lines import NotATrace
@@ -15,12 +16,10 @@ WORDS = {"S": "start-up", "F": "free", "E": "ending", "X": "flash", "K": "seek",
 DAY = 864_000
 
 
-class Mode(NamedTuple):
+class Mode(namedtuple("Mode", "letter number stage")):
     """A mode: its letter (S, F, K, C, E, X or P), the number of its pattern or preempt, the stage of a preempt."""
 
-    letter: str
-    number: int
-    stage: str
+    __slots__ = ()
 
     @property
     def words(self):
@@ -42,17 +41,10 @@ def changes(before, after):
     return tuple((phase, was, now) for phase, was, now in zip(ALL, before, after) if was != now)
 
 
-class Cycle(NamedTuple):
-    """A cycle of a pattern begins: `pickup` says whether the pattern was taken up, `error` by how many ticks it begins late
-    (above 0) or early (below 0) by the cabinet's clock; None where the pattern's cycle isn't told. `elapsed` counts the
-    ticks since the local zero before, and is None at a pickup."""
-
-    tick: int
-    pattern: int
-    pickup: bool
-    target: int
-    error: int | None
-    elapsed: int | None
+Cycle = namedtuple("Cycle", "tick pattern pickup target error elapsed")
+"""A cycle of a pattern begins: `pickup` says whether the pattern was taken up, `error` by how many ticks it begins late
+(above 0) or early (below 0) by the cabinet's clock; None where the pattern's cycle isn't told. `elapsed` counts the
+ticks since the local zero before, and is None at a pickup."""
 
 
 def changed_elsewhere(scenario, number):
@@ -134,8 +126,9 @@ class Cabinet:
         return Cycle(frame.tick, mode.number, pickup, frame.target, self.error(mode.number, frame.target), elapsed)
 
     def came_round(self, frame):
-        """Returns whether the counter, 0 in the frame before too, has gone round the cycle since. While it stands at 0 a line
-        is written for a signal that changes; it stands for less than a cycle there, and for a tick where ticks are skipped."""
+        """Returns whether the counter, 0 in the frame before too, has gone round the cycle since. While it stands at 0
+        a line is written for a signal that changes; it stands for less than a cycle there, and for a tick where ticks
+        are skipped."""
         before = self.frame
         if (frame.vehicles, frame.pedestrians) == (before.vehicles, before.pedestrians):
             return True
@@ -146,8 +139,8 @@ class Cabinet:
         return frame.tick - self.zero >= (known.cycle if dwells else known.cycle // 2)
 
     def error(self, pattern, target):
-        """Returns by how many ticks a cycle begins late or early, on the side from which it is corrected: early where cycles
-        are drawn out (dwell, add-only, and shortway where that takes no more cycles), else late."""
+        """Returns by how many ticks a cycle begins late or early, on the side from which it is corrected: early where
+        cycles are drawn out (dwell, add-only, and shortway where that takes no more cycles), else late."""
         known = self.plan(pattern)
         if known is None:
             return None

@@ -1,4 +1,4 @@
-"""Words of the command line: readers of numbers for argparse, and a line on standard error."""
+"""Words of the command line: readers of numbers for argparse."""
 
 import argparse
 import os
@@ -35,8 +35,3 @@ def number(least: int, most: int) -> Callable[[str], int]:
         return value
 
     return read
-
-
-def say(command: str, words: object) -> None:
-    """Tells something on standard error, in the name of a command."""
-    print(f"{command}: {words}", file=sys.stderr, flush=True)

@@ -1,58 +1,35 @@
 """Walks through a trace: each line at its place, with the tick at which it happened.
 
-A line that can't follow the lines before it stops the walk. Whether a frame is the one due is for `arterial check` to say.
+A line that can't follow the lines before it stops the walk. Whether a frame is the one due is for `arterial check` to
+say.
 """
 
-from collections import defaultdict, deque
-from typing import NamedTuple
+from collections import defaultdict, deque, namedtuple
 
 from . import lines
-from .lines import Answer, End, Frame, Journal, Load, NotATrace, Note, Round
+from .lines import Answer, End, Frame, Load, NotATrace, Note
 
 TICKS, INPUTS = 4, 0
 
 
-class Input(NamedTuple):
-    """An input from the street after a tick: `kind` is veh, ped or preempt, `number` the phase or the preempt."""
-
-    cabinet: int
-    tick: int
-    kind: str
-    number: int
-    on: bool
+Input = namedtuple("Input", "cabinet tick kind number on")
+"""An input from the street after a tick: `kind` is veh, ped or preempt, `number` the phase or the preempt."""
 
 
-class Answered(NamedTuple):
-    """A reply after a tick: `way` is 1 for polls, 2 for downloads, 3 for priority; `digits` None where silent."""
-
-    cabinet: int
-    tick: int
-    way: int
-    digits: str | None
+Answered = namedtuple("Answered", "cabinet tick way digits")
+"""A reply after a tick: `way` is 1 for polls, 2 for downloads, 3 for priority; `digits` None where silent."""
 
 
-class Ended(NamedTuple):
-    """A download's end after a tick: accepted, or refused by a rule in a row."""
-
-    cabinet: int
-    tick: int
-    load: Load
+Ended = namedtuple("Ended", "cabinet tick load")
+"""A download's end after a tick: accepted, or refused by a rule in a row."""
 
 
-class Noted(NamedTuple):
-    """A note of the master in a round, whose first tick comes after `tick`."""
-
-    cabinet: int
-    tick: int
-    round: int
-    words: str
+Noted = namedtuple("Noted", "cabinet tick round words")
+"""A note of the master in a round, whose first tick comes after `tick`."""
 
 
-class RoundEnd(NamedTuple):
-    """A round is over at this tick."""
-
-    round: int
-    tick: int
+RoundEnd = namedtuple("RoundEnd", "round tick")
+"""A round is over at this tick."""
 
 
 def inputs_of(scenario):
@@ -69,27 +46,26 @@ class CabinetRound:
 
     __slots__ = ("cabinet", "inputs", "answers", "last", "end")
 
-    def __init__(self, journal, start, inputs):
-        self.cabinet, self.last = journal.cabinet, start
+    def __init__(self, cabinet, start):
+        self.cabinet, self.last, self.end = cabinet, start, start
         self.inputs = self.answers = ()
-        if not inputs and len(journal.runs) == 1 and journal.runs[0][0] == TICKS:
-            self.end = start + journal.runs[0][1]
-        else:
-            self.spread(journal, start, inputs)
 
-    def spread(self, journal, start, inputs):
+    def spread(self, runs, inputs):
         """Puts the inputs and the replies of a journal behind the ticks that come before them."""
         self.inputs, self.answers = deque(), deque()
-        tick, given = start, iter(inputs)
-        for way, count in journal.runs:
+        tick, given, left = self.end, iter(inputs), len(inputs)
+        for way, count in runs:
             if way == TICKS:
                 tick += count
-            elif way == INPUTS:
-                self.inputs.extend((tick, *next(given)) for _ in range(min(count, len(inputs) + 1)))
-            else:
+            elif way != INPUTS:
                 self.answers.append((way, count, tick))
+            elif count > left:
+                raise ValueError
+            else:
+                left -= count
+                self.inputs.extend((tick, *next(given)) for _ in range(count))
         self.end = tick
-        if next(given, None):
+        if left:
             raise ValueError
 
     def before(self, tick):
@@ -111,46 +87,57 @@ class Course:
     """A trace, read line by line: `scenario` is its value without the inputs, `happenings` what comes after it."""
 
     def __init__(self, stream, advance=None):
-        self.numbered = lines.read(stream, advance)
-        self.line, self.scenario = 1, {}
+        self.texts = lines.texts(stream, advance)
+        self.line = 1
         try:
-            self.line, (self.scenario,) = next(self.numbered)
+            (self.scenario,) = lines.scenario(next(self.texts))
             self.inputs = inputs_of(self.scenario)
             self.cabinets = len(self.scenario["cabinets"])
             self.ticks, self.rounds = int(self.scenario["ticks"]), int(self.scenario["rounds"])
-        except (StopIteration, KeyError, TypeError, ValueError):
-            raise NotATrace(self.line) from None
+        except (StopIteration, KeyError, TypeError, ValueError, RecursionError):
+            raise NotATrace(1) from None
         self.round, self.cabinet, self.now, self.whole = 0, 0, None, False
 
     def happenings(self):
-        """Yields what happened: frames, inputs, replies, downloads, notes and ends of rounds, in the order of the trace."""
+        """Yields what happened: frames, inputs, replies, downloads, notes and ends of rounds, in the order of the
+        trace."""
         opened = 0
-        for self.line, record in self.numbered:
+        for self.line, text in enumerate(self.texts, 2):
             try:
                 if opened < self.cabinets:
                     opened += 1
-                    if not isinstance(record, Frame) or (record.cabinet, record.tick) != (opened, 0):
-                        raise ValueError
-                    yield record
-                elif type(record) is Journal:
-                    yield from self.begun(record)
-                elif type(record) is Round or type(record) is End:
-                    yield from self.closed(record)
+                    yield self.opening(lines.record(text), opened)
+                elif text[:1] == b"J":
+                    yield from self.begun(lines.journal(text))
+                elif text[:1] == b"R":
+                    yield from self.next_round(text)
                 else:
-                    yield from self.placed(record)
+                    yield from self.placed(lines.record(text))
             except (ValueError, StopIteration, IndexError, RuntimeError):
                 raise NotATrace(self.line) from None
         self.line += not self.whole
 
+    def opening(self, record, number):
+        """Returns the frame that a cabinet opens with, which stands here."""
+        if not isinstance(record, Frame) or (record.cabinet, record.tick) != (number, 0):
+            raise ValueError
+        return record
+
     def begun(self, journal):
         """Takes a journal, where it may stand here, and returns what the round of the cabinet before it leaves."""
+        cabinet, runs = journal
         left = self.left() if self.now is not None else ()
-        if self.whole or self.round == 0 or journal.cabinet != self.cabinet + 1 or journal.cabinet > self.cabinets:
+        if self.whole or self.round == 0 or cabinet != self.cabinet + 1 or cabinet > self.cabinets:
             raise ValueError
-        self.cabinet += 1
+        self.cabinet = cabinet
         start = (self.round - 1) * self.ticks
-        self.now = CabinetRound(journal, start, self.inputs.pop((self.round, self.cabinet), ()))
-        if self.now.end != start + self.ticks:
+        self.now = now = CabinetRound(cabinet, start)
+        inputs = self.inputs.pop((self.round, cabinet), ())
+        if inputs or len(runs) > 1 or runs[0][0] != TICKS:
+            now.spread(runs, inputs)
+        else:
+            now.end += runs[0][1]
+        if now.end != start + self.ticks:
             raise ValueError
         return left
 
@@ -175,6 +162,8 @@ class Course:
                 if self.round == 0 or self.cabinet or not 0 < cabinet <= self.cabinets:
                     raise ValueError
                 yield Noted(cabinet, (self.round - 1) * self.ticks, self.round, words)
+            case End():
+                yield from self.ended(record)
 
     def of(self, cabinet):
         """Returns the round of the cabinet whose lines stand here, which must be this one."""
@@ -199,15 +188,25 @@ class Course:
             raise ValueError
         return now.before(now.end + 1) if now.inputs else ()
 
-    def closed(self, record):
-        """Returns what the round before leaves and its end, once each cabinet has had its own, as the next begins or
-        the trace ends."""
-        ends = type(record) is End
+    def next_round(self, text):
+        """Takes the line of the round that is due, and returns what the one before leaves."""
+        if text != b"R %d\n" % (self.round + 1):
+            raise ValueError
+        over = self.over()
+        self.round, self.cabinet = self.round + 1, 0
+        return over
+
+    def ended(self, end):
+        """Takes the end of the trace, and returns what the last round leaves."""
+        if not end.rounds == self.round == self.rounds:
+            raise ValueError
+        over = self.over()
+        self.cabinet, self.whole = 0, True
+        return over
+
+    def over(self):
+        """Returns what a round leaves that is over, and its end, once each cabinet has had its own."""
         if self.whole or (self.round and self.cabinet != self.cabinets):
             raise ValueError
-        if (record.rounds if ends else record.number) != self.round + (not ends) or (ends and self.round != self.rounds):
-            raise ValueError
         left = self.left() if self.now is not None else ()
-        over = (*left, RoundEnd(self.round, self.round * self.ticks)) if self.round else ()
-        self.round, self.cabinet, self.whole = self.round + (not ends), 0, ends
-        return over
+        return (*left, RoundEnd(self.round, self.round * self.ticks)) if self.round else ()

@@ -6,7 +6,7 @@ A record for each line; text that is no line stops the reading. What lines say t
 import functools
 import json
 import re
-from typing import NamedTuple
+from collections import namedtuple
 
 LONGEST = 67_108_864
 """No line of a trace has more bytes than a trace may have."""
@@ -32,68 +32,37 @@ class NotATrace(Exception):
         self.line = line
 
 
-class Scenario(NamedTuple):
-    """The scenario that is run, as its JSON value."""
-
-    value: dict
+Scenario = namedtuple("Scenario", "value")
+"""The scenario that is run, as its JSON value."""
 
 
-class Frame(NamedTuple):
-    """What a cabinet shows after a tick: 16 letters of colours, 16 of pedestrian signals, the mode as it is written;
-    counter and target in ticks of 0.1 s."""
-
-    cabinet: int
-    tick: int
-    vehicles: str
-    pedestrians: str
-    mode: str
-    counter: int
-    target: int
-    version: int
+Frame = namedtuple("Frame", "cabinet tick vehicles pedestrians mode counter target version")
+"""What a cabinet shows after a tick: 16 letters of colours, 16 of pedestrian signals, the mode as it is written;
+counter and target in ticks of 0.1 s."""
 
 
-class Round(NamedTuple):
-    """A round begins."""
-
-    number: int
+Round = namedtuple("Round", "number")
+"""A round begins."""
 
 
-class Journal(NamedTuple):
-    """What a cabinet did in a round: runs of a pass and a number of events, as tuples."""
-
-    cabinet: int
-    runs: tuple
+Journal = namedtuple("Journal", "cabinet runs")
+"""What a cabinet did in a round: runs of a pass and a number of events, as tuples."""
 
 
-class Answer(NamedTuple):
-    """A reply of a cabinet, as hexadecimal digits; None where it was silent."""
-
-    cabinet: int
-    way: int
-    digits: str | None
+Answer = namedtuple("Answer", "cabinet way digits")
+"""A reply of a cabinet, as hexadecimal digits; None where it was silent."""
 
 
-class Load(NamedTuple):
-    """The end of a download: the version that it made, or the rule that refused it and the row."""
-
-    cabinet: int
-    number: int
-    version: int | None
-    rule: int
-    row: int
+Load = namedtuple("Load", "cabinet number version rule row")
+"""The end of a download: the version that it made, or the rule that refused it and the row."""
 
 
-class Note(NamedTuple):
-    """A note of the master, in its own words."""
-
-    cabinet: int
-    words: str
+Note = namedtuple("Note", "cabinet words")
+"""A note of the master, in its own words."""
 
 
-class End(NamedTuple):
-    """The end, after so many rounds."""
-
-    rounds: int
+End = namedtuple("End", "rounds")
+"""The end, after so many rounds."""
 
 
 def number(digits, most=MOST):
@@ -222,18 +191,20 @@ def record(line):
     return known[1](found)
 
 
-def read(stream, advance=None):
-    """Yields each line's number, from 1, and its record. `advance` is told, now and then, how many bytes were read."""
-    count, size = 0, 0
-    while line := stream.readline(LONGEST + 1):
-        count += 1
+def texts(stream, advance=None):
+    """Returns the lines of a stream, one after another, each with its newline. `advance` is told, now and then, how
+    many bytes were read."""
+    found = iter(functools.partial(stream.readline, LONGEST + 1), b"")
+    return told(found, advance) if advance else found
+
+
+def told(found, advance):
+    """Yields lines, and tells how many bytes they have."""
+    size = 0
+    for line in found:
         size += len(line)
-        try:
-            yield count, (record(line) if count > 1 else scenario(line))
-        except (ValueError, RecursionError):
-            raise NotATrace(count) from None
-        if advance and (size > 1_000_000):
+        if size > 1_000_000:
             advance(size)
             size = 0
-    if advance:
-        advance(size)
+        yield line
+    advance(size)

@@ -3,19 +3,11 @@
 After the FHWA Signal Timing Manual; docs/DEFINITIONS.md says it in words (`zero_point`, `force_point`, `window`).
 """
 
-from typing import NamedTuple
+from collections import namedtuple
 
-
-class Plan(NamedTuple):
-    """Cycle and offset in ticks; the coordinated phase of each ring; the force point of each phase; `window` is the last
-    moment at which both coordinated phases are still green; `shift` is added to a target where offsets refer to the end."""
-
-    cycle: int
-    offset: int
-    coordinated: tuple
-    force: dict
-    window: int
-    shift: int
+Plan = namedtuple("Plan", "cycle offset coordinated force window shift")
+"""Cycle and offset in ticks; the coordinated phase of each ring; the force point of each phase; `window` is the last
+moment at which both coordinated phases are still green; `shift` is added to a target where offsets refer to the end."""
 
 
 def slots(tables, pattern):

@@ -124,7 +124,7 @@ class SessionRecord:
 
     def is_noted(self, request: bytes, answer: list[bytes]) -> bool:
         """Notes what a request brings; tells whether it is kept."""
-        found = item_of(request, self.number)
+        found = None if request.startswith(b"tick ") else item_of(request, self.number)
         if found is None:
             self.brought.append(Brought(0, TICKS, int(request[5:]), True))
             return True

@@ -1,4 +1,5 @@
-"""The tables of a cabinet, as its scenario tells them: a standard table, its cells, and the downloads that were accepted.
+"""The tables of a cabinet, as its scenario tells them: a standard table, its cells, and the downloads that were
+accepted.
 
 Tables, rows and columns are those of docs/SCENARIO.md.
 """
@@ -83,7 +84,8 @@ class Tables:
         return self.phase(phase, 8) + self.phase(phase, 9)
 
     def side(self, phase):
-        """Returns the phases of a phase's side of the barrier: those concurrent with it, and those that share one with it."""
+        """Returns the phases of a phase's side of the barrier: those concurrent with it, and those that share one with
+        it."""
         enabled = set(self.enabled())
         near = enabled & set(self.phase(phase, 23))
         return {it for it in enabled if it == phase or it in near or near & set(self.phase(it, 23))}

@@ -11,7 +11,7 @@ import sys
 from collections.abc import Awaitable, Callable
 from typing import Any
 
-from ..shared import commandline
+from ..shared import saying
 from ..shared.program import NoProgram, answering
 from ..shared.status import Status
 from . import ports, words
@@ -28,7 +28,7 @@ USUAL = {"version": 1, "rounds": 1, "ticks": 10, "cabinets": [{}]}
 
 def say(told: object) -> None:
     """Tells something on standard error."""
-    commandline.say("street", told)
+    saying.say("street", told)
 
 
 class NoPanel(Exception):

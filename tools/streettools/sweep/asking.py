@@ -2,7 +2,7 @@
 
 import sys
 
-from .faults import Fault
+from ..shared.fault import Fault
 
 MANY = 100_000
 

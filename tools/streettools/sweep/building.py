@@ -2,15 +2,16 @@
 
 import copy
 import functools
+import hashlib
 import json
 import subprocess
 from dataclasses import dataclass
 from pathlib import Path
 from typing import Any
 
+from ..shared.fault import Fault
 from . import drawn, queued
 from .drawn import Drawn
-from .faults import Fault
 from .queued import Queued
 from .sensed import Stream, streams_of
 from .study import Base, BaseKind, Fetch, Street, Study, street_of
@@ -32,6 +33,10 @@ class Built:
     street: Street | None
     drawn: Drawn | None = None
     queued: Queued | None = None
+
+    def name(self) -> str:
+        """Returns what tells this scenario from others: the first 16 digits of the SHA-256 of its text."""
+        return hashlib.sha256(self.text).hexdigest()[:16]
 
     def streams(self) -> list[Stream]:
         """Returns all inputs by cabinet and phase."""

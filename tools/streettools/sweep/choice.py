@@ -6,9 +6,9 @@ from collections.abc import Iterable
 from dataclasses import dataclass
 from typing import Any
 
+from ..shared.fault import Fault
 from . import measures
 from .counts import RunCounts
-from .faults import Fault
 from .measures import Measure, Scope, Value
 
 FORM = re.compile(r"(\w+)(?: cabinet (\d+))?(?: phase (\d+))?(?: each (cabinet|phase))?")

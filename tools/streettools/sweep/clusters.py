@@ -10,8 +10,8 @@ from dataclasses import dataclass
 from multiprocessing import resource_tracker
 from typing import Any
 
+from ..shared.fault import Fault
 from ..shared.status import Status
-from .faults import Fault
 
 PACKAGES = "python3-dask python3-distributed"
 ANSWER = 15
@@ -22,6 +22,14 @@ SETTINGS = {
     "distributed.scheduler.allowed-failures": 3,
     "distributed.worker.memory.terminate": 0.95,
     "distributed.worker.profile.enabled": False,
+    # what Dask looks after in itself, and how often: with its own times four workers at rest took a tenth of a
+    # processor
+    "distributed.admin.tick.interval": "1s",
+    "distributed.admin.system-monitor.interval": "5s",
+    "distributed.worker.memory.monitor-interval": "500ms",
+    "distributed.scheduler.work-stealing-interval": "1s",
+    "distributed.client.scheduler-info-interval": "5s",
+    "distributed.scheduler.active-memory-manager.start": False,
     "distributed.nanny.pre-spawn-environ": {"MALLOC_TRIM_THRESHOLD_": 65536, "OMP_NUM_THREADS": 1},
 }
 
@@ -47,7 +55,8 @@ def quiet() -> None:
 
 @contextlib.contextmanager
 def without_interrupts() -> Iterator[None]:
-    """Lets threads and processes start that take no Ctrl-C: the sweep alone does, once they have started, and ends them."""
+    """Lets threads and processes start that take no Ctrl-C: the sweep alone does, once they have started, and ends
+    them."""
     resource_tracker.ensure_running()
     signal.pthread_sigmask(signal.SIG_BLOCK, [signal.SIGINT])
     try:

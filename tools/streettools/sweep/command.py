@@ -10,12 +10,12 @@ from dataclasses import dataclass
 from pathlib import Path
 from typing import Any
 
-from ..shared.commandline import say
+from ..shared.fault import Fault
 from ..shared.program import NoProgram, found
 from ..shared.progress import bar
+from ..shared.saying import say
 from ..shared.status import Status
 from . import asking, clusters, measures, slurm, table
-from .faults import Fault
 from .files import Files, study_file
 from .journal import Journal
 from .one_run import Outcome
@@ -81,7 +81,7 @@ def run(words: argparse.Namespace, sweep: Sweep, journal: Journal) -> int:
         try:
             task = {"study": sweep.document, "files": sweep.files.read, "check": words.check, "seconds": words.seconds}
             engine.carry(task, modules(), sweep.ready.builder.program)
-            engine.run(sweep.pending(journal))
+            engine.run(sweep.pending(journal), total - before)
         finally:
             engine.end()
             if shown is not None:
@@ -115,7 +115,8 @@ def sweep_over(words: argparse.Namespace) -> int:
         except KeyboardInterrupt:
             say(
                 "sweep",
-                f"interrupted: {sweep.done(journal):,} of {sweep.ready.variants.count():,} runs are kept in {path}; --resume goes on",
+                f"interrupted: {sweep.done(journal):,} of {sweep.ready.variants.count():,} runs are kept in {path}; "
+                "--resume goes on",
             )
             return Status.INTERRUPTED
         outcomes, first = Counter(), {}
@@ -195,6 +196,7 @@ def main(given: list[str]) -> int:
     except ModuleNotFoundError as fault:
         say(
             "sweep",
-            f"Python's package {fault.name} is missing: apt-get install {clusters.PACKAGES} python3-matplotlib python3-pandas",
+            f"Python's package {fault.name} is missing: apt-get install {clusters.PACKAGES} python3-matplotlib "
+            "python3-pandas",
         )
         return Status.FILE

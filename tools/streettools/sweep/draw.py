@@ -3,8 +3,8 @@
 import argparse
 from pathlib import Path
 
+from ..shared.fault import Fault
 from ..shared.status import Status
-from .faults import Fault
 
 EXAMPLES = """\
 examples:

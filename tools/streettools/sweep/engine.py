@@ -8,22 +8,26 @@ import math
 import queue
 import secrets
 import signal
+import sys
 import time
 from collections.abc import Callable, Iterator
 from dataclasses import dataclass
 from pathlib import Path
 from typing import Any
 
-from ..shared.commandline import say
+from ..shared.fault import Fault
+from ..shared.saying import say
 from ..shared.status import Status
 from .clusters import Cluster
-from .faults import Fault
 from .journal import Journal
 from .one_run import Outcome
 from .prepared import Keys
 
-AIM, MOST = 0.5, 64
-"""A batch is to take so many seconds, and has at most so many runs."""
+AIM, MOST = 5.0, 64
+"""A batch is to take so many seconds, and has at most so many runs: to send one out and to take what came of it costs
+Dask's processes some 20 ms on a busy machine."""
+SHARES = 2
+"""Of what is left a batch has at most this part of a worker's share, so that all workers end at about the same time."""
 PATIENCE, PATIENCE_ALONE = 5.0, 30.0
 """So many seconds pass before it is looked whether anybody still works, and before it is told that nobody does."""
 
@@ -68,6 +72,8 @@ class Engine:
         self.over: queue.SimpleQueue[Any] = queue.SimpleQueue()
         """Batches that are over, and None for a Ctrl-C."""
         self.size, self.threads, self.looked = 1, 1, 0.0
+        self.left = sys.maxsize
+        """So many runs haven't been sent out."""
         self.alone: float | None = None
 
     def carry(self, task: dict[str, Any], modules: dict[str, str], program: Path) -> None:
@@ -92,9 +98,10 @@ class Engine:
         except Exception as fault:
             raise Fault(f"a worker can't take up the sweep: {fault}", Status.FILE) from None
 
-    def run(self, pending: Iterator[tuple[int, str]]) -> None:
-        """Runs the variants with these numbers and keys. A Ctrl-C ends it between two batches, so that each one that
-        was taken is written whole."""
+    def run(self, pending: Iterator[tuple[int, str]], left: int = sys.maxsize) -> None:
+        """Runs the variants with these numbers and keys, of which there are so many. A Ctrl-C ends it between two
+        batches, so that each one that was taken is written whole."""
+        self.left = left
         with interrupts_told(lambda: self.over.put(None)):
             self.run_all(pending)
 
@@ -117,7 +124,10 @@ class Engine:
 
     def batch(self, pending: Iterator[tuple[int, str]]) -> list[tuple[int, str]]:
         """Returns the next variants to send, none at the end."""
-        return list(itertools.islice(pending, self.size))
+        share = self.left // (SHARES * max(1, self.threads))
+        found = list(itertools.islice(pending, max(1, min(self.size, share))))
+        self.left -= len(found)
+        return found
 
     def send(self, batch: list[tuple[int, str]]) -> None:
         """Sends variants to some worker."""
@@ -133,8 +143,8 @@ class Engine:
         future.add_done_callback(self.over.put)
 
     def take(self, future: Any, job: Job) -> None:
-        """Takes what came of a batch. One whose result was lost with its worker is waited for again; one that killed its
-        worker over and over is taken apart, to find the run that does it."""
+        """Takes what came of a batch. One whose result was lost with its worker is waited for again; one that killed
+        its worker over and over is taken apart, to find the run that does it."""
         from distributed.scheduler import KilledWorker
 
         status = future.status

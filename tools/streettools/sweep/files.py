@@ -4,8 +4,8 @@ import tomllib
 from pathlib import Path
 from typing import Any
 
+from ..shared.fault import Fault
 from ..shared.status import Status
-from .faults import Fault
 
 
 def study_file(path: Path) -> dict[str, Any]:

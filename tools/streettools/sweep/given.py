@@ -4,7 +4,7 @@ import difflib
 from collections.abc import Callable
 from typing import Any
 
-from .faults import Fault
+from ..shared.fault import Fault
 
 NUMBER = (int, float)
 KINDS = {

@@ -1,7 +1,7 @@
 #!/bin/sh
-# The batch job of `./arterial sweep --slurm`: a scheduler of Dask in the first task, a worker with one thread in each other.
-# `sweep` gives the number of tasks, the file of the output, and SWEEP_FILE, by which the scheduler tells its address. A copy with the
-# account, the partition and the time of a site goes by --template.
+# The batch job of `./arterial sweep --slurm`: a scheduler of Dask in the first task, a worker with one thread in each
+# other. `sweep` gives the number of tasks, the file of the output, and SWEEP_FILE, by which the scheduler tells its
+# address. A copy with the account, the partition and the time of a site goes by --template.
 #SBATCH --job-name=arterial-sweep
 #SBATCH --cpus-per-task=1
 #SBATCH --mem-per-cpu=1G

@@ -8,8 +8,8 @@ from collections.abc import Iterable
 from pathlib import Path
 from typing import Any, Self
 
+from ..shared.fault import Fault
 from ..shared.status import Status
-from .faults import Fault
 from .one_run import Outcome
 
 HEAD = b'{"sweep":1}\n'

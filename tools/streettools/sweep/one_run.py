@@ -1,7 +1,6 @@
 """One run: a variant's scenario through the program, and its measures."""
 
 import enum
-import hashlib
 import io
 import os
 import subprocess
@@ -12,13 +11,13 @@ from typing import Any, BinaryIO
 
 from ..cosim.movements import Count
 from ..shared.course import Course
+from ..shared.fault import Fault
 from ..shared.lines import NotATrace
 from ..shared.status import Status
 from . import bands, queued, sights
 from .building import Builder, Built
 from .choice import Column
 from .counts import RunCounts, StreetCounts
-from .faults import Fault
 from .measures import Scope
 from .needs import Needs
 from .own import Own
@@ -99,7 +98,7 @@ class Runner:
         name = None
         try:
             built = self.made(variant)
-            name = hashlib.sha256(built.text).hexdigest()[:16]
+            name = built.name()
             if built.queued:
                 return [Outcome.DONE.value, None, name, *self.queued(built)]
             with kept(built.text) as given, kept() as trace:

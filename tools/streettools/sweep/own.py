@@ -4,7 +4,7 @@ from collections.abc import Callable
 from dataclasses import dataclass
 from typing import Any
 
-from .faults import Fault
+from ..shared.fault import Fault
 from .given import Given
 
 

@@ -2,8 +2,8 @@
 
 from typing import Any
 
+from ..shared.fault import Fault
 from ..shared.pictures import FAINT, INK, STYLE, plt, save
-from .faults import Fault
 from .results import Results, in_order
 
 COLOURS = ("#1c7ed6", "#e8590c", "#2f9e53", "#862e9c", "#c2255c", "#5f3dc4", "#846358", "#495057")

@@ -6,11 +6,11 @@ from dataclasses import dataclass
 from pathlib import Path
 from typing import Any
 
+from ..shared.fault import Fault
 from ..shared.tables import Tables
 from . import choice
 from .building import Builder
 from .choice import Column
-from .faults import Fault
 from .one_run import Runner
 from .study import Fetch, Study, study_of
 from .values import Kind, Option

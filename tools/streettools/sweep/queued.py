@@ -12,7 +12,7 @@ from typing import Any
 from ..cosim import movements, queues_study
 from ..cosim.movements import Count
 from ..cosim.queues_volumes import Volumes, volumes_of
-from .faults import Fault
+from ..shared.fault import Fault
 from .given import NUMBER, Given
 
 STEPS = (1, 2, 5, 10)

@@ -7,8 +7,8 @@ from dataclasses import dataclass
 from pathlib import Path
 from typing import Any
 
+from ..shared.fault import Fault
 from ..shared.status import Status
-from .faults import Fault
 from .one_run import Outcome
 
 

@@ -8,10 +8,10 @@ import time
 from collections.abc import Iterator
 from pathlib import Path
 
-from ..shared.commandline import say
+from ..shared.fault import Fault
+from ..shared.saying import say
 from ..shared.status import Status
 from . import clusters
-from .faults import Fault
 
 TEMPLATE = Path(__file__).with_name("job.sbatch")
 STATES_OF_THE_END = {"FAILED", "CANCELLED", "COMPLETED", "TIMEOUT", "NODE_FAIL", "OUT_OF_MEMORY", "BOOT_FAIL"}
@@ -32,7 +32,8 @@ def waited(job: str, file: Path) -> None:
         state = asked(["squeue", "--noheader", "--states=all", "--format=%T", f"--jobs={job}"])
         if state in STATES_OF_THE_END or not state:
             raise Fault(
-                f"Slurm's job {job} ended before the scheduler was there ({state or 'gone'}): its output stands in {file.parent}",
+                f"Slurm's job {job} ended before the scheduler was there ({state or 'gone'}): its output stands in "
+                f"{file.parent}",
                 Status.FILE,
             )
         if time.monotonic() > told:

@@ -5,9 +5,9 @@ from collections.abc import Callable
 from dataclasses import dataclass, field
 from typing import Any
 
+from ..shared.fault import Fault
 from . import choice, drawn, queued
 from .choice import Column
-from .faults import Fault
 from .given import NUMBER, Given
 from .measures import Scope
 from .own import Own, own_of

@@ -8,8 +8,8 @@ from pathlib import Path
 from typing import Any
 
 from ..shared import files
+from ..shared.fault import Fault
 from ..shared.status import Status
-from .faults import Fault
 
 CHUNK = 10_000
 

@@ -5,7 +5,7 @@ import re
 from dataclasses import dataclass
 from typing import Any
 
-from .faults import Fault
+from ..shared.fault import Fault
 from .given import NUMBER, Given
 
 STEP = re.compile(r"([a-z_]+)|\[(\d+)\]")

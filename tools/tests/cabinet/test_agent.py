@@ -13,7 +13,8 @@ from streettools.shared.program import trace_of
 
 from .conftest import ASC, CLOCK, CONTROL, MODEL, OWN, PROGRAM, SECONDS, TOP, VERSION
 
-COUNTER, TARGET, MODE, OUTCOME, REQUEST = (*OWN, 2, 2, 0), (*OWN, 2, 3, 0), (*OWN, 2, 4, 0), (*OWN, 1, 7, 0), (*OWN, 4, 3, 1, 2)
+COUNTER, TARGET, MODE = (*OWN, 2, 2, 0), (*OWN, 2, 3, 0), (*OWN, 2, 4, 0)
+OUTCOME, REQUEST = (*OWN, 1, 7, 0), (*OWN, 4, 3, 1, 2)
 GETS = [COUNTER, TARGET, MODE, OUTCOME, REQUEST, CLOCK, VERSION, (*ASC, 1, 4, 1, 4, 1), (*ASC, 4, 10, 0)]
 
 
@@ -28,7 +29,8 @@ def value_in(reply):
 
 
 def drawn(dice, number, community=b"public"):
-    """Returns a message of some kind: a Get, a GetNext, a Set that is good or bad, a step of a download, or a damaged one."""
+    """Returns a message of some kind: a Get, a GetNext, a Set that is good or bad, a step of a download, or a damaged
+    one."""
     download = (*OWN, 1, 3, 0), 1 + number // 12
     orders = [
         [(CONTROL, dice.choice([0, 1, 254, 255, 48]))],
@@ -50,7 +52,10 @@ def drawn(dice, number, community=b"public"):
 
 def replies_due(program, scenario, cabinet, datagrams, ticks):
     """Returns what one run answers to the datagrams: of each round of some ticks the last reply of the third pass."""
-    frames = [{"round": ticks * at + 1, "cabinet": cabinet, "stream": "priority", "hex": it.hex()} for at, it in enumerate(datagrams)]
+    frames = [
+        {"round": ticks * at + 1, "cabinet": cabinet, "stream": "priority", "hex": it.hex()}
+        for at, it in enumerate(datagrams)
+    ]
     rounds = max(scenario["rounds"], frames[-1]["round"])
     whole = scenario | {"rounds": rounds, "frames": scenario.get("frames", []) + frames}
     found, round = {}, 0
@@ -70,7 +75,9 @@ def test_an_answer_is_that_of_the_run_of_all_that_came(program, client, tmp_path
     scenario = json.loads(file.read_text())
     datagrams = [drawn(dice, number, scenario.get("community", "public").encode()) for number in range(60)]
     due = replies_due(program, scenario, cabinet, datagrams, 2)
-    agent = client("--scenario", file, "--cabinet", cabinet, "--step", 2 * scenario["ticks"], "--record", tmp_path / "all.json")
+    agent = client(
+        "--scenario", file, "--cabinet", cabinet, "--step", 2 * scenario["ticks"], "--record", tmp_path / "all.json"
+    )
     answers = []
     for datagram, reply in zip(datagrams, due):
         if reply == "-":
@@ -188,7 +195,9 @@ def test_what_is_wrong_is_told(program, tmp_path):
     scenario = tmp_path / "given.json"
     scenario.write_text('{"version":1,"rounds":1,"ticks":10,"cabinets":[{}],"speed":45}')
     assert refused(program, "--scenario", scenario) == (2, "cabinet: scenario: field speed")
-    assert refused(program, "--scenario", tmp_path / "none.json") == (1, f"cabinet: {tmp_path / 'none.json'}: No such file or directory")
+    assert refused(program, "--scenario", tmp_path / "none.json") == (
+        1, f"cabinet: {tmp_path / 'none.json'}: No such file or directory"
+    )
     assert refused(program, "--cabinet", 2) == (2, "cabinet: the scenario has no cabinet 2")
     assert refused(program, "--cabinet", 65)[0] == 2
     assert refused(tmp_path / "none") == (125, f"cabinet: no program at {tmp_path / 'none'}")

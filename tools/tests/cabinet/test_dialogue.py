@@ -40,7 +40,9 @@ def test_the_page_says_what_the_agent_answers(client, tools):
     assert agent.port
     lines = [f"{command}\necho '{END}'" for command, _ in commands]
     script = "\n".join(lines).replace(":10161", f":{agent.port}")
-    ran = subprocess.run(["sh"], input=script, cwd=TOP, stdout=subprocess.PIPE, stderr=subprocess.STDOUT, text=True, timeout=10 * SECONDS)
+    ran = subprocess.run(
+        ["sh"], input=script, cwd=TOP, stdout=subprocess.PIPE, stderr=subprocess.STDOUT, text=True, timeout=10 * SECONDS
+    )
     shown = [text.split() for text in ran.stdout.split(END)]
     assert shown == [" ".join(due).split() for _, due in commands] + [[]]
     assert len(commands) > 12

@@ -44,9 +44,12 @@ class Tried:
             (self.top / f"crates/{name}/src/lib.rt").write_text("// nothing\n")
         (self.top / "crates/arterial/stdin").write_text("")
         (self.top / "crates/arterial/src/main.rt").write_text("fn main() {}\n")
-        (self.top / "crates/arterial/src/reporting.rt").write_text('const USAGE: &str = "usage: arterial run | check\\n";\n')
+        (self.top / "crates/arterial/src/reporting.rt").write_text(
+            'const USAGE: &str = "usage: arterial run | check\\n";\n'
+        )
         (self.top / "crates/station/src/help.rt").write_text(
-            'pub const HELP: &str = "\\\nthe help\n\n  arterial run [--workers N]\n      Runs.\n  arterial check\n      Checks.\n\nThe end.\n";\n'
+            'pub const HELP: &str = "\\\nthe help\n\n  arterial run [--workers N]\n      Runs.\n  arterial check\n    '
+            '  Checks.\n\nThe end.\n";\n'
             'pub const VERSION: &str = "arterial 0\\n";\n'
         )
         self.program = self.top / "crates/arterial/out/arterial"

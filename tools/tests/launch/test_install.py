@@ -40,7 +40,9 @@ def test_all_stands_where_a_unix_user_looks_for_it(whole, tmp_path):
     ):
         assert (to / "share" / name).is_file()
     for file in (it for it in (TOP / "scenarios").rglob("*") if it.is_file()):
-        assert (to / "share/doc/arterial/examples" / file.relative_to(TOP / "scenarios")).read_bytes() == file.read_bytes()
+        assert (
+            to / "share/doc/arterial/examples" / file.relative_to(TOP / "scenarios")
+        ).read_bytes() == file.read_bytes()
     assert not list(to.rglob("__pycache__")) and not list(to.rglob("tests"))
 
 

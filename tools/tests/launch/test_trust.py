@@ -102,6 +102,31 @@ def test_with_other_sources_the_program_without_proofs_answers(proved, name):
     )
 
 
+@pytest.mark.parametrize("name", ["crates/io_edge/src/lib.rt", "crates.txt", "HANDLES", "crates/arterial/src/main.rt"])
+def test_a_change_whose_time_was_set_back_is_seen(proved, name):
+    time.sleep(1.1)
+    proved.ran("run")
+    file = proved.top / name
+    was = file.stat()
+    with open(file, "r+b") as it:
+        it.write(b"?")
+    os.utime(file, ns=(was.st_atime_ns, was.st_mtime_ns))
+    assert file.stat().st_size == was.st_size and file.stat().st_mtime_ns == was.st_mtime_ns
+    assert f"{name} has changed" in proved.ran("run")[2]
+
+
+def test_the_last_of_the_names_is_looked_at_too(proved):
+    names = (proved.program.parent / "proved/names").read_bytes().split(b"\0")[:-1]
+    sums = (proved.program.parent / "proved/sums").read_text().splitlines()
+    assert set(names) >= {line.split("  ", 1)[1].encode() for line in sums} and len(set(names)) == len(names)
+    last = [name for name in names if (proved.top / os.fsdecode(name)).is_file()][-1]
+    time.sleep(1.1)
+    proved.ran("run")
+    with open(proved.top / os.fsdecode(last), "a") as it:
+        it.write("// more\n")
+    assert f"{os.fsdecode(last)} has changed" in proved.ran("run")[2]
+
+
 def test_a_source_that_is_gone_is_a_change(proved):
     (proved.top / "crates/io_edge/src/lib.rt").unlink()
     assert "crates/io_edge/src/lib.rt has changed" in proved.ran("run")[2]

@@ -12,7 +12,10 @@ import pytest
 
 from .conftest import BUILT, HERE, SECONDS, Tried, ended, interrupt, wait_for
 
-FIRST = "arterial: there is no proved program here yet: the program without its proofs answers, in about a minute (./arterial prove or ./test proves it here)\n"
+FIRST = (
+    "arterial: there is no proved program here yet: the program without its proofs answers, in about a minute "
+    "(./arterial prove or ./test proves it here)\n"
+)
 
 
 def test_the_answer_and_its_status_are_the_programs_and_one_line_says_of_what_kind_it_is(tried):

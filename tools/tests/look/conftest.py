@@ -15,8 +15,8 @@ SVG = "{http://www.w3.org/2000/svg}"
 sys.dont_write_bytecode = True
 
 VECTORS = [HERE / "traces" / f"{name}.trace" for name in ("coord-003", "preempt-002", "link-003", "mixed")]
-"""Complete traces that an independent program wrote: patterns; preempts; two cabinets with downloads, flash and priority; and journals in
-which inputs, frames and ticks come in any order."""
+"""Complete traces that an independent program wrote: patterns; preempts; two cabinets with downloads, flash and
+priority; and journals in which inputs, frames and ticks come in any order."""
 
 STREET = HERE / "traces/street.trace"
 
@@ -50,7 +50,8 @@ Z 7
 """The first example of docs/SCENARIO.md: a car on the side street."""
 
 PAIR = """\
-S {"cabinets":[{"clock":840,"pattern":1},{"cells":[["pattern",1,3,10]],"clock":840,"pattern":1}],"rounds":4,"ticks":600,"version":1}
+S {"cabinets":[{"clock":840,"pattern":1},{"cells":[["pattern",1,3,10]],"clock":840,"pattern":1}],\
+"rounds":4,"ticks":600,"version":1}
 F 1 0 RRRRRRRRRRRRRRRR DDDDDDDDDDDDDDDD S 0 0 0
 F 2 0 RRRRRRRRRRRRRRRR DDDDDDDDDDDDDDDD S 0 0 0
 R 1
@@ -73,7 +74,8 @@ J 2 4*600
 F 2 1960 RGRRRGRRRRRRRRRR DDDDDDDDDDDDDDDD C1 0 0 0
 Z 4
 """
-"""Two cabinets in step with pattern 1 and no traffic, the second with an offset of 10 s, which it brings about in its first cycle."""
+"""Two cabinets in step with pattern 1 and no traffic, the second with an offset of 10 s, which it brings about in its
+first cycle."""
 
 
 NO_PROGRAM = {**os.environ, "ARTERIAL_PROGRAM": "/nowhere"}

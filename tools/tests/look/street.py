@@ -2,8 +2,8 @@
 
     /usr/bin/python3 tools/tests/look/street.py > tools/tests/look/traces/street.trace
 
-Each cabinet runs pattern 1 (cycle 90 s, 15 s for odd and 30 s for even phases, 2 and 6 coordinated) with an offset of its
-own, and brings it about by dwell: at each local zero its counter stands at 0 for at most 100 ticks. Every phase is
+Each cabinet runs pattern 1 (cycle 90 s, 15 s for odd and 30 s for even phases, 2 and 6 coordinated) with an offset of
+its own, and brings it about by dwell: at each local zero its counter stands at 0 for at most 100 ticks. Every phase is
 recalled to its maximum, so each but 2 and 6 begins as the clearance before it ends, and ends at its force point. The
 moments below, in ticks from local zero, are those of the plan: a slot's end less yellow change and red clearance.
 """
@@ -36,7 +36,9 @@ def frames(cabinet, offset):
 
 def trace():
     """Yields the lines of the trace."""
-    cabinets = ",".join('{"base":"max8","cells":[["pattern",1,3,%d]],"clock":%d,"pattern":1}' % (it, CLOCK) for it in OFFSETS)
+    cabinets = ",".join(
+        '{"base":"max8","cells":[["pattern",1,3,%d]],"clock":%d,"pattern":1}' % (it, CLOCK) for it in OFFSETS
+    )
     yield 'S {"cabinets":[%s],"rounds":%d,"ticks":%d,"version":1}' % (cabinets, ROUNDS, TICKS)
     shown = [list(frames(number, offset)) for number, offset in enumerate(OFFSETS, 1)]
     yield from (frames[0][1] for frames in shown)

@@ -73,7 +73,9 @@ def test_a_text_that_cannot_be_read_is_refused_by_the_check_first(stand_in):
 
 def test_the_program_of_a_checkout_is_found_as_the_check_runs(tmp_path, monkeypatch):
     monkeypatch.delenv("ARTERIAL_PROGRAM", raising=False)
-    for text, due in (("echo /bin/echo", (0, "check\n")), ("exit 123", (125, "")), ("echo no >&2; exit 125", (125, ""))):
+    for text, due in (
+        ("echo /bin/echo", (0, "check\n")), ("exit 123", (125, "")), ("echo no >&2; exit 125", (125, ""))
+    ):
         finder = tmp_path / "finder"
         finder.write_text(f"#!/bin/sh\n{text}\n")
         finder.chmod(0o755)

@@ -58,7 +58,9 @@ def test_pandas_reads_the_durations_of_greens(look, path):
     found = []
     for (cabinet, phase), rows in log[log.EventId.isin([1, 7])].groupby(["DeviceId", "Parameter"]):
         assert list(rows.EventId) == [1, 7] * (len(rows) // 2) + [1] * (len(rows) % 2)
-        found += zip([cabinet] * len(rows), [phase] * len(rows), rows.Tick[rows.EventId == 1], rows.Tick[rows.EventId == 7])
+        found += zip(
+            [cabinet] * len(rows), [phase] * len(rows), rows.Tick[rows.EventId == 1], rows.Tick[rows.EventId == 7]
+        )
     assert sorted(found) == greens(path)
 
 
@@ -83,8 +85,12 @@ def test_patterns_and_local_zeros(look):
 def test_preempts_and_priority(look):
     log = logged(look, VECTORS[1])
     found = log[log.EventId.between(101, 111) & (log.TimeStamp < "2026-11-27 06:01:50")]
-    rows = [(str(time)[14:21], code, number) for time, code, number in zip(found.TimeStamp, found.EventId, found.Parameter)]
+    rows = [
+        (str(time)[14:21], code, number) for time, code, number in zip(found.TimeStamp, found.EventId, found.Parameter)
+    ]
     entries = [row for row in rows if row[1] in (105, 106, 107, 111)]
-    assert entries == [("01:24.1", 105, 8), ("01:30.1", 105, 2), ("01:30.8", 106, 2), ("01:31.8", 107, 2), ("01:48.1", 111, 2)]
+    assert entries == [
+        ("01:24.1", 105, 8), ("01:30.1", 105, 2), ("01:30.8", 106, 2), ("01:31.8", 107, 2), ("01:48.1", 111, 2)
+    ]
     log = logged(look, VECTORS[2])
     assert list(log[(log.DeviceId == 1) & log.EventId.isin([112, 115])].EventId).count(112) == 3

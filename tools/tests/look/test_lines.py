@@ -16,7 +16,8 @@ GOOD = [
     b"J 1 0*2 4*60 0*1\n", b"L 1 2 accepted 1\n", b"L 1 2 refused 21 65535\n", b"A 1 3 -\n", b"A 1 1 30ff\n", b"Z 7\n",
 ]  # fmt: skip
 BAD = [
-    b"", b"R 12", b"R 012\n", b"R 4294967296\n", b"R 1 \n", b"r 1\n", b"M 1 pattern 256\n", b"M 1 load 3 refused -0 2\n",
+    b"", b"R 12", b"R 012\n", b"R 4294967296\n", b"R 1 \n", b"r 1\n", b"M 1 pattern 256\n",
+    b"M 1 load 3 refused -0 2\n",
     b"F 1 60 RGYC DWFD F 0 0 0\n", b"F 1 60 RGYCRRRRRRRRRRRR DWFDDDDDDDDDDDDD K256 0 0 1\n",
     b"F 1 60 RGYCRRRRRRRRRRRR DWFDDDDDDDDDDDDD P1 0 0 1\n", b"J 1\n", b"J 1 4*0\n", b"J 1 4*6 4*6\n", b"J 1 4*6  0*1\n",
     b"L 1 2 refused 256 1\n", b"A 1 1 3\n", b"A 1 1 3F\n", b"A 1 1 \n", b"Z 07\n",
@@ -52,9 +53,12 @@ def test_a_whole_trace_has_no_fault(path):
 def test_each_fault_is_found_at_its_line():
     assert fault(SMALL) is None
     changes = [
-        ("S {", "S [", 1), ('"ticks":60', '"tick":60', 1), ("F 1 0 ", "F 2 0 ", 2), ("R 1\n", "R 2\n", 3), ("J 1 4*60\nF", "J 2 4*60\nF", 4),
-        ("J 1 4*60\nF", "J 1 4*61\nF", 4), ("J 1 0*1 4*60", "J 1 4*60", 7), ("F 1 60 ", "F 1 61 ", 5), ("F 1 160 ", "F 1 0 ", 10),
-        ("F 1 200 ", "F 1 215 ", 14), ("Z 7\n", "Z 8\n", 24), ("Z 7\n", "Z 7", 24), ("Z 7\n", "", 24), ("Z 7\n", "Z 7\nZ 7\n", 25),
+        ("S {", "S [", 1), ('"ticks":60', '"tick":60', 1), ("F 1 0 ", "F 2 0 ", 2), ("R 1\n", "R 2\n", 3),
+        ("J 1 4*60\nF", "J 2 4*60\nF", 4),
+        ("J 1 4*60\nF", "J 1 4*61\nF", 4), ("J 1 0*1 4*60", "J 1 4*60", 7), ("F 1 60 ", "F 1 61 ", 5),
+        ("F 1 160 ", "F 1 0 ", 10),
+        ("F 1 200 ", "F 1 215 ", 14), ("Z 7\n", "Z 8\n", 24), ("Z 7\n", "Z 7", 24), ("Z 7\n", "", 24),
+        ("Z 7\n", "Z 7\nZ 7\n", 25),
         ("R 7\n", "A 1 1 -\nR 7\n", 21),
     ]  # fmt: skip
     found = [fault(SMALL.replace(old, new, 1)) for old, new, _ in changes]
@@ -99,7 +103,9 @@ def word(happening):
 
 def test_any_order_of_a_journal_has_its_ticks():
     with VECTORS[3].open("rb") as stream:
-        found = [it for it in Course(stream).happenings() if isinstance(it, (Frame, Input, Answered, Ended)) and it.tick]
+        found = [
+            it for it in Course(stream).happenings() if isinstance(it, (Frame, Input, Answered, Ended)) and it.tick
+        ]
     assert [word(it) for it in found] == MIXED.split()
 
 
@@ -116,7 +122,8 @@ def test_a_fault_is_told_and_writes_nothing_over_a_picture(tmp_path):
 
 
 def test_faulty_words_are_told():
-    for words in (["rings", "--cabinet", "2", "-o", "x.svg"], ["rings", "-o", "x.gif"], ["rings", "--from", "420", "-o", "x.svg"],
-                  ["coordination", "--travel", "5", "-o", "x.svg"], ["events"], []):  # fmt: skip
+    for words in (["rings", "--cabinet", "2", "-o", "x.svg"], ["rings", "-o", "x.gif"],
+                  ["rings", "--from", "420", "-o", "x.svg"], ["coordination", "--travel", "5", "-o", "x.svg"],
+                  ["events"], []):  # fmt: skip
         answer = run(*words, given=SMALL)
         assert (answer.returncode, answer.stdout) == (2, "") and answer.stderr

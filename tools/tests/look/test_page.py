@@ -1,5 +1,5 @@
-"""A page as a file: what is packed in it is the trace, it asks for nothing outside itself, its colours stay apart, and bad
-input is told as for the other pictures."""
+"""A page as a file: what is packed in it is the trace, it asks for nothing outside itself, its colours stay apart, and
+bad input is told as for the other pictures."""
 
 import base64
 import json
@@ -23,7 +23,9 @@ class Unpacked:
 
     def __init__(self, text):
         self.head = json.loads(re.search(r'<script id="head" type="application/json">(.*?)</script>', text, re.S)[1])
-        octets = zlib.decompress(base64.b64decode(re.search(r'<script id="data" type="text/plain">(.*?)</script>', text, re.S)[1]))
+        octets = zlib.decompress(
+            base64.b64decode(re.search(r'<script id="data" type="text/plain">(.*?)</script>', text, re.S)[1])
+        )
         self.columns = {}
         for table, fields in self.head["fields"].items():
             counts = self.head["counts"][table]
@@ -32,7 +34,8 @@ class Unpacked:
                 numbers, octets = self.numbers(octets[:size], field), octets[size:]
                 for place, count in enumerate(counts):
                     column, numbers = numbers[:count], numbers[count:]
-                    self.columns[place + 1, table, field] = list(accumulate(column)) if field == "tick" else list(column)
+                    values = accumulate(column) if field == "tick" else column
+                    self.columns[place + 1, table, field] = list(values)
         assert octets == b""
 
     @staticmethod
@@ -100,8 +103,14 @@ def test_notes_and_downloads_are_marks_with_the_words_of_their_lines(paged, path
             notes.append((int(words[1]), (turn - 1) * ticks, f"master notes: {words[2]}"))
     assert sorted(marks(page, "note")) == sorted(notes)
     ended = [(int(cabinet), rest.split(" ")) for kind, cabinet, *(rest,) in (it for it in lines if it[0] == "L")]
-    accepted = [(cabinet, f"download {it[0]} accepted, version {it[2]}") for cabinet, it in ended if it[1] == "accepted"]
-    refused = [(cabinet, f"download {it[0]} refused by rule {it[2]} in row {it[3]}") for cabinet, it in ended if it[1] == "refused"]
+    accepted = [
+        (cabinet, f"download {it[0]} accepted, version {it[2]}") for cabinet, it in ended if it[1] == "accepted"
+    ]
+    refused = [
+        (cabinet, f"download {it[0]} refused by rule {it[2]} in row {it[3]}")
+        for cabinet, it in ended
+        if it[1] == "refused"
+    ]
     assert sorted((it[0], it[2]) for it in marks(page, "accepted")) == sorted(accepted)
     assert sorted((it[0], it[2]) for it in marks(page, "refused") if it[2].startswith("download")) == sorted(refused)
 
@@ -116,8 +125,8 @@ def test_a_car_on_the_side_street_has_its_calls_barriers_and_ends_of_greens(page
 
 
 def test_local_zeros_are_late_or_early_as_the_clock_says(paged):
-    """Both clocks show 840 at tick 0. The second offset is 100 ticks: at tick 60 its target is 800 of 900, and dwell makes
-    the cycle begin 100 ticks later: it is early by 100, then met."""
+    """Both clocks show 840 at tick 0. The second offset is 100 ticks: at tick 60 its target is 800 of 900, and dwell
+    makes the cycle begin 100 ticks later: it is early by 100, then met."""
     page = paged(given=PAIR)
     names = page.head["fields"]["zeros"]
     zeros = [[dict(zip(names, row)) for row in page.rows(cabinet, "zeros")] for cabinet in (1, 2)]
@@ -177,7 +186,10 @@ def test_a_missing_library_is_named_with_what_installs_it(tmp_path, monkeypatch,
     trace = tmp_path / "trace"
     trace.write_text(SMALL)
     assert main(["page", "--no-check", "-o", str(tmp_path / "page.html"), str(trace)]) == 1
-    assert capsys.readouterr().err.endswith("d3.min.js): apt-get install node-d3\n") and not (tmp_path / "page.html").exists()
+    assert (
+        capsys.readouterr().err.endswith("d3.min.js): apt-get install node-d3\n")
+        and not (tmp_path / "page.html").exists()
+    )
 
 
 SIGHTS = {
@@ -185,7 +197,8 @@ SIGHTS = {
     "deuteranopia": ((0.367322, 0.860646, -0.227968), (0.280085, 0.672501, 0.047413), (-0.011820, 0.042940, 0.968881)),
     "tritanopia": ((1.255528, -0.076749, -0.178779), (-0.078411, 0.930809, 0.147602), (0.004733, 0.691367, 0.303900)),
 }
-"""How light is seen with a deficiency of full severity, by red, green and blue (Machado, Oliveira and Fernandes, 2009)."""
+"""How light is seen with a deficiency of full severity, by red, green and blue (Machado, Oliveira and Fernandes,
+2009)."""
 
 
 def lab(colour, sight):

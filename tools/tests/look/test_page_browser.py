@@ -1,5 +1,6 @@
-"""A page as a browser shows it, in a headless Chromium that is started and ended here: it opens, moves, finds, measures,
-and tells under the pointer what the lines of the trace say. Expected values come from the traces' own lines."""
+"""A page as a browser shows it, in a headless Chromium that is started and ended here: it opens, moves, finds,
+measures, and tells under the pointer what the lines of the trace say. Expected values come from the traces' own
+lines."""
 
 import base64
 import shutil
@@ -17,7 +18,14 @@ from selenium.webdriver.common.keys import Keys  # noqa: E402
 from streettools.look.page import writing  # noqa: E402
 
 CHROMIUM, DRIVER = shutil.which("chromium"), shutil.which("chromedriver")
-WORDS = ("--headless=new", "--no-sandbox", "--disable-gpu", "--disable-dev-shm-usage", "--window-size=1400,1000", "--hide-scrollbars")
+WORDS = (
+    "--headless=new",
+    "--no-sandbox",
+    "--disable-gpu",
+    "--disable-dev-shm-usage",
+    "--window-size=1400,1000",
+    "--hide-scrollbars",
+)
 pytestmark = [
     pytest.mark.skipif(not (CHROMIUM and DRIVER), reason="chromium or chromium-driver is not installed"),
     pytest.mark.skipif(not writing.LIBRARY.exists(), reason="node-d3 is not installed"),
@@ -69,7 +77,9 @@ class Shown:
 
     def settle(self):
         """Waits until the browser has drawn what changed."""
-        self.driver.execute_async_script("const done = arguments[0]; requestAnimationFrame(() => requestAnimationFrame(() => done()));")
+        self.driver.execute_async_script(
+            "const done = arguments[0]; requestAnimationFrame(() => requestAnimationFrame(() => done()));"
+        )
 
     def view(self):
         """Returns the ticks from which and to which is looked."""
@@ -190,7 +200,8 @@ def test_two_fingers_zoom(shown):
 def test_a_drag_moves_the_time(shown):
     page = shown(STREET, at="#from=1000&to=2000")
     area, width = page.area("rings"), page.run("return View.state.width")
-    ActionChains(page.driver, duration=0).move_to_element(area).click_and_hold().move_by_offset(-200, 0).release().perform()
+    hand = ActionChains(page.driver, duration=0).move_to_element(area)
+    hand.click_and_hold().move_by_offset(-200, 0).release().perform()
     low, high = page.view()
     assert low == pytest.approx(1000 + 200 * 1000 / width, abs=1.5) and high - low == pytest.approx(1000)
 
@@ -237,7 +248,10 @@ def test_a_search_for_refused_finds_notes_and_downloads_that_say_so(shown):
     assert int(page.text("hit").split(" ")[-1]) == len(hits)
     of_two = int(page.find("cabinet 2 refused").split(" ")[-1])
     assert of_two == sum("Cabinet 2" in it for it in hits) > 0
-    assert page.find("cabinet 2 nothing like it") == "nothing" and page.run("return document.getElementById('hits').hidden")
+    assert (
+        page.find("cabinet 2 nothing like it") == "nothing"
+        and page.run("return document.getElementById('hits').hidden")
+    )
 
 
 def test_a_search_goes_to_a_tick_and_to_a_time(shown):
@@ -277,7 +291,8 @@ def test_a_link_opens_the_same_view(shown):
     page.until(lambda: "find=pattern" in page.driver.current_url)
     again = Shown(page.driver, page.driver.current_url)
     assert again.run("return {...View.state}") == wanted
-    assert (wanted["from"], wanted["to"], wanted["cabinet"], wanted["street"], wanted["travel"]) == (6000, 7000, 3, [2, 3, 4], [200, 200])
+    found = [wanted[name] for name in ("from", "to", "cabinet", "street", "travel")]
+    assert found == [6000, 7000, 3, [2, 3, 4], [200, 200]]
     assert again.text("ruler").endswith("24.5 s, 245 ticks")
     again = Shown(page.driver, f"{page.address.split('#')[0]}#from=-5&to=x&cabinet=99&street=7&a=1e9")
     assert again.view() == [0, 9600] and again.run("return View.state.cabinet") == 1 and again.faults() == []
@@ -307,7 +322,10 @@ def test_shares_far_out_add_up_to_the_greens_of_the_trace(shown):
 
 def test_names_stand_beside_the_lanes(shown, tmp_path):
     names = tmp_path / "x.names.json"
-    names.write_text('{"title": "Main Street", "intersections": [{"name": "Main St & <b>Mill</b> Rd", "phases": {"4": {"name": "Mill Rd"}}}]}')
+    names.write_text(
+        '{"title": "Main Street", "intersections": [{"name": "Main St & <b>Mill</b> Rd", "phases": {"4": {"name": '
+        '"Mill Rd"}}}]}'
+    )
     page = shown("--names", names, given=SMALL)
     labels = page.run("return [...document.querySelectorAll('.labels text')].map(it => it.textContent)")
     assert labels[0] == "Main St & <b>Mill</b> Rd (cabinet 1)" and page.driver.title == "Main Street"

@@ -8,7 +8,9 @@ from .conftest import PAIR, SMALL, STREET, VECTORS, run
 def test_rings_of_a_car_on_the_side_street(drawn):
     found = drawn("rings", given=SMALL)
     for ring in (1, 2):
-        counts = [found.groups[f"ring-{ring}-{name}"] for name in ("green", "yellow", "red-clearance", "walk", "flashing")]
+        counts = [
+            found.groups[f"ring-{ring}-{name}"] for name in ("green", "yellow", "red-clearance", "walk", "flashing")
+        ]
         assert counts == [3, 2, 2, 0, 0]
     assert found.groups["barriers"] == 2 and found.groups["mode-free"] == 1
     assert [found.texts[it] for it in ("2", "4", "6", "8", "free", "ring 1")] == [2, 1, 2, 1, 1, 1]
@@ -62,9 +64,15 @@ def bands(tmp_path):
 
 
 def test_bands_of_a_plan_by_the_clock_of_the_street(drawn, bands):
-    """The clocks show 840 at tick 0, so that time 0 of a cycle of 900 is at ticks 60, 960 and 1860, and time 100 a hundred later."""
-    found = drawn("coordination", "--to", "2400", "--travel", "10", "--planned", bands("outbound 0 245 1 1", "inbound 100 45 2 1"), given=PAIR)
-    assert named(found, "outbound-planned-") == [60, 960, 1860] and named(found, "inbound-planned-") == [160, 1060, 1960]
+    """The clocks show 840 at tick 0, so that time 0 of a cycle of 900 is at ticks 60, 960 and 1860, and time 100 a
+    hundred later."""
+    found = drawn(
+        "coordination", "--to", "2400", "--travel", "10", "--planned",
+        bands("outbound 0 245 1 1", "inbound 100 45 2 1"), given=PAIR,
+    )
+    assert (
+        named(found, "outbound-planned-") == [60, 960, 1860] and named(found, "inbound-planned-") == [160, 1060, 1960]
+    )
     assert found.texts["outbound by the plan, 24.5 s"] == 1 and found.texts["inbound by the plan, 4.5 s"] == 1
 
 
@@ -109,7 +117,10 @@ def test_each_form_is_written_and_the_same_twice(look, tmp_path):
     for name in ("one.svg", "two.svg", "one.png", "one.pdf"):
         look("rings", "-o", tmp_path / name, given=SMALL)
     assert (tmp_path / "one.svg").read_bytes() == (tmp_path / "two.svg").read_bytes()
-    assert (tmp_path / "one.png").read_bytes().startswith(b"\x89PNG") and (tmp_path / "one.pdf").read_bytes().startswith(b"%PDF")
+    assert (
+        (tmp_path / "one.png").read_bytes().startswith(b"\x89PNG")
+        and (tmp_path / "one.pdf").read_bytes().startswith(b"%PDF")
+    )
 
 
 def test_the_committed_street_is_the_one_worked_out():

@@ -17,7 +17,13 @@ def reported(look, path=None, given=None):
 
 def test_a_car_on_the_side_street(look):
     (cabinet,) = reported(look, given=SMALL)["cabinets"]
-    main = {"services": 2, "green": {"least": 10.0, "mean": 10.0, "greatest": 10.0}, "ended": {"gap": 1}, "still_green": 1, "walks": 0}
+    main = {
+        "services": 2,
+        "green": {"least": 10.0, "mean": 10.0, "greatest": 10.0},
+        "ended": {"gap": 1},
+        "still_green": 1,
+        "walks": 0,
+    }
     side = {**main, "services": 1, "still_green": 0}
     assert cabinet["phases"] == [{"phase": 2, **main}, {"phase": 4, **side}, {"phase": 6, **main}, {"phase": 8, **side}]
     assert cabinet["modes"] == {"free": 36.0, "start-up": 6.0} and cabinet["patterns"] == []
@@ -31,13 +37,16 @@ def test_the_command_reads_standard_input_or_a_file(look, tmp_path):
 
 def test_a_street_comes_onto_its_offsets(look):
     cabinets = reported(look, STREET)["cabinets"]
-    found = [(it["patterns"][0]["cycles_to_the_offset"]["least"], it["patterns"][0]["on_the_offset"]) for it in cabinets]
+    found = [
+        (it["patterns"][0]["cycles_to_the_offset"]["least"], it["patterns"][0]["on_the_offset"]) for it in cabinets
+    ]
     assert found == [(0, 11), (2, 9), (4, 7), (6, 4)]
     assert [it["patterns"][0]["local_zeros"] for it in cabinets] == [11, 11, 11, 10]
     first = {it["phase"]: it for it in cabinets[0]["phases"]}
     assert first[2]["green"] == {"least": 24.5, "mean": 24.5, "greatest": 24.5} and first[2]["ended"] == {"yield": 11}
     assert first[3]["green"]["mean"] == 10.5 and first[3]["ended"] == {"force-off": 11}
-    assert {it["phase"]: it for it in cabinets[3]["phases"]}[2]["green"] == {"least": 24.5, "mean": 30.5, "greatest": 34.5}
+    phases = {it["phase"]: it for it in cabinets[3]["phases"]}
+    assert phases[2]["green"] == {"least": 24.5, "mean": 30.5, "greatest": 34.5}
 
 
 def test_what_a_master_notes_and_a_cabinet_answers(look):
@@ -74,7 +83,10 @@ def test_counts_are_those_of_the_lines(look, path):
         for place in range(16):
             begun = sum(one[2][place] != "G" == other[2][place] for one, other in pairs)
             walks = sum(one[3][place] != "W" == other[3][place] for one, other in pairs)
-            row = next((it for it in cabinet["phases"] if it["phase"] == place + 1), {"services": 0, "walks": 0, "still_green": 0})
+            row = next(
+                (it for it in cabinet["phases"] if it["phase"] == place + 1),
+                {"services": 0, "walks": 0, "still_green": 0},
+            )
             assert (row["services"], row["walks"], row["still_green"]) == (begun, walks, shown[-1][2][place] == "G")
             assert sum(row.get("ended", {}).values()) + row["still_green"] == begun
         assert sum(sum(way.values()) for way in cabinet["replies"].values()) == replies[cabinet["cabinet"]]

@@ -149,11 +149,18 @@ def wrong_cell(dice: random.Random) -> list:
     phase, number = dice.randint(1, 16), dice.randint(1, 48)
     phases = octets([dice.randint(0, 18) for _ in range(dice.randint(0, 3))])
     return dice.choice((
-        ["phase", phase, 22, dice.randint(0, 3)], ["phase", phase, 23, phases], ["phase", phase, 21, dice.choice((0, 1))],
-        ["phase", phase, 8, dice.randint(0, 40)], ["phase", phase, 10, dice.randint(0, 255)], ["phase", phase, 20, dice.randint(3, 4)],
-        ["phase", phase, 2, 0], ["phase", phase, 3, dice.randint(0, 60)], ["sequence", dice.randint(1, 16), dice.randint(1, 2), phases],
-        ["unit", 1, 1], ["unit", dice.randint(2, 4), dice.choice((0, 1, 500, 2550))], ["pattern", number, 2, dice.randint(0, 255)],
-        ["pattern", number, 3, dice.randint(0, 255)], ["pattern", number, 4, dice.randint(0, 40)], ["pattern", number, 5, dice.randint(0, 20)],
-        ["split", dice.randint(1, 32), phase, 3, dice.randint(0, 60)], ["split", dice.randint(1, 32), phase, 5, dice.randint(0, 1)],
-        ["split", dice.randint(1, 32), phase, 4, dice.choice((2, 7))], ["preempt", dice.randint(1, 8), dice.choice((12, 13, 15)), phases],
+        ["phase", phase, 22, dice.randint(0, 3)], ["phase", phase, 23, phases],
+        ["phase", phase, 21, dice.choice((0, 1))],
+        ["phase", phase, 8, dice.randint(0, 40)], ["phase", phase, 10, dice.randint(0, 255)],
+        ["phase", phase, 20, dice.randint(3, 4)],
+        ["phase", phase, 2, 0], ["phase", phase, 3, dice.randint(0, 60)],
+        ["sequence", dice.randint(1, 16), dice.randint(1, 2), phases],
+        ["unit", 1, 1], ["unit", dice.randint(2, 4), dice.choice((0, 1, 500, 2550))],
+        ["pattern", number, 2, dice.randint(0, 255)],
+        ["pattern", number, 3, dice.randint(0, 255)], ["pattern", number, 4, dice.randint(0, 40)],
+        ["pattern", number, 5, dice.randint(0, 20)],
+        ["split", dice.randint(1, 32), phase, 3, dice.randint(0, 60)],
+        ["split", dice.randint(1, 32), phase, 5, dice.randint(0, 1)],
+        ["split", dice.randint(1, 32), phase, 4, dice.choice((2, 7))],
+        ["preempt", dice.randint(1, 8), dice.choice((12, 13, 15)), phases],
     ))  # fmt: skip

@@ -52,7 +52,10 @@ def test_a_walk_over_a_controller_comes_in():
     assert tables.phase(9, 23) == (10,) and tables.split(1, 3, 3) == 20 and tables.sequence(2, 1) == (2, 1, 3, 4)
     assert [tables.unit(column) for column in (1, 5, 7)] == [3, 900, 2] and cabinet["pattern"] == 1
     assert street.bank == [
-        {"cabinet": 1, "detector": 3, "phase": 4, "delay": 3, "extend": 0, "no_activity": 0, "max_presence": 0, "erratic": 0}
+        {
+            "cabinet": 1, "detector": 3, "phase": 4, "delay": 3, "extend": 0, "no_activity": 0, "max_presence": 0,
+            "erratic": 0,
+        }
     ]  # fmt: skip
 
 
@@ -60,7 +63,8 @@ def test_objects_without_a_place_are_listed():
     """Phase 17, a delay of 601 s, an overlap, the system's name: each with its subject."""
     notes = "\n".join(walk.street_of([walk.read(WALK)], ["x"]).notes)
     for words in (
-        "no place for 1 of phaseTable: 1.3.6.1.4.1.1206.4.2.1.1.2.1.4.17", "no place for 1 of preemptTable (out of range)",
+        "no place for 1 of phaseTable: 1.3.6.1.4.1.1206.4.2.1.1.2.1.4.17",
+        "no place for 1 of preemptTable (out of range)",
         "no place for 1 of overlap", "no place for 1 of others: 1.3.6.1.2.1.1.1.0", "no place for 1 of maxPhases",
         "detector 3: delay of 2.5 s is taken as 3 s",
     ):  # fmt: skip
@@ -198,8 +202,8 @@ def test_the_commands_of_a_download_load_a_live_cabinet(program, tmp_path):
     if shutil.which("snmpset") is None:
         pytest.skip("no snmpset")
     old, new = tmp_path / "old.json", tmp_path / "new.json"
-    cells = [["phase", 2, 8, 43], ["sequence", 2, 1, "02010304"], ["sequence", 2, 2, "06050708"], ["pattern", 1, 3, 20], ["unit", 5, 900],
-             ["preempt", 1, 13, "0206"], ["split", 3, 5, 4, 4]]  # fmt: skip
+    cells = [["phase", 2, 8, 43], ["sequence", 2, 1, "02010304"], ["sequence", 2, 2, "06050708"], ["pattern", 1, 3, 20],
+             ["unit", 5, 900], ["preempt", 1, 13, "0206"], ["split", 3, 5, 4, 4]]  # fmt: skip
     old.write_text('{"version":1,"rounds":9,"ticks":10,"cabinets":[{}]}')
     new.write_text(json.dumps({"version": 1, "rounds": 9, "ticks": 10, "cabinets": [{"cells": cells}]}))
     with cabinet(program) as port:

@@ -200,7 +200,8 @@ def test_rings_that_change_need_flash():
 
 def test_the_sets_of_a_download_are_begin_parts_total_and_finish():
     """Cells by the names of their objects, 24 to a part, as docs/CLIENTS.md has the dialogue."""
-    load = {"round": 1, "cabinet": 1, "cells": [["phase", 2, 8, 43], ["sequence", 2, 1, "0201"], ["unit", 3, 60], *(["split", 2, it, 3, 20] for it in range(1, 17)),
+    load = {"round": 1, "cabinet": 1, "cells": [["phase", 2, 8, 43], ["sequence", 2, 1, "0201"], ["unit", 3, 60],
+            *(["split", 2, it, 3, 20] for it in range(1, 17)),
             *(["pattern", 2, it, 1] for it in (2, 3, 4, 5)), ["preempt", 1, 13, "0206"], ["unit", 1, 3]]}  # fmt: skip
     lines = list(loads.sets(load, 7, "127.0.0.1:10161", "public"))
     head, own, asc = "snmpset -v1 -c public 127.0.0.1:10161", "1.3.6.1.4.1.32473.1", "1.3.6.1.4.1.1206.4.2.1"

@@ -24,21 +24,34 @@ from .random_tables import cells_of, wrong_cell  # noqa: E402
 CASES = {
     1: (3, "[intersection.phase]\n3 = {ring = 4}", "phase 3 is enabled, but its ring is 4"),
     2: (2, "[intersection.phase]\n2 = {concurrent = [5, 6, 17]}", "phase 2 may be on beside 17, which is no phase"),
-    3: (1, "[intersection.phase]\n5 = {concurrent = [2]}", "phase 1 may be on beside phase 5, but not the other way round: 5 lists 2"),
+    3: (
+        1,
+        "[intersection.phase]\n5 = {concurrent = [2]}",
+        "phase 1 may be on beside phase 5, but not the other way round: 5 lists 2",
+    ),
     4: (
         1, "[intersection.phase]\n1 = {concurrent = [5, 6, 2]}\n2 = {concurrent = [5, 6, 1]}",
         "phase 1 and phase 2 are both in ring 1, which shows one phase at a time",
     ),
-    5: (3, "[intersection.phase]\n\"7 8\" = {enabled = false}", "no enabled phase may be on beside phase 3 (its list is 7 and 8)"),
+    5: (
+        3,
+        "[intersection.phase]\n\"7 8\" = {enabled = false}",
+        "no enabled phase may be on beside phase 3 (its list is 7 and 8)",
+    ),
     6: (
         1, "[intersection.phase]\n1 = {concurrent = [6]}\n5 = {concurrent = [2]}",
         "phase 1 may be on beside 6, and phase 2 of the same ring beside 5 and 6",
     ),
     7: (0, 'rings = ["1 2", "5 6"]', "phases 1, 2, 5 and 6 all stand on one side of the barrier"),
-    8: (1, '[intersection.sequence]\n1 = ["1 2 3", "5 6 7 8"]', "sequence 1 has 1 2 3 in ring 1, whose enabled phases are 1, 2, 3 and 4: 4 is missing"),
+    8: (
+        1,
+        '[intersection.sequence]\n1 = ["1 2 3", "5 6 7 8"]',
+        "sequence 1 has 1 2 3 in ring 1, whose enabled phases are 1, 2, 3 and 4: 4 is missing",
+    ),
     9: (
         2, '[intersection.sequence]\n2 = ["1 2 | 3 4", "7 8 | 5 6"]',
-        "sequence 2 takes the sides of the barrier as 1, 2, 5 and 6 | 3, 4, 7 and 8 in ring 1, and as 3, 4, 7 and 8 | 1, 2, 5 and 6 in ring 2",
+        "sequence 2 takes the sides of the barrier as 1, 2, 5 and 6 | 3, 4, 7 and 8 in ring 1, and as 3, 4, 7 and 8 | "
+        "1, 2, 5 and 6 in ring 2",
     ),
     10: (4, "[intersection.phase]\n4 = {yellow = 2.9}", "phase 4 has a yellow change of 2.9 s; it must be 3 s or more"),
     11: (
@@ -47,26 +60,46 @@ CASES = {
     ),
     12: (2, '[intersection.phase]\n4 = {startup = "green"}', "phase 2 starts up green, and so does phase 4"),
     13: (0, "[intersection.coordination]\nskip_limit = 0", "skip_limit is 0; it must be 0.1 s or more"),
-    14: (5, "[intersection.pattern.5]\ncycle = 90\nsplit = 33", "pattern 5 has a cycle of 90 s, but it runs split 33, and splits are 1 to 32"),
-    15: (1, "[intersection.pattern.1]\noffset = 95", "pattern 1 has an offset of 95 s in a cycle of 90 s; it must be less: 5 s is the same moment"),
-    16: (1, "[intersection.split.1]\ncoordinated = [2, 8]", "pattern 1 (split 1) coordinates 2 and 8, which may not be on together"),
+    14: (
+        5,
+        "[intersection.pattern.5]\ncycle = 90\nsplit = 33",
+        "pattern 5 has a cycle of 90 s, but it runs split 33, and splits are 1 to 32",
+    ),
+    15: (
+        1,
+        "[intersection.pattern.1]\noffset = 95",
+        "pattern 1 has an offset of 95 s in a cycle of 90 s; it must be less: 5 s is the same moment",
+    ),
+    16: (
+        1,
+        "[intersection.split.1]\ncoordinated = [2, 8]",
+        "pattern 1 (split 1) coordinates 2 and 8, which may not be on together",
+    ),
     17: (
         1, "[intersection.pattern.1]\ncycle = 80",
-        "the splits of ring 1, phases 1, 2, 3 and 4, come to 15 + 30 + 15 + 30 = 90 s, but the cycle is 80 s; take 10 s off",
+        "the splits of ring 1, phases 1, 2, 3 and 4, come to 15 + 30 + 15 + 30 = 90 s, but the cycle is 80 s; take 10 "
+        "s off",
     ),
     18: (
         2,
-        "[intersection.phase]\n3 = {walk = 7, ped_clear = 17}\n[intersection.pattern.1]\ncycle = 0\n[intersection.pattern.2]\ncycle = 110\n"
+        "[intersection.phase]\n3 = {walk = 7, ped_clear = 17}\n[intersection.pattern.1]\ncycle = 0\n"
+        "[intersection.pattern.2]\ncycle = 110\n"
         "splits = {1 = 15, 2 = 30, 3 = 18, 4 = 47, 5 = 15, 6 = 30, 7 = 18, 8 = 47}",
-        "pattern 2 gives phase 3 a split of 18 s, but walk 7 + flashing don't walk 17 + yellow 3.5 + red 1 need 28.5 s; give it 11 s more, "
+        "pattern 2 gives phase 3 a split of 18 s, but walk 7 + flashing don't walk 17 + yellow 3.5 + red 1 need 28.5 "
+        "s; give it 11 s more, "
         "e.g. from phase 4, which has 22 s to spare",
     ),
     19: (
         1, "[intersection.coordination]\nadd_limit = 25",
-        "pattern 1 coordinates phase 2 and phase 6: from local zero on both are green for 24.5 s, but add_limit may hold a cycle for 25 s; "
+        "pattern 1 coordinates phase 2 and phase 6: from local zero on both are green for 24.5 s, but add_limit may "
+        "hold a cycle for 25 s; "
         "give them 1 s more, or make add_limit 24.5 s or less",
     ),
-    20: (3, "[intersection.preempt.3]\ndwell = [2, 4]", "preempt 3 is to show phase 2 and phase 4 together (dwell), which may not be on together"),
+    20: (
+        3,
+        "[intersection.preempt.3]\ndwell = [2, 4]",
+        "preempt 3 is to show phase 2 and phase 4 together (dwell), which may not be on together",
+    ),
     22: (1, "[intersection.phase]\n1 = {ped_clear = 9}", "phase 1 has a pedestrian clearance of 9 s without a walk"),
 }  # fmt: skip
 REFUSED = re.compile(r"scenario: cabinet (\d+) breaks rule (\d+) at row (\d+)")
@@ -127,7 +160,8 @@ def test_a_download_that_moves_a_phase_is_told_with_rule_21():
     found = check.findings(sources.Source("street.json", street=reading.Street(scenario, reading.names.Names())))
     assert [(it.level, it.rule) for it in found] == [(Level.WARNING, 21)]
     assert (
-        "download 1, due in round 1, will be refused: the download turns phase 1 off; a cabinet takes that in flash alone"
+        "download 1, due in round 1, will be refused: the download turns phase 1 off; a cabinet takes that in flash "
+        "alone"
         in found[0].words
     )
 

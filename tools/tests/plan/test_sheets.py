@@ -154,7 +154,10 @@ def test_split_phasing_has_one_partner_with_the_time_of_both_approaches():
 
 def test_an_exclusive_pedestrian_phase_has_a_side_of_its_own():
     """No vehicles: it is on for walk and clearance alone, and its yellow is the buffer of 3 s."""
-    text = '[[intersection]]\nrings = ["2 | 4 | 9", "6 | 8 | -"]\n[intersection.phase]\n9 = {kind = "pedestrian", ped_clear = 16}\n'
+    text = (
+        '[[intersection]]\nrings = ["2 | 4 | 9", "6 | 8 | -"]\n[intersection.phase]\n9 = {kind = "pedestrian", '
+        'ped_clear = 16}\n'
+    )
     tables = tables_of(reading.street_of(toml_text.read(text)).scenario["cabinets"][0])
     assert [tables.phase(9, column) for column in (2, 3, 4, 5, 6, 8, 9, 21, 22)] == [7, 16, 0, 0, 0, 30, 0, 1, 1]
     assert tables.sequence(1, 1) == (2, 4, 9) and len(tables.sequence(1, 2)) == 3
@@ -238,7 +241,8 @@ def test_max8_and_unknown_options_come_back():
 
 
 def test_a_partner_stays_red_while_the_phase_that_it_faces_is_served(program):
-    """On the street: a car comes to phase 4 of the T, in free operation and in step with pattern 1; phase 8 is never on."""
+    """On the street: a car comes to phase 4 of the T, in free operation and in step with pattern 1; phase 8 is never
+    on."""
     for command in (0, 1):
         scenario = reading.street_of(toml_text.read(T)).scenario | {"rounds": 200}
         scenario["cabinets"][0]["pattern"] = command

@@ -1,4 +1,5 @@
-"""Synchro: a UTDF file with eight intersections, worked out by hand; files of version 6; what is named, and what goes back."""
+"""Synchro: a UTDF file with eight intersections, worked out by hand; files of version 6; what is named, and what goes
+back."""
 
 import re
 
@@ -69,7 +70,8 @@ def test_rings_times_and_recalls_of_synchro_come_in(eight):
     ) == {3, 4}
     assert tables[4].sequence(1, 2) == (6, 5, 7, 8)
     assert tables[7].sequence(1, 1) == (2, 4, 9)
-    # minimum green, passage, greatest green (30.7 rounded up), yellow, all red, walk, don't walk; minimum recall, dual entry
+    # minimum green, passage, greatest green (30.7 rounded up), yellow, all red, walk, don't walk; minimum recall, dual
+    # entry
     assert [tables[0].phase(2, column) for column in (4, 5, 6, 8, 9, 2, 3)] == [10, 30, 31, 43, 20, 7, 11]
     assert tables[0].phase(2, 21) == 1 + 64 + 1024 and tables[0].phase(3, 21) == 1
     assert tables[3].phase(2, 21) == 1 + 128 + 1024  # maximum recall
@@ -90,7 +92,8 @@ def test_names_and_speeds_of_synchro_come_in(eight):
 
 
 def test_detectors_of_synchro_come_in(eight):
-    """One for each lane group of the first node, in the order of the lanes: left turns and through lanes by approach."""
+    """One for each lane group of the first node, in the order of the lanes: left turns and through lanes by
+    approach."""
     street, _ = eight
     assert [it["phase"] for it in street.bank] == [3, 8, 7, 4, 5, 2, 1, 6]
     assert [it["delay"] for it in street.bank] == [0, 5, 0, 0, 0, 0, 0, 0]
@@ -102,7 +105,8 @@ def test_what_is_not_taken_from_synchro_is_named(eight):
     """Records without a place, and times that aren't whole."""
     notes = "\n".join(eight[1])
     for words in (
-        "node 6: not taken from [Phases]: InhibitMax", "not taken from [Links]: Distance", "not taken from [Lanes]: Lanes",
+        "node 6: not taken from [Phases]: InhibitMax", "not taken from [Links]: Distance",
+        "not taken from [Lanes]: Lanes",
         "node 8: MinGreen is rounded up for phase 4 (7.5 to 8), phase 8 (7.5 to 8)", "Lock Timings, Master, Yield",
     ):  # fmt: skip
         assert words in notes
@@ -123,7 +127,10 @@ def test_files_of_version_6_come_in():
     """Phases in one page, and plans by the time of day in another: each plan is a pattern."""
     text = "Phasing Data\nRECORDNAME,INTID,D1,D2,D3,D4,D5,D6,D7,D8\nBRP,7,111,112,211,212,121,122,221,222\n"
     text += "MinGreen,7,,10,,8,,10,,8\nMaxGreen,7,,40,,25,,40,,25\nYellow,7,,4,,3.5,,4,,3.5\nAllRed,7,,1,,1,,1,,1\n"
-    text += "Timing Plans\nPLANID,INTID,S1,S2,S3,S4,S5,S6,S7,S8,CL,OFF,LD,REF,CLR\nAM,7,,45,,35,,45,,35,80,12,,,\nPM,7,,60,,40,,60,,40,100,0,,,\n"
+    text += (
+        "Timing Plans\nPLANID,INTID,S1,S2,S3,S4,S5,S6,S7,S8,CL,OFF,LD,REF,CLR\nAM,7,,45,,35,,45,,35,80,12,,,\n"
+        "PM,7,,60,,40,,60,,40,100,0,,,\n"
+    )
     sheet, notes = utdf_in.sheet_of(utdf_text.read(text))
     tables = tables_of(reading.street_of(sheet).scenario["cabinets"][0])
     assert [[tables.pattern(number, column) for column in (2, 3)] for number in (1, 2)] == [[80, 12], [100, 0]]

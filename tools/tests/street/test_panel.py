@@ -64,7 +64,9 @@ def panel(street, tmp_path):
 
 def text_of(browser, name):
     """Returns all that an element of the page says, at one moment: the page may draw it anew behind that."""
-    return browser.execute_script("const it = document.getElementById(arguments[0]); return it ? it.innerText : ''", name)
+    return browser.execute_script(
+        "const it = document.getElementById(arguments[0]); return it ? it.innerText : ''", name
+    )
 
 
 def awaited(browser, name, wanted):

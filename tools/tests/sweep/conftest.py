@@ -24,7 +24,9 @@ STUDY = """\
 title = "Two cabinets, 20 s"
 scenario = "two.json"
 seeds = 5
-measures = ["services", "green_mean", "wait_mean each cabinet", "on_offset_share", "band_outbound", "band_seen_outbound"]
+measures = [
+    "services", "green_mean", "wait_mean each cabinet", "on_offset_share", "band_outbound", "band_seen_outbound"
+]
 [[vary]]
 name = "offset"
 cell = ["pattern", 1, 3]

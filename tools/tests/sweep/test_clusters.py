@@ -69,8 +69,10 @@ def cluster(tmp_path_factory, program):
 
 def test_the_table_has_a_row_for_each_variant_and_refusals_are_rows(reference):
     head, *lines = reference.splitlines()
-    assert head == ("run,offset,mode,seed,outcome,words,scenario,services,green_mean,wait_mean_c1,wait_mean_c2,on_offset_share,"
-                    "band_outbound,band_seen_outbound")  # fmt: skip
+    assert head == (
+        "run,offset,mode,seed,outcome,words,scenario,services,green_mean,wait_mean_c1,wait_mean_c2,"
+        "on_offset_share,band_outbound,band_seen_outbound"
+    )
     assert len(lines) == 60
     assert [it.split(",")[:4] for it in (lines[0], lines[4], lines[5], lines[59])] == [
         ["1", "0", "2", "1"], ["5", "0", "2", "5"], ["6", "0", "3", "1"], ["60", "95", "4", "5"]]  # fmt: skip

@@ -52,8 +52,10 @@ def measured(trace: str, words: str, **more):
 
 @pytest.mark.parametrize(("words", "value"), {
     "services phase 4": 1, "services phase 2": 2, "services": 6,
-    "green_mean phase 4": 10.0, "green_mean phase 2": 10.0, "green_share phase 4": 0.2381, "green_share phase 2": 0.3571,
-    "wait_mean phase 4": 15.5, "wait_greatest": 15.5, "waiting": 0, "ended_gap phase 2": 1, "walks": 0, "walk_wait_mean": None,
+    "green_mean phase 4": 10.0, "green_mean phase 2": 10.0, "green_share phase 4": 0.2381,
+    "green_share phase 2": 0.3571,
+    "wait_mean phase 4": 15.5, "wait_greatest": 15.5, "waiting": 0, "ended_gap phase 2": 1, "walks": 0,
+    "walk_wait_mean": None,
     "local_zeros": 0, "on_offset_share": None,
 }.items())  # fmt: skip
 def test_a_car_on_the_side_street_by_hand(words, value):
@@ -63,8 +65,10 @@ def test_a_car_on_the_side_street_by_hand(words, value):
 
 
 @pytest.mark.parametrize(("words", "value"), {
-    "local_zeros": 6, "on_offset_share": 0.8333, "on_offset_share cabinet 2": 0.6667, "pickups": 2, "cycles_to_offset_mean": 0.5,
-    "cycles_to_offset_greatest": 1, "seconds_to_offset_greatest": 100.0, "seconds_to_offset_least": 0.0, "offset_missed": 0,
+    "local_zeros": 6, "on_offset_share": 0.8333, "on_offset_share cabinet 2": 0.6667, "pickups": 2,
+    "cycles_to_offset_mean": 0.5,
+    "cycles_to_offset_greatest": 1, "seconds_to_offset_greatest": 100.0, "seconds_to_offset_least": 0.0,
+    "offset_missed": 0,
     "coordinated_share": 0.975,
 }.items())  # fmt: skip
 def test_two_cabinets_in_step_by_hand(words, value):
@@ -142,8 +146,8 @@ ROWS = {
     "lossy-line": {"fails": 1, "failed_rounds_mean": 4.0, "downloads_accepted": 1, "still_failed": 0},
     "night-download": {"downloads_accepted": 1, "downloads_refused": 1},
 }
-"""By the tables of scenarios/README.md: button of 4 after tick 110, walk at 215; of 2 after 590, walk at 591; a note of fail in round 24
-and of good in round 28."""
+"""By the tables of scenarios/README.md: button of 4 after tick 110, walk at 215; of 2 after 590, walk at 591; a note of
+fail in round 24 and of good in round 28."""
 
 
 @pytest.mark.parametrize("name", ROWS)
@@ -157,7 +161,10 @@ def test_worked_rows_of_the_scenarios(name, program):
 
 
 def test_a_measure_of_ones_own_gets_the_run(program):
-    text = "def greens(run):\n    return sum('G' in str(it) for it in run.course().happenings())\ndef broken(run):\n    return 1 / 0\n"
+    text = (
+        "def greens(run):\n    return sum('G' in str(it) for it in run.course().happenings())\ndef broken(run):\n    "
+        "return 1 / 0\n"
+    )
     files = {"a": (TOP / "scenarios/one-cabinet.json").read_bytes(), "mine.py": text.encode()}
     one = prepared({"scenario": "a", "own": [{"name": "greens", "file": "mine.py"}]}, files.__getitem__, program)
     assert one.runner(False, 60).row(one.variants.at(0))[3:] == [1]

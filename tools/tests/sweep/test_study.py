@@ -5,7 +5,7 @@ import resource
 
 import pytest
 from streettools.sweep.command import main
-from streettools.sweep.faults import Fault
+from streettools.shared.fault import Fault
 from streettools.sweep.journal import Journal
 from streettools.sweep.study import study_of
 from streettools.sweep.targets import Put
@@ -27,19 +27,39 @@ def parameter(name, **more):
 
 
 BAD = {
-    "no such path": ('name = "mode"\ncell = ["unit", 1]', 'name = "mode"\npath = "cabinets[0].speed"', "there is no cabinets[0].speed in the scenario"),
-    "no such place": ('name = "mode"\ncell = ["unit", 1]', 'name = "mode"\npath = "cabinets[7].clock"', "there is no cabinets[7].clock in the scenario"),
+    "no such path": (
+        'name = "mode"\ncell = ["unit", 1]',
+        'name = "mode"\npath = "cabinets[0].speed"',
+        "there is no cabinets[0].speed in the scenario",
+    ),
+    "no such place": (
+        'name = "mode"\ncell = ["unit", 1]',
+        'name = "mode"\npath = "cabinets[7].clock"',
+        "there is no cabinets[7].clock in the scenario",
+    ),
     "no such cabinet": ("cabinet = 2", "cabinet = 3", "the scenario has no cabinet 3"),
-    "no such cell": ('["unit", 1]', '["speed", 1]', "vary[1].cell has to begin with one of phase, sequence, unit, pattern, split, preempt"),
+    "no such cell": (
+        '["unit", 1]',
+        '["speed", 1]',
+        "vary[1].cell has to begin with one of phase, sequence, unit, pattern, split, preempt",
+    ),
     "a cell with its value": ('["unit", 1]', '["unit", 1, 2]', "the value comes from the study"),
     "no such measure": ('"services"', '"service"', "there is no service: is services meant?"),
     "a name that is unknown": ("seeds = 5", "seed = 5", "seed is unknown: is seeds meant?"),
     "a measure of the street without one": ("[street]\ntravel = [10]", "", "band_outbound needs the table street"),
-    "a rate out of range": ("vehicles = 400", "vehicles = 4000", "traffic.flow[0].vehicles is 4000, and has to be 0 to 3600"),
-    "seeds without anything drawn": (STUDY[STUDY.index("[traffic]") : STUDY.index("[street]")], "", "nothing here is drawn"),
+    "a rate out of range": (
+        "vehicles = 400", "vehicles = 4000", "traffic.flow[0].vehicles is 4000, and has to be 0 to 3600"
+    ),
+    "seeds without anything drawn": (
+        STUDY[STUDY.index("[traffic]") : STUDY.index("[street]")], "", "nothing here is drawn"
+    ),
     "two columns of one name": ('name = "mode"', 'name = "offset"', "two columns of the table would be called offset"),
     "no values": ("values = [2, 3, 4]", "values = []", "vary[1].values has to have 1 to 1,000,000 values"),
-    "values in two ways": ("values = [2, 3, 4]", "values = [2]\nrange = {from = 1, to = 2}", "needs one of values, range, random, option, and has several"),
+    "values in two ways": (
+        "values = [2, 3, 4]",
+        "values = [2]\nrange = {from = 1, to = 2}",
+        "needs one of values, range, random, option, and has several",
+    ),
     "no TOML": ("seeds = 5", "seeds = = 5", "study.toml: no TOML"),
 }  # fmt: skip
 

@@ -14,8 +14,8 @@ from typing import NamedTuple
 from streettools.shared import files
 from streettools.shared.status import Status
 
+from ...shared.fault import Fault
 from ..called import Called
-from ..fault import Fault
 from ..reading import Checked
 from . import colours
 from .collect import CALLS, KINDS, Shared, Story, collect

@@ -1,10 +1,10 @@
-"""What a sweep can't do, in words."""
+"""What a tool can't do, in one line."""
 
-from ..shared.status import Status
+from .status import Status
 
 
 class Fault(Exception):
-    """Something that a sweep can't do: one line, and the exit status that goes with it."""
+    """Something that can't be done: one line, and the exit status that goes with it."""
 
     def __init__(self, words: str, status: Status = Status.REFUSED) -> None:
         super().__init__(words)
