@@ -1,7 +1,8 @@
-"""Crates without their contracts, as one file of Rust for rustc: what a bench measures where nothing is to be proved first.
+"""Crates without their contracts, as one file of Rust for rustc: what a bench measures where nothing is to be proved
+first.
 
-Contracts, ghost items and tactics are left out, and each crate becomes a module of its name; the words of Rattle's library that differ from Rust's
-are those of plain_std.rs. What is built is the same code, word by word, in one unit.
+Contracts, ghost items and tactics are left out, and each crate becomes a module of its name; the words of Rattle's
+library that differ from Rust's are those of plain_std.rs. What is built is the same code, word by word, in one unit.
 """
 
 import pathlib
@@ -12,8 +13,14 @@ import tempfile
 
 TOP = pathlib.Path(__file__).resolve().parent.parent
 CABINET = (
-    *("sig_types", "ber_code", "snmp_msg", "sig_tables", "oid_map", "agent", "pattern_plan", "call_store", "phase_clock", "ped_clock", "ring_barrier"),
-    *("coord_gate", "coord_count", "preempt_stages", "preempt_run", "flash_mode", "prio_queue", "tick_context", "controller", "rule_book", "stage_txn"),
+    *(
+        "sig_types", "ber_code", "snmp_msg", "sig_tables", "oid_map", "agent", "pattern_plan", "call_store",
+        "phase_clock", "ped_clock", "ring_barrier",
+    ),
+    *(
+        "coord_gate", "coord_count", "preempt_stages", "preempt_run", "flash_mode", "prio_queue", "tick_context",
+        "controller", "rule_book", "stage_txn",
+    ),
     *("cabinet_history", "look_back", "observer", "cab_book"),
 )
 MASTER = ("scenario_data", "requests", "master_plan", "master_load", "master_poll", "link_sim", "master_rounds")
@@ -93,7 +100,9 @@ def built(main, crates, program, left_out=()):
     text = f"#![allow(warnings)]\n{standard}{modules}{main}"
     file = program.with_suffix(".rs")
     file.write_text(text, encoding="utf-8")
-    rustc = ["rustc", "--edition", "2024", "-O", "-g", "-C", "codegen-units=1", "-C", "panic=abort", "-o", program, file]
+    rustc = [
+        "rustc", "--edition", "2024", "-O", "-g", "-C", "codegen-units=1", "-C", "panic=abort", "-o", program, file
+    ]
     subprocess.run(rustc, check=True)
 
 
@@ -101,7 +110,13 @@ def counted(program, name, many):
     """Returns the instructions of one of so many by callgrind, between the calls that count; none without valgrind."""
     if not shutil.which("valgrind"):
         return None
-    tool = ["valgrind", "--tool=callgrind", "--callgrind-out-file=/dev/null", "--collect-atstart=no", "--toggle-collect=*counted_*"]
+    tool = [
+        "valgrind",
+        "--tool=callgrind",
+        "--callgrind-out-file=/dev/null",
+        "--collect-atstart=no",
+        "--toggle-collect=*counted_*",
+    ]
     ran = subprocess.run([*tool, program, "1", name], capture_output=True, text=True, check=True)
     return int(re.search(r"Collected : (\d+)", ran.stderr)[1]) / many
 

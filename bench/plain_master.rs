@@ -30,7 +30,8 @@ mod measured {
         for number in 0..many {
             let way = if number % 2 == 0 { Direction::Down } else { Direction::Up };
             let (round, cabinet) = (1 + number % ROUNDS, 1 + number % CABINETS);
-            let _ = all.push(Fault { round, cabinet, stream: Way::Poll, way, index: 9, kind: FaultKind::Lose, by: 0, octet: 0 });
+            let (stream, kind) = (Way::Poll, FaultKind::Lose);
+            let _ = all.push(Fault { round, cabinet, stream, way, index: 9, kind, by: 0, octet: 0 });
         }
         all
     }
@@ -88,7 +89,8 @@ mod measured {
         }
     }
 
-    /// Nanoseconds a cabinet and round of all beginnings and ends together. Each cabinet is polled and answers in every round.
+    /// Nanoseconds a cabinet and round of all beginnings and ends together. Each cabinet is polled in every round, and
+    /// answers.
     pub fn one(what: &str) -> f64 {
         let faults = match what {
             "polled" => 0,

@@ -288,7 +288,8 @@ fn write(m: &Message) -> Option<Out> {
 
 fn main() {
     let hex = std::env::args().nth(1).expect("the message in hexadecimal");
-    let mut text: Vec<u8> = (0..hex.len() / 2).map(|i| u8::from_str_radix(&hex[2 * i..2 * i + 2], 16).unwrap()).collect();
+    let octet = |i: usize| u8::from_str_radix(&hex[2 * i..2 * i + 2], 16).unwrap();
+    let mut text: Vec<u8> = (0..hex.len() / 2).map(octet).collect();
     let last = text.len() - 1;
     for _ in 0..5 {
         let mut sum = 0usize;

@@ -1,5 +1,5 @@
-//! The parts of a tick in coordination as one writes them by hand: what bench/parts measures the proved ones against. Prints
-//! picoseconds a call of each part, 300 times over.
+//! The parts of a tick in coordination as one writes them by hand: what bench/parts measures the proved ones against.
+//! Prints picoseconds a call of each part, 300 times over.
 
 use std::hint::black_box;
 use std::time::Instant;

@@ -75,7 +75,8 @@ mod measured {
         sum
     }
 
-    /// A stride that takes all its ticks does not say whether the last frame has a line: what is told of it is left out of the sums.
+    /// A stride that takes all its ticks does not say whether the last frame has a line: what is told of it is left out
+    /// of the sums.
     fn ends_with_line(_: &Controller) -> bool {
         false
     }
@@ -126,7 +127,11 @@ mod measured {
                     let ticks = 864_000;
                     let mut controller = opened(street);
                     let begin = Instant::now();
-                    let sum = if way == "ticks" { counted_ticks(&mut controller, street, ticks) } else { counted_strides(&mut controller, street, ticks) };
+                    let sum = if way == "ticks" {
+                        counted_ticks(&mut controller, street, ticks)
+                    } else {
+                        counted_strides(&mut controller, street, ticks)
+                    };
                     black_box(sum);
                     println!("{name} {}", begin.elapsed().as_nanos() as f64 / f64::from(ticks));
                 }

@@ -1,4 +1,5 @@
-//! How soon a thread runs that was just started, and what a round of four equal parts in four threads takes beside the parts one after another.
+//! How soon a thread runs that was just started, and what a round of four equal parts in four threads takes beside the
+//! parts one after another.
 use std::env::args;
 use std::hint::black_box;
 use std::thread::scope;
@@ -27,7 +28,8 @@ fn steps_in(time: Duration) -> u64 {
     (time.as_secs_f64() / least.as_secs_f64() * TRIED as f64) as u64
 }
 
-/// A round: what one thread does, and then the parts, the last of them in the same thread. When each other part began, and how long all took.
+/// A round: what one thread does, and then the parts, the last of them in the same thread. Returns when each other part
+/// began, and how long all took.
 fn round(alone: u64, part: u64) -> (Vec<Duration>, Duration) {
     let whole = Instant::now();
     work(alone);
@@ -65,7 +67,12 @@ fn main() {
         began.extend(one);
         whole.push(all);
     }
-    println!("a started thread runs after {} us at the median, {} us in nine of ten cases", at(&mut began, 50), at(&mut began, 90));
+    let (median, most) = (at(&mut began, 50), at(&mut began, 90));
+    println!("a started thread runs after {median} us at the median, {most} us in nine of ten cases");
     let (four, one) = ((alone + part).as_micros(), (alone + part * PARTS as u32).as_micros());
-    println!("a round of {one} us in one thread takes in four {} us at the least, {} us at the median; {four} us if threads began at once", at(&mut whole, 0), at(&mut whole, 50));
+    let (least, median) = (at(&mut whole, 0), at(&mut whole, 50));
+    println!(
+        "a round of {one} us in one thread takes in four {least} us at the least, {median} us at the median; {four} us \
+         if threads began at once"
+    );
 }

@@ -15,12 +15,20 @@ def scenario(rounds, ticks, cabinets, **more):
 
 
 def street(offsets):
-    """Returns the cabinets of the street: pattern 1 by day, pattern 2 with a shorter cycle, each with an offset of its own."""
-    shorter = [["pattern", 2, 2, 75], ["pattern", 2, 4, 2], ["pattern", 2, 5, 1], ["split", 2, 2, 5, 1], ["split", 2, 6, 5, 1]]
+    """Returns the cabinets of the street: pattern 1 by day, pattern 2 with a shorter cycle, each with an offset of its
+    own."""
+    shorter = [
+        ["pattern", 2, 2, 75], ["pattern", 2, 4, 2], ["pattern", 2, 5, 1], ["split", 2, 2, 5, 1], ["split", 2, 6, 5, 1]
+    ]
     for phase, seconds in zip(range(1, 9), (10, 30, 10, 25) * 2):
         shorter.append(["split", 2, phase, 3, seconds])
     return [
-        {"clock": 252000, "pattern": 1, "section": 1 + number % 2, "cells": [["unit", 1, 3], ["pattern", 1, 3, offset], *shorter]}
+        {
+            "clock": 252000,
+            "pattern": 1,
+            "section": 1 + number % 2,
+            "cells": [["unit", 1, 3], ["pattern", 1, 3, offset], *shorter],
+        }
         for number, offset in enumerate(offsets)
     ]
 
@@ -32,13 +40,16 @@ def busy(rounds, chance):
     for round_ in range(1, rounds + 1):
         for cabinet in which:
             if chance.random() < 0.1:
-                inputs.append({"round": round_, "cabinet": cabinet, "veh": chance.randint(1, 8), "on": chance.random() < 0.5})
+                inputs.append(
+                    {"round": round_, "cabinet": cabinet, "veh": chance.randint(1, 8), "on": chance.random() < 0.5}
+                )
             if chance.random() < 0.01:
                 inputs.append({"round": round_, "cabinet": cabinet, "ped": 2 * chance.randint(1, 4)})
             if chance.random() < 0.005:
                 arrival = chance.randint(0, 300)
                 priority.append({
-                    "round": round_, "cabinet": cabinet, "number": chance.randint(1, 10), "class": chance.randint(1, 3), "level": 1,
+                    "round": round_, "cabinet": cabinet, "number": chance.randint(1, 10), "class": chance.randint(1, 3),
+                    "level": 1,
                     "phase": chance.choice((2, 6)), "arrival": arrival, "departure": arrival + 100,
                 })  # fmt: skip
         if round_ % 2:
@@ -48,7 +59,11 @@ def busy(rounds, chance):
                 "by": chance.randint(1, 20), "octet": chance.randint(1, 255),
             })  # fmt: skip
     loads = [
-        {"round": chance.randint(1, rounds - 20), "cabinet": cabinet, "cells": [["phase", phase, 8, 43] for phase in range(1, 9)] * 9}
+        {
+            "round": chance.randint(1, rounds - 20),
+            "cabinet": cabinet,
+            "cells": [["phase", phase, 8, 43] for phase in range(1, 9)] * 9,
+        }
         for cabinet in which
     ]
     schedule = [
@@ -58,7 +73,9 @@ def busy(rounds, chance):
     ]
     cabinets = street([chance.randint(0, 89) for _ in which])
     master = {**POLLED, "schedule": schedule}
-    return scenario(rounds, TICKS, cabinets, master=master, inputs=inputs, loads=loads, priority=priority, faults=faults)
+    return scenario(
+        rounds, TICKS, cabinets, master=master, inputs=inputs, loads=loads, priority=priority, faults=faults
+    )
 
 
 def quiet(rounds):
@@ -77,11 +94,13 @@ def program_of(words):
 
 
 def measured(program, command, source, sink):
-    """Runs a command of the program on a file into another. Returns its seconds, those of a processor among them, and its greatest memory in
-    KiB."""
+    """Runs a command of the program on a file into another. Returns its seconds, those of a processor among them, and
+    its greatest memory in KiB."""
     used = sink.with_suffix(".used")
     with source.open("rb") as given, sink.open("wb") as taken:
-        ran = subprocess.run(["/usr/bin/time", "-o", used, "-f", "%e %U %S %M", program, command], stdin=given, stdout=taken, check=False)
+        ran = subprocess.run(
+            ["/usr/bin/time", "-o", used, "-f", "%e %U %S %M", program, command], stdin=given, stdout=taken, check=False
+        )
     if ran.returncode:
         sys.exit(f"{sys.argv[0]}: {command} ended with status {ran.returncode}")
     seconds, user, system, memory = map(float, used.read_text().split())
