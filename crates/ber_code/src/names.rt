@@ -16,8 +16,9 @@ use sig_types::Octets;
 /// A name: its arcs, at most 32.
 pub type Oid = ArrayVec<u32, 32>;
 
+/// Reads an arc of several octets.
 #[tactic(auto, unfolding(crate::specs::Reading::arc_at, crate::specs::Reading::arc_from))]
-fn arc_of(bytes: &[u8]) -> Option<(u32, &[u8])>
+fn long_arc_of(bytes: &[u8]) -> Option<(u32, &[u8])>
     ensures { Gives (λ r. (r.0, r.1.now)) result (arc_at bytes.now) }
 {
     if let [128, ..] = bytes {
@@ -36,6 +37,17 @@ fn arc_of(bytes: &[u8]) -> Option<(u32, &[u8])>
         rest = after;
     }
     None
+}
+
+/// Reads an arc; most are one octet.
+#[tactic(auto, unfolding(crate::specs::Reading::arc_at, crate::specs::Reading::arc_from))]
+fn arc_of(bytes: &[u8]) -> Option<(u32, &[u8])>
+    ensures { Gives (λ r. (r.0, r.1.now)) result (arc_at bytes.now) }
+{
+    match bytes {
+        [octet, after @ ..] if *octet < 128 => Some((u32::from(*octet), after)),
+        _ => long_arc_of(bytes),
+    }
 }
 
 /// The first arc that an octet below 128 holds.
@@ -157,7 +169,7 @@ fn put_arc(arc: u32, out: &mut Octets)
     let third = 128 + (arc / 128 / 128 % 128) as u8;
     let second = 128 + (arc / 128 / 128 / 128 % 128) as u8;
     if arc < 128 {
-        put(&[arc as u8], out);
+        out.push(arc as u8);
     } else if arc / 128 < 128 {
         put(&[128 + (arc / 128) as u8, last], out);
     } else if arc / 128 / 128 < 128 {

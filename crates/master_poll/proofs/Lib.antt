@@ -4,3 +4,4 @@ pub mod Posting
 pub mod Fits
 pub mod Rounds
 pub mod Each
+pub mod Polled

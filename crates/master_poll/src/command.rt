@@ -1,16 +1,16 @@
 //! The commands on the poll stream.
 
-ghost use Rattle.std.specs.Prelude.{◌≡◌, ◌<◌, ◌∷◌, [], map, All};
+ghost use Rattle.std.specs.Prelude.{◌≡◌, ◌<◌, ◌∷◌, [], All};
 ghost use Rattle.snmp_msg.specs.Shortest.{IsWritableBind};
 ghost use Rattle.oid_map.specs.Names.{IsName};
-ghost use Rattle.requests.specs.Requests.{asked_for, number_at};
+ghost use Rattle.requests.specs.Requests.{number_at};
 ghost use Rattle.master_poll.specs.Commands.{IsTask};
-ghost use Rattle.master_poll.specs.Sends.{polled, task_text};
+ghost use Rattle.master_poll.specs.Sends.{task_text};
 ghost use Rattle.master_poll.specs.Turns.{kind_of};
 
 use arrayvec::ArrayVec;
 use oid_map::Name;
-use requests::{asked_for, number_at, write_get, write_set};
+use requests::{number_at, write_get_around, write_set};
 use sig_types::Octets;
 use snmp_msg::Bind;
 
@@ -78,28 +78,25 @@ fn setting(name: Name, number: u32) -> [Bind; 1]
     [number_at(name, number)]
 }
 
-/// What a poll asks for.
-fn polled() -> [Bind; 8]
-    ensures bound { result ≡ map asked_for polled }
-    ensures writable { All IsWritableBind result }
-{
-    [
-        asked_for(Name::PatternStatus),
-        asked_for(Name::Counter),
-        asked_for(Name::Target),
-        asked_for(Name::ModeCode),
-        asked_for(Name::Txn(10)),
-        asked_for(Name::Group {
-            column: 4,
-            group: 1,
-        }),
-        asked_for(Name::Group {
-            column: 4,
-            group: 2,
-        }),
-        asked_for(Name::PatternControl),
-    ]
-}
+/// What a poll asks for, as the texts of its bindings, which are the same in every poll.
+const POLLED_TEXT: [u8; 152] = [
+    // pattern status
+    48, 17, 6, 13, 43, 6, 1, 4, 1, 137, 54, 4, 2, 1, 4, 10, 0, 5, 0,
+    // counter
+    48, 16, 6, 12, 43, 6, 1, 4, 1, 129, 253, 89, 1, 2, 2, 0, 5, 0,
+    // target
+    48, 16, 6, 12, 43, 6, 1, 4, 1, 129, 253, 89, 1, 2, 3, 0, 5, 0,
+    // mode
+    48, 16, 6, 12, 43, 6, 1, 4, 1, 129, 253, 89, 1, 2, 4, 0, 5, 0,
+    // version
+    48, 16, 6, 12, 43, 6, 1, 4, 1, 129, 253, 89, 1, 1, 10, 0, 5, 0,
+    // greens of phases 1 to 8
+    48, 19, 6, 15, 43, 6, 1, 4, 1, 137, 54, 4, 2, 1, 1, 4, 1, 4, 1, 5, 0,
+    // greens of phases 9 to 16
+    48, 19, 6, 15, 43, 6, 1, 4, 1, 137, 54, 4, 2, 1, 1, 4, 1, 4, 2, 5, 0,
+    // pattern in command
+    48, 17, 6, 13, 43, 6, 1, 4, 1, 137, 54, 4, 2, 1, 4, 14, 0, 5, 0,
+];
 
 /// The octets of what a command does, under an id: a Set, or a Get for a poll.
 pub fn task_octets(community: &ArrayVec<u8, 32>, id: i32, task: Task) -> Octets
@@ -116,7 +113,7 @@ pub fn task_octets(community: &ArrayVec<u8, 32>, id: i32, task: Task) -> Octets
             )
         }
         Task::Clock(time) => write_set(community, id, &setting(Name::Clock, time)),
-        Task::Poll => write_get(community, id, &polled()),
+        Task::Poll => write_get_around(community, id, &POLLED_TEXT),
     }
 }
 

@@ -5,3 +5,4 @@ pub mod Back
 pub mod Rising
 pub mod Least
 pub mod Table
+pub mod Prefixes

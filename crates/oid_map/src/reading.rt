@@ -15,19 +15,7 @@ use sig_tables::Cell;
 fn arcs_under<'a>(prefix: &[u32], name: &'a [u32]) -> Option<&'a [u32]>
     ensures { Gives (λ r. r.now) result (under prefix.now name.now) }
 {
-    match prefix {
-        [] => Some(name),
-        [arc, more @ ..] => match name {
-            [] => None,
-            [first, later @ ..] => {
-                if first == arc {
-                    arcs_under(more, later)
-                } else {
-                    None
-                }
-            }
-        },
-    }
+    name.strip_prefix(prefix)
 }
 
 /// Whether a number lies in a range.

@@ -1,13 +1,15 @@
 //! The octets of requests.
 
-ghost use Rattle.std.specs.Prelude.{◌≡◌, ◌≤◌, length};
-ghost use Rattle.snmp_msg.specs.Shortest.{IsWritableMessage, shortest};
+ghost use Rattle.std.specs.Prelude.{◌≡◌, ◌≤◌, List, length};
+ghost use Rattle.std.specs.List.{flat_map};
+ghost use Rattle.snmp_msg.specs.Shortest.{IsWritableMessage, binding_text, shortest};
+ghost use Rattle.snmp_msg.specs.declared.message.Bind.{Bind};
 ghost use Rattle.snmp_msg.specs.declared.message.Pdu.TheVariants.{Get, Set};
 ghost use Rattle.requests.specs.Requests.{get_text, request, set_text};
 
 use arrayvec::ArrayVec;
 use sig_types::Octets;
-use snmp_msg::{Bind, Parts, Pdu, TooLong, write_parts};
+use snmp_msg::{Bind, Parts, Pdu, TooLong, write_around_slice, write_parts};
 
 /// The octets of a request of these bindings.
 fn write_request(pdu: Pdu, community: &ArrayVec<u8, 32>, id: i32, binds: &[Bind]) -> Octets
@@ -47,4 +49,26 @@ pub fn write_get(community: &ArrayVec<u8, 32>, id: i32, binds: &[Bind]) -> Octet
     ensures { result.items ≡ get_text community.now.items id binds.now }
 {
     write_request(Pdu::Get, community, id, binds)
+}
+
+/// The octets of a Get of bindings whose texts, one after another, are `list`.
+pub fn write_get_around(community: &ArrayVec<u8, 32>, id: i32, list: &[u8]) -> Octets
+    requires small { length list.now ≤ 1472 }
+    ensures { (binds : List Bind) → list.now ≡ flat_map binding_text binds → length (get_text community.now.items id binds) ≤ 1472
+        → result.items ≡ get_text community.now.items id binds }
+{
+    match write_around_slice(
+        &Parts {
+            community,
+            pdu: Pdu::Get,
+            id,
+            status: 0,
+            index: 0,
+            binds: &[],
+        },
+        list,
+    ) {
+        Ok(octets) => octets,
+        Err(TooLong) => Octets::new(),
+    }
 }

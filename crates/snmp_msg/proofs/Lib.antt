@@ -4,3 +4,4 @@ pub mod MessageLaws
 pub mod WrittenLaws
 pub mod Least
 pub mod Into
+pub mod HeadLaws

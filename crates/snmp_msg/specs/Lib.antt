@@ -4,3 +4,4 @@ pub mod Shortest
 pub mod Reading
 pub mod Parts
 pub mod Around
+pub mod Heads

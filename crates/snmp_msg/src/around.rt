@@ -37,20 +37,22 @@ pub fn write_bind(name: &Oid, value: &Value, out: &mut Octets) -> Result<(), Ful
 }
 
 /// Puts a text of bindings under its tag.
-fn put_list(list: &Octets, out: &mut Octets) -> Result<(), Full>
-    ensures ok { OnOk result (out.new.items ≡ out.old.items ++ tagged_text 48 list.now.items) }
-    ensures full { OnErr result (1472 < array_vec_len out.old + length (tagged_text 48 list.now.items)) }
+fn put_list(list: &[u8], out: &mut Octets) -> Result<(), Full>
+    requires { length list.now ≤ 1472 }
+    ensures ok { OnOk result (out.new.items ≡ out.old.items ++ tagged_text 48 list.now) }
+    ensures full { OnErr result (1472 < array_vec_len out.old + length (tagged_text 48 list.now)) }
 {
     write_head(SEQUENCE, list.len(), out)?;
-    match out.try_extend_from_slice(list.as_slice()) {
+    match out.try_extend_from_slice(list) {
         Ok(()) => Ok(()),
         Err(_) => Err(Full),
     }
 }
 
 /// The size of what stands under a PDU's tag.
-fn pdu_size(m: &Parts, list: &Octets) -> usize
-    ensures size { result ≡ length (pdu_around (message_in m.now) list.now.items) }
+fn pdu_size(m: &Parts, list: &[u8]) -> usize
+    requires { length list.now ≤ 1472 }
+    ensures size { result ≡ length (pdu_around (message_in m.now) list.now) }
     ensures small { result ≤ 1496 }
 {
     ids_size(m.id, m.status, m.index) + tagged_size(list.len())
@@ -58,19 +60,20 @@ fn pdu_size(m: &Parts, list: &Octets) -> usize
 
 /// Puts what stands under a PDU's tag.
 #[tactic(auto, unfolding(crate::specs::Around::pdu_around))]
-fn put_pdu(m: &Parts, list: &Octets, out: &mut Octets) -> Result<(), Full>
-    ensures ok { OnOk result (out.new.items ≡ out.old.items ++ pdu_around (message_in m.now) list.now.items) }
-    ensures full { OnErr result (1472 < array_vec_len out.old + length (pdu_around (message_in m.now) list.now.items)) }
+fn put_pdu(m: &Parts, list: &[u8], out: &mut Octets) -> Result<(), Full>
+    requires { length list.now ≤ 1472 }
+    ensures ok { OnOk result (out.new.items ≡ out.old.items ++ pdu_around (message_in m.now) list.now) }
+    ensures full { OnErr result (1472 < array_vec_len out.old + length (pdu_around (message_in m.now) list.now)) }
 {
     put_ids_of(m, out)?;
     put_list(list, out)
 }
 
 /// The size of what stands under the message's tag, with the size of the PDU's content.
-fn content_size(m: &Parts, list: &Octets, pdu: usize) -> usize
-    requires pdu { pdu ≡ length (pdu_around (message_in m.now) list.now.items) }
+fn content_size(m: &Parts, list: &[u8], pdu: usize) -> usize
+    requires pdu { pdu ≡ length (pdu_around (message_in m.now) list.now) }
     requires small { pdu ≤ 1496 }
-    ensures size { result ≡ length (content_around (message_in m.now) list.now.items) }
+    ensures size { result ≡ length (content_around (message_in m.now) list.now) }
     ensures small { result ≤ 1600 }
 {
     int_size(0) + tagged_size(m.community.len()) + tagged_size(pdu)
@@ -78,11 +81,12 @@ fn content_size(m: &Parts, list: &Octets, pdu: usize) -> usize
 
 /// Puts what stands under the message's tag, with the size of the PDU's content.
 #[tactic(auto, unfolding(crate::specs::Around::content_around))]
-fn put_content(m: &Parts, list: &Octets, pdu: usize, out: &mut Octets) -> Result<(), Full>
-    requires pdu { pdu ≡ length (pdu_around (message_in m.now) list.now.items) }
+fn put_content(m: &Parts, list: &[u8], pdu: usize, out: &mut Octets) -> Result<(), Full>
+    requires pdu { pdu ≡ length (pdu_around (message_in m.now) list.now) }
     requires small { pdu ≤ 1496 }
-    ensures ok { OnOk result (out.new.items ≡ out.old.items ++ content_around (message_in m.now) list.now.items) }
-    ensures full { OnErr result (1472 < array_vec_len out.old + length (content_around (message_in m.now) list.now.items)) }
+    requires list { length list.now ≤ 1472 }
+    ensures ok { OnOk result (out.new.items ≡ out.old.items ++ content_around (message_in m.now) list.now) }
+    ensures full { OnErr result (1472 < array_vec_len out.old + length (content_around (message_in m.now) list.now)) }
 {
     write_int(0, out)?;
     write_octets(m.community.as_slice(), out)?;
@@ -91,9 +95,10 @@ fn put_content(m: &Parts, list: &Octets, pdu: usize, out: &mut Octets) -> Result
 }
 
 #[tactic(auto, unfolding(crate::specs::Around::message_around))]
-fn put_message(m: &Parts, list: &Octets, out: &mut Octets) -> Result<(), Full>
-    ensures ok { OnOk result (out.new.items ≡ out.old.items ++ message_around (message_in m.now) list.now.items) }
-    ensures full { OnErr result (1472 < array_vec_len out.old + length (message_around (message_in m.now) list.now.items)) }
+fn put_message(m: &Parts, list: &[u8], out: &mut Octets) -> Result<(), Full>
+    requires { length list.now ≤ 1472 }
+    ensures ok { OnOk result (out.new.items ≡ out.old.items ++ message_around (message_in m.now) list.now) }
+    ensures full { OnErr result (1472 < array_vec_len out.old + length (message_around (message_in m.now) list.now)) }
 {
     let pdu = pdu_size(m, list);
     write_head(SEQUENCE, content_size(m, list, pdu), out)?;
@@ -102,9 +107,10 @@ fn put_message(m: &Parts, list: &Octets, out: &mut Octets) -> Result<(), Full>
 
 /// Writes a message of these parts in its shortest form, with bindings whose texts, one after another, are `list`, in place of its
 /// own.
-pub fn write_around(m: &Parts, list: &Octets) -> Result<Octets, TooLong>
-    ensures variant { IsOk result ↔ (length (message_around (message_in m.now) list.now.items) ≤ 1472) }
-    ensures ok { IfOk result (λ text. text.items ≡ message_around (message_in m.now) list.now.items) }
+pub fn write_around_slice(m: &Parts, list: &[u8]) -> Result<Octets, TooLong>
+    requires { length list.now ≤ 1472 }
+    ensures variant { IsOk result ↔ (length (message_around (message_in m.now) list.now) ≤ 1472) }
+    ensures ok { IfOk result (λ text. text.items ≡ message_around (message_in m.now) list.now) }
 {
     let mut out = Octets::new();
     match put_message(m, list, &mut out) {
@@ -114,4 +120,13 @@ pub fn write_around(m: &Parts, list: &Octets) -> Result<Octets, TooLong>
         }
         Err(Full) => Err(TooLong),
     }
+}
+
+/// Writes a message of these parts in its shortest form, with bindings whose texts, one after another, are `list`, in place of its
+/// own.
+pub fn write_around(m: &Parts, list: &Octets) -> Result<Octets, TooLong>
+    ensures variant { IsOk result ↔ (length (message_around (message_in m.now) list.now.items) ≤ 1472) }
+    ensures ok { IfOk result (λ text. text.items ≡ message_around (message_in m.now) list.now.items) }
+{
+    write_around_slice(m, list.as_slice())
 }

@@ -57,6 +57,15 @@ pub struct Message {
     pub binds: ArrayVec<Bind, 32>,
 }
 
+/// A message without its community and its bindings.
+#[derive(Clone, Copy, PartialEq, Eq)]
+pub struct Head {
+    pub pdu: Pdu,
+    pub id: i32,
+    pub status: i32,
+    pub index: i32,
+}
+
 impl Message {
     /// A Get without community and bindings, for `read_into`.
     pub fn blank() -> Message

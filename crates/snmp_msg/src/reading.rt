@@ -63,7 +63,7 @@ fn value_into<'a>(bytes: &'a [u8], value: &mut Value) -> Option<&'a [u8]>
 }
 
 #[tactic(auto, unfolding(crate::specs::Reading::binding_at))]
-fn binding_into<'a>(bytes: &'a [u8], bind: &mut Bind) -> Option<&'a [u8]>
+pub(crate) fn binding_into<'a>(bytes: &'a [u8], bind: &mut Bind) -> Option<&'a [u8]>
     ensures { Gives (λ rest. (bind.new, rest.now)) result (binding_at bytes.now) }
 {
     let (content, after) = read_tagged(SEQUENCE, bytes)?;
@@ -91,7 +91,7 @@ fn bindings_into(bytes: &[u8], binds: &mut ArrayVec<Bind, 32>) -> Option<()>
 
 /// The kind that a tag names.
 #[tactic(auto, unfolding(crate::specs::Reading::kind_of))]
-fn kind_of_tag(tag: u8) -> Option<Pdu>
+pub(crate) fn kind_of_tag(tag: u8) -> Option<Pdu>
     ensures { result ≡ kind_of tag }
 {
     match tag {

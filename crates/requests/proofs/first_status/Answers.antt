@@ -1,25 +1,23 @@
-use Rattle.std.proofs.Common.{◌≡◌, ◌∙◌, ℕ, ℤ, Some, true, get_or, sym, ap, rules, w32, to_z, of_z}
-use mir.Val.{SFits}
-use Rattle.std.specs.List.{find}
+use Rattle.std.proofs.Common.{◌≡◌, ◌∙◌, ℤ, Some, sym, ap, subst, rules, w32, to_z, of_z}
 use Rattle.std.proofs.lemmas.Int.{to_z-of_z}
-use Rattle.arrayvec.specs.ArrayVec.{ArrayVec}
-use Rattle.snmp_msg.specs.Reading.{message_of}
-use Rattle.sig_types.specs.Items.{texts_of}
-use Rattle.requests.specs.Requests.{answers, messages, status_of}
-use Rattle.requests.proofs.Readings.{found_there}
+use mir.Val.{SFits}
+use Rattle.requests.proofs.Statuses.{first, first_there, first_beyond}
 use Rattle.requests.proofs.first_status.Goals as goal
 
-pub returns-then-answers : goal.returns-then-answers
-returns-then-answers c =
-    let m = c.read_into.new.m in
+pub returns-in-Some : goal.returns-in-Some
+returns-in-Some c =
     let id = c.args.id in
-    let here = c.octets-item.result in
-    let fits : SFits w32 m.status = search rules in
-    let same : to_z w32 (of_z w32 m.status) ≡ m.status = to_z-of_z w32 m.status fits in
     let passed : to_z w32 (of_z w32 id) ≡ id = to_z-of_z w32 id c.ranges.id in
-    let read : message_of (get_or c.args.arrived.now c.loop-octets.octets-index here).items ≡ Some m =
-    ap (λ (x : ArrayVec ℕ). message_of x.items) (sym c.octets-item.is) ∙ ap message_of (sym c.as_slice.ensures.value) ∙ c.in-Some.ensures.reads in
-    let ours : answers id m ≡ true = ap (λ (n : ℤ). answers n m) (sym passed) ∙ sym c.answers.ensures ∙ c.if-answers.true in
-    let there = found_there id c.args.arrived.now c.loop-octets.octets-index here m c.loop-octets-test.true read ours in
-    let first : find (answers id) (messages (texts_of c.args.arrived.now)) ≡ Some m = sym (rw passed at c.loop-octets.invariant) ∙ there in
-    ap Some same ∙ ap status_of (sym first)
+    let x = c.octets-item.result in
+    let there = first_there (to_z w32 (of_z w32 id)) c.args.arrived.now c.loop-octets.octets-index x c.in-Some.status c.loop-octets-test.true c.octets-item.is
+    (sym c.status_in.ensures ∙ c.in-Some.is) in
+    let whole : first (to_z w32 (of_z w32 id)) c.args.arrived.now ≡ Some c.in-Some.status = sym c.loop-octets.invariant ∙ there in
+    let fits : SFits w32 c.in-Some.status = search rules in
+    let same : to_z w32 (of_z w32 c.in-Some.status) ≡ c.in-Some.status = to_z-of_z w32 c.in-Some.status fits in
+    ap Some same ∙ sym (subst (λ (n : ℤ). first n c.args.arrived.now ≡ Some c.in-Some.status) passed whole)
+
+pub loop-octets-preserved : goal.loop-octets-preserved
+loop-octets-preserved c =
+    let id = to_z w32 (of_z w32 c.args.id) in
+    first_beyond id c.args.arrived.now c.loop-octets.octets-index c.octets-item.result c.loop-octets-test.true c.octets-item.is (sym c.status_in.ensures ∙ c.in_default.is)
+    ∙ c.loop-octets.invariant

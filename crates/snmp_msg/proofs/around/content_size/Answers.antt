@@ -13,7 +13,7 @@ unfolding content_around
 returns-clause-size c =
     let m = message_in c.args.m.now in
     let known = m.community.items in
-    let fields = pdu_around m c.args.list.now.items in
+    let fields = pdu_around m c.args.list.now in
     let all = length-append (integer_text (pos 0)) (tagged_text 4 known ++ tagged_text (tag_of m.pdu) fields) in
     let later = length-append (tagged_text 4 known) (tagged_text (tag_of m.pdu) fields) in
     let under_known = length-append (length_text (length known)) known in

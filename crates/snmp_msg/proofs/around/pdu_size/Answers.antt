@@ -1,4 +1,4 @@
-use Rattle.std.proofs.Common.{ℕ, arith, ap, length, w32, rules}
+use Rattle.std.proofs.Common.{arith, ap, length, w32, rules}
 use Rattle.std.proofs.lemmas.List.{length-append}
 use mir.Val.{SFits}
 use Rattle.ber_code.specs.Lengths.{length_text, tagged_text}
@@ -16,8 +16,7 @@ returns-clause-size c =
     let b : SFits w32 m.status = search rules in
     let d : SFits w32 m.index = search rules in
     let ids = ap length (ids_passed m.id m.status m.index a b d) in
-    let list = c.args.list.now.items in
+    let list = c.args.list.now in
     let parts = length-append (ids_text m.id m.status m.index) (tagged_text 48 list) in
     let under = length-append (length_text (length list)) list in
-    let same = ap (λ (n : ℕ). length (length_text n)) c.len.ensures.value in
-    omega (arith, ids, parts, under, same, c.ids_size.ensures.size, c.tagged_size.ensures.size, c.len.ensures.value)
+    omega (arith, ids, parts, under, c.ids_size.ensures.size, c.tagged_size.ensures.size)
