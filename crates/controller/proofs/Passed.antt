@@ -1,5 +1,5 @@
 -- What a controller keeps stands after ticks that it passes over, one by one and at once.
-use Rattle.std.proofs.Common.{◌≡◌, ◌≢◌, ◌<◌, ◌≤◌, ◌+◌, ◌-◌, ◌==◌, inl, inr, ◌&&◌, ◌||◌, min, ℕ, zero, suc, Bool, true, false}
+use Rattle.std.proofs.Common.{◌≡◌, ◌<◌, ◌≤◌, ◌+◌, ◌-◌, ◌==◌, ◌&&◌, ◌||◌, ℕ, zero, suc, Bool, true, false}
 use Rattle.std.proofs.Common.{List, ◌∷◌, length, get_or, refl, sym, ◌∙◌, ap, arith, subst}
 use Rattle.std.proofs.lemmas.Bool.{false≢true, and_parts}
 use Rattle.std.proofs.lemmas.Bool.Decides.{Decides-eqb}
@@ -11,14 +11,13 @@ use Rattle.sig_types.specs.declared.frame.Mode.{Mode}
 use Rattle.sig_types.specs.declared.frame.Mode.TheVariants.{Start, Free, Seek, Coord, Ending, Flash, Entry, Track, Dwell, Exit}
 use Rattle.sig_types.specs.Phases.{is_in}
 use Rattle.sig_types.specs.Colour.{is_start, same_signal, same_mode}
-use Rattle.sig_tables.specs.declared.tables.Tables.{Tables}
 use Rattle.sig_tables.specs.declared.plan.Plan.{Plan}
 use Rattle.sig_tables.specs.Slots.{cycle_time}
 use Rattle.sig_tables.specs.Clock.{clock_now, target_at, target_in}
 use Rattle.sig_tables.specs.Past.{Past, Moment}
 use Rattle.sig_tables.specs.Looking.{last_on}
 use Rattle.sig_tables.specs.Calls.{is_green}
-use Rattle.sig_tables.specs.Command.{is_commanded, command_now}
+use Rattle.sig_tables.specs.Command.{command_now}
 use Rattle.sig_tables.specs.Choosing.{is_in_step}
 use Rattle.sig_tables.specs.Counting.{last_counter}
 use Rattle.sig_tables.specs.TickState.{tick_state_of}
@@ -42,7 +41,7 @@ use Rattle.controller.specs.declared.Controller.{Controller}
 use Rattle.tick_context.specs.Binds.{IsBound}
 use Rattle.tick_context.specs.Modes.{is_coord}
 use Rattle.controller.specs.Shows.{ShowsColours}
-use Rattle.tick_context.specs.UnitCommands.{UnitCommandsStand, most}
+use Rattle.tick_context.specs.UnitCommands.{UnitCommandsStand}
 use Rattle.tick_context.specs.Even.{IsEven, UnitCommandsPassed}
 use Rattle.tick_context.specs.Context.{CountsOn}
 use Rattle.controller.specs.StandsFor.{ControllerKeeps}

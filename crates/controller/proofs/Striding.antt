@@ -1,5 +1,5 @@
 -- What a controller keeps stands for the history with the ticks that it passed over.
-use Rattle.std.proofs.Common.{◌≡◌, ◌<◌, ◌-◌, ℕ}
+use Rattle.std.proofs.Common.{◌≡◌, ◌<◌, ℕ}
 use Rattle.std.proofs.Common.{sym, subst}
 use Rattle.sig_types.specs.declared.frame.Mode.{Mode}
 use Rattle.sig_tables.specs.declared.tables.Tables.{Tables}

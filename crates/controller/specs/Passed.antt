@@ -23,7 +23,7 @@ abbrev pub counted : Bool → ℕ → Count → Count
 counted true k count = count_passed k count
 counted false k count = count
 
--- the controller after so many ticks at which it shows what it showed, which leave these orders
+-- the controller after so many ticks at which it shows what it showed, which leave these unit commands
 abbrev pub passed : ℕ → Controller → UnitCommands → Controller
 passed k c o = record c {
   context = gone_on (c.count.counter + k) c.context o;
@@ -33,11 +33,11 @@ passed k c o = record c {
   count = counted (is_coord c.context.frame.mode) k c.count;
 }
 
--- new is old after so many such ticks, with the orders that it has
+-- new is old after so many such ticks, with the unit commands that it has
 abbrev pub HasPassed : ℕ → Controller → Controller → Type 0
 HasPassed k old new = new ≡ passed k old new.context.unit_commands
 
--- and these orders are the old ones after so many even ticks
+-- and these unit commands are the old ones after so many even ticks
 abbrev pub HasUnitCommands : ℕ → Controller → Controller → Type 0
 HasUnitCommands k old new = UnitCommandsPassed k old.context.unit_commands new.context.unit_commands
 
@@ -45,8 +45,9 @@ HasUnitCommands k old new = UnitCommandsPassed k old.context.unit_commands new.c
 abbrev pub GoesEvenly : Controller → ℕ → Type 0
 GoesEvenly c k = IsEven c.context.unit_commands c.context.tables k
 
--- at ticks in this mode that show what the last frame shows no register moves beside those that count: what is counted of the phases
--- was so at the last tick, no preempt is counted, no priority request was active, and the pattern of the mode is the one that is kept
+-- at ticks in this mode that show what the last frame shows no register moves beside those that count: what is counted
+-- of the phases was so at the last tick, no preempt is counted, no priority request was active, and the pattern of the
+-- mode is the one that is kept
 pub record IsReady (c : Controller) (mode : Mode) (past : Past) : Type 0 where
   pub tick_inputs : TickInputs
   pub looks : Looks (bound mode) tick_inputs past

@@ -2,7 +2,7 @@
 //! plain ones, where what is on stays as it is and no more is looked at; and those at which no phase ends, begins or walks.
 //! Only the registers that count are stepped.
 
-ghost use Rattle.std.specs.Prelude.{◌≡◌, ◌<◌, ◌≤◌, ◌+◌, ◌&&◌, ◌∷◌, [], ℕ, Bool, true, false, None, IsTrue, not};
+ghost use Rattle.std.specs.Prelude.{◌≡◌, ◌<◌, ◌+◌, ◌&&◌, [], ℕ, Bool, true, false, None, IsTrue, not};
 
 use crate::Controller;
 use sig_types::{Frame, Mode, PhaseSet};
@@ -10,13 +10,6 @@ use tick_context::{TickInputs, TickState, are_both_on, is_defined, is_free, show
 
 /// The command that asks for flash.
 const FLASH_COMMAND: u8 = 255;
-
-/// Whether these are on in the rings.
-fn are_on(on: [u8; 2], first: u8, second: u8) -> bool
-    ensures { IsTrue result → on ≡ first ∷ second ∷ [] }
-{
-    on[0] == first && on[1] == second
-}
 
 impl Controller {
     ghost use Rattle.sig_types.specs.declared.frame.Colour.TheVariants.{Green};
@@ -30,7 +23,6 @@ impl Controller {
     ghost use Rattle.sig_tables.specs.Layout.{Has};
     ghost use Rattle.sig_types.specs.PhaseSet.{has, phases_of};
     ghost use Rattle.sig_tables.specs.Walking.{has_walk};
-    ghost use Rattle.sig_tables.specs.Ticking.{on_of};
     ghost use Rattle.sig_tables.specs.Decide.{with_moment, next_moment};
     ghost use Rattle.sig_tables.specs.Seen.{frame_seen, mode_seen, pedestrian_seen, demand_with, quiet_seen, opposed_seen};
     ghost use Rattle.preempt_stages.specs.Inputs.{preempts_seen};
@@ -66,13 +58,8 @@ impl Controller {
             && ((same_colour (colour_of (frame_seen past) p) Green && not (is_signalling (frame_seen past) p))
             && not (against p))) ≡ false }
     {
-        let called = self
-            .context
-            .layout
-            .walks
-            .meet(self.context.calls.pedestrian());
         let steady = self.shown.green.minus(self.signalling);
-        called.meet(steady.minus(opposed)).is_empty()
+        self.context.is_uncalled(steady.minus(opposed))
     }
 
     /// Whether nothing runs out: no phase is in Yellow or red clearance, and none shows Walk or Flash.
@@ -89,24 +76,6 @@ impl Controller {
         }
     }
 
-    /// Whether the last frame has the version of the tables in force, and what is on by their rings.
-    pub(crate) fn is_laid_out(&self) -> bool
-        ensures version { (past : Past) → ControllerKeeps self.now past → IsTrue result → (frame_seen past).version ≡ past.version }
-        ensures on { (past : Past) → ControllerKeeps self.now past → IsTrue result
-            → (frame_seen past).on ≡ on_of past.tables (frame_seen past).veh 1 ∷ on_of past.tables (frame_seen past).veh 2 ∷ [] }
-    {
-        let red = self.shown.red;
-        if self.context.frame.version != self.context.version {
-            false
-        } else {
-            are_on(
-                self.context.frame.on,
-                self.context.on_in_ring(red, 1),
-                self.context.on_in_ring(red, 2),
-            )
-        }
-    }
-
     /// Whether the last frame has what a frame of Free has by the tables in force: their version, what is on by their rings,
     /// and no counter and no target.
     pub(crate) fn is_current(&self) -> bool
@@ -117,7 +86,7 @@ impl Controller {
         } else if self.context.frame.target != 0 {
             false
         } else {
-            self.is_laid_out()
+            self.context.is_laid_out(self.shown.red)
         }
     }
 

@@ -5,12 +5,8 @@
 ghost use Rattle.std.specs.Prelude.{◌≡◌, ◌<◌, ◌≤◌, ◌+◌, ◌⊎◌, [], ℕ, true, IsTrue, None};
 
 use crate::Controller;
-use pattern_plan::SplitOptions;
 use sig_types::{Mode, PhaseSet};
 use tick_context::{TickInputs, are_both_on, is_coord, is_defined, shows_sixteen};
-
-/// The command that asks for flash.
-const FLASH_COMMAND: u8 = 255;
 
 impl Controller {
     ghost use Rattle.sig_types.specs.Phases.{is_in};
@@ -23,47 +19,17 @@ impl Controller {
     ghost use Rattle.sig_tables.specs.Past.{Past};
     ghost use Rattle.sig_tables.specs.Layout.{Has};
     ghost use Rattle.preempt_stages.specs.Inputs.{preempts_seen};
-    ghost use Rattle.pattern_plan.specs.Options.{AreActivePattern};
     ghost use Rattle.tick_context.specs.Binds.{ActivePatternIs, IsBound};
     ghost use Rattle.tick_context.specs.Lasting.{IsFresh, Looks, StaysFree, StaysInStep, ModeLasts, Lasts, opposed_with};
     ghost use Rattle.controller.specs.Passed.{IsReady, GoesEvenly, HasPassed, HasUnitCommands};
     ghost use Rattle.controller.specs.StandsFor.{ControllerKeeps, tick_count, install_count};
-
-    /// Whether the pattern that the last frame is in step with, if it is with one, is the one that is kept.
-    fn is_bound(&self) -> bool
-        ensures { (past : Past) → ControllerKeeps self.now past → IsTrue result → IsBound self.now.context.active_pattern past.tables self.now.context.frame.mode }
-    {
-        match self.context.frame.mode {
-            Mode::Free => true,
-            Mode::Coord(pattern) => {
-                if pattern == 0 {
-                    false
-                } else {
-                    pattern == self.context.active_pattern.pattern
-                }
-            }
-            _ => false,
-        }
-    }
-
-    /// What the split of the pattern asks that the last frame is in step with; none where it is with none.
-    fn options_kept(&self) -> Option<&SplitOptions>
-        ensures options { (past : Past) → IsBound self.now.context.active_pattern past.tables self.now.context.frame.mode
-            → AreActivePattern result (bound self.now.context.frame.mode) past.tables }
-    {
-        if is_coord(self.context.frame.mode) {
-            Some(&self.context.active_pattern.options)
-        } else {
-            None
-        }
-    }
 
     /// What is seen of the phases, where the mode goes on.
     fn tick_inputs_kept(&self) -> TickInputs
         ensures looks { (past : Past) → ControllerKeeps self.now past → IsBound self.now.context.active_pattern past.tables self.now.context.frame.mode
             → Looks (bound self.now.context.frame.mode) result past }
     {
-        let options = self.options_kept();
+        let options = self.context.options_kept();
         let active = self.context.calls.active(&self.context.layout, options);
         let demand = self
             .context
@@ -96,17 +62,10 @@ impl Controller {
         ensures { (past : Past) → ControllerKeeps self.now past → IsFresh past → Has opposed (is_in (opposed_with None past)) → IsTrue result
             → StaysFree past }
     {
-        let command = self.context.unit_commands.command();
-        if command == FLASH_COMMAND {
-            false
-        } else if is_defined(&self.context.tables, command) {
-            false
-        } else if self.context.frame.counter != 0 {
-            false
-        } else if self.context.frame.target != 0 {
-            false
-        } else {
+        if self.context.is_left_free() {
             self.is_uncalled(opposed)
+        } else {
+            false
         }
     }
 
@@ -120,19 +79,8 @@ impl Controller {
             ⊎ (target_at past.tables n (moment_seen past).clock ≡ self.now.context.frame.counter) }
         ensures room { 0 < result → counter_of self.now.count + result ≤ 4294967295 }
     {
-        let counter = self.count.counter();
-        let left = (self.context.active_pattern.plan.cycle - 1).saturating_sub(counter);
-        if self.context.frame.counter != counter {
-            0
-        } else if self.context.active_pattern.plan.window <= counter {
-            left
-        } else if self
-            .context
-            .active_pattern
-            .target(self.context.unit_commands.clock())
-            == counter
-        {
-            left
+        if self.context.frame.counter == self.count.counter() {
+            self.context.counter_left()
         } else {
             0
         }
@@ -198,7 +146,7 @@ impl Controller {
         shows_sixteen(self.context.frame);
         if !are_both_on(self.context.frame.on) {
             0
-        } else if !self.is_laid_out() {
+        } else if !self.context.is_laid_out(self.shown.red) {
             0
         } else if !self.is_beside() {
             0
@@ -218,7 +166,7 @@ impl Controller {
         ensures ready { (past : Past) → ControllerKeeps self.now past → 0 < result → IsReady self.now self.now.context.frame.mode past }
         ensures room { is_coord self.now.context.frame.mode ≡ true → 0 < result → counter_of self.now.count + result ≤ 4294967295 }
     {
-        if !self.is_bound() {
+        if !self.context.is_bound() {
             return 0;
         }
         let tick_inputs = self.tick_inputs_kept();

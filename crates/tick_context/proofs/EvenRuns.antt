@@ -7,7 +7,7 @@ use Rattle.tick_context.specs.UnitCommands.{most}
 use Rattle.tick_context.specs.Even.{IsEven, UnitCommandsPassed}
 use Rattle.tick_context.specs.Passed.{timed}
 
--- the orders on the way
+-- the unit commands on the way
 abbrev pub unit_commands-next : (o : UnitCommands) → o.clock + 1 < 864000 → UnitCommands
 unit_commands-next o h = record {
   command = o.command;

@@ -1,5 +1,5 @@
 -- Ticks at which the command and the clock go on evenly.
-use Rattle.std.specs.Prelude.{ℕ, ◌≡◌, ◌<◌, ◌≤◌, ◌+◌, ◌*◌, ◌⊎◌, min}
+use Rattle.std.specs.Prelude.{ℕ, ◌≡◌, ◌<◌, ◌≤◌, ◌+◌, ◌-◌, ◌*◌, ◌⊎◌, ◌==◌, ◌&&◌, ◌||◌, min, if◌then◌else◌}
 use Rattle.sig_tables.specs.declared.tables.Tables.{Tables}
 use Rattle.tick_context.specs.declared.unit_commands.UnitCommands.{UnitCommands}
 use Rattle.tick_context.specs.UnitCommands.{most}
@@ -11,6 +11,16 @@ pub record IsEven (o : UnitCommands) (t : Tables) (k : ℕ) : Type 0 where
   pub lose : o.lose ≡ 0
   pub few : t.unit.backup ≤ 65535
   pub command : (o.command ≡ 0) ⊎ ((t.unit.backup ≡ 0) ⊎ (o.since + k < 10 * t.unit.backup))
+
+-- how many such ticks come, of at most so many: none where the clock drifts, else as many as the day and the backup
+-- time leave
+abbrev pub even_ticks : UnitCommands → Tables → ℕ → ℕ
+even_ticks o t most =
+    if o.gain == 0 && o.lose == 0
+    then (if o.command == 0 || t.unit.backup == 0
+    then min most (863999 - o.clock)
+    else min (min most (863999 - o.clock)) (10 * t.unit.backup - 1 - o.since))
+    else 0
 
 -- new is old after so many such ticks
 pub record UnitCommandsPassed (k : ℕ) (old new : UnitCommands) : Type 0 where

@@ -15,3 +15,4 @@ pub mod Even
 pub mod Strides
 pub mod Lasting
 pub mod Passed
+pub mod GoesOn

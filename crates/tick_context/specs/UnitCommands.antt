@@ -1,4 +1,4 @@
--- What is kept of the orders of a cabinet, and what looking back gives.
+-- What is kept of the unit commands of a cabinet, and what looking back gives.
 use Rattle.std.specs.Prelude.{ℕ, ◌≡◌, ◌+◌, min, not, Bool, if◌then◌else◌, List}
 use Rattle.sig_tables.specs.Past.{Past, Moment}
 use Rattle.sig_tables.specs.Looking.{in_a_row}
@@ -20,7 +20,7 @@ most = 4294967295
 abbrev pub order_ticks : UnitCommands → ℕ
 order_ticks o = o.ticks
 
--- the orders are those that looking back gives
+-- the unit commands are those that looking back gives
 pub record UnitCommandsStand (o : UnitCommands) (past : Past) : Type 0 where
   pub command : o.command ≡ command_shown past
   pub since : o.since ≡ min (ticks_since (is_commanded past.commanded) past.moments) most
@@ -29,7 +29,7 @@ pub record UnitCommandsStand (o : UnitCommands) (past : Past) : Type 0 where
   pub gain : o.gain ≡ past.gain
   pub lose : o.lose ≡ past.lose
 
--- the moment saw the orders that the past gives
+-- the moment saw the unit commands that the past gives
 pub record SawUnitCommands (past : Past) (m : Moment) : Type 0 where
   pub number : m.number ≡ (moment_seen past).number + 1
   pub command : m.command ≡ command_now past

@@ -6,6 +6,7 @@ mod active_pattern;
 mod at_rest;
 mod context;
 mod context_frame;
+mod context_lasting;
 mod context_moves;
 mod context_rings;
 mod context_state;

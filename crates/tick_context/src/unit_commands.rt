@@ -43,9 +43,9 @@ impl UnitCommands {
     ghost use Rattle.sig_tables.specs.Showing.{command_shown, clock_shown};
     ghost use Rattle.sig_tables.specs.Decide.{past_of, opening_commands, with_event, with_moment};
     ghost use Rattle.tick_context.specs.UnitCommands.{UnitCommandsStand, SawUnitCommands, order_ticks};
-    ghost use Rattle.tick_context.specs.Even.{IsEven, UnitCommandsPassed};
+    ghost use Rattle.tick_context.specs.Even.{IsEven, UnitCommandsPassed, even_ticks};
 
-    /// The orders that a cabinet is opened with.
+    /// The unit commands that a cabinet is opened with.
     pub fn of(command: u8, clock: u32) -> UnitCommands
         requires of_day { clock < 864000 }
         ensures stands { (t : Tables) → UnitCommandsStand result (past_of t (opening_commands command clock)) }
@@ -91,6 +91,7 @@ impl UnitCommands {
     /// The pattern commanded.
     pub fn command(&self) -> u8
         ensures command { (past : Past) → UnitCommandsStand self.now past → result ≡ command_shown past }
+        ensures kept { result ≡ self.now.command }
     {
         self.command
     }
@@ -159,6 +160,7 @@ impl UnitCommands {
     /// For how many ticks that come, of at most so many, the same pattern stays in command and the clock rises by one at each
     /// within the day; 0 where the clock drifts.
     pub fn even(&self, tables: &Tables, most: u32) -> u32
+        ensures is { result ≡ even_ticks self.now tables.now most }
         ensures within { result ≤ most }
         ensures even { 0 < result → IsEven self.now tables.now result }
     {
