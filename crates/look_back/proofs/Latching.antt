@@ -11,6 +11,7 @@ use Rattle.sig_types.specs.Colour.{same_colour, same_signal, colour_of, signal_o
 use Rattle.sig_tables.specs.declared.tables.Tables.{Tables}
 use Rattle.sig_tables.specs.Past.{Moment, first_frame}
 use Rattle.sig_tables.specs.Looking.{begun, shows, signals, latched, signal_latched, last_frame}
+use Rattle.look_back.proofs.Pairs.{same_colour-itself, same_signal-itself}
 use Rattle.look_back.specs.Latched.{colour_time, signal_time, colour_cell, signal_cell, colour_ticks, signal_ticks, ColourLatched, SignalLatched, ColourSteps, SignalSteps}
 
 -- the time is that of the tables at the first of the last moments that pass the test
@@ -31,12 +32,6 @@ pub begins : (test : Moment → Bool) (time_of : Tables → ℕ) (past : List Mo
 begins test time_of [] m passes fails now = rw passes refl
 begins test time_of (n ∷ past) m passes fails now = rw (passes, fails) refl
 
-same_colour-itself : (a : Colour) → same_colour a a ≡ true
-same_colour-itself Green = refl
-same_colour-itself Yellow = refl
-same_colour-itself Clear = refl
-same_colour-itself Red = refl
-
 -- the equality of signals that code tests is that of the definitions
 pub same_signal-is : (a b : Ped) → sameb the_type a b ≡ same_signal a b
 same_signal-is Walk Walk = refl
@@ -48,11 +43,6 @@ same_signal-is Flash Dont = refl
 same_signal-is Dont Walk = refl
 same_signal-is Dont Flash = refl
 same_signal-is Dont Dont = refl
-
-same_signal-itself : (a : Ped) → same_signal a a ≡ true
-same_signal-itself Walk = refl
-same_signal-itself Flash = refl
-same_signal-itself Dont = refl
 
 colour-fails : (p : ℕ) (before shown : Colour) (past : List Moment) → colour_of (last_frame past) p ≡ before → same_colour before shown ≡ false
     → Fails (shows p shown) past

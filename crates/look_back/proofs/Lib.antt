@@ -18,3 +18,4 @@ pub mod Stages
 pub mod Clearing
 pub mod Again
 pub mod Counted
+pub mod Steady

@@ -45,6 +45,29 @@ impl FrameHistory {
             → Has ends (is_in w.ends) → Has begins (is_in w.begins)
             → result ≡ map (λ p. colour_after w p t.now past (colour_of (last_frame past) p)) all_phases }
     {
+        let shown = self.window().shown();
+        let clearing = shown.yellow.union(shown.clear);
+        let moving = ends.union(begins);
+        let changing = clearing.union(moving);
+        if changing.is_empty() {
+            *last
+        } else {
+            self.each_colour(t, last, ends, begins)
+        }
+    }
+
+    /// The same where one is in yellow or red clearance, ends or begins.
+    fn each_colour(
+        &self,
+        t: &Tables,
+        last: &[Colour; 16],
+        ends: PhaseSet,
+        begins: PhaseSet,
+    ) -> [Colour; 16]
+        ensures { (past : List Moment) (w : Moves) → LooksOver self.now past → last.now ≡ (last_frame past).veh
+            → Has ends (is_in w.ends) → Has begins (is_in w.begins)
+            → result ≡ map (λ p. colour_after w p t.now past (colour_of (last_frame past) p)) all_phases }
+    {
         let mut veh = [Colour::Red; 16];
         for p in 0..16 {
             veh[p] = self.colour_after(t, p as u8 + 1, last[p], ends, begins);
@@ -66,6 +89,28 @@ impl FrameHistory {
             → Has walks begins → ((p : ℕ) → is_phase p ≡ true → (if has goal p then InFull else lesser_of cut) ≡ lesser p)
             → result ≡ map (λ p. if begins p then Walk else signal_runs_within (lesser p) p t.now past (signal_of (last_frame past) p)) all_phases }
     {
+        let shown = self.window().shown();
+        let signalling = shown.walk.union(shown.flash);
+        if signalling.union(walks).is_empty() {
+            *last
+        } else {
+            self.each_signal(t, last, walks, goal, cut)
+        }
+    }
+
+    /// The same where one shows walk or pedestrian clearance, or walk begins on one.
+    fn each_signal(
+        &self,
+        t: &Tables,
+        last: &[Ped; 16],
+        walks: PhaseSet,
+        goal: PhaseSet,
+        cut: Option<Cut>,
+    ) -> [Ped; 16]
+        ensures { (past : List Moment) (begins : ℕ → Bool) (lesser : ℕ → Lesser) → LooksOver self.now past → last.now ≡ (last_frame past).ped
+            → Has walks begins → ((p : ℕ) → is_phase p ≡ true → (if has goal p then InFull else lesser_of cut) ≡ lesser p)
+            → result ≡ map (λ p. if begins p then Walk else signal_runs_within (lesser p) p t.now past (signal_of (last_frame past) p)) all_phases }
+    {
         let mut ped = [Ped::Dont; 16];
         for p in 0..16 {
             let phase = p as u8 + 1;
@@ -76,6 +121,19 @@ impl FrameHistory {
 
     /// The phases, which showed these colours in the last frame, whose clearance ends at this tick.
     pub fn ended(&self, t: &Tables, last: &[Colour; 16]) -> PhaseSet
+        ensures { (past : List Moment) → LooksOver self.now past → last.now ≡ (last_frame past).veh
+            → Has result (is_in (ended_of t.now past)) }
+    {
+        let shown = self.window().shown();
+        if shown.yellow.union(shown.clear).is_empty() {
+            PhaseSet::empty()
+        } else {
+            self.each_ended(t, last)
+        }
+    }
+
+    /// The same where one is in yellow or red clearance.
+    fn each_ended(&self, t: &Tables, last: &[Colour; 16]) -> PhaseSet
         ensures { (past : List Moment) → LooksOver self.now past → last.now ≡ (last_frame past).veh
             → Has result (is_in (ended_of t.now past)) }
     {
@@ -136,6 +194,8 @@ impl FrameHistory {
     {
         if walks.has(phase) {
             Ped::Walk
+        } else if shown == Ped::Dont {
+            Ped::Dont
         } else {
             self.signal_runs_on(t, phase, shown, cut)
         }

@@ -8,6 +8,7 @@ ghost use Rattle.sig_types.specs.declared.frame.Ped.TheVariants.{Walk};
 ghost use Rattle.sig_tables.specs.Past.{Moment};
 ghost use Rattle.look_back.specs.Latched.{colour_cell, signal_cell, colour_ticks, signal_ticks, colour_time, signal_time, ColourSteps, SignalSteps};
 
+use crate::shown::{same_colours, same_signals};
 use sig_tables::Tables;
 use sig_types::{Colour, Frame, Ped};
 
@@ -95,21 +96,27 @@ fn signal_step(cell: u8, before: Ped, shown: Ped, phase: u8, t: &Tables) -> u8
     }
 }
 
-/// The cells of the colours of sixteen phases after one more frame.
+/// The cells of the colours of sixteen phases after one more frame. Where all show what they showed, nothing is read.
 fn step_colours(cells: &mut [u8; 16], before: &[Colour; 16], shown: &[Colour; 16], t: &Tables)
     ensures { (k : ℕ) → k < 16
         → ColourSteps (get_or cells.old k 0) (get_or cells.new k 0) (get_or before.now k Green) (get_or shown.now k Green) (k + 1) t.now }
 {
+    if same_colours(before, shown) {
+        return;
+    }
     for p in 0..16 {
         cells[p] = colour_step(cells[p], before[p], shown[p], p as u8 + 1, t);
     }
 }
 
-/// The cells of the signals of sixteen phases after one more frame.
+/// The cells of the signals of sixteen phases after one more frame. Where all show what they showed, nothing is read.
 fn step_signals(cells: &mut [u8; 16], before: &[Ped; 16], shown: &[Ped; 16], t: &Tables)
     ensures { (k : ℕ) → k < 16
         → SignalSteps (get_or cells.old k 0) (get_or cells.new k 0) (get_or before.now k Walk) (get_or shown.now k Walk) (k + 1) t.now }
 {
+    if same_signals(before, shown) {
+        return;
+    }
     for p in 0..16 {
         cells[p] = signal_step(cells[p], before[p], shown[p], p as u8 + 1, t);
     }

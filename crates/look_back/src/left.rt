@@ -1,7 +1,7 @@
 //! For how many ticks more a time has not passed for which something must be so: the time of a colour or of a signal, a gap, a
 //! maximum. What is left of a time is read off the window.
 
-ghost use Rattle.std.specs.Prelude.{◌≡◌, ◌<◌, ◌≤◌, ◌+◌, ℕ, List};
+ghost use Rattle.std.specs.Prelude.{◌≡◌, ◌<◌, ◌≤◌, ◌+◌, ◌-◌, ℕ, List};
 ghost use Rattle.sig_types.specs.Phases.{is_in};
 ghost use Rattle.sig_types.specs.Colour.{colour_of, signal_of};
 ghost use Rattle.sig_tables.specs.declared.tables.Tables.{Tables};
@@ -24,6 +24,8 @@ impl Window {
     pub fn gap_left(&self, t: &Tables, phase: u8) -> u32
         requires above { 0 < phase }
         requires below { phase ≤ 16 }
+        ensures is { (past : List Moment) → WindowStands self.now past
+            → result ≡ gap_time t.now phase - 1 - in_a_row (λ m. is_in m.quiet phase) past }
         ensures left { (past : List Moment) (k : ℕ) → WindowStands self.now past → 0 < k → k ≤ result
             → in_a_row (λ m. is_in m.quiet phase) past + k < gap_time t.now phase }
     {
@@ -36,6 +38,8 @@ impl Window {
     pub fn maximum_left(&self, t: &Tables, phase: u8) -> u32
         requires above { 0 < phase }
         requires below { phase ≤ 16 }
+        ensures is { (past : List Moment) → WindowStands self.now past
+            → result ≡ maximum_time t.now phase - 1 - in_a_row (λ m. is_in m.opposed phase) past }
         ensures left { (past : List Moment) (k : ℕ) → WindowStands self.now past → 0 < k → k ≤ result
             → in_a_row (λ m. is_in m.opposed phase) past + k < maximum_time t.now phase }
     {
@@ -52,6 +56,8 @@ impl FrameHistory {
     pub fn colour_left(&self, phase: u8, shown: Colour) -> u32
         requires above { 0 < phase }
         requires below { phase ≤ 16 }
+        ensures is { (past : List Moment) (now : Tables) → LooksOver self.now past → shown ≡ colour_of (last_frame past) phase
+            → result ≡ colour_time (latched phase shown now past) phase shown - run phase shown past }
         ensures left { (past : List Moment) (now : Tables) (k : ℕ) → LooksOver self.now past → shown ≡ colour_of (last_frame past) phase
             → 0 < k → k ≤ result → run phase shown past + k ≤ colour_time (latched phase shown now past) phase shown }
     {
@@ -63,6 +69,8 @@ impl FrameHistory {
     pub fn signal_left(&self, phase: u8, shown: Ped) -> u32
         requires above { 0 < phase }
         requires below { phase ≤ 16 }
+        ensures is { (past : List Moment) (now : Tables) → LooksOver self.now past → shown ≡ signal_of (last_frame past) phase
+            → result ≡ signal_time (signal_latched phase shown now past) phase shown - signal_run phase shown past }
         ensures left { (past : List Moment) (now : Tables) (k : ℕ) → LooksOver self.now past → shown ≡ signal_of (last_frame past) phase
             → 0 < k → k ≤ result → signal_run phase shown past + k ≤ signal_time (signal_latched phase shown now past) phase shown }
     {

@@ -1,7 +1,7 @@
 //! What one frame shows and what its tick saw, as far as a look back asks for it; and what is
 //! asked of it.
 
-ghost use Rattle.std.specs.Prelude.{◌≡◌, ◌||◌, ◌==◌, IsTrue};
+ghost use Rattle.std.specs.Prelude.{◌≡◌, ◌↔◌, ◌||◌, ◌==◌, IsTrue};
 ghost use Rattle.sig_types.specs.Phases.{is_in, every};
 ghost use Rattle.sig_tables.specs.Tables.{listed};
 ghost use Rattle.sig_tables.specs.Modes.{same_mode, stage_of};
@@ -73,14 +73,14 @@ impl Sample {
 
     /// Whether the same is kept of two frames.
     pub fn is_same(&self, other: &Sample) -> bool
-        ensures { IsTrue result → self.now ≡ other.now }
+        ensures { IsTrue result ↔ (self.now ≡ other.now) }
     {
         self.shown.is_same(&other.shown) && self.is_as_seen(other)
     }
 
     /// Whether of two frames the same is kept beside what they show of the phases.
     fn is_as_seen(&self, other: &Sample) -> bool
-        ensures { IsTrue result → IsAsSeen self.now other.now }
+        ensures { IsTrue result ↔ IsAsSeen self.now other.now }
     {
         self.first == other.first
             && self.second == other.second

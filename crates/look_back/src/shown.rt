@@ -1,7 +1,7 @@
 //! The colours and the signals of a frame as sets of phases, one set for each colour and each
 //! signal.
 
-ghost use Rattle.std.specs.Prelude.{◌≡◌, IsTrue, length};
+ghost use Rattle.std.specs.Prelude.{◌≡◌, ◌↔◌, IsTrue, length};
 ghost use Rattle.sig_types.specs.declared.frame.Ped.TheVariants.{Walk};
 ghost use Rattle.sig_types.specs.Colour.{same_signal};
 ghost use Rattle.look_back.specs.Shown.{signal_in};
@@ -49,7 +49,7 @@ impl Shown {
 
     /// Whether two frames show the same of all phases.
     pub fn is_same(&self, other: &Shown) -> bool
-        ensures { IsTrue result → self.now ≡ other.now }
+        ensures { IsTrue result ↔ (self.now ≡ other.now) }
     {
         self.is_same_to_vehicles(other)
             && same_set(self.walk, other.walk)
@@ -59,7 +59,7 @@ impl Shown {
 
     /// Whether two frames show the same colours.
     fn is_same_to_vehicles(&self, other: &Shown) -> bool
-        ensures { IsTrue result → ShowsSame self.now other.now }
+        ensures { IsTrue result ↔ ShowsSame self.now other.now }
     {
         same_set(self.green, other.green)
             && same_set(self.yellow, other.yellow)
@@ -98,21 +98,21 @@ fn shows_sixteen(veh: [Colour; 16])
 
 /// Whether all phases show the same colours.
 pub fn same_colours(last: &[Colour; 16], next: &[Colour; 16]) -> bool
-    ensures { IsTrue result → last.now ≡ next.now }
+    ensures { IsTrue result ↔ (last.now ≡ next.now) }
 {
     last == next
 }
 
 /// Whether all phases show the same to pedestrians.
 pub fn same_signals(last: &[Ped; 16], next: &[Ped; 16]) -> bool
-    ensures { IsTrue result → last.now ≡ next.now }
+    ensures { IsTrue result ↔ (last.now ≡ next.now) }
 {
     last == next
 }
 
 /// Whether two sets have the same phases.
 pub fn same_set(a: PhaseSet, b: PhaseSet) -> bool
-    ensures { IsTrue result → a ≡ b }
+    ensures { IsTrue result ↔ (a ≡ b) }
 {
     a == b
 }

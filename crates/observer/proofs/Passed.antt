@@ -67,7 +67,7 @@ pub remembers-of : (o : Observer) (past : Past) → ObserverTold o past → Look
 remembers-of o past k looks =
     record { context = k.context; inputs = k.inputs; commanded = k.commanded; frame_history = looks; within = k.within }
 
--- the observer with this frame, these orders and these frames to look over
+-- the observer with this frame, these unit commands and these frames to look over
 abbrev built : Observer → UnitCommands → FrameHistory → Frame → Observer
 built o new looks f = record o { context = record o.context { frame = f; unit_commands = new }; frame_history = looks }
 

@@ -6,7 +6,8 @@ use Rattle.tick_context.specs.Even.{IsEven}
 use Rattle.tick_context.specs.Passed.{gone_on}
 use Rattle.observer.specs.declared.Observer.{Observer}
 
--- the observer after so many ticks at which the cabinet shows what it showed, which leave these orders and these frames to look over
+-- the observer after so many ticks at which the cabinet shows what it showed, which leave these unit commands and these
+-- frames to look over
 abbrev pub passed : ℕ → Observer → UnitCommands → FrameHistory → Observer
 passed k o new looks = record o {
   context = gone_on (o.context.frame.counter + k) o.context new;

@@ -1,7 +1,7 @@
 //! For how many ticks a phase goes on with what it shows, by what was seen of it: until the first of its intervals is over, or a
 //! point of the plan comes at which it may end. An answer that is too small makes a stride shorter, and no frame another.
 
-ghost use Rattle.std.specs.Prelude.{◌≡◌, ◌<◌, ◌≤◌, ◌+◌, ◌&&◌, ◌⊎◌, ℕ, true, not, Option, None, Some, []};
+ghost use Rattle.std.specs.Prelude.{◌≡◌, ◌<◌, ◌≤◌, ◌&&◌, ◌⊎◌, ℕ, true, not, Option, None, Some, []};
 
 use crate::Observer;
 use sig_types::{Colour, Ped, PhaseSet};
@@ -18,7 +18,7 @@ impl Observer {
     ghost use Rattle.sig_tables.specs.Seen.{frame_seen, demand_with, quiet_with};
     ghost use Rattle.call_store.specs.Signals.{SignalLasts};
     ghost use Rattle.tick_context.specs.Binds.{ActivePatternIs, IsBound};
-    ghost use Rattle.tick_context.specs.Lasting.{Looks, ColourLasts, StaysUnserved, HasNoGap, HasNoMaximum, ComesBefore, HasNoReason, StaysUnforced, PhaseLasts, opposed_with};
+    ghost use Rattle.tick_context.specs.Lasting.{Looks, ColourLasts, StaysUnserved, HasNoGap, HasNoMaximum, HasNoReason, StaysUnforced, PhaseLasts, opposed_with};
     ghost use Rattle.observer.specs.Remembers.{Remembers};
 
     /// For how many ticks more a phase, 1 to 16, keeps its colour where it neither ends nor begins.
@@ -98,19 +98,6 @@ impl Observer {
         }
     }
 
-    /// How many ticks more come before the force point of a phase, 1 to 16, in the pattern that is kept.
-    fn force_left(&self, phase: u8) -> u32
-        requires above { 0 < phase }
-        requires within { phase ≤ 16 }
-        ensures left { (past : Past) (n k : ℕ) → Remembers self.now past → ActivePatternIs self.now.context.active_pattern past.tables n → 0 < k → k ≤ result
-            → ComesBefore n k past phase }
-    {
-        let force = self.context.active_pattern.plan.force[phase as usize - 1];
-        force
-            .saturating_sub(1)
-            .saturating_sub(self.context.frame.counter)
-    }
-
     /// For how many ticks more there is no reason to end a Green phase, 1 to 16, where the pattern that is kept binds.
     fn bound_left(&self, phase: u8, active: bool) -> u32
         requires above { 0 < phase }
@@ -119,7 +106,7 @@ impl Observer {
             → active ≡ not (is_in (quiet_with (Some n) past) phase) → 0 < k → k ≤ result → HasNoReason (Some n) k past phase }
     {
         if self.context.active_pattern.options.coordinated.has(phase) {
-            self.force_left(phase)
+            self.context.force_left(phase)
         } else if self.context.active_pattern.plan.floating {
             0
         } else {
@@ -154,22 +141,6 @@ impl Observer {
         }
     }
 
-    /// For how many ticks more no pattern forces a phase, 1 to 16, off.
-    fn unforced_left(&self, phase: u8) -> u32
-        requires above { 0 < phase }
-        requires within { phase ≤ 16 }
-        ensures left { (past : Past) (k : ℕ) → Remembers self.now past → IsBound self.now.context.active_pattern past.tables self.now.context.frame.mode → 0 < k → k ≤ result
-            → StaysUnforced (bound self.now.context.frame.mode) k past phase }
-    {
-        if !is_coord(self.context.frame.mode) {
-            u32::MAX
-        } else if self.context.active_pattern.options.coordinated.has(phase) {
-            u32::MAX
-        } else {
-            self.force_left(phase)
-        }
-    }
-
     /// For how many ticks more an enabled Green phase, 1 to 16, stays: it is not served, or there is no reason to end it.
     fn stay_left(&self, tick_inputs: &TickInputs, phase: u8) -> u32
         requires above { 0 < phase }
@@ -201,7 +172,7 @@ impl Observer {
         if !self.green().has(phase) {
             return u32::MAX;
         }
-        let unforced = self.unforced_left(phase);
+        let unforced = self.context.unforced_left(phase);
         if tick_inputs.demand.is_empty() {
             unforced
         } else {

@@ -2,82 +2,37 @@
 //! what the last tick saw. The frame history has so many frames more, and beside it only what counts moves: the number of the
 //! tick, the clock, how long the command has stood, the counter of the cycle and its target.
 
-ghost use Rattle.std.specs.Prelude.{◌≡◌, ◌<◌, ◌≤◌, ◌+◌, ◌&&◌, ◌⊎◌, ◌∷◌, [], ℕ, Bool, suc, true, false, not, IsTrue, None};
+ghost use Rattle.std.specs.Prelude.{◌≡◌, ◌<◌, ◌≤◌, ◌+◌, ◌&&◌, [], ℕ, Bool, suc, true, false, not, IsTrue, None};
 
 use crate::Observer;
-use pattern_plan::SplitOptions;
 use sig_types::{Mode, PhaseSet};
-use tick_context::{TickInputs, are_both_on, is_coord, is_defined, shows_sixteen};
-
-/// The command that asks for flash.
-const FLASH_COMMAND: u8 = 255;
-
-/// Whether these are on in the rings.
-fn are_on(on: [u8; 2], first: u8, second: u8) -> bool
-    ensures { IsTrue result → on ≡ first ∷ second ∷ [] }
-{
-    on[0] == first && on[1] == second
-}
+use tick_context::{TickInputs, are_both_on, is_defined, shows_sixteen};
 
 impl Observer {
     ghost use Rattle.sig_types.specs.Phases.{is_phase, is_in};
     ghost use Rattle.sig_types.specs.declared.frame.Colour.TheVariants.{Green};
     ghost use Rattle.sig_types.specs.Colour.{same_colour, colour_of};
     ghost use Rattle.sig_tables.specs.Modes.{bound};
-    ghost use Rattle.sig_tables.specs.Slots.{cycle_time, window};
-    ghost use Rattle.sig_tables.specs.Clock.{target_at};
     ghost use Rattle.sig_tables.specs.Walking.{has_walk};
-    ghost use Rattle.sig_tables.specs.Ticking.{on_of};
     ghost use Rattle.sig_tables.specs.Past.{Past, History};
     ghost use Rattle.sig_tables.specs.Decide.{past_at, ticked};
     ghost use Rattle.sig_tables.specs.Layout.{Has};
-    ghost use Rattle.sig_tables.specs.Seen.{frame_seen, moment_seen, pedestrian_seen};
+    ghost use Rattle.sig_tables.specs.Seen.{frame_seen, pedestrian_seen};
     ghost use Rattle.preempt_stages.specs.Inputs.{preempts_seen};
     ghost use Rattle.prio_queue.specs.Idle.{IsIdle};
-    ghost use Rattle.pattern_plan.specs.Options.{AreActivePattern};
     ghost use Rattle.tick_context.specs.Binds.{ActivePatternIs, IsBound};
-    ghost use Rattle.tick_context.specs.Even.{IsEven};
     ghost use Rattle.tick_context.specs.Shows.{is_signalling};
     ghost use Rattle.tick_context.specs.Strides.{is_told, ticks_more};
     ghost use Rattle.tick_context.specs.Lasting.{IsFresh, Looks, StaysFree, StaysInStep, ModeLasts, Lasts, opposed_with};
     ghost use Rattle.observer.specs.Passed.{GoesEvenly};
     ghost use Rattle.observer.specs.Remembers.{Remembers, ObserverStands, tick_count, install_count};
 
-    /// Whether the cabinet runs free, or is in step with the pattern that is kept.
-    fn is_bound(&self) -> bool
-        ensures { (past : Past) → Remembers self.now past → IsTrue result → IsBound self.now.context.active_pattern past.tables self.now.context.frame.mode }
-    {
-        match self.context.frame.mode {
-            Mode::Free => true,
-            Mode::Coord(pattern) => {
-                if pattern == 0 {
-                    false
-                } else {
-                    pattern == self.context.active_pattern.pattern
-                }
-            }
-            _ => false,
-        }
-    }
-
-    /// What the split of the pattern asks that the last frame is in step with; none where it is with none.
-    fn options_kept(&self) -> Option<&SplitOptions>
-        ensures options { (past : Past) → IsBound self.now.context.active_pattern past.tables self.now.context.frame.mode
-            → AreActivePattern result (bound self.now.context.frame.mode) past.tables }
-    {
-        if is_coord(self.context.frame.mode) {
-            Some(&self.context.active_pattern.options)
-        } else {
-            None
-        }
-    }
-
     /// What is seen of the phases, where the mode goes on.
     fn tick_inputs_kept(&self) -> TickInputs
         ensures looks { (past : Past) → Remembers self.now past → IsBound self.now.context.active_pattern past.tables self.now.context.frame.mode
             → Looks (bound self.now.context.frame.mode) result past }
     {
-        let options = self.options_kept();
+        let options = self.context.options_kept();
         let active = self.context.calls.active(&self.context.layout, options);
         let demand = self
             .context
@@ -90,24 +45,6 @@ impl Observer {
         }
     }
 
-    /// Whether the last frame has the version of the tables in force, and what is on by their rings.
-    fn is_laid_out(&self) -> bool
-        ensures version { (past : Past) → Remembers self.now past → IsTrue result → (frame_seen past).version ≡ past.version }
-        ensures on { (past : Past) → Remembers self.now past → IsTrue result
-            → (frame_seen past).on ≡ on_of past.tables (frame_seen past).veh 1 ∷ on_of past.tables (frame_seen past).veh 2 ∷ [] }
-    {
-        let red = self.red();
-        if self.context.frame.version != self.context.version {
-            false
-        } else {
-            are_on(
-                self.context.frame.on,
-                self.context.on_in_ring(red, 1),
-                self.context.on_in_ring(red, 2),
-            )
-        }
-    }
-
     /// Whether no walk begins on a phase that stays green: of those that show steady don't walk and are not opposed none is called
     /// to.
     fn is_uncalled(&self, opposed: PhaseSet) -> bool
@@ -116,13 +53,8 @@ impl Observer {
             && ((same_colour (colour_of (frame_seen past) p) Green && not (is_signalling (frame_seen past) p))
             && not (against p))) ≡ false }
     {
-        let called = self
-            .context
-            .layout
-            .walks
-            .meet(self.context.calls.pedestrian());
         let steady = self.green().minus(self.signalling());
-        called.meet(steady.minus(opposed)).is_empty()
+        self.context.is_uncalled(steady.minus(opposed))
     }
 
     /// Whether free operation goes on, and no walk begins, where these phases are opposed.
@@ -131,44 +63,10 @@ impl Observer {
             → StaysFree past }
         ensures zero { IsTrue result → self.now.context.frame.counter ≡ 0 }
     {
-        let command = self.context.unit_commands.command();
-        if command == FLASH_COMMAND {
-            false
-        } else if is_defined(&self.context.tables, command) {
-            false
-        } else if self.context.frame.counter != 0 {
-            false
-        } else if self.context.frame.target != 0 {
-            false
-        } else {
+        if self.context.is_left_free() {
             self.is_uncalled(opposed)
-        }
-    }
-
-    /// For how many ticks more the counter of the pattern that is kept goes on as time does, before the end of its cycle. While
-    /// it is to be corrected this says none.
-    fn counter_left(&self) -> u32
-        ensures cycle { (past : Past) (n k : ℕ) → ActivePatternIs self.now.context.active_pattern past.tables n → 0 < k → k ≤ result
-            → self.now.context.frame.counter + k < cycle_time past.tables n }
-        ensures even { (past : Past) (n : ℕ) → Remembers self.now past → ActivePatternIs self.now.context.active_pattern past.tables n → IsFresh past → 0 < result
-            → (window past.tables n ≤ self.now.context.frame.counter)
-            ⊎ (target_at past.tables n (moment_seen past).clock ≡ self.now.context.frame.counter) }
-        ensures room { 0 < result → self.now.context.frame.counter + result ≤ 4294967295 }
-    {
-        let counter = self.context.frame.counter;
-        let plan = &self.context.active_pattern.plan;
-        let left = (plan.cycle - 1).saturating_sub(counter);
-        if plan.window <= counter {
-            left
-        } else if self
-            .context
-            .active_pattern
-            .target(self.context.unit_commands.clock())
-            == counter
-        {
-            left
         } else {
-            0
+            false
         }
     }
 
@@ -190,7 +88,7 @@ impl Observer {
         {
             0
         } else {
-            self.counter_left()
+            self.context.counter_left()
         }
     }
 
@@ -225,7 +123,7 @@ impl Observer {
         if !are_both_on(self.context.frame.on) {
             return 0;
         }
-        if !self.is_laid_out() {
+        if !self.context.is_laid_out(self.red()) {
             return 0;
         }
         let mode = self.mode_left(tick_inputs.opposed);
@@ -248,7 +146,7 @@ impl Observer {
         } else if !self.context.requests.is_idle() {
             false
         } else {
-            self.is_bound()
+            self.context.is_bound()
         }
     }
 

@@ -1,5 +1,6 @@
 use Rattle.std.proofs.Common.{arith, length-set, ◌∙◌}
 use Rattle.sig_types.proofs.InTurn.{InTurn-set, InTurn-start}
+use Rattle.look_back.proofs.Latching.{signal-on}
 use Rattle.look_back.proofs.latched.step_signals.Goals as goal
 
 pub loop-p-init : goal.loop-p-init
@@ -13,3 +14,6 @@ loop-p-preserved c = record {
 
 pub returns : goal.returns
 returns c = λ k few. c.loop-p.invariant.each.done k (omega arith)
+
+pub returns-then-same_signals : goal.returns-then-same_signals
+returns-then-same_signals c = λ k few. rw (← c.same_signals.ensures.0 c.if-same_signals.true) (signal-on _ _ _ c.args.t.now)

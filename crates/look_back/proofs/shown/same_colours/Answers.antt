@@ -4,4 +4,4 @@ use Rattle.look_back.proofs.Pairs.{colour-pairs}
 use Rattle.look_back.proofs.shown.same_colours.Goals as goal
 
 pub returns : goal.returns
-returns c = λ h. colour-pairs eq-value.it _ c.args.last.now c.args.next.now c.eq.ensures (λ a b. search rules) h
+returns c = colour-pairs eq-value.it _ c.args.last.now c.args.next.now c.eq.ensures (λ a b. search rules)

@@ -4,4 +4,4 @@ use Rattle.look_back.proofs.Pairs.{signal-pairs}
 use Rattle.look_back.proofs.shown.same_signals.Goals as goal
 
 pub returns : goal.returns
-returns c = λ h. signal-pairs eq-value.it _ c.args.last.now c.args.next.now c.eq.ensures (λ a b. search rules) h
+returns c = signal-pairs eq-value.it _ c.args.last.now c.args.next.now c.eq.ensures (λ a b. search rules)

@@ -8,7 +8,7 @@ pub returns-then-has : goal.returns-then-has
 returns-then-has c = record {
   left = λ past n k keeps b a some within.
       let h = phase-is c.args.phase c.requires.above c.requires.within in
-      inl (sym (b.options.coordinated c.args.phase h) ∙ sym c.has.ensures.has ∙ c.if-has.true, c.force_left.ensures.left past n k keeps b some within);
+      inl (sym (b.options.coordinated c.args.phase h) ∙ sym c.has.ensures.has ∙ c.if-has.true, c.force_left.ensures.left past n k keeps.context b some within);
 }
 
 pub returns-then-self : goal.returns-then-self

@@ -2,7 +2,7 @@ use Rattle.observer.proofs.Inputs.{none-on}
 use Rattle.observer.proofs.Observer.can_pass.Goals as goal
 
 pub returns-else-not-is_idle-clause-bound : goal.returns-else-not-is_idle-clause-bound
-returns-else-not-is_idle-clause-bound c = λ past k t. c.is_bound.ensures past k t
+returns-else-not-is_idle-clause-bound c = λ past k t. c.is_bound.ensures.bound past k.context t
 
 pub returns-else-not-is_idle-clause-beside : goal.returns-else-not-is_idle-clause-beside
 returns-else-not-is_idle-clause-beside c = λ past k t. none-on c.args.self.now.inputs past k.inputs (c.is_empty.ensures.empty.0 c.if-not-is_empty.false)

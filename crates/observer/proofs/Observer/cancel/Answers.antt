@@ -1,4 +1,4 @@
-use Rattle.std.proofs.Common.{refl, ◌∙◌}
+use Rattle.std.proofs.Common.{refl}
 use Rattle.sig_tables.specs.Past.{Past, Cancel}
 use Rattle.sig_tables.specs.Decide.{past_at, with_event}
 use Rattle.observer.proofs.Inputs.{kept-on}

@@ -19,7 +19,7 @@ returns-then-not-has-clause-stays c = λ past k keeps b looks on some within.
     absurd (false≢true (sym c.if-not-has.true ∙ c.has.ensures.has ∙ c.green.ensures.green past keeps c.args.phase h ∙ parts.1))
 
 pub returns-then-is_empty-clause-unforced : goal.returns-then-is_empty-clause-unforced
-returns-then-is_empty-clause-unforced c = λ past k keeps b on some within. c.unforced_left-unforced.ensures.left past k keeps b some within
+returns-then-is_empty-clause-unforced c = λ past k keeps b on some within. c.unforced_left-unforced.ensures.left past k keeps.context b some within
 
 pub returns-then-is_empty-clause-stays : goal.returns-then-is_empty-clause-stays
 returns-then-is_empty-clause-stays c = λ past k keeps b looks on some within.
@@ -27,7 +27,7 @@ returns-then-is_empty-clause-stays c = λ past k keeps b looks on some within.
 
 pub returns-else-is_empty-clause-unforced : goal.returns-else-is_empty-clause-unforced
 returns-else-is_empty-clause-unforced c = λ past k keeps b on some within.
-    c.unforced_left-unforced.ensures.left past k keeps b some (omega (arith, within))
+    c.unforced_left-unforced.ensures.left past k keeps.context b some (omega (arith, within))
 
 pub returns-else-is_empty-clause-stays : goal.returns-else-is_empty-clause-stays
 returns-else-is_empty-clause-stays c = λ past k keeps b looks on some within.

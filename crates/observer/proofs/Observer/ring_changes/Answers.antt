@@ -12,7 +12,7 @@ pub returns-then-is_resting : goal.returns-then-is_resting
 returns-then-is_resting c = record {
   changes = λ past r s t.
       let still : ring_moves (view_seen past) ≡ record { ends = []; begins = [] } =
-      c.is_resting.ensures (view_seen past) (c.opening-opening.ensures.opening past r.keeps) s.demand
+      c.is_resting.ensures.rests (view_seen past) (c.opening-opening.ensures.opening past r.keeps) s.demand
       (c.forced-forced.ensures.forced past (runs-context _ _ past r) (c.green.ensures.green past r.keeps)) c.if-is_resting.true in
       subst (λ (w : Moves). AreMoves c.no_changes.result w) (sym still) c.no_changes.ensures;
 }

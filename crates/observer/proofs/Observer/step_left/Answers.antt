@@ -23,7 +23,7 @@ returns-else-not-is_over-clause-left c = λ past k keeps b fresh even some withi
       gain = sym keeps.context.unit_commands.gain ∙ even.gain;
       lose = sym keeps.context.unit_commands.lose ∙ even.lose;
       cycle = subst (λ (x : ℕ). x + k < cycle_time past.tables c.args.pattern) counter (c.counter_left.ensures.cycle past c.args.pattern k b some within);
-      even = elim (c.counter_left.ensures.even past c.args.pattern keeps b fresh enough) [
+      even = elim (c.counter_left.ensures.even past c.args.pattern keeps.context b fresh enough) [
         | inl late ↦ inl (omega (arith, late, counter))
         | inr on ↦ inr (on ∙ counter)
       ];

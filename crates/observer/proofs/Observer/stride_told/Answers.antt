@@ -1,7 +1,7 @@
 use Rattle.std.proofs.Common.{◌≡◌, ◌≤◌, ◌+◌, ℕ, suc, false, refl, sym, ◌∙◌, ap, arith, subst}
 use Rattle.sig_tables.specs.Past.{History}
 use Rattle.sig_tables.specs.Decide.{decide, last_frame_of}
-use Rattle.tick_context.specs.Strides.{has_line, is_told, ticks_more}
+use Rattle.tick_context.specs.Strides.{is_told, ticks_more}
 use Rattle.tick_context.proofs.Striding.{more-more, plain-on, told-by}
 use Rattle.observer.specs.Remembers.{ObserverStands}
 use Rattle.observer.proofs.Observer.stride_told.Goals as goal

@@ -1,30 +1,16 @@
-use Rattle.std.proofs.Common.{◌≡◌, ◌+◌, get_or, refl, ◌∙◌, ap, arith}
-use Rattle.std.proofs.Math.ListN.{length-set}
-use Rattle.sig_types.specs.declared.frame.Colour.{Colour}
-use Rattle.sig_types.specs.declared.frame.Colour.TheVariants.{Green}
-use Rattle.sig_types.specs.Colour.{colour_of}
-use Rattle.sig_tables.specs.Looking.{last_frame}
-use Rattle.sig_tables.specs.Ticking.{colour_after}
-use Rattle.sig_tables.proofs.FilledTo.{filled-none, filled-more, filled-all}
-use Rattle.look_back.proofs.Filling.{colour-there}
+use Rattle.std.proofs.Common.{sym, ◌∙◌}
+use Rattle.sig_types.specs.declared.frame.Colour.TheVariants.{Green, Yellow, Clear}
+use Rattle.sig_types.proofs.Sets.{empty-has}
+use Rattle.sig_types.proofs.Places.{map-places}
+use Rattle.look_back.proofs.Steady.{neither-of, colour-stays}
 use Rattle.look_back.proofs.frame_history.FrameHistory.colours.Goals as goal
 
-pub loop-p-init : goal.loop-p-init
-loop-p-init c = record { sixteen = refl; filled = λ past w looks last ends begins. filled-none _ _ _ }
-
-pub loop-p-preserved : goal.loop-p-preserved
-loop-p-preserved c = record {
-  sixteen = length-set c.loop-p.veh c.loop-p.p c.colour_after.result ∙ c.loop-p.invariant.sixteen;
-  filled = λ past w looks last ends begins.
-      let there : get_or c.args.last.now c.loop-p.p Green ≡ colour_of (last_frame past) (c.loop-p.p + 1) =
-      colour-there c.args.last.now past c.loop-p.p last in
-      filled-more _ c.loop-p.veh c.loop-p.p c.colour_after.result _ (omega (arith, c.loop-p.invariant.sixteen))
-      (c.loop-p.invariant.filled past w looks last ends begins)
-      (c.colour_after.ensures past w looks there ends begins
-      ∙ ap (λ (x : Colour). colour_after w (c.loop-p.p + 1) c.args.t.now past x) there);
-}
-
-pub returns : goal.returns
-returns c = λ past w looks last ends begins.
-    filled-all _ c.loop-p.veh c.loop-p.p _ c.loop-p.invariant.sixteen (omega arith)
-    (c.loop-p.invariant.filled past w looks last ends begins)
+pub returns-then-is_empty : goal.returns-then-is_empty
+returns-then-is_empty c = λ past w looks last ends begins.
+    map-places Green _ c.args.last.now c.told-last (λ p h.
+    let none = neither-of _ _ _ (c.union-changing.ensures.has p) (empty-has c.union-changing.result p h (c.is_empty.ensures.empty.0 c.if-is_empty.true)) in
+    let dark = neither-of _ _ _ (c.union-clearing.ensures.has p) none.0 in
+    let rests = neither-of _ _ _ (c.union-moving.ensures.has p) none.1 in
+    let shown = c.shown-shown.ensures past (c.window.ensures past looks) in
+    colour-stays w p c.args.t.now past c.args.last.now last (sym (shown.colours Yellow p h) ∙ dark.0) (sym (shown.colours Clear p h) ∙ dark.1)
+    (sym (ends p h) ∙ rests.0) (sym (begins p h) ∙ rests.1))

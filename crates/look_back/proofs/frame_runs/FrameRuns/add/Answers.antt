@@ -4,7 +4,7 @@ use Rattle.look_back.proofs.frame_runs.FrameRuns.add.Goals as goal
 
 pub returns-then-is_same-clause-keeps : goal.returns-then-is_same-clause-keeps
 returns-then-is_same-clause-keeps c = λ past m keeps tells.
-    let same = c.is_same.ensures c.if-is_same.true in
+    let same = c.is_same.ensures.0 c.if-is_same.true in
     let newest = c.args.self.now.newest in
     record {
       tells = rw c.one_more-self.ensures (adds-like newest.ticks newest.sample c.args.self.now.older.items m past (rw same at tells) keeps.tells);

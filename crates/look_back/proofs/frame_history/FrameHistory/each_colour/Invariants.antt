@@ -9,7 +9,7 @@ use Rattle.sig_tables.specs.Moves.{Moves}
 use Rattle.sig_tables.specs.Ticking.{colour_after}
 use Rattle.look_back.specs.FrameHistories.{LooksOver}
 use Rattle.sig_tables.proofs.FilledTo.{FilledTo}
-use Rattle.look_back.proofs.frame_history.FrameHistory.colours.Given as goal
+use Rattle.look_back.proofs.frame_history.FrameHistory.each_colour.Given as goal
 
 abbrev pub invariant-loop-p : goal.invariant-loop-p
 invariant-loop-p l = record {

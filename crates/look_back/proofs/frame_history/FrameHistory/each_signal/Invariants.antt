@@ -10,7 +10,7 @@ use Rattle.sig_tables.specs.Layout.{Has}
 use Rattle.look_back.specs.Cuts.{lesser_of}
 use Rattle.look_back.specs.FrameHistories.{LooksOver}
 use Rattle.sig_tables.proofs.FilledTo.{FilledTo}
-use Rattle.look_back.proofs.frame_history.FrameHistory.signals.Given as goal
+use Rattle.look_back.proofs.frame_history.FrameHistory.each_signal.Given as goal
 
 abbrev pub invariant-loop-p : goal.invariant-loop-p
 invariant-loop-p l = record {

@@ -5,7 +5,7 @@ use Rattle.sig_types.specs.Colour.{same_colour, colour_of}
 use Rattle.sig_tables.specs.Past.{Moment}
 use Rattle.sig_tables.specs.Looking.{last_frame, runs_on}
 use Rattle.look_back.specs.FrameHistories.{LooksOver}
-use Rattle.look_back.proofs.frame_history.FrameHistory.ended.Given as goal
+use Rattle.look_back.proofs.frame_history.FrameHistory.each_ended.Given as goal
 
 abbrev pub invariant-loop-p : goal.invariant-loop-p
 invariant-loop-p l = record {
