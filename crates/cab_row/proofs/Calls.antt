@@ -1,5 +1,5 @@
 -- What a pass knows between the steps of one call.
-use Rattle.std.proofs.Common.{◌≡◌, ℕ, ◌+◌, ◌%◌, ◌<◌, ◌≤◌, ◌≢◌, zero, suc, List, [], ◌∷◌, ◌++◌, length, map, get_or, set, sym, refl, ap, ◌∙◌, arith, eqb, cond, ne_eqb, ⊎_elim, inl, inr, subst, get_or-set_other, get_or-set_same}
+use Rattle.std.proofs.Common.{◌≡◌, ℕ, ◌+◌, ◌%◌, ◌<◌, ◌≤◌, ◌≢◌, zero, suc, List, [], ◌∷◌, ◌++◌, length, map, replicate, get_or, set, sym, refl, ap, ◌∙◌, arith, ⊎_elim, inl, inr, subst, get_or-set_other, get_or-set_same}
 use mathlib.Core.Logic.{dite}
 use native.Mathlib.Decide.{ℕ_discrete}
 use mathlib.Core.Option.{some}
@@ -7,13 +7,15 @@ use base.Stored.{Gv}
 use Rattle.atomic_table.proofs.Lists.{at_map}
 use lib.ListN.{get_elem?}
 use Rattle.atomic_table.specs.Table.{rest}
+use Rattle.cab_row.specs.declared.act.Act.{Act}
+use Rattle.cab_row.specs.declared.act.Act.TheVariants.{Done, Busy}
 use Rattle.cab_row.specs.declared.view.View.{View}
-use Rattle.cab_row.specs.Views.{total, is_one, times, is_pair, count, owns, looked, holding, finished}
-use Rattle.cab_row.specs.Passes.{IsOwn, HasActed, WasMet, SameCounts, HasSeen}
+use Rattle.cab_row.specs.Views.{total, is_one, times, is_pair, count, owns, looked, holding, finished_with}
+use Rattle.cab_row.specs.Passes.{IsOwn, HasActed, HasBrought, WasMet, SameCounts, HasSeen}
 use Rattle.cab_row.specs.Rule.{Since}
 use Rattle.cab_row.specs.Plays.{Sat}
-use Rattle.cab_row.proofs.Sums.{one_same, one_other, total-append}
-use Rattle.cab_row.proofs.Steps.{is_pair_own, is_pair_cab, count_done, there_is}
+use Rattle.cab_row.proofs.Sums.{one_same, one_other, total-append, total-zeros, total-ones}
+use Rattle.cab_row.proofs.Steps.{is_pair_own, is_pair_cab, is_pair_none, count_done, there_is}
 
 pub not_odd : (n : ℕ) → (n % 2 ≡ 1 → ⊥) → n % 2 ≡ 0
 not_odd n h = dite (ℕ_discrete (n % 2) 1) (λ e. absurd (h e)) (λ ne. omega arith)
@@ -34,39 +36,44 @@ any_default [] i d d' h = absurd (omega arith)
 any_default (x ∷ xs) zero d d' h = refl
 any_default (x ∷ xs) (suc i) d d' h = any_default xs i d d' (omega arith)
 
-is_pair_none : (p n c i : ℕ) → p ≢ n → is_pair p c (n, i) ≡ 0
-is_pair_none p n c i ne = ap (λ b. cond b (cond (eqb i c) 1 0) 0) (ne_eqb n p (λ z. ne (sym z)))
-
 pub own_one : (opening : List Gv) (passes n : ℕ) (v : View) → IsOwn opening passes n v → owns v.number v ≡ 1
 own_one opening passes n v k = ap (times v.number) k.numbers ∙ (let e : n ≡ v.number = sym k.number_is in omega (arith, one_same v.number n e))
 
 pub own_looked : (opening : List Gv) (passes n i r : ℕ) (v : View) → IsOwn opening passes n v → IsOwn opening passes n (looked v i r)
 own_looked opening passes n i r v k = record { opening_is = k.opening_is; passes_are = k.passes_are; number_is = k.number_is; numbers = k.numbers; free = k.free; only = k.only }
 
-pub own_finished : (opening : List Gv) (passes n i : ℕ) (j : List ℕ) (v : View) → IsOwn opening passes n v → IsOwn opening passes n (finished (holding v i j) i)
-own_finished opening passes n i j v k = record {
+pub own_finished : (opening : List Gv) (passes n i many : ℕ) (j : List ℕ) (v : View) → IsOwn opening passes n v → IsOwn opening passes n (finished_with (holding v i j) i many)
+own_finished opening passes n i many j v k = record {
   opening_is = k.opening_is;
   passes_are = k.passes_are;
   number_is = k.number_is;
   numbers = k.numbers;
   free = refl;
-  only = λ p c ne. omega (arith, k.only p c ne, count_done p c i (holding v i j), ap (λ m. is_pair p c (m, i)) k.number_is, is_pair_none p n c i ne);
+  only = λ p c ne. omega (arith, k.only p c ne, count_done p c i many (holding v i j), total-zeros (is_pair p c) many (v.number, i) (ap (λ m. is_pair p c (m, i)) k.number_is ∙ is_pair_none p n c i ne));
 }
 
--- one more is done at the cabinet i
-pub done_after : (done : List ℕ) (n i x : ℕ) (v w : View) → w.done ≡ v.done ++ (n, i) ∷ [] → length done ≡ 64 → x ≡ get_or done i 0 + 1 → i < 64
+-- so many more are done at the cabinet i
+pub done_after : (done : List ℕ) (n i many x : ℕ) (v w : View) → w.done ≡ v.done ++ replicate many (n, i) → length done ≡ 64 → x ≡ get_or done i 0 + many → i < 64
     → ((c : ℕ) → c < 64 → get_or done c 0 ≡ count n c v)
     → (c : ℕ) → c < 64 → get_or (set done i x) c 0 ≡ count n c w
-done_after done n i x v w e wide more inside before c in_range =
-    let counts : count n c w ≡ count n c v + is_pair n c (n, i) = ap (total (is_pair n c)) e ∙ (let a = total-append (is_pair n c) v.done ((n, i) ∷ []) in omega (arith, a)) in
+done_after done n i many x v w e wide more inside before c in_range =
+    let counts : count n c w ≡ count n c v + total (is_pair n c) (replicate many (n, i)) = ap (total (is_pair n c)) e ∙ total-append (is_pair n c) v.done (replicate many (n, i)) in
     dite (ℕ_discrete c i)
     (λ z. let own : is_pair n c (n, i) ≡ 1 = ap (λ y. is_pair n y (n, i)) z ∙ is_pair_own n i in
-    omega (arith, before c in_range, counts, own, more, ap (λ y. get_or (set done i x) y 0) z, get_or-set_same done i x 0 (omega arith), ap (λ y. get_or done y 0) z))
-    (λ ne. omega (arith, before c in_range, counts, is_pair_cab n n i c ne, get_or-set_other done i c x 0 ne))
+    omega (arith, before c in_range, counts, total-ones (is_pair n c) many (n, i) own, more, ap (λ y. get_or (set done i x) y 0) z, get_or-set_same done i x 0 (omega arith), ap (λ y. get_or done y 0) z))
+    (λ ne. omega (arith, before c in_range, counts, total-zeros (is_pair n c) many (n, i) (is_pair_cab n n i c ne), get_or-set_other done i c x 0 ne))
 
 -- what a call's views say of counts and looks
-pub acted_done : (v w : View) (c : ℕ) → HasActed v w c → w.done ≡ v.done ++ (v.number, c) ∷ []
-acted_done v w c h = ap (λ (x : View). x.done) h.2
+pub brought_done : (v w : View) (c many : ℕ) → HasBrought v w c many → w.done ≡ v.done ++ replicate many (v.number, c)
+brought_done v w c many h = ap (λ (x : View). x.done) h.2
+
+pub brought_one : (v w : View) (c many : ℕ) → 1 ≤ many → many ≤ 1 → HasBrought v w c many → HasActed v w c
+brought_one v w c many least most h = let one : many ≡ 1 = omega (arith, least, most) in subst (λ n. HasBrought v w c n) one h
+
+-- the word that an answer tells
+abbrev pub word_told : Act → ℕ
+word_told Done = 0
+word_told (Busy word) = word
 
 module _ (v w : View) (c word : ℕ) where
   abbrev FoundOdd : Type 0
@@ -95,10 +102,10 @@ module _ {B : Type 0} where
   pub changed : (i : ℕ) (w : View) (b x : B) (m m1 : Sat B) → m ≡ (w, (i, b) ∷ []) → m1.0 ≡ m.0 → m1.1 ≡ (i, x) ∷ [] → m1 ≡ (w, (i, x) ∷ [])
   changed i w b x m m1 e e1 e2 = ap (λ v. (v, m1.1)) (e1 ∙ ap (λ (k : Sat B). k.0) e) ∙ ap (λ (l : List (ℕ × B)). (w, l)) e2
 
-  pub done_within : (left_of : B → ℕ → ℕ) (books : List B) (done : List ℕ) (items : ℕ → ℕ) (n i x : ℕ) → length done ≡ 64 → i < 64 → x ≡ get_or done i 0 + 1 → get_or done i 0 < items i
+  pub done_within : (left_of : B → ℕ → ℕ) (books : List B) (done : List ℕ) (items : ℕ → ℕ) (n i many x : ℕ) → length done ≡ 64 → i < 64 → x ≡ get_or done i 0 + many → get_or done i 0 + many ≤ items i
       → ((c : ℕ) (first : B) → get_elem? books c ≡ some first → (get_or done c 0 ≤ left_of first n) × (items c ≡ left_of first n) × (left_of first n ≤ 2147483648))
       → (c : ℕ) (first : B) → get_elem? books c ≡ some first → (get_or (set done i x) c 0 ≤ left_of first n) × (items c ≡ left_of first n) × (left_of first n ≤ 2147483648)
-  done_within left_of books done items n i x wide inside more room before c first there = let b = before c first there in (
+  done_within left_of books done items n i many x wide inside more room before c first there = let b = before c first there in (
     dite (ℕ_discrete c i)
         (λ z. omega (arith, b.1, more, room, ap items z, ap (λ y. get_or (set done i x) y 0) z, get_or-set_same done i x 0 (omega arith)))
         (λ ne. omega (arith, b.0, get_or-set_other done i c x 0 ne)),
@@ -107,11 +114,11 @@ module _ {B : Type 0} where
   )
 
 module _ {B : Type 0} (code : B → Gv) (journal : B → List ℕ) (left_of : B → ℕ → ℕ) (Replays : B → B → Type 0) where
-  -- the book that was taken has an item left of this pass
-  pub has_item : (books : List B) (passes n i r : ℕ) (v : View) (m : Sat B) (b : B) → IsOwn (map code books) passes n v → m ≡ (looked v i r, []) → i < length books
+  -- the book that was taken has so many items left of this pass
+  pub has_items : (books : List B) (passes n i r most : ℕ) (v : View) (m : Sat B) (b : B) → IsOwn (map code books) passes n v → m ≡ (looked v i r, []) → i < length books
       → Since code journal left_of Replays m.0.opening i b → times m.0.number (journal b) ≡ count m.0.number i m.0
-      → ((first : B) → get_elem? books i ≡ some first → count n i v < left_of first n) → 0 < left_of b n
-  has_item books passes n i r v m b own e inside since counted more =
+      → ((first : B) → get_elem? books i ≡ some first → count n i v + most ≤ left_of first n) → most ≤ left_of b n
+  has_items books passes n i r most v m b own e inside since counted more =
       let f = there_is books i inside in
       let opening : m.0.opening ≡ map code books = ap (λ (k : Sat B). k.0.opening) e ∙ own.opening_is in
       let mine = (since f.0 (ap (λ l. get_elem? l i) opening ∙ at_map code books i f.0 f.1)).1 n in
@@ -120,12 +127,12 @@ module _ {B : Type 0} (code : B → Gv) (journal : B → List ℕ) (left_of : B 
       omega (arith, mine, had, more f.0 f.1)
 
   -- the changed book replays its journal from the same first one
-  pub since_changed : (opening : List Gv) (i : ℕ) (n : ℕ) (b b' : B) → Since code journal left_of Replays opening i b → journal b' ≡ journal b ++ n ∷ [] → left_of b' n + 1 ≡ left_of b n → ((p : ℕ) → p ≢ n → left_of b' p ≡ left_of b p)
+  pub since_changed : (opening : List Gv) (i n many : ℕ) (b b' : B) → Since code journal left_of Replays opening i b → journal b' ≡ journal b ++ replicate many n → left_of b' n + many ≡ left_of b n → ((p : ℕ) → p ≢ n → left_of b' p ≡ left_of b p)
       → ((first : B) → Replays first b → Replays first b') → Since code journal left_of Replays opening i b'
-  since_changed opening i n b b' since grown own others replays first there = let s = since first there in (
+  since_changed opening i n many b b' since grown own others replays first there = let s = since first there in (
     replays first s.0,
-    λ p. let more = total-append (is_one p) (journal b) (n ∷ []) in let same = ap (times p) grown in
+    λ p. let more = total-append (is_one p) (journal b) (replicate many n) in let same = ap (times p) grown in
         dite (ℕ_discrete n p)
-        (λ e. omega (arith, s.1 p, more, same, one_same p n e, own, ap (left_of b) e, ap (left_of b') e))
-        (λ ne. omega (arith, s.1 p, more, same, one_other p n ne, others p (λ z. ne (sym z)))),
+        (λ e. omega (arith, s.1 p, more, same, total-ones (is_one p) many n (one_same p n e), own, ap (left_of b) e, ap (left_of b') e))
+        (λ ne. omega (arith, s.1 p, more, same, total-zeros (is_one p) many n (one_other p n ne), others p (λ z. ne (sym z)))),
   )

@@ -1,6 +1,6 @@
 -- Each step keeps the rule.
-use Rattle.std.proofs.Common.{◌≡◌, ℕ, zero, suc, ◌+◌, ◌*◌, ◌%◌, ◌<◌, ◌≤◌, ◌≢◌, List, [], ◌∷◌, ◌++◌, length, map, get_or, set, sym, refl, ap, ◌∙◌, subst, ⊎_elim, arith, cond, eqb, eq-eqb, ne_eqb, length-set, get_or-set_other, get_or-set_same, le-ltb, lt-ltb, Some, None}
-use Rattle.std.proofs.lemmas.List.{length-append}
+use Rattle.std.proofs.Common.{◌≡◌, ℕ, zero, suc, ◌+◌, ◌-◌, ◌*◌, ◌%◌, ◌<◌, ◌≤◌, ◌≢◌, List, [], ◌∷◌, ◌++◌, length, map, replicate, get_or, set, sym, refl, ap, ◌∙◌, subst, ⊎_elim, arith, cond, eqb, eq-eqb, ne_eqb, length-set, get_or-set_other, get_or-set_same, le-ltb, lt-ltb, Some, None}
+use Rattle.std.proofs.lemmas.List.{length-append, length-replicate}
 use Rattle.std.proofs.lemmas.Option.{none-some, same_Some}
 use mathlib.Core.Logic.{dite}
 use native.Mathlib.Decide.{ℕ_discrete, dec_le}
@@ -12,10 +12,10 @@ use prog.Atomic.{either}
 use Rattle.atomic_table.specs.Table.{State, step, keeps, takes, gives, Valid, stepped, Allows}
 use Rattle.atomic_table.proofs.Lists.{at_map, at_set, set_here, set_else, exchanged}
 use Rattle.cab_row.specs.declared.view.View.{View}
-use Rattle.cab_row.specs.Views.{total, is_one, times, is_given, is_pair, is_at, is_cab, count, owns, has, added, looked, holding, finished}
+use Rattle.cab_row.specs.Views.{total, is_one, times, is_given, is_pair, is_at, is_cab, count, owns, has, added, looked, holding, finished_with}
 use Rattle.cab_row.specs.Rule.{Counted, Since, IsHome, Knows, Keeps}
 use Rattle.cab_row.specs.Plays.{Sat, IsAlone, looks, finishes, takes_book}
-use Rattle.cab_row.proofs.Sums.{total-append, total-set, total-same, term_le, terms_le, total-none, total-only, one_same, one_other, below, length_of, below_le}
+use Rattle.cab_row.proofs.Sums.{total-append, total-set, total-same, total-zeros, total-ones, total-alike, term_le, terms_le, total-none, total-only, one_same, one_other, below, length_of, below_le}
 
 pub given_yes : (p g : ℕ) → p < g → is_given p g ≡ 1
 given_yes p g h = ap (λ b. cond b 1 0) (lt-ltb p g h)
@@ -46,12 +46,17 @@ has_no c v n = cab_no c v.holds n
 pub has_free : (c : ℕ) (v : View) → v.holds ≡ None → has c v ≡ 0
 has_free c v e = ap (is_cab c) e
 
--- taking a book adds one to the word, and giving it back one more
+-- taking a book adds one to its word, and giving it back with k items one less than twice as many
 added_holding : (d c : ℕ) (journal : List ℕ) (v : View) → v.holds ≡ None → added d (holding v c journal) ≡ added d v + is_one d c
 added_holding d c journal v e = omega (arith, has_free d v e)
 
-added_finished : (d c : ℕ) (v : View) → v.holds ≡ Some c → added d (finished v c) ≡ added d v + is_one d c
-added_finished d c v e = let held : has d v ≡ is_one d c = ap (is_cab d) e in omega (arith, total-append (is_at d) v.done ((v.number, c) ∷ []), held)
+added_here : (c k more : ℕ) (v : View) → v.holds ≡ Some c → more + 1 ≡ 2 * k → added c (finished_with v c k) ≡ added c v + more
+added_here c k more v e m = let one : is_at c (v.number, c) ≡ 1 = one_same c c refl in
+    omega (arith, total-append (is_at c) v.done (replicate k (v.number, c)), total-ones (is_at c) k (v.number, c) one, has_yes c v e, m)
+
+added_else : (d c k : ℕ) (v : View) → v.holds ≡ Some c → d ≢ c → added d (finished_with v c k) ≡ added d v
+added_else d c k v e ne = let zero_here : is_at d (v.number, c) ≡ 0 = one_other d c (λ z. ne (sym z)) in
+    omega (arith, total-append (is_at d) v.done (replicate k (v.number, c)), total-zeros (is_at d) k (v.number, c) zero_here, has_no d v (λ z. ne (one_cab z e)))
 
 -- an item done: one more of the pass in the journal, and in what its view counts
 pub is_pair_own : (p c : ℕ) → is_pair p c (p, c) ≡ 1
@@ -63,8 +68,15 @@ is_pair_cab p q c d ne = dite (ℕ_discrete q p) (λ e. ap (λ b. cond b (cond (
 is_pair_one : (p q c : ℕ) → is_pair p c (q, c) ≡ is_one p q
 is_pair_one p q c = dite (ℕ_discrete q p) (λ e. ap (λ b. cond b (cond (eqb c c) 1 0) 0) (eq-eqb q p e) ∙ (ap (λ b. cond b 1 0) (eq-eqb c c refl) ∙ sym (one_same p q e))) (λ n. ap (λ b. cond b (cond (eqb c c) 1 0) 0) (ne_eqb q p n) ∙ sym (one_other p q n))
 
-pub count_done : (p d c : ℕ) (v : View) → count p d (finished v c) ≡ count p d v + is_pair p d (v.number, c)
-count_done p d c v = omega (arith, total-append (is_pair p d) v.done ((v.number, c) ∷ []))
+pub is_pair_none : (p n c i : ℕ) → p ≢ n → is_pair p c (n, i) ≡ 0
+is_pair_none p n c i ne = ap (λ b. cond b (cond (eqb i c) 1 0) 0) (ne_eqb n p (λ z. ne (sym z)))
+
+pub count_done : (p d c k : ℕ) (v : View) → count p d (finished_with v c k) ≡ count p d v + total (is_pair p d) (replicate k (v.number, c))
+count_done p d c k v = omega (arith, total-append (is_pair p d) v.done (replicate k (v.number, c)))
+
+-- how often a number stands among k times another, and among k times itself
+times_none : (p n k : ℕ) → p ≢ n → times p (replicate k n) ≡ 0
+times_none p n k ne = total-zeros (is_one p) k n (one_other p n (λ z. ne (sym z)))
 
 pub there_is : {A : Type 0} (l : List A) (i : ℕ) → i < length l → (a : A) × (get_elem? l i ≡ some a)
 there_is [] i h = absurd (omega arith)
@@ -164,12 +176,12 @@ module _ {B : Type 0} (code : B → Gv) (journal : B → List ℕ) (left : B →
   )
 
   -- the word rises by what the view adds
-  adds_on : (books : List B) (passes : ℕ) (s : St) (k : Keeps code journal left Replays books passes s) (id c new : ℕ) (v w : View) → get_elem? s.views id ≡ some v → c < length books
-      → new ≡ get_or s.words c 0 + 1 → ((d : ℕ) → added d w ≡ added d v + is_one d c) → (d : ℕ) → d < length books → get_or (set s.words c new) d 0 ≡ total (added d) (set s.views id w)
-  adds_on books passes s k id c new v w at inside next up d h =
+  adds_on : (books : List B) (passes : ℕ) (s : St) (k : Keeps code journal left Replays books passes s) (id c new more : ℕ) (v w : View) → get_elem? s.views id ≡ some v → c < length books
+      → new ≡ get_or s.words c 0 + more → added c w ≡ added c v + more → ((d : ℕ) → d ≢ c → added d w ≡ added d v) → (d : ℕ) → d < length books → get_or (set s.words c new) d 0 ≡ total (added d) (set s.views id w)
+  adds_on books passes s k id c new more v w at inside next up same d h =
       dite (ℕ_discrete d c)
-      (λ e. omega (arith, ap (λ x. get_or (set s.words c new) x 0) e, get_or-set_same s.words c new 0 (omega (arith, k.words)), ap (λ x. get_or s.words x 0) e, k.adds d h, total-set (added d) s.views id v w at, up d, one_same d c (sym e), next))
-      (λ ne. omega (arith, get_or-set_other s.words c d new 0 ne, k.adds d h, total-set (added d) s.views id v w at, up d, one_other d c (λ z. ne (sym z))))
+      (λ e. omega (arith, ap (λ x. get_or (set s.words c new) x 0) e, get_or-set_same s.words c new 0 (omega (arith, k.words)), ap (λ x. get_or s.words x 0) e, k.adds d h, total-set (added d) s.views id v w at, ap (λ x. added x w) e, ap (λ x. added x v) e, up, next))
+      (λ ne. omega (arith, get_or-set_other s.words c d new 0 ne, k.adds d h, total-set (added d) s.views id v w at, same d ne))
 
   -- the compare and exchange that finds the word takes the book
   taken_on : (books : List B) (passes : ℕ) (s : St) (k : Keeps code journal left Replays books passes s) (id c new : ℕ) (v : View) (b : B) → get_elem? s.views id ≡ some v → v.holds ≡ None → owns v.number v ≡ 1 → c < length books
@@ -196,7 +208,8 @@ module _ {B : Type 0} (code : B → Gv) (journal : B → List ℕ) (left : B →
         even = λ d h e. dite (ℕ_discrete d c)
             (λ z. absurd (omega (arith, e, odd, ap (λ x. get_or ws x 0 % 2) z, ap (λ n. n % 2) here)))
             (λ ne. let t = k.even d h (ap (λ n. n % 2) (sym (there d ne)) ∙ e) in (t.0, set_else s.homes c d none ne ∙ t.1, there d ne ∙ t.2, t.3, λ p. t.4 p ∙ sym (counts p d)));
-        adds = adds_on books passes s k id c new v w at inside next (λ d. added_holding d c (journal b) v free);
+        adds = adds_on books passes s k id c new 1 v w at inside next (added_holding c c (journal b) v free ∙ ap (λ n. added c v + n) (one_same c c refl))
+            (λ d ne. omega (arith, added_holding d c (journal b) v free, one_other d c (λ z. ne (sym z))));
         knows = λ j u e. ⊎_elim
             (λ (q : (j ≡ id) × (w ≡ u)). subst (Knows code journal left Replays books passes k.given (board ws hs vs)) q.1 (record {
               opened = mine.opened;
@@ -238,32 +251,32 @@ module _ {B : Type 0} (code : B → Gv) (journal : B → List ℕ) (left : B →
         (free, (λ hit. absurd (miss hit)), (λ _. refl), single),
       ))
 
-  -- the journal, with this item, is short
-  short_journal : (books : List B) (passes : ℕ) (s : St) (k : Keeps code journal left Replays books passes s) (id c : ℕ) (v : View) (b : B) → get_elem? s.views id ≡ some v → v.holds ≡ Some c
-      → journal b ≡ v.taken ++ v.number ∷ [] → Since code journal left Replays (map code books) c b → length (journal b) ≤ 17179869184
-  short_journal books passes s k id c v b at holds grown since = let mine = k.knows id v at in let t = mine.held c holds in
+  -- the journal, with these items, is short
+  short_journal : (books : List B) (passes : ℕ) (s : St) (k : Keeps code journal left Replays books passes s) (id c many : ℕ) (v : View) (b : B) → get_elem? s.views id ≡ some v → v.holds ≡ Some c
+      → journal b ≡ v.taken ++ replicate many v.number → Since code journal left Replays (map code books) c b → length (journal b) ≤ 17179869184
+  short_journal books passes s k id c many v b at holds grown since = let mine = k.knows id v at in let t = mine.held c holds in
       let f = there_is books c t.0 in
       let below_given : v.number < k.given = number_below books passes s k id v.number v at (mine.holder (λ e. not_both e holds)) in
-      let is : (p : ℕ) → times p (journal b) ≡ times p v.taken + is_one p v.number = λ p. omega (arith, ap (times p) grown, total-append (is_one p) v.taken (v.number ∷ [])) in
-      let long : length (journal b) ≡ below (λ p. times p (journal b)) k.given = length_of (journal b) k.given (λ p h. omega (arith, is p, t.2 p, none_yet books passes s k p c h, one_other p v.number (λ e. omega arith))) in
+      let is : (p : ℕ) → times p (journal b) ≡ times p v.taken + times p (replicate many v.number) = λ p. omega (arith, ap (times p) grown, total-append (is_one p) v.taken (replicate many v.number)) in
+      let long : length (journal b) ≡ below (λ p. times p (journal b)) k.given = length_of (journal b) k.given (λ p h. omega (arith, is p, t.2 p, none_yet books passes s k p c h, times_none p v.number many (λ e. omega arith))) in
       let most : below (λ p. times p (journal b)) k.given ≤ k.given * 2147483648 = below_le (λ p. times p (journal b)) k.given 2147483648 (λ p. omega (arith, (since f.0 (at_map code books c f.0 f.1)).1 p, k.small c p f.0 f.1)) in
       omega (arith, long, most, k.few, k.eight)
 
-  given_on : (books : List B) (passes : ℕ) (s : St) (k : Keeps code journal left Replays books passes s) (id c new : ℕ) (v : View) (b : B) → get_elem? s.views id ≡ some v → v.holds ≡ Some c
-      → journal b ≡ v.taken ++ v.number ∷ [] → Since code journal left Replays (map code books) c b → new ≡ 2 * length (journal b)
-      → Keeps code journal left Replays books passes (board (set s.words c new) (set s.homes c (some b)) (set s.views id (finished v c)))
-  given_on books passes s k id c new v b at holds grown since long =
-      let w : View = finished v c in let vs : List View = set s.views id w in let ws : List ℕ = set s.words c new in let hs : List (Option B) = set s.homes c (some b) in
+  given_on : (books : List B) (passes : ℕ) (s : St) (k : Keeps code journal left Replays books passes s) (id c new many : ℕ) (v : View) (b : B) → get_elem? s.views id ≡ some v → v.holds ≡ Some c → 1 ≤ many
+      → journal b ≡ v.taken ++ replicate many v.number → Since code journal left Replays (map code books) c b → new ≡ 2 * length (journal b)
+      → Keeps code journal left Replays books passes (board (set s.words c new) (set s.homes c (some b)) (set s.views id (finished_with v c many)))
+  given_on books passes s k id c new many v b at holds some_more grown since long =
+      let w : View = finished_with v c many in let more : List (ℕ × ℕ) = replicate many (v.number, c) in let vs : List View = set s.views id w in let ws : List ℕ = set s.words c new in let hs : List (Option B) = set s.homes c (some b) in
       let mine = k.knows id v at in let t = mine.held c holds in let inside : c < length books = t.0 in
       let own : owns v.number v ≡ 1 = mine.holder (λ e. not_both e holds) in
       let here : get_or ws c 0 ≡ new = get_or-set_same s.words c new 0 (omega (arith, k.words)) in
       let there : (d : ℕ) → d ≢ c → get_or ws d 0 ≡ get_or s.words d 0 = λ d ne. get_or-set_other s.words c d new 0 ne in
-      let counts : (p d : ℕ) → total (count p d) vs ≡ total (count p d) s.views + is_pair p d (v.number, c) = λ p d. omega (arith, total-set (count p d) s.views id v w at, count_done p d c v) in
-      let others : (p d : ℕ) → d ≢ c → total (count p d) vs ≡ total (count p d) s.views = λ p d ne. omega (arith, counts p d, is_pair_cab p v.number c d ne) in
-      let counted : Counted c (journal b) vs = λ p. omega (arith, ap (times p) grown, total-append (is_one p) v.taken (v.number ∷ []), t.2 p, counts p c, is_pair_one p v.number c) in
+      let counts : (p d : ℕ) → total (count p d) vs ≡ total (count p d) s.views + total (is_pair p d) more = λ p d. omega (arith, total-set (count p d) s.views id v w at, count_done p d c many v) in
+      let others : (p d : ℕ) → d ≢ c → total (count p d) vs ≡ total (count p d) s.views = λ p d ne. omega (arith, counts p d, total-zeros (is_pair p d) many (v.number, c) (is_pair_cab p v.number c d ne)) in
+      let counted : Counted c (journal b) vs = λ p. omega (arith, ap (times p) grown, total-append (is_one p) v.taken (replicate many v.number), t.2 p, counts p c, total-alike (is_pair p c) (is_one p) many (v.number, c) v.number (is_pair_one p v.number c)) in
       let one_holds : total (has c) s.views ≡ 1 = omega (arith, k.locks c inside, t.1) in
       let even : new % 2 ≡ 0 = omega arith in
-      let longer : length (journal b) ≡ length v.taken + 1 = omega (arith, ap length grown, length-append v.taken (v.number ∷ [])) in
+      let longer : length (journal b) ≡ length v.taken + many = omega (arith, ap length grown, length-append v.taken (replicate many v.number), length-replicate many v.number) in
       record {
         given = k.given;
         few = k.few;
@@ -277,12 +290,12 @@ module _ {B : Type 0} (code : B → Gv) (journal : B → List ℕ) (left : B →
         even = λ d h e. dite (ℕ_discrete d c)
             (λ z. subst (IsHome code journal left Replays books (board ws hs vs)) (sym z) (b, set_here s.homes c (some b) (omega (arith, k.homes)), here ∙ long, since, counted))
             (λ ne. let u = k.even d h (ap (λ n. n % 2) (sym (there d ne)) ∙ e) in (u.0, set_else s.homes c d (some b) ne ∙ u.1, there d ne ∙ u.2, u.3, λ p. u.4 p ∙ sym (others p d ne)));
-        adds = adds_on books passes s k id c new v w at inside (omega (arith, t.1, long, longer)) (λ d. added_finished d c v holds);
+        adds = adds_on books passes s k id c new (2 * many - 1) v w at inside (omega (arith, t.1, long, longer, some_more)) (added_here c many (2 * many - 1) v holds (omega (arith, some_more))) (λ d ne. added_else d c many v holds ne);
         knows = λ j u e. ⊎_elim
             (λ (q : (j ≡ id) × (w ≡ u)). subst (Knows code journal left Replays books passes k.given (board ws hs vs)) q.1 (record {
               opened = mine.opened;
               giver = mine.giver;
-              idle = λ p d none. dite (ℕ_discrete p v.number) (λ z. absurd (omega (arith, none, own, ap (λ n. owns n v) z))) (λ ne. omega (arith, count_done p d c v, mine.idle p d none, dite (ℕ_discrete d c) (λ z. ap (λ x. is_pair p x (v.number, c)) z ∙ (is_pair_one p v.number c ∙ one_other p v.number (λ y. ne (sym y)))) (λ z. is_pair_cab p v.number c d z)));
+              idle = λ p d none. dite (ℕ_discrete p v.number) (λ z. absurd (omega (arith, none, own, ap (λ n. owns n v) z))) (λ ne. omega (arith, count_done p d c many v, mine.idle p d none, total-zeros (is_pair p d) many (v.number, c) (is_pair_none p v.number d c ne)));
               holder = λ h. absurd (h refl);
               held = λ d h. absurd (not_both refl h);
             }))
@@ -293,28 +306,18 @@ module _ {B : Type 0} (code : B → Gv) (journal : B → List ℕ) (left : B →
         gives = total-same (λ x. x.given) s.views id v w at refl ∙ k.gives;
       }
 
-  -- the `fetch_add` gives the book back, with one item more
-  pub may_finish : (books : List B) (passes slots id c : ℕ) (v : View) (b : B) → v.holds ≡ Some c → journal b ≡ v.taken ++ v.number ∷ [] → Since code journal left Replays v.opening c b
-      → Allows (Keeps code journal left Replays books passes) slots id (v, (c, b) ∷ []) c (λ n. (n + 1) % 18446744073709551616) (finishes (step slots c 1 0 none) (v, (c, b) ∷ []))
-  may_finish books passes slots id c v b holds grown since s k wide at _ = let mine = k.knows id v at in let t = mine.held c holds in
+  -- the `fetch_add` gives the book back, with so many items more
+  pub may_finish : (books : List B) (passes slots id c many more : ℕ) (v : View) (b : B) → v.holds ≡ Some c → 1 ≤ many → more + 1 ≡ 2 * many → journal b ≡ v.taken ++ replicate many v.number → Since code journal left Replays v.opening c b
+      → Allows (Keeps code journal left Replays books passes) slots id (v, (c, b) ∷ []) c (λ n. (n + more) % 18446744073709551616) (finishes (step slots c more 0 none) (v, (c, b) ∷ []))
+  may_finish books passes slots id c many more v b holds some_more rise grown since s k wide at _ = let mine = k.knows id v at in let t = mine.held c holds in
       let opening : v.opening ≡ map code books = (mine.opened (omega (arith, mine.holder (λ e. not_both e holds)))).0 in
       let since' : Since code journal left Replays (map code books) c b = subst (λ l. Since code journal left Replays l c b) opening since in
-      let short = short_journal books passes s k id c v b at holds grown since' in
-      let longer : length (journal b) ≡ length v.taken + 1 = omega (arith, ap length grown, length-append v.taken (v.number ∷ [])) in
-      let new : (get_or s.words c 0 + 1) % 18446744073709551616 ≡ 2 * length (journal b) = omega (arith, t.1, short, longer) in
-      (finished v c, gives, tt, given_on books passes s k id c _ v b at holds grown since' new, refl)
+      let short = short_journal books passes s k id c many v b at holds grown since' in
+      let longer : length (journal b) ≡ length v.taken + many = omega (arith, ap length grown, length-append v.taken (replicate many v.number), length-replicate many v.number) in
+      let new : (get_or s.words c 0 + more) % 18446744073709551616 ≡ 2 * length (journal b) = omega (arith, t.1, short, longer, rise) in
+      (finished_with v c many, gives, tt, given_on books passes s k id c _ many v b at holds some_more grown since' new, λ j e. ap (λ (n : ℕ). (finished_with v c n, [])) (omega (arith, e, rise)))
 
   pub may_look_at : (books : List B) (passes slots id c : ℕ) (m : Sat B) → m.1 ≡ [] → m.0.holds ≡ None → owns m.0.number m.0 ≡ 1 → c < length books
       → Allows (Keeps code journal left Replays books passes) slots id m c (λ n. n) (looks (step slots c 0 0 none) m)
   may_look_at books passes slots id c m empty free one inside =
       subst (λ l. Allows (Keeps code journal left Replays books passes) slots id (m.0, l) c (λ n. n) (looks (step slots c 0 0 none) (m.0, l))) (sym empty) (may_look books passes slots id c m.0 free one inside)
-
-  pub may_take_at : (books : List B) (passes slots id c old new : ℕ) (m : Sat B) → m.1 ≡ [] → m.0.holds ≡ None → owns m.0.number m.0 ≡ 1 → c < length books → old % 2 ≡ 0 → new ≡ old + 1
-      → Allows (Keeps code journal left Replays books passes) slots id m c (λ n. either (eqb n old) new n) (takes_book code journal left Replays (step slots c old new none) m)
-  may_take_at books passes slots id c old new m empty free one inside even next =
-      subst (λ l. Allows (Keeps code journal left Replays books passes) slots id (m.0, l) c (λ n. either (eqb n old) new n) (takes_book code journal left Replays (step slots c old new none) (m.0, l))) (sym empty) (may_take books passes slots id c old new m.0 free one inside even next)
-
-  pub may_finish_at : (books : List B) (passes slots id c : ℕ) (m : Sat B) (b : B) → m.1 ≡ (c, b) ∷ [] → m.0.holds ≡ Some c → journal b ≡ m.0.taken ++ m.0.number ∷ [] → Since code journal left Replays m.0.opening c b
-      → Allows (Keeps code journal left Replays books passes) slots id m c (λ n. (n + 1) % 18446744073709551616) (finishes (step slots c 1 0 none) m)
-  may_finish_at books passes slots id c m b has_it holds grown since =
-      subst (λ l. Allows (Keeps code journal left Replays books passes) slots id (m.0, l) c (λ n. (n + 1) % 18446744073709551616) (finishes (step slots c 1 0 none) (m.0, l))) (sym has_it) (may_finish books passes slots id c m.0 b holds grown since)

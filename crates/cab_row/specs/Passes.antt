@@ -6,7 +6,7 @@ use lib.ListN.{get_elem?}
 use Rattle.cab_row.specs.declared.row.Row.{Row}
 use Rattle.cab_row.specs.declared.pass.Pass.{Pass}
 use Rattle.cab_row.specs.declared.view.View.{View}
-use Rattle.cab_row.specs.Views.{total, times, owns, count, added, looked, finished, spent}
+use Rattle.cab_row.specs.Views.{total, times, owns, count, added, looked, finished, finished_with, spent}
 
 -- the view of a badge
 abbrev pub seat_view : List View → View
@@ -82,6 +82,10 @@ module _ {B : Type 0} (code : B → Gv) (left_of : B → ℕ → ℕ) where
 -- Done: it looked once, found the word even, took the book there and gave it back with one item of its own more
 abbrev pub HasActed : View → View → ℕ → Type 0
 HasActed v w c = (seen : ℕ) × (seen % 2 ≡ 0) × (w ≡ finished (looked v c seen) c)
+
+-- Done with k items: the same, with k items of its own more
+abbrev pub HasBrought : View → View → ℕ → ℕ → Type 0
+HasBrought v w c k = (seen : ℕ) × (seen % 2 ≡ 0) × (w ≡ finished_with (looked v c seen) c k)
 
 -- Busy: it looked and found an odd word; or it looked, found the word even, and then found another than that
 abbrev pub WasMet : View → View → ℕ → ℕ → Type 0

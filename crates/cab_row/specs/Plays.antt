@@ -1,10 +1,10 @@
 -- What each step tells: of the step, the seat before, the number found and the seat after. Looking and taking are for a pass that
 -- holds no cabinet, so that no pass ever meets itself.
-use Rattle.std.specs.Prelude.{◌≡◌, ◌≢◌, ℕ, ◌*◌, List, ◌∷◌, None}
+use Rattle.std.specs.Prelude.{◌≡◌, ◌≢◌, ℕ, ◌+◌, ◌*◌, List, ◌∷◌, None}
 use base.Stored.{Gv}
 use Rattle.atomic_table.specs.Table.{Me, Step, rest}
 use Rattle.cab_row.specs.declared.view.View.{View}
-use Rattle.cab_row.specs.Views.{times, count, looked, holding, finished}
+use Rattle.cab_row.specs.Views.{times, count, looked, holding, finished_with}
 use Rattle.cab_row.specs.Rule.{Since}
 
 abbrev pub Sat : Type 0 → Type 0
@@ -19,9 +19,9 @@ module _ {B : Type 0} where
   abbrev pub looks : Step B → Sat B → ℕ → Sat B → Type 0
   looks st m r n = (m.0.holds ≡ None) × (n ≡ (looked m.0 st.word r, m.1)) × IsAlone m.0 st.word r
 
-  -- the step that gives the book back
+  -- the step that gives the book back: with what it adds to the odd word, the word has risen by twice the items applied
   abbrev pub finishes : Step B → Sat B → ℕ → Sat B → Type 0
-  finishes st m r n = n ≡ (finished m.0 st.word, rest m.1)
+  finishes st m r n = (k : ℕ) → st.first + 1 ≡ 2 * k → n ≡ (finished_with m.0 st.word k, rest m.1)
 
 module _ {B : Type 0} (code : B → Gv) (journal : B → List ℕ) (left : B → ℕ → ℕ) (Replays : B → B → Type 0) where
   -- the seat after holds the cabinet and its book

@@ -1,5 +1,5 @@
--- A book that a pass has taken, and what it comes to by one item.
-use Rattle.std.specs.Prelude.{◌≡◌, ◌≢◌, ℕ, ◌+◌, List, [], ◌∷◌, ◌++◌}
+-- A book that a pass has taken, and what it comes to by some items.
+use Rattle.std.specs.Prelude.{◌≡◌, ◌≢◌, ℕ, ◌+◌, List, [], ◌∷◌, ◌++◌, replicate}
 use Rattle.atomic_table.specs.Table.{Me}
 use Rattle.cab_row.specs.declared.view.View.{View}
 
@@ -7,6 +7,6 @@ use Rattle.cab_row.specs.declared.view.View.{View}
 abbrev pub HasTaken : {B : Type 0} → Me B View → ℕ → (B → Type 0) → Type 0
 HasTaken {B} m c P = (b : B) × (m.1 ≡ (c, b) ∷ []) × P b
 
--- x is b with one item more of the pass n
-abbrev pub HasOneMore : {B : Type 0} → (B → List ℕ) → (B → ℕ → ℕ) → (B → B → Type 0) → ℕ → B → B → Type 0
-HasOneMore {B} journal left Replays n b x = (journal x ≡ journal b ++ n ∷ []) × (left x n + 1 ≡ left b n) × ((p : ℕ) → p ≢ n → left x p ≡ left b p) × ((first : B) → Replays first b → Replays first x)
+-- x is b with k items more of the pass n
+abbrev pub HasMore : {B : Type 0} → (B → List ℕ) → (B → ℕ → ℕ) → (B → B → Type 0) → ℕ → ℕ → B → B → Type 0
+HasMore {B} journal left Replays n k b x = (journal x ≡ journal b ++ replicate k n) × (left x n + k ≡ left b n) × ((p : ℕ) → p ≢ n → left x p ≡ left b p) × ((first : B) → Replays first b → Replays first x)

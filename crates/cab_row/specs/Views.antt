@@ -1,5 +1,5 @@
 -- What each step makes of a view, and what views count.
-use Rattle.std.specs.Prelude.{ℕ, ◌+◌, ◌*◌, ◌==◌, cond, nat_lt, List, [], ◌∷◌, ◌++◌, Option, Some, None}
+use Rattle.std.specs.Prelude.{ℕ, ◌+◌, ◌*◌, ◌==◌, cond, nat_lt, List, [], ◌∷◌, ◌++◌, replicate, Option, Some, None}
 use base.Stored.{Gv}
 use Rattle.cab_row.specs.declared.view.View.{View}
 
@@ -70,6 +70,10 @@ holding v c journal = view v.opening v.passes v.given v.number v.numbers v.done 
 -- it has given the book back, with one item more
 abbrev pub finished : View → ℕ → View
 finished v c = view v.opening v.passes v.given v.number v.numbers (v.done ++ (v.number, c) ∷ []) None [] v.looks v.last v.before
+
+-- it has given the book back, with so many items more
+abbrev pub finished_with : View → ℕ → ℕ → View
+finished_with v c k = view v.opening v.passes v.given v.number v.numbers (v.done ++ replicate k (v.number, c)) None [] v.looks v.last v.before
 
 -- it has given one pass number more
 abbrev pub giver : View → View

@@ -1,9 +1,10 @@
-//! What a pass does at a cabinet: it looks, takes the book if nobody has it, applies one item and gives the book back. It never
-//! waits: where it meets another pass it says so. A book stays in its place the while, so an act costs no more for a long one.
-ghost use Rattle.std.specs.Prelude.{◌≡◌, ℕ, ◌+◌, ◌-◌, ◌<◌, ◌≤◌, [], ◌∷◌, length, map};
-ghost use Rattle.cab_row.specs.Passes.{IsPassOf, IsOwn, books_of, view_of, remains, done_by, HasActed, WasMet, SameCounts, HasSeen};
+//! What a pass does at a cabinet: it looks, takes the book if nobody has it, applies one item or some and gives the
+//! book back. It never waits: where it meets another pass it says so. A book stays in its place the while, so an act
+//! costs no more for a long one.
+ghost use Rattle.std.specs.Prelude.{◌≡◌, ◌≢◌, ℕ, ◌+◌, ◌-◌, ◌<◌, ◌≤◌, [], ◌∷◌, length, map};
+ghost use Rattle.cab_row.specs.Passes.{IsPassOf, IsOwn, books_of, view_of, remains, done_by, HasActed, HasBrought, WasMet, SameCounts, HasSeen};
 ghost use Rattle.cab_row.specs.Views.{count};
-ghost use Rattle.cab_row.specs.Taken.{HasTaken, HasOneMore};
+ghost use Rattle.cab_row.specs.Taken.{HasTaken, HasMore};
 ghost use mathlib.Core.Option.{some};
 ghost use lib.ListN.{get_elem?};
 
@@ -22,9 +23,17 @@ pub enum Act {
     Busy(u64),
 }
 
+/// What came of one call that applies some items: so many were applied, or another pass was met, and this is the word
+/// that showed it.
+#[derive(Clone, Copy, PartialEq, Eq)]
+pub enum Acts {
+    Done(u32),
+    Busy(u64),
+}
+
 impl<B: Logged> Row<B> {
-    /// How many items the pass has left at the cabinet (1 to the number of cabinets): those that it was opened with, less its calls
-    /// of `act` there that were answered Done.
+    /// How many items the pass has left at the cabinet (1 to the number of cabinets): those that it was opened with,
+    /// less those that its calls there were answered as done.
     pub fn remaining(&self, pass: &Pass, cab: u32) -> u32
         requires pass { IsPassOf B.row.coded.code B.left_of self.now pass.now }
         requires cab { (1 ≤ cab) × (cab ≤ length (books_of self.now)) }
@@ -50,48 +59,75 @@ impl<B: Logged> Row<B> {
         ensures remains { result ≡ Act.Done → remains self.now pass.new cab + 1 ≡ remains self.now pass.old cab }
         ensures alone { self.now.passes ≡ 1 → result ≡ Act.Done }
     {
+        match self.act_some(pass, cab, 1) {
+            Acts::Done(_) => Act::Done,
+            Acts::Busy(word) => Act::Busy(word),
+        }
+    }
+
+    /// Does what `act` does, with as many of the pass's next items as the book applies in one go: at least one, and
+    /// at most so many. Done: it looked, found the cabinet free, and applied these items. The word is twice the
+    /// length of the journal again, so each item has its place there.
+    pub fn act_some(&self, pass: &mut Pass, cab: u32, most: u32) -> Acts
+        requires pass { IsPassOf B.row.coded.code B.left_of self.now pass.old }
+        requires cab { (1 ≤ cab) × (cab ≤ length (books_of self.now)) }
+        requires most { (1 ≤ most) × (most ≤ remains self.now pass.old cab) }
+        ensures pass { IsPassOf B.row.coded.code B.left_of self.now pass.new × (pass.new.number ≡ pass.old.number) }
+        ensures done { (k : ℕ) → result ≡ Acts.Done k → HasBrought (view_of pass.old) (view_of pass.new) (cab - 1) k }
+        ensures some { (k : ℕ) → result ≡ Acts.Done k → (1 ≤ k) × (k ≤ most) }
+        ensures busy { (w : ℕ) → result ≡ Acts.Busy w → WasMet (view_of pass.old) (view_of pass.new) (cab - 1) w }
+        ensures same { (w : ℕ) → result ≡ Acts.Busy w → SameCounts (view_of pass.old) (view_of pass.new) }
+        ensures seen { (w : ℕ) → result ≡ Acts.Busy w → HasSeen (view_of pass.old) (view_of pass.new) (cab - 1) w }
+        ensures remains { (k : ℕ) → result ≡ Acts.Done k → remains self.now pass.new cab + k ≡ remains self.now pass.old cab }
+        ensures alone { self.now.passes ≡ 1 → (w : ℕ) → result ≢ Acts.Busy w }
+    {
         let c = cab as usize - 1;
         let mut seat = replace(&mut pass.badge, Badge::blank()).into_seat();
-        let answer = self.turn(&mut seat, pass.number, c);
+        let answer = self.turn(&mut seat, pass.number, c, most);
         pass.badge = seat.into_badge();
-        if let Act::Done = answer {
-            pass.done[c] += 1;
+        if let Acts::Done(count) = answer {
+            pass.done[c] += count;
         }
         answer
     }
 
-    // One try of a pass that has an item left at the cabinet, which is counted from 0.
-    fn turn(&self, seat: &mut Seat<B, View>, number: u32, c: usize) -> Act
+    // One try of a pass that has so many items left at the cabinet, which is counted from 0.
+    fn turn(&self, seat: &mut Seat<B, View>, number: u32, c: usize, most: u32) -> Acts
         requires seat { (seat.old.table_id ≡ self.now.table.shared.table_id) × (seat.old.me.1 ≡ []) × IsOwn (map B.row.coded.code (books_of self.now)) self.now.passes number seat.old.me.0 }
         requires cab { c < length (books_of self.now) }
-        requires left { (first : B) → get_elem? (books_of self.now) c ≡ some first → count number c seat.old.me.0 < B.left_of first number }
+        requires some { 1 ≤ most }
+        requires left { (first : B) → get_elem? (books_of self.now) c ≡ some first → count number c seat.old.me.0 + most ≤ B.left_of first number }
         ensures seat { (seat.new.table_id ≡ self.now.table.shared.table_id) × (seat.new.me.1 ≡ []) × IsOwn (map B.row.coded.code (books_of self.now)) self.now.passes number seat.new.me.0 }
-        ensures done { result ≡ Act.Done → HasActed seat.old.me.0 seat.new.me.0 c }
-        ensures busy { (w : ℕ) → result ≡ Act.Busy w → WasMet seat.old.me.0 seat.new.me.0 c w }
-        ensures alone { self.now.passes ≡ 1 → result ≡ Act.Done }
+        ensures done { (k : ℕ) → result ≡ Acts.Done k → HasBrought seat.old.me.0 seat.new.me.0 c k }
+        ensures some { (k : ℕ) → result ≡ Acts.Done k → (1 ≤ k) × (k ≤ most) }
+        ensures busy { (w : ℕ) → result ≡ Acts.Busy w → WasMet seat.old.me.0 seat.new.me.0 c w }
+        ensures alone { self.now.passes ≡ 1 → (w : ℕ) → result ≢ Acts.Busy w }
     {
         let shared = &self.table.shared;
         let seen = shared.load::<Look>(seat, c);
         if seen % 2 == 1 {
-            return Act::Busy(seen);
+            return Acts::Busy(seen);
         }
         let found = shared.compare_exchange::<Take>(seat, c, seen, seen + 1);
         if found != seen {
-            return Act::Busy(found);
+            return Acts::Busy(found);
         }
-        self.bring(seat, number, c);
-        shared.fetch_add::<Finish>(seat, c, 1);
-        Act::Done
+        let count = self.bring(seat, number, c, most);
+        shared.fetch_add::<Finish>(seat, c, 2 * count as u64 - 1);
+        Acts::Done(count)
     }
 
-    // The pass's next item comes to the book that its seat has taken, which has one left.
-    fn bring(&self, seat: &mut Seat<B, View>, number: u32, c: usize)
+    // Some next items of the pass come to the book that its seat has taken, which has so many left: how many these are.
+    fn bring(&self, seat: &mut Seat<B, View>, number: u32, c: usize, most: u32) -> u32
         requires table { seat.old.table_id ≡ self.now.table.shared.table_id }
-        requires held { HasTaken seat.old.me c (λ b. 0 < B.left_of b number) }
+        requires some { 1 ≤ most }
+        requires held { HasTaken seat.old.me c (λ b. most ≤ B.left_of b number) }
         ensures table { seat.new.table_id ≡ seat.old.table_id }
-        ensures brought { HasTaken seat.old.me c (λ b. HasTaken seat.new.me c (λ x. HasOneMore B.journal B.left_of B.replays number b x)) }
+        ensures brought { HasTaken seat.old.me c (λ b. HasTaken seat.new.me c (λ x. HasMore B.journal B.left_of B.replays number result b x)) }
+        ensures some { (1 ≤ result) × (result ≤ most) }
         ensures view { seat.new.me.0 ≡ seat.old.me.0 }
     {
-        seat.slot_mut(&self.table.shared, c).apply(number)
+        seat.slot_mut(&self.table.shared, c)
+            .apply_some(number, most)
     }
 }

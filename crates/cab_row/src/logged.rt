@@ -1,6 +1,6 @@
 //! What a row asks of a book: a journal of the passes that brought its items, and how many items each has left. Nothing else of a
 //! book matters here, so that a row serves any value that keeps a journal.
-ghost use Rattle.std.specs.Prelude.{◌≡◌, ◌≢◌, ℕ, ◌+◌, ◌<◌, List, [], ◌∷◌, ◌++◌};
+ghost use Rattle.std.specs.Prelude.{◌≡◌, ◌≢◌, ℕ, ◌+◌, ◌<◌, ◌≤◌, List, [], ◌∷◌, ◌++◌, replicate};
 
 /// A value that passes change item by item, and that keeps a journal of them.
 pub trait Logged {
@@ -22,6 +22,17 @@ pub trait Logged {
         ensures own { left_of self.new pass + 1 ≡ left_of self.old pass }
         ensures others { (p : ℕ) → p ≢ pass → left_of self.new p ≡ left_of self.old p }
         ensures replays { (first : Self) → replays first self.old → replays first self.new };
+
+    /// Applies the next items of the pass, at least one and at most so many: how many these are. It takes no memory.
+    fn apply_some(&mut self, pass: u32, most: u32) -> u32
+        requires some { 1 ≤ most }
+        requires within { most ≤ left_of self.old pass }
+        ensures journal { journal self.new ≡ journal self.old ++ replicate result pass }
+        ensures own { left_of self.new pass + result ≡ left_of self.old pass }
+        ensures others { (p : ℕ) → p ≢ pass → left_of self.new p ≡ left_of self.old p }
+        ensures replays { (first : Self) → replays first self.old → replays first self.new }
+        ensures some { 1 ≤ result }
+        ensures most { result ≤ most };
 
     // A value with an empty journal is its own replay.
     ghost fresh: { (x : Self) → journal x ≡ [] → replays x x };

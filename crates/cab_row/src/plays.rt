@@ -40,7 +40,7 @@ impl<B: Logged> Play<B, View> for Take {
     ghost then = { takes_book B.row.coded.code B.journal B.left_of B.replays };
 }
 
-/// A pass gives the book back, with one item more.
+/// A pass gives the book back, with the items that it applied.
 pub struct Finish;
 
 impl<B> Play<B, View> for Finish {

@@ -5,7 +5,7 @@ ghost use Rattle.cab_row.specs.Passes.{IsPassOf, books_of};
 ghost use denote.Param.Send.{IsSync, IsSend};
 ghost use Rattle.cab_row.specs.Hands.{IsReady, HaveWorked, passes_in};
 
-use crate::{Act, Logged, Pass, Row};
+use crate::{Acts, Logged, Pass, Row};
 use io_edge::Gate;
 use std::thread::{Threads, join};
 
@@ -15,16 +15,24 @@ pub(crate) struct Worker {
     pub(crate) passes: Vec<Pass>,
 }
 
-// Acts at the cabinet until another pass is met or nothing is left. Whether another was met.
+// Acts at the cabinet until another pass is met or nothing is left. Whether another was met. The first act brings one
+// item, and each further one may bring eight times as many as the one before, so that others have their turn between
+// the first of them.
 fn act_on<B: Logged, G: Gate>(row: &Row<B>, pass: &mut Pass, cab: u32, gate: &G) -> bool
     requires pass { IsPassOf B.row.coded.code B.left_of row.now pass.old }
     requires cab { (1 ≤ cab) × (cab ≤ length (books_of row.now)) }
     ensures { IsPassOf B.row.coded.code B.left_of row.now pass.new × (pass.new.number ≡ pass.old.number) }
 {
-    while row.remaining(pass, cab) > 0 {
+    let mut left = row.remaining(pass, cab);
+    let mut most: u32 = 1;
+    while left > 0 {
         gate.at(pass.number(), cab);
-        if let Act::Busy(_) = row.act(pass, cab) {
-            return true;
+        match row.act_some(pass, cab, if most < left { most } else { left }) {
+            Acts::Done(count) => left -= count,
+            Acts::Busy(_) => return true,
+        }
+        if most < 512 {
+            most *= 8;
         }
     }
     false

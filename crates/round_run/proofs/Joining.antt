@@ -90,6 +90,10 @@ all-whole parts old shared left now so come many finishes =
           (finishes k b (omega (arith, within, same))));
     }
 
+-- so they have where all of it was left to bring
+pub all-at-once : (old now : List Book) → length now ≡ length old → ((k : ℕ) (b : Book) → k < length old → Finishes (get_or old k b) (get_or now k b)) → AreWhole old now
+all-at-once old now many finishes = record { many = many; each = finishes }
+
 pub joined-run : (s : ScenarioContent) (ts : List CabinetState) (old now : List Book) → AreWhole old now → HaveRun s ts (no_journals ts) old
     → HaveMerged s ts now
 joined-run s ts old now whole have =

@@ -1,6 +1,6 @@
 //! The order of a round that several workers settle, each in a thread of its own where one can be started.
 
-ghost use Rattle.std.specs.Prelude.{ℕ, ◌≡◌, ◌≤◌, ◌⊎◌, List, [], All, length, vec_len, vec_capacity, IfOk, IfErr};
+ghost use Rattle.std.specs.Prelude.{ℕ, ◌≡◌, ◌<◌, ◌≤◌, ◌⊎◌, List, [], All, length, vec_len, vec_capacity, IfOk, IfErr};
 ghost use Rattle.scenario_data.specs.Content.{ScenarioContent};
 ghost use Rattle.run_definition.specs.CabinetState.{CabinetState};
 ghost use Rattle.cab_book.specs.declared.book.Book.{Book as BookRow};
@@ -16,18 +16,69 @@ use sig_types::NoMemory;
 use std::alloc::Global;
 use std::thread::Threads;
 
-/// In how many parts so many workers share the ticks of a round: one for up to five, two for six, and four for more.
-fn parts_for(workers: u32) -> u32
+/// Fewer ticks than these, of all cabinets in a round, are few: their workers would be done before all had started.
+const FEW_TICKS: u64 = 16_384;
+
+/// In how many parts so many workers share so many ticks of a round: one for up to five workers and for few ticks, two
+/// for six, and four for more.
+fn parts_for(workers: u32, ticks: u64) -> u32
     ensures parts { (result ≡ 1) ⊎ (result ≡ 2) ⊎ (result ≡ 4) }
     ensures one { workers ≤ 5 → result ≡ 1 }
-    ensures two { workers ≡ 6 → result ≡ 2 }
-    ensures four { 7 ≤ workers → result ≡ 4 }
+    ensures few { ticks < 16384 → result ≡ 1 }
+    ensures two { workers ≡ 6 → 16384 ≤ ticks → result ≡ 2 }
+    ensures four { 7 ≤ workers → 16384 ≤ ticks → result ≡ 4 }
 {
+    if ticks < FEW_TICKS {
+        return 1;
+    }
     match workers {
         0..=5 => 1,
         6 => 2,
         _ => 4,
     }
+}
+
+/// The ticks of a round at all these cabinets, which are not shared yet.
+fn ticks_in(books: &[Book]) -> u64 {
+    let mut ticks: u64 = 0;
+    for k in 0..books.len() {
+        ticks = ticks.wrapping_add(books[k].left(4) as u64);
+    }
+    ticks
+}
+
+/// Whether a pass has something to bring to one of these cabinets.
+fn has_items(books: &[Book], pass: u32) -> bool {
+    for k in 0..books.len() {
+        if books[k].left(pass) > 0 {
+            return true;
+        }
+    }
+    false
+}
+
+/// Whether one worker alone has something to bring in a round whose ticks are to be shared in so many parts.
+fn is_for_one(books: &[Book], workers: u32, parts: u32) -> bool
+    requires { 1 ≤ workers }
+{
+    if parts > 1 {
+        return false;
+    }
+    let mut bringer = None;
+    for pass in 0..5 {
+        if has_items(books, pass) {
+            let worker = pass % workers;
+            match bringer {
+                None => bringer = Some(worker),
+                Some(other) => {
+                    if other != worker {
+                        return false;
+                    }
+                }
+            }
+        }
+    }
+    true
 }
 
 /// Shares the ticks of each book's round, to which nothing was brought yet, in so many parts.
@@ -55,11 +106,13 @@ fn join_ticks(books: &mut Vec<Book>)
     }
 }
 
-/// All that comes to 1 to 64 cabinets in a round that was just begun is brought by passes in the hands of so many workers: the ticks are
-/// those of one pass for up to five workers, of two for six, and of four for more, and there are four other passes. Worker w has the
-/// passes p with p mod workers = w, and calls the gate before each act (no clause says so). What the workers leave is
-/// brought in the serial order. Whatever the order of the threads, each item of each stream is brought once, in its stream's order, and
-/// each book's journal tells the order that came of it. All memory is taken first: where it is wanting, the books come back as they were.
+/// All that comes to 1 to 64 cabinets in a round that was just begun is brought by passes in the hands of so many
+/// workers: the ticks are those of one pass for up to five workers or where they are few, of two for six, and of four
+/// for more, and there are four other passes. Worker w has the passes p with p mod workers = w, and calls the gate
+/// before each act (no clause says so). What the workers leave is brought in the serial order, and so is the whole
+/// round where one worker alone has something to bring. Whatever the order of the threads, each item of each stream
+/// is brought once, in its stream's order, and each book's journal tells the order that came of it. All memory is
+/// taken first: where it is wanting, the books come back as they were.
 pub fn joined_round<R: Threads + Sync, G: Gate + Sync>(
     rt: &R,
     alloc: Global,
@@ -78,7 +131,11 @@ pub fn joined_round<R: Threads + Sync, G: Gate + Sync>(
     ensures room { IfOk result (λ v. vec_capacity v ≡ vec_capacity books) }
     ensures refused { IfErr result (λ e. (e.0.items ≡ books.items) × (vec_capacity e.0 ≡ vec_capacity books)) }
 {
-    let parts = parts_for(workers);
+    let parts = parts_for(workers, ticks_in(books.as_slice()));
+    if is_for_one(books.as_slice(), workers, parts) {
+        serial_round(&mut books);
+        return Ok(books);
+    }
     share_ticks(&mut books, parts);
     match worked(rt, alloc, books, 4 + parts, workers, gate) {
         Ok(mut books) => {

@@ -1,72 +1,11 @@
-use Rattle.std.proofs.Common.{◌≡◌, ℕ, [], ◌∷◌, ◌++◌, length-set, ◌-◌, ◌<◌, map, sym, refl, ap, ◌∙◌, subst, arith}
-use Rattle.cab_row.specs.Passes.{IsOwn, books_of, items_at, seat_view, view_of, HasActed, WasMet, SameCounts, HasSeen}
-use Rattle.cab_row.specs.Views.{total, is_pair}
-use Rattle.cab_row.proofs.Calls.{done_within, done_after, acted_done, met_done, met_same, met_seen}
-use Rattle.cab_row.proofs.Steps.{there_is}
+use Rattle.std.proofs.Common.{◌-◌, refl, ap, subst}
+use Rattle.cab_row.specs.Passes.{view_of, HasSeen}
+use Rattle.cab_row.proofs.Calls.{brought_one, word_told}
 use Rattle.cab_row.proofs.row.Row.act.Goals as goal
 
-pub overflow_add-pass : goal.overflow_add-pass
-overflow_add-pass g c = let row = c.args.self.now in let i : ℕ = c.args.cab - 1 in
-    let f = there_is (books_of row) i (omega (arith, c.requires.cab.0, c.requires.cab.1)) in
-    let b = c.requires.pass.left i f.0 f.1 in omega (arith, b.0, b.1, b.2, c.requires.left)
-
-pub returns-in-Done-clause-pass : goal.returns-in-Done-clause-pass
-returns-in-Done-clause-pass g c = let row = c.args.self.now in let i : ℕ = c.args.cab - 1 in let pass = c.args.pass.now in
-    let w : c.into_seat-seat.result.me.0 ≡ view_of pass = sym (ap seat_view c.into_seat-seat.ensures.2) ∙ ap (λ b. seat_view b.views) c.replace.ensures.value in
-    let n : c.turn-answer.new.seat.me.0 ≡ seat_view c.into_badge.result.views = sym (ap seat_view c.into_badge.ensures.2) in
-    let s = c.turn-answer.ensures.seat in let p = c.requires.pass in
-    let inside : i < 64 = omega (arith, row.few.0, c.requires.cab.0, c.requires.cab.1) in
-    let grown = sym (ap (λ v. v.done) n) ∙ (acted_done c.into_seat-seat.result.me.0 c.turn-answer.new.seat.me.0 i (c.in-Done.ensures.done refl) ∙ (ap (λ v. v.done ++ (v.number, i) ∷ []) w ∙ ap (λ m. (view_of pass).done ++ (m, i) ∷ []) p.view.number_is)) in (
-      record {
-        table = c.into_badge.ensures.0 ∙ s.0;
-        views = c.into_badge.ensures.2 ∙ ap (λ l. seat_view l ∷ []) (sym c.into_badge.ensures.2);
-        view = subst (IsOwn (map g.row.B.coded.code (books_of row)) row.passes pass.number) n s.2;
-        small = p.small;
-        wide = length-set pass.done i _ ∙ p.wide;
-        left = done_within g.B.Logged.left_of (books_of row) pass.done (λ k. items_at row k pass.number) pass.number i _ p.wide inside refl (omega (arith, c.requires.left)) p.left;
-        done = done_after pass.done pass.number i _ (view_of pass) (seat_view c.into_badge.result.views) grown p.wide refl inside p.done;
-      },
-      refl,
-    )
-
-pub returns-in_default-clause-pass : goal.returns-in_default-clause-pass
-returns-in_default-clause-pass g c = let row = c.args.self.now in let pass = c.args.pass.now in
-    let w : c.into_seat-seat.result.me.0 ≡ view_of pass = sym (ap seat_view c.into_seat-seat.ensures.2) ∙ ap (λ b. seat_view b.views) c.replace.ensures.value in
-    let n : c.turn-answer.new.seat.me.0 ≡ seat_view c.into_badge.result.views = sym (ap seat_view c.into_badge.ensures.2) in
-    let s = c.turn-answer.ensures.seat in let p = c.requires.pass in
-    let same = sym (ap (λ v. v.done) n) ∙ (met_done c.into_seat-seat.result.me.0 c.turn-answer.new.seat.me.0 (c.args.cab - 1) c.in_default.field-0 (c.in_default.ensures.busy c.in_default.field-0 refl) ∙ ap (λ v. v.done) w) in (
-      record {
-        table = c.into_badge.ensures.0 ∙ s.0;
-        views = c.into_badge.ensures.2 ∙ ap (λ l. seat_view l ∷ []) (sym c.into_badge.ensures.2);
-        view = subst (IsOwn (map g.row.B.coded.code (books_of row)) row.passes pass.number) n s.2;
-        small = p.small;
-        wide = p.wide;
-        left = p.left;
-        done = λ k h. p.done k h ∙ ap (total (is_pair pass.number k)) (sym same);
-      },
-      refl,
-    )
-
 pub returns-in-Done-clause-done : goal.returns-in-Done-clause-done
-returns-in-Done-clause-done g c = let pass = c.args.pass.now in let i : ℕ = c.args.cab - 1 in
-    let w : c.into_seat-seat.result.me.0 ≡ view_of pass = sym (ap seat_view c.into_seat-seat.ensures.2) ∙ ap (λ b. seat_view b.views) c.replace.ensures.value in
-    let n : c.turn-answer.new.seat.me.0 ≡ seat_view c.into_badge.result.views = sym (ap seat_view c.into_badge.ensures.2) in
-    λ e. subst (λ v. HasActed (view_of pass) v i) n (subst (λ u. HasActed u c.turn-answer.new.seat.me.0 i) w (c.turn-answer.ensures.done e))
+returns-in-Done-clause-done g c = λ _. let e = c.in-Done.ensures in let count = c.in-Done.field-0 in
+    brought_one (view_of c.args.pass.now) (view_of c.act_some.new.pass) (c.args.cab - 1) count (e.some count refl).0 (e.some count refl).1 (e.done count refl)
 
-pub returns-in_default-clause-busy : goal.returns-in_default-clause-busy
-returns-in_default-clause-busy g c = let pass = c.args.pass.now in let i : ℕ = c.args.cab - 1 in
-    let w : c.into_seat-seat.result.me.0 ≡ view_of pass = sym (ap seat_view c.into_seat-seat.ensures.2) ∙ ap (λ b. seat_view b.views) c.replace.ensures.value in
-    let n : c.turn-answer.new.seat.me.0 ≡ seat_view c.into_badge.result.views = sym (ap seat_view c.into_badge.ensures.2) in
-    λ k e. subst (λ v. WasMet (view_of pass) v i k) n (subst (λ u. WasMet u c.turn-answer.new.seat.me.0 i k) w (c.turn-answer.ensures.busy k e))
-
-pub returns-in_default-clause-same : goal.returns-in_default-clause-same
-returns-in_default-clause-same g c = let pass = c.args.pass.now in let i : ℕ = c.args.cab - 1 in
-    let w : c.into_seat-seat.result.me.0 ≡ view_of pass = sym (ap seat_view c.into_seat-seat.ensures.2) ∙ ap (λ b. seat_view b.views) c.replace.ensures.value in
-    let n : c.turn-answer.new.seat.me.0 ≡ seat_view c.into_badge.result.views = sym (ap seat_view c.into_badge.ensures.2) in
-    λ k e. subst (λ v. SameCounts (view_of pass) v) n (subst (λ u. SameCounts u c.turn-answer.new.seat.me.0) w (met_same c.into_seat-seat.result.me.0 c.turn-answer.new.seat.me.0 i k (c.turn-answer.ensures.busy k e)))
-
-pub returns-in_default-clause-seen : goal.returns-in_default-clause-seen
-returns-in_default-clause-seen g c = let pass = c.args.pass.now in let i : ℕ = c.args.cab - 1 in
-    let w : c.into_seat-seat.result.me.0 ≡ view_of pass = sym (ap seat_view c.into_seat-seat.ensures.2) ∙ ap (λ b. seat_view b.views) c.replace.ensures.value in
-    let n : c.turn-answer.new.seat.me.0 ≡ seat_view c.into_badge.result.views = sym (ap seat_view c.into_badge.ensures.2) in
-    λ k e. subst (λ v. HasSeen (view_of pass) v i k) n (subst (λ u. HasSeen u c.turn-answer.new.seat.me.0 i k) w (met_seen c.into_seat-seat.result.me.0 c.turn-answer.new.seat.me.0 i k (c.turn-answer.ensures.busy k e)))
+pub returns-in-Busy-clause-seen : goal.returns-in-Busy-clause-seen
+returns-in-Busy-clause-seen g c = λ w e. subst (λ n. HasSeen (view_of c.args.pass.now) (view_of c.act_some.new.pass) (c.args.cab - 1) n) (ap word_told e) (c.in-Busy.ensures.seen c.in-Busy.word refl)
