@@ -22,12 +22,13 @@ heard-sound n has field is = record {
 }
 
 abbrev pub with_control : Cabinet → Control → Cabinet
-with_control c k = record { control = k; stage = c.stage; community = c.community; ticks = c.ticks }
+with_control c k = record { control = k; stage = c.stage; community = c.community; ticks = c.ticks; ask = c.ask }
 
 pub hear-stands : (c : Cabinet) (k : Control) (cabinet_history : CabinetHistory) (field : Field) → CabinetStands c cabinet_history → ControlStands k (with_one (history_of cabinet_history) (Input field))
     → tick_count k ≡ tick_count c.control → CabinetStands (with_control c k) (with_item cabinet_history (Told field))
 hear-stands c k cabinet_history field is stands counted = record {
   community = is.community;
+  blank = is.blank;
   keeps = record {
     control = stands;
     stage = is.keeps.stage;

@@ -71,7 +71,7 @@ version-on (suc k) h = version-on k h
 
 -- the cabinet with what its controller has become by so many ticks
 abbrev pub with_ticks : Cabinet → Control → ℕ → Cabinet
-with_ticks c k m = record { control = k; stage = c.stage; community = c.community; ticks = c.ticks + m }
+with_ticks c k m = record { control = k; stage = c.stage; community = c.community; ticks = c.ticks + m; ask = c.ask }
 
 stride-keeps : (c : Cabinet) (k : Control) (m : ℕ) (has : Coming) → 1 ≤ m → CabinetKeeps c has → ControlStands k (ticks_more m has.history)
     → tick_count k ≡ tick_count c.control + m
@@ -99,5 +99,6 @@ pub stride-stands : (c : Cabinet) (k : Control) (m : ℕ) (cabinet_history : Cab
     → CabinetStands (with_ticks c k m) (ticks_on m cabinet_history)
 stride-stands c k m cabinet_history some is stands counted = record {
   community = is.community ∙ sym (community-on m cabinet_history);
+  blank = is.blank;
   keeps = subst (CabinetKeeps (with_ticks c k m)) (sym (coming-on m cabinet_history)) (stride-keeps c k m (coming cabinet_history) some is.keeps stands counted);
 }

@@ -15,7 +15,7 @@ use Rattle.cab_book.proofs.Showable.{ticked-shows}
 
 -- the cabinet with what its controller has become
 abbrev pub with_tick : Cabinet → Control → Cabinet
-with_tick c k = record { control = k; stage = c.stage; community = c.community; ticks = c.ticks + 1 }
+with_tick c k = record { control = k; stage = c.stage; community = c.community; ticks = c.ticks + 1; ask = c.ask }
 
 pub tick-keeps : (c : Cabinet) (k : Control) (has : Coming) → CabinetKeeps c has → ControlStands k (ticked has.history) → tick_count k ≡ tick_count c.control + 1
     → CabinetKeeps (with_tick c k) (record { history = ticked has.history; calls = has.calls })
@@ -35,7 +35,7 @@ tick-keeps c k has is stands counted = record {
 
 pub tick-stands : (c : Cabinet) (k : Control) (cabinet_history : CabinetHistory) → CabinetStands c cabinet_history → ControlStands k (ticked (history_of cabinet_history))
     → tick_count k ≡ tick_count c.control + 1 → CabinetStands (with_tick c k) (with_item cabinet_history Ticked)
-tick-stands c k cabinet_history is stands counted = record { community = is.community; keeps = tick-keeps c k (coming cabinet_history) is.keeps stands counted }
+tick-stands c k cabinet_history is stands counted = record { community = is.community; blank = is.blank; keeps = tick-keeps c k (coming cabinet_history) is.keeps stands counted }
 
 -- the frame is written where it has a line
 pub line-written : (c : Cabinet) (last next : Frame) (told : Bool) (h : History) → last ≡ last_frame_of h → next ≡ decide h → told ≡ has_line last next

@@ -1,5 +1,5 @@
 -- What a cabinet of a book stands for: a cabinet history.
-use Rattle.std.specs.Prelude.{ℕ, ◌+◌, ◌≡◌, ◌≤◌, ◌<◌, List, [], ◌∷◌, length, Option}
+use Rattle.std.specs.Prelude.{ℕ, pos, ◌+◌, ◌≡◌, ◌≤◌, ◌<◌, List, [], ◌∷◌, length, Option}
 use Rattle.sig_tables.specs.Past.{Past, History, Event, SetDrift}
 use Rattle.sig_tables.specs.Seen.{frame_seen}
 use Rattle.sig_tables.specs.Showing.{clock_shown}
@@ -8,7 +8,10 @@ use Rattle.cab_book.specs.Controls.{ControlStands, tick_count}
 use Rattle.cab_book.specs.declared.control.Control.{Control}
 use Rattle.stage_txn.specs.declared.Stage.{Stage}
 use Rattle.sig_types.specs.declared.notes.StageAnswer.{StageAnswer}
+use Rattle.snmp_msg.specs.declared.message.Pdu.TheVariants.{Get}
+use Rattle.agent.specs.declared.ask.Ask.{Ask}
 use Rattle.agent.specs.declared.ask.Wish.{Wish}
+use Rattle.agent.specs.declared.ask.Wish.TheVariants.{Get as GetWish}
 use Rattle.stage_txn.specs.Answers.{answered, kept, stage_state}
 use Rattle.sig_tables.specs.Putting.{EachFits}
 use Rattle.stage_txn.specs.Laws.{BeginInRange}
@@ -33,6 +36,13 @@ pub record IsSound (n : ℕ) (has : Coming) : Type 0 where
   pub few : FewInstalls (past_of has).version (kept (answered has.calls)) (stage_state (answered has.calls))
   pub ids : kept (answered has.calls) ≤ 2147483647
 
+-- a Get of nothing, as the room for what a frame asks is left
+abbrev pub blank_ask : Ask
+blank_ask = record {
+  message = record { community = record { items = [] }; pdu = Get; id = pos 0; status = pos 0; index = pos 0; binds = record { items = [] } };
+  wish = GetWish;
+}
+
 -- a control and a stage stand for what a cabinet history has come to
 pub record CabinetKeeps (c : Cabinet) (has : Coming) : Type 0 where
   pub control : ControlStands c.control has.history
@@ -43,6 +53,7 @@ pub record CabinetKeeps (c : Cabinet) (has : Coming) : Type 0 where
 -- and the cabinet is that of the cabinet history
 pub record CabinetStands (c : Cabinet) (cabinet_history : CabinetHistory) : Type 0 where
   pub community : c.community.items ≡ cabinet_history.community
+  pub blank : c.ask ≡ blank_ask
   pub keeps : CabinetKeeps c (coming cabinet_history)
 
 -- the stage has answered a wish, and the control has not yet carried it out

@@ -12,24 +12,27 @@ ghost use Rattle.cabinet_history.specs.CabinetHistory.{CabinetHistory, opened, w
 ghost use Rattle.cabinet_history.specs.Coming.{Coming, history_of, ask_after, carried_out};
 ghost use Rattle.cabinet_history.specs.Frames.{tick_written};
 ghost use Rattle.cabinet_history.specs.Told.{reply_to, load_end, in_frame, replied, ask_end};
+ghost use Rattle.cab_book.specs.Stands.{blank_ask};
 
 use crate::Control;
 use crate::carrying::{call_stage, carry_out, end_of};
 use crate::frames::has_line;
-use agent::{Ask, answer, decode_into};
+use agent::{Ask, Wish, answer, decode_into};
 use arrayvec::ArrayVec;
 use cabinet_history::Load;
 use sig_tables::Tables;
 use sig_types::{Field, Frame, Octets};
+use snmp_msg::{Message, Pdu};
 use stage_txn::Stage;
 
-/// A cabinet, and the number of its ticks so far.
+/// A cabinet, and the number of its ticks so far. What a frame asks is read into one ask, which is blank between frames.
 #[derive(Drop)]
 pub struct Cabinet {
     control: Control,
     stage: Stage,
     community: ArrayVec<u8, 32>,
     ticks: u32,
+    ask: Ask,
 }
 
 /// What a cabinet tells of a frame: the answer, or silence, and the end of a load where the frame brought one.
@@ -37,6 +40,36 @@ pub struct Cabinet {
 pub struct Told {
     pub text: Option<Octets>,
     pub load: Option<Load>,
+}
+
+/// A Get of nothing.
+fn blank_ask() -> Ask
+    ensures { result ≡ blank_ask }
+{
+    Ask {
+        message: Message {
+            community: ArrayVec::new(),
+            pdu: Pdu::Get,
+            id: 0,
+            status: 0,
+            index: 0,
+            binds: ArrayVec::new(),
+        },
+        wish: Wish::Get,
+    }
+}
+
+/// Leaves a Get of nothing.
+fn clear(ask: &mut Ask)
+    ensures { ask.new ≡ blank_ask }
+{
+    ask.message.community.clear();
+    ask.message.pdu = Pdu::Get;
+    ask.message.id = 0;
+    ask.message.status = 0;
+    ask.message.index = 0;
+    ask.message.binds.clear();
+    ask.wish = Wish::Get;
 }
 
 impl Cabinet {
@@ -53,6 +86,7 @@ impl Cabinet {
             stage: Stage::new(),
             community,
             ticks: 0,
+            ask: blank_ask(),
         }
     }
 
@@ -130,35 +164,49 @@ impl Cabinet {
         ensures nothing { (cabinet_history : CabinetHistory) → CabinetStands self.old cabinet_history → ask_after cabinet_history octets.now ≡ None
             → (self.new ≡ self.old) × (result ≡ record { text = None; load = None }) }
     {
-        let mut ask = Ask::blank();
+        clear(&mut self.ask);
         let community = self.community.as_slice();
-        match decode_into(octets, community, self.control.tables(), &mut ask) {
-            Some(()) => self.heed(&ask),
-            None => Told {
-                text: None,
-                load: None,
-            },
+        match decode_into(octets, community, self.control.tables(), &mut self.ask) {
+            Some(()) => {
+                let told = self.heed();
+                clear(&mut self.ask);
+                told
+            }
+            None => {
+                clear(&mut self.ask);
+                Told {
+                    text: None,
+                    load: None,
+                }
+            }
         }
     }
 
     /// What is asked is answered, by what was before, and carried out.
-    fn heed(&mut self, ask: &Ask) -> Told
+    fn heed(&mut self) -> Told
         requires some { ∥ ((has : Coming) × CabinetKeeps self.old has) ∥₁ }
-        requires asked { IsAsked ask.now }
-        requires can { CanBeCarriedOut ask.now.wish }
-        ensures text { (has : Coming) → CabinetKeeps self.old has → result.text ≡ in_frame (replied has (Some ask.now)) }
-        ensures load { (has : Coming) → CabinetKeeps self.old has → result.load ≡ ask_end has (Some ask.now) }
-        ensures keeps { (has : Coming) → CabinetKeeps self.old has → CabinetKeeps self.new (carried_out has ask.now.wish) }
+        requires asked { IsAsked self.old.ask }
+        requires can { CanBeCarriedOut self.old.ask.wish }
+        ensures text { (has : Coming) → CabinetKeeps self.old has → result.text ≡ in_frame (replied has (Some self.old.ask)) }
+        ensures load { (has : Coming) → CabinetKeeps self.old has → result.load ≡ ask_end has (Some self.old.ask) }
+        ensures keeps { (has : Coming) → CabinetKeeps self.old has → CabinetKeeps self.new (carried_out has self.old.ask.wish) }
         ensures community { self.new.community ≡ self.old.community }
         ensures ticks { self.new.ticks ≡ self.old.ticks }
     {
         let shown = self.control.shown();
         let state = self.stage.state();
         let last = self.stage.last();
-        let outcome = call_stage(&mut self.stage, &self.control, &ask.wish);
-        let text = answer(ask, self.control.tables(), &shown, state, last, outcome);
-        let load = end_of(shown.version, &ask.wish, outcome);
-        carry_out(&mut self.control, &self.stage, &ask.wish, outcome);
+        let outcome = call_stage(&mut self.stage, &self.control, &self.ask.wish);
+        let text = answer(
+            &self.ask,
+            self.control.tables(),
+            &shown,
+            state,
+            last,
+            outcome,
+        );
+        let load = end_of(shown.version, &self.ask.wish, outcome);
+        carry_out(&mut self.control, &self.stage, &self.ask.wish, outcome);
         Told {
             text: Some(text),
             load,

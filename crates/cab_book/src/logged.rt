@@ -5,6 +5,7 @@ ghost use Rattle.cab_book.specs.Replaying.{replays_itself};
 
 use crate::book::Book;
 use cab_row::Logged;
+use sig_types::Stream;
 
 impl Logged for Book {
     ghost journal = { journal_of };
@@ -19,6 +20,16 @@ impl Logged for Book {
 
     fn apply(&mut self, pass: u32) {
         self.apply(pass)
+    }
+
+    fn apply_some(&mut self, pass: u32, most: u32) -> u32 {
+        match Stream::of_pass(pass) {
+            Stream::Ticks => self.stride(pass, most),
+            Stream::Inputs | Stream::Messages(_) => {
+                self.apply(pass);
+                1
+            }
+        }
     }
 
     ghost fresh = { replays_itself };

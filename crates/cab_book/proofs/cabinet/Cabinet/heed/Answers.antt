@@ -27,7 +27,7 @@ answer-text-requires c =
       };
       outcome = ∥∥₁_elim c.requires.some (Coded-set coded_bool _ _) (λ some.
           ap (λ (o : Option StageAnswer). is_some o) (c.call_stage-outcome.ensures.outcome some.0 some.1.control some.1.stage)
-          ∙ has-outcome some.0 c.args.ask.now.wish);
+          ∙ has-outcome some.0 c.args.self.now.ask.wish);
     }
 
 pub end_of-load-requires : goal.end_of-load-requires
@@ -61,7 +61,7 @@ returns-clause-text c = λ has is.
     let pedestrian : c.shown-shown.result.ped_calls.0 < 65536 = omega (arith, c.shown-shown.type_inv.1.1.1.1.0) in
     let shown = shown-is c.shown-shown.result (past_of has) vehicle pedestrian
     (c.shown-shown.ensures.shown has.history is.control) in
-    text-is has c.args.ask.now _ c.call_stage-outcome.result c.answer-text.result
+    text-is has c.args.self.now.ask _ c.call_stage-outcome.result c.answer-text.result
     (seen-is has c.tables.result.now c.shown-shown.result c.state-state.result c.last-last.result (c.tables.ensures.tables has.history is.control) shown
     (c.state-state.ensures has.calls is.stage) (c.last-last.ensures has.calls is.stage))
     (c.call_stage-outcome.ensures.outcome has is.control is.stage) c.answer-text.ensures
@@ -71,8 +71,8 @@ returns-clause-load c = λ has is.
     let shown = c.shown-shown.ensures.shown has.history is.control in
     let o = c.call_stage-outcome.ensures.outcome has is.control is.stage in
     c.end_of-load.ensures
-    ∙ ap (λ v. wish_end v c.args.ask.now.wish c.call_stage-outcome.result) shown.version
-    ∙ ap (λ (x : Option StageAnswer). wish_end (past_of has).version c.args.ask.now.wish x) o
+    ∙ ap (λ v. wish_end v c.args.self.now.ask.wish c.call_stage-outcome.result) shown.version
+    ∙ ap (λ (x : Option StageAnswer). wish_end (past_of has).version c.args.self.now.ask.wish x) o
 
 pub returns-clause-keeps : goal.returns-clause-keeps
 returns-clause-keeps c = λ has is.
@@ -87,5 +87,5 @@ returns-clause-keeps c = λ has is.
       });
       stage = stands;
       counted = c.carry_out.ensures.counted ∙ is.counted;
-      sound = carried-sound c.args.self.now.ticks has c.args.ask.now.wish c.requires.can is.sound;
+      sound = carried-sound c.args.self.now.ticks has c.args.self.now.ask.wish c.requires.can is.sound;
     }

@@ -6,6 +6,7 @@ pub returns : goal.returns
 returns c = record {
   stands = λ h k new. record {
     community = refl;
+    blank = c.blank_ask.ensures;
     keeps = record { control = k; stage = c.new.ensures.stands; counted = new-ticks c.args.control h k new; sound = new-sound h new };
   };
 }

@@ -1,11 +1,13 @@
-use Rattle.std.proofs.Common.{◌≡◌, ◌∙◌, List, ℕ, Option, Some, None, sym, ap, subst}
+use Rattle.std.proofs.Common.{◌≡◌, ◌∙◌, List, ℕ, Option, Some, None, refl, sym, ap, subst}
 use Rattle.std.proofs.Math.Logic.{∥∥₁_map}
+use Rattle.sig_types.specs.Items.{Came}
 use Rattle.sig_tables.specs.declared.tables.Tables.{Tables}
 use Rattle.agent.specs.declared.ask.Ask.{Ask}
 use Rattle.agent.specs.Asks.{ask_of}
-use Rattle.cabinet_history.specs.CabinetHistory.{CabinetHistory}
-use Rattle.cabinet_history.specs.Coming.{coming, in_force, heeded, ask_after}
+use Rattle.cabinet_history.specs.CabinetHistory.{CabinetHistory, with_item}
+use Rattle.cabinet_history.specs.Coming.{Coming, coming, in_force, heeded, ask_after}
 use Rattle.cabinet_history.specs.Told.{replied, ask_end, in_frame}
+use Rattle.cab_book.specs.declared.cabinet.Cabinet.{Cabinet}
 use Rattle.cab_book.specs.Stands.{CabinetKeeps}
 use Rattle.cab_book.proofs.cabinet.Cabinet.receive.Goals as goal
 
@@ -15,32 +17,42 @@ asked : (found : Option Ask) (octets community items : List ℕ) (t : Tables) (c
 asked found octets community items t cabinet_history e a b f =
     e ∙ ap (λ (x : List ℕ). ask_of octets x t) (a ∙ b) ∙ ap (λ (x : Tables). ask_of octets cabinet_history.community x) f
 
+-- what the cabinet keeps, whatever ask it holds
+abbrev with_ask : Cabinet → Ask → Cabinet
+with_ask c ask = record { control = c.control; stage = c.stage; community = c.community; ticks = c.ticks; ask = ask }
+
+keeps_with : (c : Cabinet) (ask : Ask) (has : Coming) → CabinetKeeps c has → CabinetKeeps (with_ask c ask) has
+keeps_with c ask has is = record { control = is.control; stage = is.stage; counted = is.counted; sound = is.sound }
+
 some-none : (ask : Ask) → Some ask ≡ None → ⊥
 some-none ask e = cc
 
-pub heed-requires : goal.heed-requires
-heed-requires c =
-    record { some = ∥∥₁_map c.requires.some (λ some. (coming some.0, some.1.keeps)); asked = c.in-Some.ensures.asked; can = c.in-Some.ensures.fit }
+pub heed-told-requires : goal.heed-told-requires
+heed-told-requires c =
+    record { some = ∥∥₁_map c.requires.some (λ some. (coming some.0, keeps_with c.args.self.now c.decode_into.new.ask (coming some.0) some.1.keeps)); asked = c.in-Some.ensures.asked; can = c.in-Some.ensures.fit }
 
 pub returns-in-Some-clause-text : goal.returns-in-Some-clause-text
 returns-in-Some-clause-text c = λ cabinet_history is.
     let e = asked (Some c.decode_into.new.ask) c.args.octets.now c.as_slice-community.result.now c.args.self.now.community.items c.tables.result.now cabinet_history (sym c.in-Some.ensures.reads)
     c.as_slice-community.ensures.value is.community (c.tables.ensures.tables (coming cabinet_history).history is.keeps.control) in
-    c.heed.ensures.text (coming cabinet_history) is.keeps ∙ ap (λ (x : Option Ask). in_frame (replied (coming cabinet_history) x)) e
+    c.heed-told.ensures.text (coming cabinet_history) (keeps_with c.args.self.now c.decode_into.new.ask (coming cabinet_history) is.keeps) ∙ ap (λ (x : Option Ask). in_frame (replied (coming cabinet_history) x)) e
 
 pub returns-in-Some-clause-load : goal.returns-in-Some-clause-load
 returns-in-Some-clause-load c = λ cabinet_history is.
     let e = asked (Some c.decode_into.new.ask) c.args.octets.now c.as_slice-community.result.now c.args.self.now.community.items c.tables.result.now cabinet_history (sym c.in-Some.ensures.reads)
     c.as_slice-community.ensures.value is.community (c.tables.ensures.tables (coming cabinet_history).history is.keeps.control) in
-    c.heed.ensures.load (coming cabinet_history) is.keeps ∙ ap (ask_end (coming cabinet_history)) e
+    c.heed-told.ensures.load (coming cabinet_history) (keeps_with c.args.self.now c.decode_into.new.ask (coming cabinet_history) is.keeps) ∙ ap (ask_end (coming cabinet_history)) e
 
 pub returns-in-Some-clause-stands : goal.returns-in-Some-clause-stands
 returns-in-Some-clause-stands c = λ cabinet_history is.
     let e = asked (Some c.decode_into.new.ask) c.args.octets.now c.as_slice-community.result.now c.args.self.now.community.items c.tables.result.now cabinet_history (sym c.in-Some.ensures.reads)
     c.as_slice-community.ensures.value is.community (c.tables.ensures.tables (coming cabinet_history).history is.keeps.control) in
     record {
-      community = ap (λ a. a.items) c.heed.ensures.community ∙ is.community;
-      keeps = subst (λ (x : Option Ask). CabinetKeeps c.heed.new.self (heeded (coming cabinet_history) x)) e (c.heed.ensures.keeps (coming cabinet_history) is.keeps);
+      community = ap (λ a. a.items) c.heed-told.ensures.community ∙ is.community;
+      blank = c.clear-in-Some.ensures;
+      keeps = keeps_with c.heed-told.new.self c.clear-in-Some.new.ask (coming (with_item cabinet_history (Came c.args.octets.now)))
+          (subst (λ (x : Option Ask). CabinetKeeps c.heed-told.new.self (heeded (coming cabinet_history) x)) e
+          (c.heed-told.ensures.keeps (coming cabinet_history) (keeps_with c.args.self.now c.decode_into.new.ask (coming cabinet_history) is.keeps)));
     }
 
 pub returns-in-Some-clause-nothing : goal.returns-in-Some-clause-nothing
@@ -67,5 +79,11 @@ returns-in-None-clause-stands c = λ cabinet_history is.
     c.as_slice-community.ensures.value is.community (c.tables.ensures.tables (coming cabinet_history).history is.keeps.control) in
     record {
       community = is.community;
-      keeps = subst (λ (x : Option Ask). CabinetKeeps c.args.self.now (heeded (coming cabinet_history) x)) e is.keeps;
+      blank = c.clear-in-None.ensures;
+      keeps = keeps_with c.args.self.now c.clear-in-None.new.ask (coming (with_item cabinet_history (Came c.args.octets.now)))
+          (subst (λ (x : Option Ask). CabinetKeeps c.args.self.now (heeded (coming cabinet_history) x)) e is.keeps);
     }
+
+pub returns-in-None-clause-nothing : goal.returns-in-None-clause-nothing
+returns-in-None-clause-nothing c = λ cabinet_history is none.
+    (ap (with_ask c.args.self.now) (c.clear-in-None.ensures ∙ sym is.blank), refl)
