@@ -1,6 +1,6 @@
--- What is kept of a scenario's value whose first fault is asked, in little memory; and of an object around a scenario. null stands for an array or an object where only a
--- number, a text or a word may stand, since it is at fault there whatever it holds; for an item behind one that is at fault; and for an item past
--- the most that a list may have.
+-- What is kept of a scenario's value whose first fault is asked, in little memory; and of an object around a scenario.
+-- null stands for an array or an object where only a number, a text or a word may stand, since it is at fault there
+-- whatever it holds; for an item behind one that is at fault; and for an item past the most that a list may have.
 use Rattle.std.specs.Prelude.{ℕ, zero, suc, ◌&&◌, ◌||◌, Bool, true, false, if◌then◌else◌, List, codes, bytes_eq, is_some}
 use Rattle.serde_json.specs.Data.{Data, null, boolean, number, string, array, object, Items, no_items, item, Members, no_members, member}
 use Rattle.serde_json.specs.Find.{get}
