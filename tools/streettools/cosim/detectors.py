@@ -8,7 +8,6 @@ loop misses a vehicle that changes lanes within its length, so once a second who
 import pathlib
 import xml.etree.ElementTree as xml
 from collections import defaultdict
-from collections.abc import Iterator
 from typing import Any, NamedTuple
 
 from ..shared.fault import Fault
@@ -60,6 +59,14 @@ def place(lane: str, metres: float, length: float, setback: float) -> Place:
     return Place(lane, round(max(end - length, 0), 2), round(end, 2))
 
 
+class Stray(NamedTuple):
+    """A vehicle that stands on a loop which doesn't see it: its lane, and the metre at which the loop begins."""
+
+    vehicle: str
+    lane: str
+    start: float
+
+
 class Row(NamedTuple):
     """What calls a phase: its loops, its areas, and where the loops lie that the tool built."""
 
@@ -70,67 +77,80 @@ class Row(NamedTuple):
 
 
 class Detectors:
-    """What calls each phase: a phase has a vehicle where one of its detectors has. `step` is SUMO's, in seconds."""
+    """What calls each phase: a phase has a vehicle where one of its detectors has. `step` is SUMO's, in seconds. Rows
+    and loops are told by their places; a loop that was left since the look before by its place below zero (`~`)."""
 
     def __init__(self, street: Map, areas: Areas, sumo: Any, step: float) -> None:
-        self.sumo, self.recent = sumo, step - 1e-6
-        self.rows = rows_of(street, areas, sumo)
-        self.on = {row.key: False for row in self.rows}
-        self.words = {key: {True: b"veh %d %d on" % key, False: b"veh %d %d off" % key} for key in self.on}
-        self.built = [(row.key, row.built) for row in self.rows if row.built]
-        self.in_area = call(sumo, "lanearea", "getLastStepVehicleNumber")
+        rows = rows_of(street, areas, sumo)
+        self.recent = step - 1e-6
+        self.words = [(b"veh %d %d off" % row.key, b"veh %d %d on" % row.key) for row in rows]
+        self.loops = [name for row in rows for name in row.loops]
+        self.row_of = [number for number, row in enumerate(rows) for _ in row.loops]
+        self.areas = [(number, row.areas) for number, row in enumerate(rows) if row.areas]
+        self.built: dict[str, list[tuple[int, float]]] = defaultdict(list)
+        """Of each lane the rows that have a built loop there, with the metre at which it begins."""
+        for number, row in enumerate(rows):
+            for spot in row.built:
+                self.built[spot.lane].append((number, spot.start))
         self.since = call(sumo, "inductionloop", "getTimeSinceDetection")
-        self.strays: dict[Key, list[tuple[str, Place]]] = {}
-        """Who stands on a loop that doesn't see them, with where that loop lies."""
+        self.in_area = call(sumo, "lanearea", "getLastStepVehicleNumber")
+        self.there = call(sumo, "lane", "getLastStepVehicleIDs")
+        self.position = call(sumo, "vehicle", "getLanePosition")
+        self.on: set[int] = set()
+        self.over: list[int] | None = []
+        """The loops that somebody was over at the last look; None where one had been left just before."""
+        self.strays: dict[int, list[Stray]] = {}
+        """By row who stands on a loop that doesn't see them."""
 
-    def changes(self) -> Iterator[bytes]:
-        """Yields the requests that tell what has changed since the last look."""
-        in_area, since, recent, was_on = self.in_area, self.since, self.recent, self.on
-        for key, loops, areas, _ in self.rows:
-            on = passed = False
-            for name in loops:
-                seconds = since(name)
-                if not seconds:
-                    on = True
-                    break
-                if seconds < recent:
-                    passed = True
+    def changes(self) -> list[bytes]:
+        """Returns the requests that tell what has changed since the last look."""
+        recent = self.recent
+        seconds = enumerate(map(self.since, self.loops))
+        over = [~place if it else place for place, it in seconds if it < recent]
+        if over == self.over and not self.strays and not self.areas:
+            return []
+        row_of = self.row_of
+        on = {row_of[place] for place in over if place >= 0}
+        passed = {row_of[~place] for place in over if place < 0}
+        self.over = None if passed else over
+        on |= self.seen_otherwise(on)
+        changed, self.on = on ^ self.on, on
+        told = []
+        for row in sorted(changed | passed - on):
+            off_and_on = self.words[row]
+            if row in changed:
+                told.append(off_and_on[row in on])
             else:
-                for name in areas:
-                    if in_area(name):
-                        on = True
-                        break
-            if not on and key in self.strays:
-                on = self.has_stray(key)
-            if on != was_on[key]:
-                was_on[key] = on
-                yield self.words[key][on]
-            elif passed and not on:
-                yield self.words[key][True]
-                yield self.words[key][False]
+                told += reversed(off_and_on)
+        return told
+
+    def seen_otherwise(self, on: set[int]) -> set[int]:
+        """Returns the rows, beside some that are on, that have a vehicle in an area or one that no loop sees."""
+        found = {row for row, areas in self.areas if row not in on and any(map(self.in_area, areas))}
+        for row in [row for row in self.strays if row not in on and row not in found]:
+            if self.has_stray(row):
+                found.add(row)
+        return found
 
     def look_for_strays(self, standing: dict[str, list[str]]) -> None:
         """Looks for vehicles that stand on a loop which doesn't see them; `standing` has those of each lane."""
-        for key, built in self.built:
-            if self.on[key]:
-                continue
-            for spot in built:
-                for vehicle in standing.get(spot.lane, ()):
-                    if self.is_on(vehicle, spot):
-                        self.strays.setdefault(key, []).append((vehicle, spot))
+        for lane in standing:
+            for row, start in self.built.get(lane, ()):
+                if row not in self.on:
+                    found = [Stray(it, lane, start) for it in standing[lane] if self.position(it) >= start]
+                    if found:
+                        self.strays.setdefault(row, []).extend(found)
 
-    def has_stray(self, key: Key) -> bool:
-        """Tells whether one that was found on a loop of a phase is still there."""
-        self.strays[key] = [(it, spot) for it, spot in self.strays[key] if self.is_on(it, spot)]
-        if not self.strays[key]:
-            del self.strays[key]
-        return key in self.strays
+    def has_stray(self, row: int) -> bool:
+        """Tells whether one that was found on a loop of a row is still there."""
+        left = [it for it in self.strays.pop(row) if self.is_on(it)]
+        if left:
+            self.strays[row] = left
+        return bool(left)
 
-    def is_on(self, vehicle: str, spot: Place) -> bool:
-        """Tells whether the head of a vehicle is at a place."""
-        if vehicle not in self.sumo.lane.getLastStepVehicleIDs(spot.lane):
-            return False
-        return spot.start <= self.sumo.vehicle.getLanePosition(vehicle)
+    def is_on(self, stray: Stray) -> bool:
+        """Tells whether the head of one that was found on a loop is still there."""
+        return stray.vehicle in self.there(stray.lane) and self.position(stray.vehicle) >= stray.start
 
 
 def rows_of(street: Map, areas: Areas, sumo: Any) -> list[Row]:

@@ -53,7 +53,7 @@ class Halts:
     def __init__(self, network: Network, signals: Iterable[str], sumo: Any, further: Iterable[str] = ()) -> None:
         edges = {it for chain in approaches(network, signals).values() for it in chain}
         driven = [lane for lane in network.lanes if lane not in network.sidewalks and edge_of(lane) in edges]
-        self.lanes = [(lane, edge_of(lane)) for lane in driven]
+        self.lanes, self.names = [(lane, edge_of(lane)) for lane in driven], driven
         self.further = [lane for lane in dict.fromkeys(further) if lane not in set(driven)]
         self.found: list[Halt] = []
         self.standing: dict[str, list[str]] = {}
@@ -63,18 +63,19 @@ class Halts:
         self.halting = call(sumo, "lane", "getLastStepHaltingNumber")
         self.there = call(sumo, "lane", "getLastStepVehicleIDs")
         self.speed = call(sumo, "vehicle", "getSpeed")
+        self.stops = call(sumo, "vehicle", "getStops")
 
     def look(self, second: float) -> None:
         """Keeps who stands now."""
-        halting, is_without_stop, standing = self.halting, self.without_stop.issuperset, {}
-        for lane, edge in self.lanes:
-            if count := halting(lane):
+        without_stop, standing, found = self.without_stop, {}, self.found
+        for (lane, edge), count in zip(self.lanes, map(self.halting, self.names)):
+            if count:
                 own = standing[lane] = self.who(lane, count)
-                if not is_without_stop(own):
+                if [it for it in own if it not in without_stop]:
                     own = [it for it in own if not self.is_at_stop(it)]
-                self.found.append(Halt(second, edge, own))
+                found.append(Halt(second, edge, own))
         for lane in self.further:
-            if count := halting(lane):
+            if count := self.halting(lane):
                 standing[lane] = self.who(lane, count)
         self.standing = standing
 
@@ -95,7 +96,7 @@ class Halts:
         """Tells whether a vehicle stands at a stop of its line. One that has no stop before it is not asked again."""
         if vehicle in self.without_stop:
             return False
-        if not self.sumo.vehicle.getStops(vehicle, 1):
+        if not self.stops(vehicle, 1):
             self.without_stop.add(vehicle)
             return False
         return self.sumo.vehicle.isStopped(vehicle)

@@ -2,10 +2,12 @@
 vehicles see in the next.
 """
 
+import contextlib
+import gc
 import math
 import pathlib
 import time
-from collections.abc import Callable
+from collections.abc import Callable, Iterator
 from dataclasses import dataclass
 from typing import Any
 
@@ -117,11 +119,12 @@ class Loop:
         begun = self.clock()
         a_second = max(round(1 / self.given.step), 1)
         try:
-            for step in range(self.given.steps()):
-                is_whole = (step + 1) % a_second == 0
-                self.step(step, is_whole)
-                if is_whole:
-                    progress(1)
+            with without_collector():
+                for step in range(self.given.steps()):
+                    is_whole = (step + 1) % a_second == 0
+                    self.step(step, is_whole)
+                    if is_whole:
+                        progress(1)
         finally:
             self.times.whole = self.clock() - begun
             self.priority.end()
@@ -151,10 +154,11 @@ class Loop:
         if is_whole:
             self.halts.look(self.second)
             self.detectors.look_for_strays(self.halts.standing)
-        requests = list(self.detectors.changes())
+        requests = self.detectors.changes()
         if self.watched.names:
             self.watched.step(self.sumo)
-            requests += self.preempts.look(self.sumo, self.watched)
+            if self.watched.kinds or self.preempts.on:
+                requests += self.preempts.look(self.sumo, self.watched)
         if is_whole:
             if self.is_slow:
                 requests += self.buttons.look(self.sumo, self.signals, self.second)
@@ -163,6 +167,19 @@ class Loop:
             if self.room.is_used(self.session.record):
                 raise Fault(f"second {self.second:.0f}: the record is full: a trace holds no more", Status.FULL)
         return requests
+
+
+@contextlib.contextmanager
+def without_collector() -> Iterator[None]:
+    """Keeps Python's collector from running in the block. It looks for objects that refer to each other in a circle:
+    a run makes none, and as it records more and more, each look would take longer."""
+    was_on = gc.isenabled()
+    gc.disable()
+    try:
+        yield
+    finally:
+        if was_on:
+            gc.enable()
 
 
 def types_of(sumo: Any) -> dict[str, tuple[str, float]]:

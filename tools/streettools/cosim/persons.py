@@ -3,6 +3,7 @@
 from collections.abc import Iterator
 from typing import Any, NamedTuple
 
+from .drive import call
 from .mapping import Map
 from .network import Network, edge_of
 from .signals import Signals
@@ -47,6 +48,7 @@ class Buttons:
 
     def __init__(self, street: Map, network: Network, sumo: Any) -> None:
         known = set(sumo.edge.getIDList())
+        self.count = call(sumo, "person", "getIDCount")
         self.crossings: list[Crossing] = []
         self.pressed: set[tuple[int, int]] = set()
         self.there: dict[tuple[str, str], Waiting] = {}
@@ -63,7 +65,7 @@ class Buttons:
 
     def look(self, sumo: Any, signals: Signals, second: float) -> Iterator[bytes]:
         """Yields the requests of buttons that are pressed, and keeps who waits and who goes."""
-        if not self.there and not sumo.person.getIDCount():
+        if not self.there and not self.count():
             self.pressed.clear()
             return
         coming: dict[str, list[str]] = {}

@@ -15,7 +15,8 @@ class Preempts:
 
     def __init__(self, street: Map, network: Network) -> None:
         self.items = street.preempts
-        self.on = dict.fromkeys(self.items, False)
+        self.on: set[int] = set()
+        """The places of the inputs that are on."""
         self.left: dict[tuple[MappedPreempt, str], float] = {}
         """Who was told to an input, with the metres driven at which its head has left the edge, or passes the line."""
         self.served: dict[tuple[str, int], tuple[int, tuple[int, ...]]] = {}
@@ -31,12 +32,10 @@ class Preempts:
 
     def look(self, sumo: Any, watched: Watched) -> Iterator[bytes]:
         """Yields the requests that tell what has changed."""
-        if not watched.kinds and True not in self.on.values():
-            return
-        for item in self.items:
+        for place, item in enumerate(self.items):
             on = any([self.is_there(sumo, item, vehicle) for vehicle in watched.of(item.vehicles)])
-            if on != self.on[item]:
-                self.on[item] = on
+            if on != (place in self.on):
+                self.on ^= {place}
                 yield b"preempt %d %d %b" % (item.cabinet, item.number, b"on" if on else b"off")
 
     def is_there(self, sumo: Any, item: MappedPreempt, vehicle: str) -> bool:

@@ -56,6 +56,8 @@ class Priority:
 
     def look(self, sumo: Any, watched: Watched, second: float) -> Iterator[bytes]:
         """Yields the requests and cancels that are due."""
+        if not watched.kinds and not self.live:
+            return
         wanted: dict[tuple[str, int], tuple[MappedBus, int, float]] = {}
         for bus in self.buses:
             for vehicle in watched.of(bus.vehicles):

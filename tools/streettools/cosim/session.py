@@ -7,6 +7,7 @@ import json
 import os
 import pathlib
 import subprocess
+from collections.abc import Iterator
 from typing import Any
 
 from ..shared.fault import Fault
@@ -18,6 +19,23 @@ PIECE = 4096
 PIPE = 65_536
 EMPTY = b".\n"
 """An answer that has no lines."""
+LAST = b"\n" + EMPTY
+"""How an answer that has lines ends."""
+
+
+def pieces(requests: list[bytes]) -> Iterator[list[bytes]]:
+    """Parts requests into such as may be written together: of PIECE octets with their newlines, or one."""
+    if sum(map(len, requests)) + len(requests) <= PIECE:
+        yield requests
+        return
+    now, size = requests[:1], len(requests[0]) + 1
+    for request in requests[1:]:
+        if size + len(request) >= PIECE:
+            yield now
+            now, size = [], 0
+        now.append(request)
+        size += len(request) + 1
+    yield now
 
 
 class Session:
@@ -50,11 +68,14 @@ class Session:
         return Fault(said or f"the program ended with status {status}", Status(status) if status == 2 else Status.FILE)
 
     def answers(self, count: int) -> list[list[bytes]]:
-        """Returns the next answers, each as its lines without the dot."""
-        data = os.read(self.output, PIPE)
-        if data == EMPTY and count == 1:
-            return [[]]
+        """Returns the next answers, each as its lines without the dot. Those before the last mostly have no lines."""
+        data, silent = os.read(self.output, PIPE), EMPTY * (count - 1)
         while True:
+            if data.startswith(silent):
+                last = data[len(silent) :]
+                lines = last.split(b"\n")[:-2]
+                if (last == EMPTY or last.endswith(LAST)) and b"." not in lines:
+                    return [*([] for _ in range(count - 1)), lines]
             if data.endswith(EMPTY):
                 lines = data.split(b"\n")
                 if lines.count(b".") == count:
@@ -74,17 +95,12 @@ class Session:
     def ask(self, requests: list[bytes]) -> list[bytes]:
         """Asks, and returns the lines of all answers; a request that can't be taken is a fault."""
         lines: list[bytes] = []
-        while requests:
-            count = size = 0
-            while count < len(requests) and (not count or size + len(requests[count]) < PIECE):
-                size += len(requests[count]) + 1
-                count += 1
-            now, requests = requests[:count], requests[count:]
+        for now in pieces(requests):
             try:
-                os.write(self.input, b"".join(request + b"\n" for request in now))
+                os.write(self.input, b"\n".join(now) + b"\n")
             except BrokenPipeError:
                 raise self.death() from None
-            for request, answer in zip(now, self.answers(count)):
+            for request, answer in zip(now, self.answers(len(now))):
                 if answer and answer[0].startswith(b"? "):
                     raise Fault(f"the session can't take {request.decode()}: {answer[0].decode()}")
                 self.record.answered(request, answer)

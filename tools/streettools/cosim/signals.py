@@ -81,15 +81,20 @@ class Watch:
                 rows.append(Crossing(a, b, a_yields, b_yields))
         self.sound: dict[str, set[str]] = {name: set() for name in self.crossing}
         self.last = dict.fromkeys(self.crossing, "")
+        self.states: list[str] = []
+        """What all signals had in force at the last look."""
         self.judged: dict[str, str] = {}
         """What each signal has in force, with `Y` for the yellow behind a green with way."""
         self.history: dict[str, list[tuple[float, str]]] = {name: [] for name in self.crossing}
 
     def look(self, second: float) -> None:
         """Looks at all signals; a conflict is raised. What changed is kept."""
-        for name, before in self.last.items():
-            state = self.state_of(name)
-            if state != before:
+        states = list(map(self.state_of, self.last))
+        if states == self.states:
+            return
+        self.states = states
+        for name, state in zip(self.last, states):
+            if state != self.last[name]:
                 self.last[name] = state
                 self.history[name].append((second, state))
                 judged = behind(self.judged.get(name, state), state)

@@ -11,16 +11,25 @@ class Watched:
     def __init__(self, names: set[str], sumo: Any) -> None:
         self.names = names
         self.departed = call(sumo, "simulation", "getDepartedIDList")
+        self.arrived = call(sumo, "simulation", "getArrivedIDList")
+        self.type_of = call(sumo, "vehicle", "getTypeID")
         self.kinds: dict[str, tuple[str, str]] = {}
+        self.others: set[str] = set()
+        """Types that nobody asks for."""
 
     def step(self, sumo: Any) -> None:
         """Takes who has come and who has gone in a step."""
         for vehicle in self.departed():
-            kinds = sumo.vehicle.getVehicleClass(vehicle), sumo.vehicle.getTypeID(vehicle).partition("@")[0]
+            own = self.type_of(vehicle)
+            if own in self.others:
+                continue
+            kinds = sumo.vehicle.getVehicleClass(vehicle), own.partition("@")[0]
             if not self.names.isdisjoint(kinds):
                 self.kinds[vehicle] = kinds
+            elif "@" not in own:
+                self.others.add(own)
         if self.kinds:
-            for vehicle in sumo.simulation.getArrivedIDList():
+            for vehicle in self.arrived():
                 self.kinds.pop(vehicle, None)
 
     def of(self, names: tuple[str, ...]) -> list[str]:

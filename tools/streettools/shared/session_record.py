@@ -4,6 +4,7 @@ docs/LIVE.md, "What a session means". Nothing is worked out here: the lines are 
 of a trace behind the S line of the scenario that results.
 """
 
+import functools
 import json
 from collections import defaultdict
 from collections.abc import Iterator
@@ -15,23 +16,13 @@ LISTS = ("inputs", "loads", "priority", "frames", "faults")
 """The lists of a scenario whose items have a round."""
 PASSES = {"poll": 1, "load": 2, "priority": 3}
 INPUTS, TICKS, SET = 0, 4, 0xA3
+MOST_KNOWN = 4096
+"""How many requests are kept as they were read."""
 OF_ITEM = 60
 """How many octets more an item has in a scenario than in its request."""
 
 Runs = list[tuple[int, int]]
 """A journal in runs of a pass and a number."""
-
-
-def item_of(request: bytes, number: int) -> tuple[str, dict[str, Any]] | None:
-    """Returns the list and the item that a request which was taken in a round adds to the scenario, None for ticks."""
-    kind, *words = request.decode("ascii").split(" ")
-    if kind == "tick":
-        return None
-    item: dict[str, Any] = {"round": number, "cabinet": int(words[0])}
-    if kind == "frame":
-        return "frames", item | {"stream": words[1], "hex": words[2].lower()}
-    item[kind] = int(words[1])
-    return "inputs", item if kind == "ped" else item | {"on": words[2] == "on"}
 
 
 def compact(scenario: dict[str, Any]) -> bytes:
@@ -92,6 +83,36 @@ class Brought(NamedTuple):
     is_kept: bool
 
 
+class Read(NamedTuple):
+    """A request that was taken: what it brought, and the list and the item, but for its round, that it adds to the
+    scenario; none for ticks."""
+
+    brought: Brought
+    name: str | None = None
+    item: dict[str, Any] | None = None
+
+
+def read(request: bytes) -> Read:
+    """Reads a request."""
+    if not request.startswith(b"frame "):
+        return read_again(request)
+    _, cabinet, stream, digits = request.decode("ascii").split(" ")
+    item = {"cabinet": int(cabinet), "stream": stream, "hex": digits.lower()}
+    return Read(Brought(item["cabinet"], PASSES[stream], 1, True), "frames", item)
+
+
+@functools.lru_cache(MOST_KNOWN)
+def read_again(request: bytes) -> Read:
+    """Reads an input or ticks: the same requests come again and again."""
+    kind, number, *words = request.decode("ascii").split(" ")
+    if kind == "tick":
+        return Read(Brought(0, TICKS, int(number), True))
+    item: dict[str, Any] = {"cabinet": int(number), kind: int(words[0])}
+    if kind != "ped":
+        item["on"] = words[1] == "on"
+    return Read(Brought(item["cabinet"], INPUTS, 1, True), "inputs", item)
+
+
 class SessionRecord:
     """The lines of a session in the order of a trace, and what the session added to its scenario. A Get on the stream
     of priority changes nothing: where reads aren't kept it is left out, with its A line and its item of the journal."""
@@ -112,7 +133,7 @@ class SessionRecord:
     def answered(self, request: bytes | None, answer: list[bytes]) -> bool:
         """Takes a request and the lines of its answer without the dot; no request stands for the scenario, and for
         the end of input. Tells whether it is kept."""
-        if any(line.startswith(b"? ") for line in answer):
+        if answer and answer[0].startswith(b"? "):
             return False
         if request is None:
             self.brought.append(Brought(0, TICKS, self.ticks_left(), True))
@@ -124,18 +145,15 @@ class SessionRecord:
 
     def is_noted(self, request: bytes, answer: list[bytes]) -> bool:
         """Notes what a request brings; tells whether it is kept."""
-        found = None if request.startswith(b"tick ") else item_of(request, self.number)
-        if found is None:
-            self.brought.append(Brought(0, TICKS, int(request[5:]), True))
-            return True
-        name, item = found
-        is_kept = self.keeps_reads or not is_read(request, answer)
-        number = PASSES[item["stream"]] if name == "frames" else INPUTS
-        self.brought.append(Brought(item["cabinet"], number, 1, is_kept))
-        if is_kept:
-            self.added[name].append(item)
+        brought, name, item = read(request)
+        if name and not self.keeps_reads and is_read(request, answer):
+            self.brought.append(brought._replace(is_kept=False))
+            return False
+        self.brought.append(brought)
+        if name:
+            self.added[name].append({"round": self.number, **item})
             self.added_size += len(request) + OF_ITEM
-        return is_kept
+        return True
 
     def ticks_left(self) -> int:
         """Returns how many ticks of the round weren't taken yet."""
@@ -143,30 +161,32 @@ class SessionRecord:
 
     def take(self, line: bytes) -> None:
         """Takes a line of an answer."""
-        kind, rest = line[:1], line[2:].split(b" ", 1)[0]
-        if kind in (b"R", b"Z"):
+        kind, second = line.split(b" ", 2)[:2]
+        if kind == b"J":
+            self.journals[int(second)] = line
+        elif kind in (b"R", b"Z"):
             self.close_round()
-            self.number, self.is_over = int(rest), kind == b"Z"
-            self.add(line)
+            self.number, self.is_over = int(second), kind == b"Z"
+            self.add([line])
         elif kind == b"M" or self.number == 0:
-            self.add(line)
-        elif kind == b"J":
-            self.journals[int(rest)] = line
+            self.add([line])
         else:
-            self.events[int(rest)].append(line)
+            self.events[int(second)].append(line)
 
-    def add(self, line: bytes) -> None:
-        """Adds a line to the trace."""
-        self.lines.append(line)
-        self.size += len(line) + 1
+    def add(self, lines: list[bytes]) -> None:
+        """Adds lines to the trace."""
+        self.lines += lines
+        self.size += sum(map(len, lines)) + len(lines)
 
     def close_round(self) -> None:
         """Puts the lines of the round that ends in the order of a trace."""
-        dropped = {it.cabinet for it in self.brought if not it.is_kept}
-        for cabinet in sorted(self.journals):
-            self.add(self.less(cabinet) if cabinet in dropped else self.journals[cabinet])
-            for line in self.events[cabinet]:
-                self.add(line)
+        dropped = () if self.keeps_reads else {it.cabinet for it in self.brought if not it.is_kept}
+        lines = []
+        for cabinet, journal in sorted(self.journals.items()):
+            lines.append(self.less(cabinet) if cabinet in dropped else journal)
+            if cabinet in self.events:
+                lines += self.events[cabinet]
+        self.add(lines)
         self.journals, self.events, self.brought = {}, defaultdict(list), []
 
     def less(self, cabinet: int) -> bytes:
