@@ -13,11 +13,12 @@ python() {
     exec "$found" -B "$tools/streettools" "$@"
 }
 
-# Runs `look`, which is to start fast: Python keeps compiled modules here.
+# Runs `look`, which is to start fast: Python keeps compiled modules here, and packages are made ready where they are
+# needed (-S).
 look() {
     set_python
     trap '' INT
-    exec "$found" "$tools/streettools/look/__main__.py" "$@"
+    exec "$found" -S "$tools/streettools/look/__main__.py" "$@"
 }
 
 # Finds Python: that of a virtual environment, that of the system, any other.

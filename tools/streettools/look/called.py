@@ -3,8 +3,6 @@
 The file also tells the partners: phases that were entered only because the rings need them. They are left out.
 """
 
-from collections.abc import Collection
-
 
 def plain(name: str) -> str:
     """Returns a name in one line."""
@@ -53,7 +51,7 @@ class Called:
         listed = ", ".join(map(str, phases[:-1]))
         return f"left out: phases {listed} and {phases[-1]}, partners that the rings alone need"
 
-    def key(self, number: int, phases: Collection[int]) -> str:
+    def key(self, number: int, phases: set[int]) -> str:
         """Returns the names of those of the phases that have one, and what is left out."""
         named = [f"{phase} {self.phase(number, phase)}" for phase in sorted(phases) if self.phase(number, phase)]
         return "; ".join(it for it in (", ".join(named), self.left_out(number)) if it)

@@ -5,7 +5,6 @@ The program is started without Python's subprocess: to import that takes as long
 """
 
 import os
-import signal
 
 from ..shared import program
 from ..shared.fault import Fault
@@ -62,7 +61,9 @@ class Check:
     def end(self):
         """Ends it, where nobody has waited for it."""
         if self.process is not None:
-            os.kill(self.process, signal.SIGTERM)
+            from signal import SIGTERM
+
+            os.kill(self.process, SIGTERM)
             os.waitpid(self.process, 0)
             os.close(self.said)
             self.process = None

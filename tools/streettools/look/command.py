@@ -5,7 +5,6 @@ import os
 import sys
 
 from ..shared.fault import Fault
-from ..shared.status import Status
 from . import called, plain_words
 
 PACKAGES = "python3-matplotlib python3-pandas python3-tqdm"
@@ -104,11 +103,16 @@ def page(words, course, names):
 
 def report(words, course, names):
     """Writes the report."""
-    from ..shared import files
+    from ..shared.saying import printed
     from . import report
 
     value = report.collect(course, names)
     course.finish()
+    if words.out is None:
+        printed(report.text(value, words.json, names))
+        return
+    from ..shared import files
+
     with files.output(words.out) as out:
         out.write(report.text(value, words.json, names))
 
@@ -143,37 +147,62 @@ def words_of(arguments):
     return parser(arguments[:1]).parse_args(arguments)
 
 
+def needs_packages(words):
+    """Tells whether what is asked for takes packages of the system; a bar on a terminal does."""
+    return words.command != "report" or not words.json or sys.stderr.isatty()
+
+
 def main(arguments=None):
     """Does what the words ask for, and returns the exit status."""
     arguments = sys.argv[1:] if arguments is None else arguments
     if arguments and arguments[0] in TRAFFIC:
+        make_packages_ready()
         from ..cosim.pictures_command import main as draw
 
         return draw(arguments)
     words = words_of(arguments)
+    if needs_packages(words):
+        make_packages_ready()
     from ..shared.lines import NotATrace
-    from .reading import opened
+    from .reading import read
 
     try:
-        with opened(words.trace, not words.no_check) as course:
-            DOES[words.command](words, course, names_of(words, course))
-    except (NotATrace, Fault) as fault:
-        print(f"look: {fault}", file=sys.stderr)
-        return getattr(fault, "status", Status.REFUSED)
-    except BrokenPipeError:
-        close_output()
-        return Status.FILE
-    except OSError as fault:
-        close_output()
-        print(f"look: {fault.filename or words.trace or 'standard input'}: {fault.strerror}", file=sys.stderr)
-        return Status.FILE
-    except ModuleNotFoundError as fault:
-        print(f"look: Python's package {fault.name} is missing: apt-get install {PACKAGES}", file=sys.stderr)
-        return Status.FILE
-    except KeyboardInterrupt:
+        read(words.trace, not words.no_check, lambda it: DOES[words.command](words, it, names_of(words, it)))
+    except (NotATrace, Fault, OSError, ModuleNotFoundError, KeyboardInterrupt) as fault:
+        return told(fault, words.trace)
+    return 0
+
+
+def make_packages_ready():
+    """Does what Python does at its start, where it was started without the packages of its system. What these have
+    compiled stands where it always stands, and they make cycles of values."""
+    import gc
+
+    gc.enable()
+    if sys.flags.no_site and "site" not in sys.modules:
+        import site
+
+        sys.pycache_prefix = os.environ.get("PYTHONPYCACHEPREFIX") or None
+        site.main()
+
+
+def told(fault, trace):
+    """Says what went wrong, and returns the exit status."""
+    from ..shared.status import Status
+
+    if isinstance(fault, KeyboardInterrupt):
         close_output()
         return Status.INTERRUPTED
-    return Status.DONE
+    if isinstance(fault, ModuleNotFoundError):
+        print(f"look: Python's package {fault.name} is missing: apt-get install {PACKAGES}", file=sys.stderr)
+        return Status.FILE
+    if not isinstance(fault, OSError):
+        print(f"look: {fault}", file=sys.stderr)
+        return getattr(fault, "status", Status.REFUSED)
+    close_output()
+    if not isinstance(fault, BrokenPipeError):
+        print(f"look: {fault.filename or trace or 'standard input'}: {fault.strerror}", file=sys.stderr)
+    return Status.FILE
 
 
 def close_output():

@@ -1,6 +1,5 @@
 """Opens a trace, and lets the proved program check it meanwhile."""
 
-import contextlib
 import io
 import os
 import sys
@@ -8,8 +7,6 @@ import sys
 from ..shared.course import Course
 from ..shared.fault import Fault
 from ..shared.lines import NotATrace
-from ..shared.progress import bar
-from ..shared.status import Status
 from .checking import Check
 
 AT_ONCE = 1 << 20
@@ -60,36 +57,47 @@ class Checked(Course):
             raise Fault(f"line {self.line} is no line of a trace: it ends before its Z line")
 
 
-@contextlib.contextmanager
-def opened(name, is_checked):
-    """Opens a trace, and gives its course. A terminal shows a bar, after a second. Where the text can't be shown, that
-    it is no trace is told first."""
-    with contextlib.ExitStack() as open_files:
-        stream, called = open_files.enter_context(text(name, is_checked))
+def read(name, is_checked, show):
+    """Opens a trace, and lets its course be shown. A terminal shows a bar, after a second. Where the text can't be
+    shown, that it is no trace is told first."""
+    stream, called = text(name, is_checked)
+    check = shown = None
+    try:
         check = Check(stream, called) if is_checked else None
-        if check:
-            open_files.callback(check.end)
-        shown = bar(os.fstat(stream.fileno()).st_size or None, "B", unit_scale=True, delay=1)
-        if shown:
-            open_files.enter_context(shown)
+        shown = bar_of(stream)
         try:
-            yield Checked(stream, shown.update if shown else None, check)
+            show(Checked(stream, shown.update if shown else None, check))
         except (NotATrace, Fault):
             if check:
                 check.told()
             raise
+    finally:
+        if shown:
+            shown.close()
+        if check:
+            check.end()
+        stream.close()
 
 
-@contextlib.contextmanager
+def bar_of(stream):
+    """Returns a bar on a terminal, None elsewhere."""
+    if not sys.stderr.isatty():
+        return None
+    from ..shared.progress import bar
+
+    return bar(os.fstat(stream.fileno()).st_size or None, "B", unit_scale=True, delay=1)
+
+
 def text(name, is_twice):
-    """Opens a text, and gives it with what it is called: one that can be read twice where that is asked for."""
+    """Opens a text, and returns it with what it is called: one that can be read twice where that is asked for."""
     try:
         source = Source(name)
     except OSError as fault:
+        from ..shared.status import Status
+
         raise Fault(f"{name or 'standard input'}: {fault.strerror}", Status.FILE) from None
-    with io.BufferedReader(source, AT_ONCE) as stream:
-        if stream.seekable() or not is_twice:
-            yield stream, source.called
-            return
-        with kept(stream) as copy:
-            yield copy, source.called
+    stream = io.BufferedReader(source, AT_ONCE)
+    if stream.seekable() or not is_twice:
+        return stream, source.called
+    with stream:
+        return kept(stream), source.called

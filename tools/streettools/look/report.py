@@ -4,13 +4,10 @@ The numbers are collected as the trace is read; times are given in seconds. With
 their names, and partner phases are left out.
 """
 
-import json
-from collections import Counter
-
-from streettools.shared import answers
+from streettools.shared import answers, plainjson
 from streettools.shared.answers import Cancelled, ClockNamed, Requested
 from streettools.shared.cabinet import changes, mode_of, opened
-from streettools.shared.course import Answered, Ended, Input, Noted, RoundEnd
+from streettools.shared.course import Answered, Ended, Input, Noted
 from streettools.shared.lines import Frame
 from streettools.shared.tables import ALL
 
@@ -19,12 +16,19 @@ from .endings import ENDINGS
 WAYS = {1: "polls", 2: "downloads", 3: "priority"}
 
 
+class Counts(dict):
+    """How often each thing came; what never came has 0."""
+
+    def __missing__(self, _):
+        return 0
+
+
 class Service:
     """A phase's greens: those that ended, in ticks, and how; walks that began."""
 
     def __init__(self):
         self.begun, self.ended, self.total, self.least, self.greatest = 0, 0, 0, None, 0
-        self.endings, self.walks = Counter(), 0
+        self.endings, self.walks = Counts(), 0
 
     def end(self, length, ending):
         """Counts a green that ended."""
@@ -98,10 +102,10 @@ class Tally:
     def __init__(self, scenario, number, names):
         self.cabinet, self.names = opened(scenario, number), names
         self.services = {phase: Service() for phase in ALL}
-        self.modes, self.mode, self.since = Counter(), None, 0
+        self.modes, self.mode, self.since = Counts(), None, 0
         self.patterns = {}
-        self.replies = {way: Counter() for way in WAYS}
-        self.orders, self.loads = Counter(), []
+        self.replies = {way: Counts() for way in WAYS}
+        self.orders, self.loads = Counts(), []
         self.refused, self.notes = {}, {}
 
     def take(self, happening):
@@ -112,7 +116,7 @@ class Tally:
             case Input():
                 self.cabinet.sensed(happening)
             case Answered(way=way, digits=digits):
-                self.replies.setdefault(way, Counter())["silent" if digits is None else "answered"] += 1
+                self.replies.setdefault(way, Counts())["silent" if digits is None else "answered"] += 1
                 if digits:
                     self.answered(digits, happening.tick)
             case Ended(tick=tick, load=load):
@@ -179,11 +183,12 @@ class Tally:
         number, names = self.cabinet.number, self.names
         partners = names.partners(number)
         shown = [(phase, it) for phase, it in self.services.items() if it.begun and phase not in partners]
+        modes = sorted(self.modes.items(), key=lambda it: it[1], reverse=True)
         return {
             "cabinet": number,
             **({"name": names.street(number), "left_out": sorted(partners)} if names.is_given else {}),
             "phases": [it.value(phase, names.phase(number, phase) if names.is_given else None) for phase, it in shown],
-            "modes": {words: seconds(length) for words, length in self.modes.most_common()},
+            "modes": {words: seconds(length) for words, length in modes},
             "patterns": [it.value(pattern) for pattern, it in sorted(self.patterns.items())],
             "replies": {WAYS.get(way, str(way)): dict(count) for way, count in self.replies.items() if count},
             "orders": {word: count for word, count in self.orders.items() if count},
@@ -217,9 +222,8 @@ def seconds(ticks):
 def collect(course, names):
     """Reads the trace and returns its report as one value."""
     tallies = [Tally(course.scenario, number, names) for number in range(1, course.cabinets + 1)]
-    for happening in course.happenings():
-        if not isinstance(happening, RoundEnd):
-            tallies[happening.cabinet - 1].take(happening)
+    for happening in course.happenings(ends=False):
+        tallies[happening.cabinet - 1].take(happening)
     ticks = course.rounds * course.ticks
     head = {"title": names.title()} if names.is_given else {}
     head |= {"rounds": course.rounds, "seconds": seconds(ticks)}
@@ -229,7 +233,7 @@ def collect(course, names):
 def text(value, as_json, names):
     """Returns the report as text for a terminal, or as JSON."""
     if as_json:
-        return json.dumps(value, indent=2) + "\n"
+        return plainjson.written(value) + "\n"
     from . import report_text
 
     return report_text.text(value, names)

@@ -6,7 +6,7 @@ Get names the clock too, with the clock's own value; only who knows the clock ca
 refused repeats its bindings, too, and they have the value Null.
 """
 
-from collections import namedtuple
+from .record import named
 
 OWN = "2b0601040181fd5901"
 CLOCK, REQUEST, CANCEL = OWN + "020100", OWN + "040100", OWN + "040200"
@@ -25,19 +25,19 @@ ERRORS = {1: "tooBig", 2: "noSuchName", 3: "badValue", 4: "readOnly", 5: "genErr
 INTEGER, OCTETS, NULL = 0x02, 0x04, 0x05
 
 
-ClockNamed = namedtuple("ClockNamed", "ticks")
+ClockNamed = named("ClockNamed", "ticks")
 """A reply names the clock with this value, in ticks since midnight."""
 
 
-Requested = namedtuple("Requested", "number departure")
+Requested = named("Requested", "number departure")
 """A priority request was given: its number, and its departure in ticks from now."""
 
 
-Cancelled = namedtuple("Cancelled", "number")
+Cancelled = named("Cancelled", "number")
 """A priority request was cancelled."""
 
 
-RefusedSet = namedtuple("RefusedSet", "error object value download")
+RefusedSet = named("RefusedSet", "error object value download")
 """A Set was refused: the error, and the object that it names with the value that was asked for; a download's
 number is told where the Set has one."""
 

@@ -1,22 +1,18 @@
 """What a trace tells of one cabinet as it goes on: tables in force, detectors, cycles of a pattern, how each green
 ended."""
 
-import functools
-import re
-from collections import namedtuple
-
 from . import answers
 from .lines import NotATrace
 from .plans import plan
+from .record import kept, named
 from .tables import ALL, Tables
 
-MODE = re.compile(r"([SFEXKCP])(\d*)([etdx]?)")
 STAGES = {"e": "entry", "t": "track", "d": "dwell", "x": "exit"}
 WORDS = {"S": "start-up", "F": "free", "E": "ending", "X": "flash", "K": "seek", "C": "coordinated"}
 DAY = 864_000
 
 
-class Mode(namedtuple("Mode", "letter number stage")):
+class Mode(named("Mode", "letter number stage")):
     """A mode: its letter (S, F, K, C, E, X or P), the number of its pattern or preempt, the stage of a preempt."""
 
     __slots__ = ()
@@ -27,21 +23,26 @@ class Mode(namedtuple("Mode", "letter number stage")):
         return "preempt" if self.letter == "P" else WORDS[self.letter]
 
 
-def mode_of(text, known={}):
+@kept
+def mode_of(text):
     """Returns a mode as it is written in an F line."""
-    if text not in known:
-        letter, number, stage = MODE.fullmatch(text).groups()
-        known[text] = Mode(letter, int(number or 0), STAGES.get(stage, ""))
-    return known[text]
+    letter, rest = text[0], text[1:]
+    stage = rest[-1:] if letter == "P" else ""
+    return Mode(letter, int(rest.removesuffix(stage) or 0), STAGES.get(stage, ""))
 
 
-@functools.lru_cache(maxsize=4096)
 def changes(before, after):
     """Returns the phases whose letters differ between two frames: phase, letter before, letter now."""
-    return tuple((phase, was, now) for phase, was, now in zip(ALL, before, after) if was != now)
+    return changed((before, after))
 
 
-Cycle = namedtuple("Cycle", "tick pattern pickup target error elapsed")
+@kept
+def changed(pair):
+    """Does what `changes` does, for two frames in one value."""
+    return tuple((phase, was, now) for phase, was, now in zip(ALL, *pair) if was != now)
+
+
+Cycle = named("Cycle", "tick pattern pickup target error elapsed")
 """A cycle of a pattern begins: `pickup` says whether the pattern was taken up, `error` by how many ticks it begins late
 (above 0) or early (below 0) by the cabinet's clock; None where the pattern's cycle isn't told. `elapsed` counts the
 ticks since the local zero before, and is None at a pickup."""

@@ -4,40 +4,48 @@ A line that can't follow the lines before it stops the walk. Whether a frame is 
 say.
 """
 
-from collections import defaultdict, deque, namedtuple
-
 from . import lines
 from .lines import Answer, End, Frame, Load, NotATrace, Note
+from .record import Kept, named, new
 
 TICKS, INPUTS = 4, 0
+NOTHING = {}
+"""The inputs of a round that has none."""
 
 
-Input = namedtuple("Input", "cabinet tick kind number on")
+Input = named("Input", "cabinet tick kind number on")
 """An input from the street after a tick: `kind` is veh, ped or preempt, `number` the phase or the preempt."""
 
 
-Answered = namedtuple("Answered", "cabinet tick way digits")
+Answered = named("Answered", "cabinet tick way digits")
 """A reply after a tick: `way` is 1 for polls, 2 for downloads, 3 for priority; `digits` None where silent."""
 
 
-Ended = namedtuple("Ended", "cabinet tick load")
+Ended = named("Ended", "cabinet tick load")
 """A download's end after a tick: accepted, or refused by a rule in a row."""
 
 
-Noted = namedtuple("Noted", "cabinet tick round words")
+Noted = named("Noted", "cabinet tick round words")
 """A note of the master in a round, whose first tick comes after `tick`."""
 
 
-RoundEnd = namedtuple("RoundEnd", "round tick")
+RoundEnd = named("RoundEnd", "round tick")
 """A round is over at this tick."""
 
 
 def inputs_of(scenario):
-    """Returns the inputs of each round and cabinet, in the order of the scenario's list."""
-    found = defaultdict(list)
+    """Returns the inputs of each round by cabinet, in the order of the scenario's list."""
+    found = {}
     for item in scenario.pop("inputs", ()):
-        kind = next(kind for kind in ("veh", "ped", "preempt") if kind in item)
-        found[item["round"], item["cabinet"]].append((kind, item[kind], item.get("on", True)))
+        number, cabinet = item["round"], item["cabinet"]
+        kind = "veh" if "veh" in item else "ped" if "ped" in item else "preempt"
+        it = (kind, item[kind], item.get("on", True))
+        if number not in found:
+            found[number] = {cabinet: [it]}
+        elif cabinet in found[number]:
+            found[number][cabinet].append(it)
+        else:
+            found[number][cabinet] = [it]
     return found
 
 
@@ -46,40 +54,45 @@ class CabinetRound:
 
     __slots__ = ("cabinet", "inputs", "answers", "last", "end")
 
-    def __init__(self, cabinet, start):
-        self.cabinet, self.last, self.end = cabinet, start, start
+    def __init__(self, cabinet, start, end):
+        self.cabinet, self.last, self.end = cabinet, start, end
         self.inputs = self.answers = ()
 
     def spread(self, runs, inputs):
-        """Puts the inputs and the replies of a journal behind the ticks that come before them."""
-        self.inputs, self.answers = deque(), deque()
-        tick, given, left = self.end, iter(inputs), len(inputs)
+        """Puts the inputs and the replies of a journal behind the ticks that come before them: both in lists from the
+        last to the first."""
+        self.inputs, self.answers = [], []
+        tick, place = self.end, 0
         for way, count in runs:
             if way == TICKS:
                 tick += count
             elif way != INPUTS:
                 self.answers.append((way, count, tick))
-            elif count > left:
+            elif count > len(inputs) - place:
                 raise ValueError
             else:
-                left -= count
-                self.inputs.extend((tick, *next(given)) for _ in range(count))
+                self.inputs += [new(Input, (self.cabinet, tick, *it)) for it in inputs[place : place + count]]
+                place += count
         self.end = tick
-        if left:
+        if place < len(inputs):
             raise ValueError
+        self.inputs.reverse()
+        self.answers.reverse()
 
     def before(self, tick):
-        """Yields the inputs that came before this tick."""
-        while self.inputs and self.inputs[0][0] < tick:
-            yield Input(self.cabinet, *self.inputs.popleft())
+        """Returns the inputs that came before this tick, which are taken off."""
+        found = []
+        while self.inputs and self.inputs[-1].tick < tick:
+            found.append(self.inputs.pop())
+        return found
 
     def next_answer(self):
         """Returns the way and the tick of the next reply due."""
         if not self.answers:
             raise ValueError
-        way, count, tick = self.answers.popleft()
+        way, count, tick = self.answers.pop()
         if count > 1:
-            self.answers.appendleft((way, count - 1, tick))
+            self.answers.append((way, count - 1, tick))
         return way, tick
 
 
@@ -87,35 +100,53 @@ class Course:
     """A trace, read line by line: `scenario` is its value without the inputs, `happenings` what comes after it."""
 
     def __init__(self, stream, advance=None):
-        self.texts = lines.texts(stream, advance)
+        self.blocks = lines.blocks(stream, advance)
         self.line = 1
         try:
-            (self.scenario,) = lines.scenario(next(self.texts))
+            first, *self.texts = next(self.blocks)
+            (self.scenario,) = lines.scenario(first)
             self.inputs = inputs_of(self.scenario)
             self.cabinets = len(self.scenario["cabinets"])
             self.ticks, self.rounds = int(self.scenario["ticks"]), int(self.scenario["rounds"])
         except (StopIteration, KeyError, TypeError, ValueError, RecursionError):
             raise NotATrace(1) from None
         self.round, self.cabinet, self.now, self.whole = 0, 0, None, False
+        self.opened, self.ends, self.came = 0, True, NOTHING
+        self.plain = Kept(self.journals_of)
 
-    def happenings(self):
+    def happenings(self, ends=True):
         """Yields what happened: frames, inputs, replies, downloads, notes and ends of rounds, in the order of the
-        trace."""
-        opened = 0
-        for self.line, text in enumerate(self.texts, 2):
-            try:
-                if opened < self.cabinets:
-                    opened += 1
-                    yield self.opening(lines.record(text), opened)
-                elif text[:1] == b"J":
-                    yield from self.begun(lines.journal(text))
-                elif text[:1] == b"R":
-                    yield from self.next_round(text)
-                else:
-                    yield from self.placed(lines.record(text))
-            except (ValueError, StopIteration, IndexError, RuntimeError):
-                raise NotATrace(self.line) from None
-        self.line += not self.whole
+        trace. Who has no use for the ends of rounds is faster without them."""
+        self.ends, first = ends, 2
+        while self.texts is not None:
+            texts, at = self.texts, 0
+            while at < len(texts):
+                self.line, text = first + at, texts[at]
+                try:
+                    found = self.told(text)
+                except (ValueError, IndexError):
+                    raise NotATrace(self.line) from None
+                yield from found
+                at += 1
+                if text[:1] == b"R":
+                    at = yield from self.plain_rounds(texts, at)
+            first += len(texts)
+            self.texts = next(self.blocks, None)
+        self.line = first - self.whole
+
+    def told(self, text):
+        """Returns what a line tells, and what is over with it."""
+        letter = text[:1]
+        if self.opened < self.cabinets:
+            self.opened += 1
+            return (self.opening(lines.record(text), self.opened),)
+        if letter == b"F":
+            return self.shown(lines.record(text))
+        if letter == b"J":
+            return self.begun(lines.journal(text))
+        if letter == b"R":
+            return self.next_round(text)
+        return self.placed(lines.record(text))
 
     def opening(self, record, number):
         """Returns the frame that a cabinet opens with, which stands here."""
@@ -123,47 +154,76 @@ class Course:
             raise ValueError
         return record
 
+    def journals_of(self, counts):
+        """Returns the journals of a round in which cabinets take so many inputs, and then each its ticks; what is given
+        has the cabinets that take some, then how many each of these takes. None where a round has no number of ticks
+        that a journal may have."""
+        half = len(counts) // 2
+        known = dict(zip(counts[:half], counts[half:]))
+        taken = [b"0*%d " % known[number] if number in known else b"" for number in range(1, self.cabinets + 1)]
+        if not taken or not 0 < self.ticks <= lines.MOST:
+            return None
+        return [b"J %d %b4*%d\n" % (number, it, self.ticks) for number, it in enumerate(taken, 1)]
+
+    def plain_rounds(self, texts, at):
+        """Yields what happens in the round that has just begun, and in those behind it, as long as each cabinet takes
+        its inputs and then nothing but ticks; returns the place of the line behind their journals. Of most rounds
+        nothing else is told."""
+        count, ticks, number, came = self.cabinets, self.ticks, self.round, self.came
+        plain, inputs, start = self.plain, self.inputs, (number - 1) * ticks
+        empty = plain[()]
+        while texts[at : at + count] == (plain[(*came, *map(len, came.values()))] if came else empty):
+            at += count
+            if came:
+                for cabinet in range(1, count + 1):
+                    for it in came.get(cabinet, ()):
+                        yield new(Input, (cabinet, start, *it))
+            start += ticks
+            if at == len(texts) or texts[at] != b"R %d\n" % (number + 1):
+                self.cabinet, self.now = count, CabinetRound(count, start - ticks, start)
+                break
+            if self.ends:
+                yield new(RoundEnd, (number, start))
+            number += 1
+            came = inputs.pop(number, NOTHING)
+            at += 1
+        self.round, self.came = number, came
+        return at
+
     def begun(self, journal):
         """Takes a journal, where it may stand here, and returns what the round of the cabinet before it leaves."""
         cabinet, runs = journal
-        left = self.left() if self.now is not None else ()
+        left = self.left()
         if self.whole or self.round == 0 or cabinet != self.cabinet + 1 or cabinet > self.cabinets:
             raise ValueError
         self.cabinet = cabinet
         start = (self.round - 1) * self.ticks
-        self.now = now = CabinetRound(cabinet, start)
-        inputs = self.inputs.pop((self.round, cabinet), ())
-        if inputs or len(runs) > 1 or runs[0][0] != TICKS:
-            now.spread(runs, inputs)
-        else:
-            now.end += runs[0][1]
+        self.now = now = CabinetRound(cabinet, start, start)
+        now.spread(runs, self.came.get(cabinet, ()))
         if now.end != start + self.ticks:
             raise ValueError
         return left
 
     def placed(self, record):
-        """Yields what a line tells that stands within a cabinet's round, or that notes something."""
+        """Returns what a line tells that stands within a cabinet's round, or that notes something."""
         if self.whole:
             raise ValueError
         match record:
-            case Frame():
-                yield from self.shown(record)
             case Answer(cabinet, way, digits):
                 due, tick = self.of(cabinet).next_answer()
                 if way != due:
                     raise ValueError
-                yield from self.now.before(tick)
-                yield Answered(cabinet, tick, way, digits)
+                return (*self.now.before(tick), Answered(cabinet, tick, way, digits))
             case Load(cabinet):
-                tick = self.of(cabinet).answers[0][2]
-                yield from self.now.before(tick)
-                yield Ended(cabinet, tick, record)
+                tick = self.of(cabinet).answers[-1][2]
+                return (*self.now.before(tick), Ended(cabinet, tick, record))
             case Note(cabinet, words):
                 if self.round == 0 or self.cabinet or not 0 < cabinet <= self.cabinets:
                     raise ValueError
-                yield Noted(cabinet, (self.round - 1) * self.ticks, self.round, words)
-            case End():
-                yield from self.ended(record)
+                return (Noted(cabinet, (self.round - 1) * self.ticks, self.round, words),)
+            case End(rounds):
+                return self.ended(rounds)
+        raise ValueError
 
     def of(self, cabinet):
         """Returns the round of the cabinet whose lines stand here, which must be this one."""
@@ -172,33 +232,38 @@ class Course:
         return self.now
 
     def shown(self, frame):
-        """Yields the inputs before a frame, and the frame."""
+        """Returns the inputs before a frame, and the frame."""
         now = self.of(frame.cabinet)
         if not now.last < frame.tick <= now.end:
             raise ValueError
         now.last = frame.tick
-        if now.inputs:
-            yield from now.before(frame.tick)
-        yield frame
+        return (*now.before(frame.tick), frame)
 
     def left(self):
         """Returns the inputs that a cabinet's round leaves, which is over; no reply may be left."""
         now, self.now = self.now, None
+        if now is None:
+            return ()
         if now.answers:
             raise ValueError
-        return now.before(now.end + 1) if now.inputs else ()
+        return now.before(now.end + 1)
 
     def next_round(self, text):
         """Takes the line of the round that is due, and returns what the one before leaves."""
         if text != b"R %d\n" % (self.round + 1):
             raise ValueError
         over = self.over()
-        self.round, self.cabinet = self.round + 1, 0
+        self.begin_round()
         return over
 
-    def ended(self, end):
+    def begin_round(self):
+        """Begins the next round."""
+        self.round, self.cabinet = self.round + 1, 0
+        self.came = self.inputs.pop(self.round, NOTHING)
+
+    def ended(self, rounds):
         """Takes the end of the trace, and returns what the last round leaves."""
-        if not end.rounds == self.round == self.rounds:
+        if not rounds == self.round == self.rounds:
             raise ValueError
         over = self.over()
         self.cabinet, self.whole = 0, True
@@ -208,5 +273,5 @@ class Course:
         """Returns what a round leaves that is over, and its end, once each cabinet has had its own."""
         if self.whole or (self.round and self.cabinet != self.cabinets):
             raise ValueError
-        left = self.left() if self.now is not None else ()
-        return (*left, RoundEnd(self.round, self.round * self.ticks)) if self.round else ()
+        left = self.left()
+        return (*left, RoundEnd(self.round, self.round * self.ticks)) if self.round and self.ends else left

@@ -3,25 +3,22 @@
 A record for each line; text that is no line stops the reading. What lines say together is told by `course`.
 """
 
-import functools
-import json
-import re
-from collections import namedtuple
+import io
+
+from .plainjson import object_of
+from .record import kept, named, new
 
 LONGEST = 67_108_864
 """No line of a trace has more bytes than a trace may have."""
 
 MOST = 4_294_967_295
-NUMBER = rb"(0|[1-9][0-9]{0,9})"
-SIGNED = rb"(0|-?[1-9][0-9]{0,9})"
-FRAME = rb"F %s %s ([GYCR]{16}) ([WFD]{16}) ([A-Z0-9a-z]+) %s %s %s\n" % ((NUMBER,) * 5)
-JOURNAL = re.compile(rb"J %s ([0-9* ]+)\n" % NUMBER)
-RUN = re.compile(rb"%s\*%s" % (NUMBER, NUMBER))
-ANSWER = rb"A %s %s (-|(?:[0-9a-f]{2}){1,1472})\n" % (NUMBER, NUMBER)
-LOAD = rb"L %s %s (?:accepted %s|refused %s %s)\n" % ((NUMBER,) * 5)
-NOTE = rb"M %s (fail|good|pattern %s|load %s (?:done|refused %s %s))\n" % (NUMBER, NUMBER, NUMBER, SIGNED, SIGNED)
-END = rb"Z %s\n" % NUMBER
-MODE = re.compile(r"[SFEX]|[KC](0|[1-9][0-9]{0,2})|P(0|[1-9][0-9]{0,2})[etdx]")
+COLOURS, SIGNALS, DIGITS = b"GYCR", b"WFD", b"0123456789abcdef"
+PHASES = 16
+MOST_OCTETS = 1472
+"""A reply has at most so many octets."""
+STAGES = "etdx"
+AT_ONCE = 1 << 18
+"""So many bytes are read at once."""
 
 
 class NotATrace(Exception):
@@ -32,146 +29,191 @@ class NotATrace(Exception):
         self.line = line
 
 
-Scenario = namedtuple("Scenario", "value")
+Scenario = named("Scenario", "value")
 """The scenario that is run, as its JSON value."""
 
 
-Frame = namedtuple("Frame", "cabinet tick vehicles pedestrians mode counter target version")
+Frame = named("Frame", "cabinet tick vehicles pedestrians mode counter target version")
 """What a cabinet shows after a tick: 16 letters of colours, 16 of pedestrian signals, the mode as it is written;
 counter and target in ticks of 0.1 s."""
 
 
-Round = namedtuple("Round", "number")
+Round = named("Round", "number")
 """A round begins."""
 
 
-Journal = namedtuple("Journal", "cabinet runs")
+Journal = named("Journal", "cabinet runs")
 """What a cabinet did in a round: runs of a pass and a number of events, as tuples."""
 
 
-Answer = namedtuple("Answer", "cabinet way digits")
+Answer = named("Answer", "cabinet way digits")
 """A reply of a cabinet, as hexadecimal digits; None where it was silent."""
 
 
-Load = namedtuple("Load", "cabinet number version rule row")
+Load = named("Load", "cabinet number version rule row")
 """The end of a download: the version that it made, or the rule that refused it and the row."""
 
 
-Note = namedtuple("Note", "cabinet words")
+Note = named("Note", "cabinet words")
 """A note of the master, in its own words."""
 
 
-End = namedtuple("End", "rounds")
+End = named("End", "rounds")
 """The end, after so many rounds."""
 
 
 def number(digits, most=MOST):
-    """Returns the number that the digits write; a number beyond its type makes the line none."""
+    """Returns the number that the digits write; a number beyond its type makes the line none, and so do other digits
+    than those that it is written with."""
     value = int(digits)
-    if value > most:
+    if not 0 <= value <= most or b"%d" % value != digits:
         raise ValueError
     return value
 
 
-@functools.lru_cache(maxsize=4096)
+usual = kept(number)
+"""Does the same for numbers that come over and over."""
+
+
+def signed(digits):
+    """Returns the number of 32 bits that is written with a sign where it is below 0."""
+    value = int(digits)
+    if not -(2**31) <= value < 2**31 or b"%d" % value != digits:
+        raise ValueError
+    return value
+
+
+@kept
 def mode(word):
     """Returns a mode as text, once it is known to be one."""
     text = word.decode("ascii")
-    found = MODE.fullmatch(text)
-    if not found or int(found[1] or found[2] or 0) > 255:
-        raise ValueError
+    letter, rest = text[:1], word[1:]
+    if letter == "P" and text[1:] and text[-1] in STAGES:
+        rest = rest[:-1]
+    elif letter not in ("K", "C"):
+        if text not in ("S", "F", "E", "X"):
+            raise ValueError
+        return text
+    number(rest, 255)
     return text
+
+
+@kept
+def colours(word):
+    """Returns 16 colours as text."""
+    return letters(word, COLOURS)
+
+
+@kept
+def signals(word):
+    """Returns 16 pedestrian signals as text."""
+    return letters(word, SIGNALS)
+
+
+def letters(word, known):
+    """Returns as text a word of 16 letters that are among those that are known."""
+    if len(word) != PHASES or word.strip(known):
+        raise ValueError
+    return word.decode("ascii")
 
 
 def runs(words):
     """Returns the runs of a journal, which are as long as they can be."""
-    found = [RUN.fullmatch(word) for word in words.split(b" ")]
-    if not all(found):
-        raise ValueError
-    pairs = tuple((number(run[1]), number(run[2])) for run in found)
-    if any(n == 0 for _, n in pairs) or any(a[0] == b[0] for a, b in zip(pairs, pairs[1:])):
-        raise ValueError
-    return pairs
+    found = tuple(tuple(map(number, word.split(b"*"))) for word in words)
+    before = None
+    for way, count in found:
+        if count == 0 or way == before:
+            raise ValueError
+        before = way
+    return found
 
 
-@functools.lru_cache(maxsize=4096)
+@kept
 def journal(line):
     """Returns the record of a J line; of one cabinet's rounds most have the same."""
-    found = JOURNAL.fullmatch(line)
-    if not found:
+    letter, cabinet, *words = body(line)
+    if letter != b"J" or not words:
         raise ValueError
-    return Journal(number(found[1]), runs(found[2]))
+    return Journal(number(cabinet), runs(words))
+
+
+def body(line):
+    """Returns the words of a line, which ends in a newline."""
+    if line[-1:] != b"\n":
+        raise ValueError
+    return line[:-1].split(b" ")
 
 
 def round_of(line):
     """Returns the record of an R line."""
-    value = int(line[2:-1])
-    if line != b"R %d\n" % value or not 0 <= value <= MOST:
+    letter, digits = body(line)
+    if letter != b"R":
         raise ValueError
-    return Round(value)
+    return Round(number(digits))
 
 
-def frame(found):
+def frame(line):
     """Returns the record of an F line."""
-    cabinet, tick, vehicles, pedestrians, word, counter, target, version = found.groups()
-    return Frame(
-        number(cabinet), number(tick), vehicles.decode("ascii"), pedestrians.decode("ascii"), mode(word),
-        number(counter), number(target), number(version),
-    )  # fmt: skip
+    _, cabinet, tick, vehicles, pedestrians, word, counter, target, version = body(line)
+    cabinet, target, version = usual(cabinet), usual(target), usual(version)
+    tick, counter = number(tick), number(counter)
+    return new(
+        Frame, (cabinet, tick, colours(vehicles), signals(pedestrians), mode(word), counter, target, version)
+    )
 
 
-def load(found):
+def load(line):
     """Returns the record of an L line."""
-    cabinet, count, version, rule, row = found.groups()
-    if version is not None:
+    _, cabinet, count, result, *words = body(line)
+    if result == b"accepted":
+        (version,) = words
         return Load(number(cabinet), number(count), number(version), 0, 0)
+    rule, row = words
+    if result != b"refused":
+        raise ValueError
     return Load(number(cabinet), number(count), None, number(rule, 255), number(row, 65535))
 
 
-def note(found):
+def note(line):
     """Returns the record of an M line."""
-    if found[3] is not None:
-        number(found[3], 255)
-    if found[4] is not None:
-        number(found[4])
-    for signed in (found[5], found[6]):
-        if signed is not None and not -(2**31) <= int(signed) < 2**31:
+    _, cabinet, *words = body(line)
+    match words:
+        case [b"fail" | b"good"]:
+            pass
+        case [b"pattern", pattern]:
+            number(pattern, 255)
+        case [b"load", count, b"done"]:
+            number(count)
+        case [b"load", count, b"refused", rule, row]:
+            number(count), signed(rule), signed(row)
+        case _:
             raise ValueError
-    return Note(number(found[1]), found[2].decode("ascii"))
+    return Note(number(cabinet), b" ".join(words).decode("ascii"))
 
 
-def answer(found):
+def answer(line):
     """Returns the record of an A line."""
-    digits = None if found[3] == b"-" else found[3].decode("ascii")
-    return Answer(number(found[1]), number(found[2]), digits)
+    _, cabinet, way, digits = body(line)
+    if digits != b"-" and (len(digits) % 2 or not 0 < len(digits) <= 2 * MOST_OCTETS or digits.strip(DIGITS)):
+        raise ValueError
+    return Answer(number(cabinet), number(way), None if digits == b"-" else digits.decode("ascii"))
 
 
-KINDS = {
-    b"F": (FRAME, frame),
-    b"A": (ANSWER, answer),
-    b"L": (LOAD, load),
-    b"M": (NOTE, note),
-    b"Z": (END, lambda found: End(number(found[1]))),
-}
-"""By its first letter, what a line must match and the record that it gives; J and R lines, the most of all, have their
-own ways."""
+def end(line):
+    """Returns the record of a Z line."""
+    _, digits = body(line)
+    return End(number(digits))
 
 
-@functools.cache
-def kind(letter):
-    """Returns how a line that begins with this letter is matched, and the function of its record; None where no line
-    does. Most traces have few kinds, and to make ready for each takes a while."""
-    if letter not in KINDS:
-        return None
-    pattern, made = KINDS[letter]
-    return re.compile(pattern).fullmatch, made
+KINDS = {b"F ": frame, b"R ": round_of, b"J ": journal, b"A ": answer, b"L ": load, b"M ": note, b"Z ": end}
+"""By the letter with which it begins, what gives the record of a line."""
 
 
 def scenario(line):
     """Returns the record of an S line, which ends in a newline and holds a JSON object."""
     if line[:2] != b"S " or line[-1:] != b"\n":
         raise ValueError
-    value = json.loads(line[2:-1])
+    value = object_of(line[2:-1])
     if not isinstance(value, dict):
         raise ValueError
     return Scenario(value)
@@ -179,32 +221,25 @@ def scenario(line):
 
 def record(line):
     """Returns the record of a line other than the first; ValueError where it is none."""
-    letter = line[:1]
-    if letter == b"R":
-        return round_of(line)
-    if letter == b"J":
-        return journal(line)
-    known = kind(letter)
-    found = known and known[0](line)
-    if not found:
+    found = KINDS.get(line[:2])
+    if found is None:
         raise ValueError
-    return known[1](found)
+    return found(line)
 
 
-def texts(stream, advance=None):
-    """Returns the lines of a stream, one after another, each with its newline. `advance` is told, now and then, how
-    many bytes were read."""
-    found = iter(functools.partial(stream.readline, LONGEST + 1), b"")
-    return told(found, advance) if advance else found
-
-
-def told(found, advance):
-    """Yields lines, and tells how many bytes they have."""
-    size = 0
-    for line in found:
-        size += len(line)
-        if size > 1_000_000:
-            advance(size)
-            size = 0
-        yield line
-    advance(size)
+def blocks(stream, advance=None):
+    """Yields the lines of a stream, each with its newline, in lists of those that were read at once. `advance` is told
+    how many bytes were read."""
+    parts, size = [], 0
+    while octets := stream.read1(AT_ONCE):
+        parts.append(octets)
+        size += len(octets)
+        if advance:
+            advance(len(octets))
+        if b"\n" in octets or size > LONGEST:
+            found = io.BytesIO(b"".join(parts)).readlines()
+            rest = b"" if found[-1].endswith(b"\n") or len(found[-1]) > LONGEST else found.pop()
+            yield found if len(found[0]) <= LONGEST else [found[0][: LONGEST + 1]]
+            parts, size = [rest] if rest else [], len(rest)
+    if parts:
+        yield [b"".join(parts)]

@@ -3,9 +3,9 @@
 After the FHWA Signal Timing Manual; docs/DEFINITIONS.md says it in words (`zero_point`, `force_point`, `window`).
 """
 
-from collections import namedtuple
+from .record import named
 
-Plan = namedtuple("Plan", "cycle offset coordinated force window shift")
+Plan = named("Plan", "cycle offset coordinated force window shift")
 """Cycle and offset in ticks; the coordinated phase of each ring; the force point of each phase; `window` is the last
 moment at which both coordinated phases are still green; `shift` is added to a target where offsets refer to the end."""
 

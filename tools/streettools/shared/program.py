@@ -2,7 +2,6 @@
 needed."""
 
 import os
-from collections.abc import Callable
 
 HERE = os.path.dirname(os.path.dirname(os.path.dirname(os.path.realpath(__file__))))
 """The folder that has the package: `tools` of a checkout, or the one of an installation, which has the program beside
@@ -11,8 +10,9 @@ OWN, FINDER = os.path.join(HERE, "arterial"), os.path.join(HERE, "proved")
 """The program of an installation, and the script that finds the one of a checkout."""
 MODEL = os.path.join(os.path.dirname(HERE), "model", "program")
 """The model of a checkout: the same commands in plain Python, with which the program is compared (model/README.md)."""
-FIND = 'found=$("$0" 2>/dev/null) && exec "$found" "$@"; exit 125'
-"""A shell script that runs the program which another script finds."""
+FIND = 'found=$(. "$0" 2>/dev/null) && exec "$found" "$@"; exit 125'
+"""A shell script that runs the program which another script finds, which it reads itself: to start one more shell takes
+a while."""
 NONE_HERE = (125,)
 """The exit status of that script where there is no program."""
 
@@ -39,15 +39,20 @@ def found(name: str | None = None):
     that is installed with these tools, that was proved in this checkout, or that is on the path."""
     import pathlib
 
-    path = pathlib.Path(name or os.environ.get("ARTERIAL_PROGRAM") or usual()).resolve()
-    if not (path.is_file() and os.access(path, os.X_OK)):
+    return pathlib.Path(path_of(name))
+
+
+def path_of(name: str | None = None) -> str:
+    """Returns the same path as a text."""
+    path = os.path.realpath(name or os.environ.get("ARTERIAL_PROGRAM") or usual())
+    if not (os.path.isfile(path) and os.access(path, os.X_OK)):
         raise NoProgram(f"no program at {path}")
     return path
 
 
-def answering(name: str | None, tell: Callable[[str], None]):
+def answering(name: str | None, tell):
     """Returns the path of the program as `found` does. In a checkout in which none was proved yet it is that of the
-    model, which is slower; that is told."""
+    model, which is slower; that is told by a function that takes a line."""
     try:
         return found(name)
     except NotProved as fault:
@@ -61,7 +66,7 @@ def command(*words: str) -> list[str]:
     """Returns the command that runs the program with these words. In a checkout the program is found as the command
     runs, which takes a while: it ends with a status of NONE_HERE where none was proved."""
     if os.environ.get("ARTERIAL_PROGRAM") or os.path.isfile(OWN) or not os.path.isfile(FINDER):
-        return [str(found()), *words]
+        return [path_of(), *words]
     return ["/bin/sh", "-c", FIND, FINDER, *words]
 
 

@@ -39,7 +39,8 @@ def test_bands_are_what_all_greens_have_in_common():
 def test_a_scenario_keeps_no_inputs_in_memory_twice():
     with VECTORS[1].open("rb") as stream:
         course = Course(stream)
-    assert "inputs" not in course.scenario and sum(map(len, course.inputs.values())) == 301
+    kept = [len(it) for by_cabinet in course.inputs.values() for it in by_cabinet.values()]
+    assert "inputs" not in course.scenario and sum(kept) == 301
 
 
 def test_a_disabled_phase_in_two_lists_does_not_join_their_sides():
