@@ -1,6 +1,6 @@
 """Adds up, in a worker of a sweep, the processor time of the parts of its runs. bench/sweep puts it beside the tools
-that a worker is given, and says where it writes: a line for each batch, with the runs in it and the seconds of the
-program's processes, of reading and measures, of scenarios, and of all that the worker itself does for the batch."""
+that a worker is given, and says where it writes: a line for each run, with the seconds of the program's processes, of
+reading and measures, of the scenario, and of all that the worker itself does for the run."""
 
 import functools
 import json
@@ -21,7 +21,7 @@ def programs() -> float:
     return used.ru_utime + used.ru_stime
 
 
-def watch(work) -> None:
+def watch() -> None:
     """Lets a worker add up what its runs take."""
     seconds = {"scenario": 0.0, "measures": 0.0}
 
@@ -41,15 +41,14 @@ def watch(work) -> None:
     timed(Runner, "made", "scenario")
     timed(Built, "name", "scenario")
     timed(Runner, "measured", "measures")
-    rows = work.rows
+    row, place = Runner.row, Path(HERE) / str(os.getpid())
+    file = open(place, "a", buffering=1)
 
-    def batch(self, indexes):
+    def run(self, variant):
         before = programs(), seconds["measures"], seconds["scenario"], time.thread_time()
-        found = rows(self, indexes)
+        found = row(self, variant)
         after = programs(), seconds["measures"], seconds["scenario"], time.thread_time()
-        line = json.dumps([len(found), *(b - a for a, b in zip(before, after))])
-        with open(Path(HERE) / str(os.getpid()), "a") as file:
-            file.write(line + "\n")
+        file.write(json.dumps([b - a for a, b in zip(before, after)]) + "\n")
         return found
 
-    work.rows = batch
+    Runner.row = run

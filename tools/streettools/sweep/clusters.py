@@ -24,14 +24,18 @@ SETTINGS = {
     "distributed.worker.profile.enabled": False,
     # what Dask looks after in itself, and how often: with its own times four workers at rest took a tenth of a
     # processor
-    "distributed.admin.tick.interval": "1s",
-    "distributed.admin.system-monitor.interval": "5s",
-    "distributed.worker.memory.monitor-interval": "500ms",
-    "distributed.scheduler.work-stealing-interval": "1s",
-    "distributed.client.scheduler-info-interval": "5s",
+    "distributed.admin.tick.interval": "10s",
+    "distributed.admin.tick.cycle": "1m",
+    "distributed.admin.system-monitor.interval": "1m",
+    "distributed.worker.memory.monitor-interval": "2s",
+    "distributed.scheduler.work-stealing-interval": "2s",
+    "distributed.client.scheduler-info-interval": "1m",
     "distributed.scheduler.active-memory-manager.start": False,
     "distributed.nanny.pre-spawn-environ": {"MALLOC_TRIM_THRESHOLD_": 65536, "OMP_NUM_THREADS": 1},
 }
+
+HEARTBEAT = 10.0
+"""So many seconds pass before a worker says again that it lives. That one has died is seen by its connection."""
 
 
 @dataclass(frozen=True)
@@ -46,6 +50,14 @@ class Cluster:
 def processors() -> int:
     """Returns how many processors this process may use."""
     return len(os.sched_getaffinity(0))
+
+
+def seldom() -> None:
+    """Lets the scheduler of this process ask for few heartbeats. Dask has no setting for it; with its own of half a
+    second four workers at rest took four times as much of a processor."""
+    from distributed import scheduler
+
+    scheduler.heartbeat_interval = lambda count: HEARTBEAT
 
 
 def quiet() -> None:
@@ -71,6 +83,7 @@ def embedded(workers: int | None, memory: int | None) -> Iterator[Cluster]:
     import dask
     from distributed import Client, LocalCluster
 
+    seldom()
     count = workers or processors()
     limit = f"{memory}MiB" if memory else "auto"
     with contextlib.ExitStack() as stack:

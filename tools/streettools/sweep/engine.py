@@ -23,11 +23,13 @@ from .journal import Journal
 from .one_run import Outcome
 from .prepared import Keys
 
-AIM, MOST = 5.0, 64
-"""A batch is to take so many seconds, and has at most so many runs: to send one out and to take what came of it costs
-Dask's processes some 20 ms on a busy machine."""
+AIM, MOST, GROWTH = 5.0, 64, 4
+"""A batch is to take so many seconds, and has at most so many runs, and so many times those of the batch before: to
+send one out and to take what came of it costs Dask's processes 5 to 20 ms."""
 SHARES = 2
 """Of what is left a batch has at most this part of a worker's share, so that all workers end at about the same time."""
+LOOK, LOOK_ALONE = 10.0, 2.0
+"""So often it is looked how many workers there are, and whether the first has come."""
 PATIENCE, PATIENCE_ALONE = 5.0, 30.0
 """So many seconds pass before it is looked whether anybody still works, and before it is told that nobody does."""
 
@@ -178,12 +180,12 @@ class Engine:
         """Makes batches larger while they are done fast. Two wait for each worker that has one, so a third of the
         time is a batch's own."""
         each = (time.monotonic() - job.sent) / 3 / len(job.indexes)
-        self.size = max(1, min(MOST, 2 * self.size, int(AIM / max(each, 1e-6))))
+        self.size = max(1, min(MOST, GROWTH * self.size, int(AIM / max(each, 1e-6))))
 
     def look(self) -> None:
         """Looks now and then how many workers there are."""
         now = time.monotonic()
-        if now - self.looked < 2:
+        if now - self.looked < (LOOK if self.threads else LOOK_ALONE):
             return
         self.looked = now
         try:
