@@ -1,6 +1,6 @@
 /// What bench/book measures: ticks of a controller and of a book, and a poll of eight objects.
 mod measured {
-    use crate::agent::{answer, decode};
+    use crate::agent::{Ask, answer, decode, decode_into};
     use crate::arrayvec::ArrayVec;
     use crate::cab_book::{Book, Cabinet, Control};
     use crate::controller::Controller;
@@ -68,6 +68,22 @@ mod measured {
         }
     }
 
+    /// As a book does it: what is asked is read into one ask, which is cleared each time.
+    #[inline(never)]
+    fn counted_kept(controller: &Controller, stage: &Stage, poll: &Octets) {
+        let name = community();
+        let mut ask = Ask::blank();
+        for _ in 0..POLLS {
+            if decode_into(poll.as_slice(), name.as_slice(), controller.tables(), &mut ask).is_none() {
+                panic!("a poll is no message")
+            }
+            let shown = controller.shown();
+            black_box(answer(&ask, controller.tables(), &shown, stage.state(), stage.last(), None));
+            ask.message.community.clear();
+            ask.message.binds.clear();
+        }
+    }
+
     /// Nanoseconds for each of so many things that are done.
     fn took(many: usize, doing: impl FnOnce()) -> f64 {
         let begin = Instant::now();
@@ -105,6 +121,11 @@ mod measured {
         took(POLLS as usize, || counted_answers(&controller, &stage, &poll))
     }
 
+    pub fn kept() -> f64 {
+        let (controller, stage, poll) = (opened("std8", 1), Stage::new(), poll());
+        took(POLLS as usize, || counted_kept(&controller, &stage, &poll))
+    }
+
     pub fn book_polls() -> f64 {
         let mut book = book_of("std8", 1);
         let mut sum = 0.0;
@@ -133,6 +154,7 @@ mod measured {
             "book-pattern" => book_ticks("max8", 1, counted_passes),
             "strides-pattern" => book_ticks("max8", 1, counted_strides),
             "answers" => answers(),
+            "kept" => kept(),
             "book-polls" => book_polls(),
             _ => panic!("nothing of that name is measured"),
         }

@@ -83,8 +83,8 @@ mod measured {
     }
 
     #[inline(never)]
-    fn counted_end(master: &mut MasterRounds, round: u32, s: &Scenario, answers: &Vec<Answers>) {
-        if master.end(Global, round, s, answers.as_slice()).is_err() {
+    fn counted_end(master: &mut MasterRounds, round: u32, answers: &Vec<Answers>) {
+        if master.end(Global, round, answers.as_slice()).is_err() {
             panic!("no memory");
         }
     }
@@ -108,7 +108,7 @@ mod measured {
             polled += begun.streams.iter().filter(|streams| streams.polls.len() == 1).count();
             let answers = answered(&controller, &s, &begun.streams);
             let begin = Instant::now();
-            counted_end(&mut master, round, &s, &answers);
+            counted_end(&mut master, round, &answers);
             took += begin.elapsed();
         }
         assert_eq!(polled, (CABINETS * ROUNDS) as usize);
