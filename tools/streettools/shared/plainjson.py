@@ -21,7 +21,7 @@ class Usual:
     memo = {}
 
 
-def object_of(octets):
+def object_of(octets: bytes) -> object:
     """Returns the object that octets write. Whatever isn't plainly one, with its faults, is left to Python's json."""
     if make_scanner and octets[:1] == b"{" and octets.isascii():
         text = octets.decode("ascii")
@@ -36,7 +36,7 @@ def object_of(octets):
     return json.loads(octets)
 
 
-def written(value, before="\n"):
+def written(value: object, before: str = "\n") -> str:
     """Returns a value of texts, numbers, lists and objects as `json.dumps(value, indent=2)` writes it; `before` stands
     before the end of a list or an object."""
     within = before + INDENT

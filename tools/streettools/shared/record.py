@@ -11,7 +11,7 @@ new = tuple.__new__
 `Class(1, 2)` takes."""
 
 
-def named(name, fields):
+def named(name: str, fields: str) -> type:
     """Returns a class of tuples whose fields have these names, with blanks between them."""
     names = tuple(fields.split())
 
@@ -27,7 +27,7 @@ def named(name, fields):
 class Kept(dict):
     """What a function gives for each value that it was asked for."""
 
-    def __init__(self, function):
+    def __init__(self, function) -> None:
         self.function = function
 
     def __missing__(self, value):
