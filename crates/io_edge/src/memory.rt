@@ -203,11 +203,15 @@ impl Sink for MemSink {
     }
 }
 
-/// A gate that does nothing.
+/// A gate that does nothing: nobody waits there.
 pub struct OpenGate;
 
 impl Gate for OpenGate {
     fn at(&self, _pass: u32, _cab: u32) {}
+
+    fn wants_threads(&self) -> bool {
+        false
+    }
 }
 
 /// Whether the call after so many is in the list.
