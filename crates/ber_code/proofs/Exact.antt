@@ -4,7 +4,7 @@ use Rattle.std.specs.Prelude.{IfSome, IfNone}
 use Rattle.std.proofs.lemmas.List.{append-nil, append_cancel_right}
 use Rattle.std.proofs.lemmas.Option.{none-some, some_pair_parts}
 use Rattle.ber_code.specs.Fields.{Begins, NothingBegins, AreTexts, StandsAlone}
-use Rattle.ber_code.specs.Reading.{◌>>=◌, Gives, ReadsEach, all_at}
+use Rattle.ber_code.specs.Reading.{◌>>=◌, Gives, ReadsEach, all_at, with_front}
 
 pub record Exact {A : Type 0} (IsText : List ℕ → A → Type 0) (read : List ℕ → Option (A × List ℕ)) : Type 0 where
   pub found : (bytes rest : List ℕ) (value : A) → read bytes ≡ Some (value, rest) → Begins IsText bytes value rest
@@ -83,10 +83,6 @@ module _ {A : Type 0} {IsText : List ℕ → A → Type 0} {read : List ℕ → 
       rw (first, all_again empty n are.1 vs are.3 (omega arith)) refl
 
 -- ---- a loop over such values
-
--- what was read before, and what is still read
-abbrev pub with_front : {A : Type 0} → List A → Option (List A) → Option (List A)
-with_front front read = read >>= λ more. Some (front ++ more)
 
 regroup : {A : Type 0} (front : List A) (v : A) (read : Option (List A)) → with_front front (read >>= λ others. Some (v ∷ others)) ≡ with_front (front ++ v ∷ []) read
 regroup front v (Some others) = ap Some (simp append_assoc)

@@ -4,3 +4,4 @@ pub mod LengthLaws
 pub mod IntegerLaws
 pub mod NameLaws
 pub mod Texts
+pub mod Fours

@@ -67,6 +67,10 @@ all_at read (suc n) (octet ∷ rest) = do
   others ← all_at read n first.1
   Some (first.0 ∷ others)
 
+-- what was read before, and what is still read
+abbrev pub with_front : {A : Type 0} → List A → Option (List A) → Option (List A)
+with_front front read = read >>= λ more. Some (front ++ more)
+
 -- the first arc that an octet below 128 holds
 abbrev pub root_of : ℕ → ℕ
 root_of first = if nat_lt first 40 then 0 else if nat_lt first 80 then 1 else 2

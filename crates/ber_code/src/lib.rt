@@ -14,5 +14,7 @@ pub use laws::{fields_stand_alone, shortest_texts_are_texts};
 pub use lengths::{
     read_len, read_octets, read_tagged, tagged_size, write_head, write_len, write_octets,
 };
-pub use names::{Oid, oid_size, read_oid, read_oid_into, write_oid};
+pub use names::{
+    Oid, oid_contents_size, oid_size, read_oid, read_oid_into, write_oid, write_oid_sized,
+};
 pub use room::Full;

@@ -6,7 +6,7 @@ ghost use Rattle.std.specs.List.{flat_map};
 ghost use Rattle.arrayvec.specs.ArrayVec.{array_vec_len};
 ghost use Rattle.ber_code.specs.Fields.{Begins, NothingBegins};
 ghost use Rattle.ber_code.specs.Names.{AreNameContents, IsName, IsWritable, arc_text, name_octets, name_text};
-ghost use Rattle.ber_code.specs.Reading.{Gives, ReadsEach, arc_at, arcs_of, name_at, root_of, with_later};
+ghost use Rattle.ber_code.specs.Reading.{Gives, ReadsEach, all_at, arc_at, arcs_of, name_at, root_of, with_front, with_later};
 
 use crate::lengths::{put_head, tagged_of, tagged_size};
 use crate::room::{Full, put, room_of};
@@ -79,6 +79,41 @@ fn arcs_into(octets: &[u8], name: &mut Oid) -> Option<()>
     }
 }
 
+/// Puts arcs behind those of a name.
+fn push_all(arcs: &[u32], name: &mut Oid)
+    requires { array_vec_len name.old + length arcs.now ≤ 32 }
+    ensures { name.new.items ≡ name.old.items ++ arcs.now }
+{
+    let _ = name.try_extend_from_slice(arcs);
+}
+
+/// Reads at most so many arcs behind those of a name, up to the end of the octets: four at once where each is one octet.
+fn rest_into(most: u8, octets: &[u8], name: &mut Oid) -> Option<()>
+    requires { array_vec_len name.old + most ≤ 32 }
+    ensures { Gives (λ _. name.new.items) result (with_front name.old.items (all_at arc_at most octets.now)) }
+{
+    if octets.is_empty() {
+        return Some(());
+    }
+    match octets {
+        [a, b, c, d, after @ ..] if most >= 4 && *a < 128 && *b < 128 && *c < 128 && *d < 128 => {
+            push_all(
+                &[u32::from(*a), u32::from(*b), u32::from(*c), u32::from(*d)],
+                name,
+            );
+            rest_into(most - 4, after, name)
+        }
+        _ => {
+            if most == 0 {
+                return None;
+            }
+            let (arc, after) = arc_of(octets)?;
+            name.push(arc);
+            rest_into(most - 1, after, name)
+        }
+    }
+}
+
 /// Reads the name of two arcs and the arcs of the octets.
 fn later_into(first: u32, second: u32, octets: &[u8], name: &mut Oid) -> Option<()>
     ensures { Gives (λ _. name.new.items) result (with_later first second octets.now) }
@@ -86,16 +121,7 @@ fn later_into(first: u32, second: u32, octets: &[u8], name: &mut Oid) -> Option<
     name.clear();
     name.push(first);
     name.push(second);
-    let mut rest = octets;
-    for _ in 0..30u8 {
-        if rest.is_empty() {
-            return Some(());
-        }
-        let (arc, after) = arc_of(rest)?;
-        name.push(arc);
-        rest = after;
-    }
-    if rest.is_empty() { Some(()) } else { None }
+    rest_into(30, octets, name)
 }
 
 #[tactic(auto, unfolding(crate::specs::Reading::name_at))]
@@ -193,24 +219,35 @@ fn put_arc(arc: u32, out: &mut Octets)
     }
 }
 
+/// How many octets arcs take, four at once where each takes one.
 fn arcs_size(arcs: &[u32]) -> usize
     requires { length arcs.now ≤ 30 }
     ensures size { result ≡ length (flat_map arc_text arcs.now) }
-    ensures small { result ≤ 150 }
+    ensures small { result ≤ 5 * length arcs.now }
 {
-    let mut size = 0;
-    for arc in arcs {
-        size += arc_size(*arc);
+    match arcs {
+        [] => 0,
+        [a, b, c, d, later @ ..] if *a < 128 && *b < 128 && *c < 128 && *d < 128 => 4
+            + arcs_size(later),
+        [arc, later @ ..] => arc_size(*arc) + arcs_size(later),
     }
-    size
 }
 
+/// Puts arcs, four at once where each is one octet.
 fn put_arcs(arcs: &[u32], out: &mut Octets)
     requires { array_vec_len out.old + length (flat_map arc_text arcs.now) ≤ 1472 }
     ensures { out.new.items ≡ out.old.items ++ flat_map arc_text arcs.now }
 {
-    for arc in arcs {
-        put_arc(*arc, out);
+    match arcs {
+        [] => {}
+        [a, b, c, d, later @ ..] if *a < 128 && *b < 128 && *c < 128 && *d < 128 => {
+            put(&[*a as u8, *b as u8, *c as u8, *d as u8], out);
+            put_arcs(later, out);
+        }
+        [arc, later @ ..] => {
+            put_arc(*arc, out);
+            put_arcs(later, out);
+        }
     }
 }
 
@@ -236,21 +273,41 @@ pub fn oid_size(o: &Oid) -> usize
     tagged_size(contents_size(o.as_slice()))
 }
 
-/// Writes an OBJECT IDENTIFIER in its shortest form.
+/// How many octets the contents of a name take, which stand behind its tag and length.
+pub fn oid_contents_size(o: &Oid) -> usize
+    requires { IsWritable o.now.items }
+    ensures size { result ≡ length (name_octets o.now.items) }
+    ensures small { result ≤ 151 }
+{
+    contents_size(o.as_slice())
+}
+
+/// Writes an OBJECT IDENTIFIER in its shortest form, whose contents take so many octets.
 #[tactic(auto, unfolding(crate::specs::Names::name_text))]
+pub fn write_oid_sized(o: &Oid, contents: usize, out: &mut Octets) -> Result<(), Full>
+    requires writable { IsWritable o.now.items }
+    requires contents { contents ≡ length (name_octets o.now.items) }
+    requires small { contents ≤ 151 }
+    ensures variant { IsOk result ↔ (array_vec_len out.old + length (name_text o.now.items) ≤ 1472) }
+    ensures ok { OnOk result (out.new.items ≡ out.old.items ++ name_text o.now.items) }
+    ensures full { OnErr result (out.new ≡ out.old) }
+{
+    let arcs = o.as_slice();
+    if room_of(out) < tagged_size(contents) {
+        return Err(Full);
+    }
+    put_head(6, contents, out);
+    put(&[(40 * arcs[0] + arcs[1]) as u8], out);
+    put_arcs(&arcs[2..], out);
+    Ok(())
+}
+
+/// Writes an OBJECT IDENTIFIER in its shortest form.
 pub fn write_oid(o: &Oid, out: &mut Octets) -> Result<(), Full>
     requires { IsWritable o.now.items }
     ensures variant { IsOk result ↔ (array_vec_len out.old + length (name_text o.now.items) ≤ 1472) }
     ensures ok { OnOk result (out.new.items ≡ out.old.items ++ name_text o.now.items) }
     ensures full { OnErr result (out.new ≡ out.old) }
 {
-    let arcs = o.as_slice();
-    let size = contents_size(arcs);
-    if room_of(out) < tagged_size(size) {
-        return Err(Full);
-    }
-    put_head(6, size, out);
-    put(&[(40 * arcs[0] + arcs[1]) as u8], out);
-    put_arcs(&arcs[2..], out);
-    Ok(())
+    write_oid_sized(o, oid_contents_size(o), out)
 }
