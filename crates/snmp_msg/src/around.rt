@@ -1,8 +1,8 @@
 //! Writing a message whose bindings were written before, one by one, so that no list of them is held.
 
-ghost use Rattle.std.specs.Prelude.{◌≡◌, ◌+◌, ◌≤◌, ◌<◌, ◌↔◌, ◌++◌, length, IsOk, IfOk, OnOk, OnErr};
+ghost use Rattle.std.specs.Prelude.{◌≡◌, ◌+◌, ◌≤◌, ◌<◌, ◌↔◌, ◌++◌, [], length, IsOk, IfOk, OnOk, OnErr};
 ghost use Rattle.arrayvec.specs.ArrayVec.{array_vec_len};
-ghost use Rattle.ber_code.specs.Names.{name_text};
+ghost use Rattle.ber_code.specs.Names.{name_octets, name_text};
 ghost use Rattle.ber_code.specs.Lengths.{tagged_text};
 ghost use Rattle.snmp_msg.specs.Parts.{message_in};
 ghost use Rattle.snmp_msg.specs.Around.{pdu_around, content_around, message_around};
@@ -11,17 +11,21 @@ ghost use Rattle.snmp_msg.specs.Shortest.{value_text, binding_text, IsWritableBi
 use crate::message::{Parts, SEQUENCE, TooLong, Value, tag};
 use crate::writing::{ids_size, put_ids_of, put_value, value_size};
 use ber_code::{
-    Full, Oid, int_size, oid_size, tagged_size, write_head, write_int, write_octets, write_oid,
+    Full, Oid, int_size, oid_contents_size, tagged_size, write_head, write_int, write_octets,
+    write_oid_sized,
 };
 use sig_types::Octets;
 
-/// The size of what stands under a binding's tag.
-fn bound_size(name: &Oid, value: &Value) -> usize
+/// How many octets the contents of a binding's name take, and all that stands under the binding's tag.
+fn bound_sizes(name: &Oid, value: &Value) -> (usize, usize)
     requires { IsWritableBind (record { name = name.now; value = value.now }) }
-    ensures size { result ≡ length (name_text name.now.items ++ value_text value.now) }
-    ensures small { result ≤ 314 }
+    ensures contents { result.0 ≡ length (name_octets name.now.items) }
+    ensures few { result.0 ≤ 151 }
+    ensures size { result.1 ≡ length (name_text name.now.items ++ value_text value.now) }
+    ensures small { result.1 ≤ 314 }
 {
-    oid_size(name) + value_size(value)
+    let contents = oid_contents_size(name);
+    (contents, tagged_size(contents) + value_size(value))
 }
 
 /// Appends the shortest text of a binding of this name and value.
@@ -31,8 +35,9 @@ pub fn write_bind(name: &Oid, value: &Value, out: &mut Octets) -> Result<(), Ful
     ensures ok { OnOk result (out.new.items ≡ out.old.items ++ binding_text (record { name = name.now; value = value.now })) }
     ensures full { OnErr result (1472 < array_vec_len out.old + length (binding_text (record { name = name.now; value = value.now }))) }
 {
-    write_head(SEQUENCE, bound_size(name, value), out)?;
-    write_oid(name, out)?;
+    let (contents, size) = bound_sizes(name, value);
+    write_head(SEQUENCE, size, out)?;
+    write_oid_sized(name, contents, out)?;
     put_value(value, out)
 }
 
@@ -105,6 +110,36 @@ fn put_message(m: &Parts, list: &[u8], out: &mut Octets) -> Result<(), Full>
     put_content(m, list, pdu, out)
 }
 
+/// Writes into an empty frame. Where the text is too long the frame is left empty.
+fn put_around(m: &Parts, list: &[u8], out: &mut Octets) -> Result<(), TooLong>
+    requires list { length list.now ≤ 1472 }
+    requires empty { array_vec_len out.old ≡ 0 }
+    ensures variant { IsOk result ↔ (length (message_around (message_in m.now) list.now) ≤ 1472) }
+    ensures ok { OnOk result (out.new.items ≡ message_around (message_in m.now) list.now) }
+    ensures too_long { OnErr result (out.new.items ≡ []) }
+{
+    match put_message(m, list, out) {
+        Ok(()) => {
+            prove!(out.len() <= 1472);
+            Ok(())
+        }
+        Err(Full) => {
+            out.clear();
+            Err(TooLong)
+        }
+    }
+}
+
+/// Writes into an empty frame what `write_around` makes. Where the text is too long the frame is left empty.
+pub fn write_around_into(m: &Parts, list: &Octets, out: &mut Octets) -> Result<(), TooLong>
+    requires { array_vec_len out.old ≡ 0 }
+    ensures variant { IsOk result ↔ (length (message_around (message_in m.now) list.now.items) ≤ 1472) }
+    ensures ok { OnOk result (out.new.items ≡ message_around (message_in m.now) list.now.items) }
+    ensures too_long { OnErr result (out.new.items ≡ []) }
+{
+    put_around(m, list.as_slice(), out)
+}
+
 /// Writes a message of these parts in its shortest form, with bindings whose texts, one after another, are `list`, in place of its
 /// own.
 pub fn write_around_slice(m: &Parts, list: &[u8]) -> Result<Octets, TooLong>
@@ -113,12 +148,9 @@ pub fn write_around_slice(m: &Parts, list: &[u8]) -> Result<Octets, TooLong>
     ensures ok { IfOk result (λ text. text.items ≡ message_around (message_in m.now) list.now) }
 {
     let mut out = Octets::new();
-    match put_message(m, list, &mut out) {
-        Ok(()) => {
-            prove!(out.len() <= 1472);
-            Ok(out)
-        }
-        Err(Full) => Err(TooLong),
+    match put_around(m, list, &mut out) {
+        Ok(()) => Ok(out),
+        Err(TooLong) => Err(TooLong),
     }
 }
 

@@ -1,7 +1,6 @@
 use Rattle.std.proofs.Common.{◌≡◌, ◌-◌, length}
-use Rattle.ber_code.specs.Reading.{all_at}
+use Rattle.ber_code.specs.Reading.{all_at, with_front}
 use Rattle.snmp_msg.specs.Reading.{binding_at}
-use Rattle.ber_code.proofs.Exact.{with_front}
 use Rattle.snmp_msg.proofs.reading.bindings_into.Given as goal
 
 abbrev pub invariant-loop : goal.invariant-loop
