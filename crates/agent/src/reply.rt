@@ -18,7 +18,9 @@ use ber_code::Oid;
 use oid_map::next;
 use sig_tables::{Shown, Tables};
 use sig_types::{Octets, StageAnswer};
-use snmp_msg::{Bind, Message, Parts, Pdu, TooLong, Value, write_around, write_bind, write_parts};
+use snmp_msg::{
+    Bind, Message, Parts, Pdu, TooLong, Value, write_around_into, write_bind, write_parts,
+};
 
 /// Which instances a request is about.
 #[derive(Clone, Copy, PartialEq, Eq)]
@@ -128,10 +130,13 @@ fn reached(cabinet: &Cabinet, reach: Reach, m: &Message) -> Octets
 {
     let mut list = Octets::new();
     match values_into(cabinet, reach, m.binds.as_slice(), &mut list) {
-        Ok(true) => match write_around(&response(m, 0, 0, &[]), &list) {
-            Ok(octets) => octets,
-            Err(TooLong) => repeated(m, TOO_BIG, 0),
-        },
+        Ok(true) => {
+            let mut text = Octets::new();
+            match write_around_into(&response(m, 0, 0, &[]), &list, &mut text) {
+                Ok(()) => text,
+                Err(TooLong) => repeated(m, TOO_BIG, 0),
+            }
+        }
         Ok(false) => repeated(m, TOO_BIG, 0),
         Err(Fault { status, index }) => repeated(m, status, index),
     }

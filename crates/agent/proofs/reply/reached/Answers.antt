@@ -39,8 +39,8 @@ returns-in-Ok c =
     let is : Written (Ok true) text all = subst (λ (b : Bool). Written (Ok b) text all) c.in-Ok-true.field-0-test of-all in
     c.in-Ok.ensures.ok ∙ reached-fits (message_in c.response.result) m text all c.response.ensures.message is (c.in-Ok.ensures.variant.0 refl)
 
-pub returns-in-Err-write_around : goal.returns-in-Err-write_around
-returns-in-Err-write_around c =
+pub returns-in-Err-write_around_into : goal.returns-in-Err-write_around_into
+returns-in-Err-write_around_into c =
     let m = c.args.m.now in
     let p = message_in c.response.result in
     let text = c.values_into.new.list.items in
@@ -50,7 +50,7 @@ returns-in-Err-write_around c =
     let of-all : Written (Ok c.in-Ok-true.field-0) text all = subst (λ (binds : List Bind). Written (Ok c.in-Ok-true.field-0) text (gives binds)) c.as_slice.ensures.value told in
     let is : Written (Ok true) text all = subst (λ (b : Bool). Written (Ok b) text all) c.in-Ok-true.field-0-test of-all in
     let long : 1472 < length (message_around p text) =
-    elim (cases_lt 1472 (length (message_around p text))) [ inl above ↦ above | inr below ↦ absurd (false≢true (c.in-Err-write_around.ensures.variant.1 (omega arith))) ] in
+    elim (cases_lt 1472 (length (message_around p text))) [ inl above ↦ above | inr below ↦ absurd (false≢true (c.in-Err-write_around_into.ensures.variant.1 (omega arith))) ] in
     c.repeated.ensures ∙ ap shortest (reached-long p m text all c.response.ensures.message is long)
 
 pub returns-in-Ok-false : goal.returns-in-Ok-false
