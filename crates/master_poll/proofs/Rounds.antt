@@ -11,7 +11,7 @@ use Rattle.master_plan.specs.Schedule.{master_clock, scheduled}
 use Rattle.master_poll.specs.declared.command.Now.{Now}
 use Rattle.master_poll.specs.declared.channel.Channel.{Channel}
 use Rattle.master_poll.specs.Stands.{plan_with}
-use Rattle.master_poll.specs.Channels.{IsPosted}
+use Rattle.master_poll.specs.Channels.{HasSent}
 use Rattle.master_poll.specs.Sends.{Arrived, Frames, notes_of, plan_of, sending_of, turns}
 use Rattle.master_poll.specs.Masters.{MasterGoesOn, ChannelIsAt, frames_of, notes_from, sendings_from}
 
@@ -84,14 +84,14 @@ pub record Taken (p : Channel) (sending : Sending) (before after : List MasterNo
 pub taken : (p : Channel) (sending : Sending) (before after : List MasterNote) (s : ScenarioContent) (place rounds : ℕ) (c : CabinetContent) (a : Arrived) (past : List Arrived) (now : Now)
     → length past + 1 ≡ rounds
     → now ≡ now_of s c rounds (master_clock s rounds)
-    → IsPosted p sending before after s.community (plan_with s.master (place + 1) now s.loads) (turns s (place + 1) c past) (messages a.polls) (messages a.loads)
+    → HasSent p sending before after s.community (plan_with s.master (place + 1) now s.loads) (turns s (place + 1) c past) (messages a.polls) (messages a.loads)
     → Taken p sending before after s place rounds c (a ∷ past)
 taken p sending before after s place rounds c a past now count is posted =
     let cab = place + 1 in
     let round : rounds ≡ length (turns s cab c past) + 1 = omega (arith, count, turn_count s cab c past) in
     let plan : plan_with s.master cab now s.loads ≡ plan_of s cab c (length (turns s cab c past) + 1) =
     ap (λ n. plan_with s.master cab n s.loads) is ∙ ap (λ r. plan_of s cab c r) round in
-    let done = subst (λ k. IsPosted p sending before after s.community k (turns s cab c past) (messages a.polls) (messages a.loads)) plan posted in
+    let done = subst (λ k. HasSent p sending before after s.community k (turns s cab c past) (messages a.polls) (messages a.loads)) plan posted in
     record {
       at = record { stands = done.stands; count = omega (arith, count) };
       sends = ap (λ poll. frames poll (octets_in sending.load)) done.poll ∙ ap (λ load. frames (sending_of s cab c (a ∷ past)).poll load) done.load;

@@ -29,7 +29,7 @@ pub record IsNew (p : Channel) : Type 0 where
   pub none : count_of_channel p ≡ 0
 
 -- the channel, what a turn sent and what it noted are those of the master's turn at which these messages have arrived
-pub record IsPosted (p : Channel) (sending : Sending) (before after : List MasterNote) (community : List ℕ) (plan : Plan) (past : List Turn) (polls loads : List Message) : Type 0 where
+pub record HasSent (p : Channel) (sending : Sending) (before after : List MasterNote) (community : List ℕ) (plan : Plan) (past : List Turn) (polls loads : List Message) : Type 0 where
   pub stands : ChannelStands p plan.setup.retries plan.cab plan.loads (next_turn plan past polls loads ∷ past)
   pub poll : octets_in sending.poll ≡ option_map (command_text community) (next_turn plan past polls loads).command
   pub load : octets_in sending.load ≡ option_map (frame_text community plan.loads) (next_turn plan past polls loads).frame

@@ -99,7 +99,7 @@ pub struct Channel {
 }
 
 impl Channel {
-    ghost use Rattle.master_poll.specs.Channels.{IsNew, IsPosted, ChannelStands, count_of_channel};
+    ghost use Rattle.master_poll.specs.Channels.{IsNew, HasSent, ChannelStands, count_of_channel};
 
     /// Nothing was sent yet.
     pub fn new() -> Channel
@@ -125,7 +125,7 @@ impl Channel {
         requires short { length s.now.loads.items ≤ 1000000 }
         requires loads { AreLoads (map load_content s.now.loads.items) }
         ensures turn { IfOk result (λ sending. (past : List Turn) → ChannelStands self.old s.now.master.retries cab (map load_content s.now.loads.items) past
-            → IsPosted self.new sending notes.old.items notes.new.items s.now.community.items (plan_with (master_content s.now.master) cab now (map load_content s.now.loads.items)) past
+            → HasSent self.new sending notes.old.items notes.new.items s.now.community.items (plan_with (master_content s.now.master) cab now (map load_content s.now.loads.items)) past
             (messages (texts_of arrived.now.polls.items)) (messages (texts_of arrived.now.loads.items))) }
         ensures two { OnOk result (count_of_channel self.new ≤ count_of_channel self.old + 2) }
     {
