@@ -8,18 +8,18 @@ use mathlib.Core.Option.{some, some-injective}
 use lib.ListN.{get_elem?}
 use Rattle.cab_row.specs.Views.{times, is_one}
 use Rattle.cab_row.proofs.Sums.{total-append, one_same, one_other}
-use Rattle.cab_row.specs.Whole.{Follows, IsDone, IsWhole}
+use Rattle.cab_row.specs.Whole.{HasAppliedMore, IsDone, IsWhole}
 
 module _ {B : Type 0} (journal : B → List ℕ) (left_of : B → ℕ → ℕ) (Replays : B → B → Type 0) where
-  pub follows_itself : (b : B) → Follows journal left_of Replays b b
+  pub follows_itself : (b : B) → HasAppliedMore journal left_of Replays b b
   follows_itself b = record { replays = λ first h. h; left = λ p. refl }
 
-  pub follows_on : (a b c : B) → Follows journal left_of Replays a b → Follows journal left_of Replays b c → Follows journal left_of Replays a c
+  pub follows_on : (a b c : B) → HasAppliedMore journal left_of Replays a b → HasAppliedMore journal left_of Replays b c → HasAppliedMore journal left_of Replays a c
   follows_on a b c h k = record { replays = λ first r. k.replays first (h.replays first r); left = λ p. k.left p ∙ h.left p }
 
   -- one item of the pass p more
   pub follows_item : (a b : B) (p : ℕ) → journal b ≡ journal a ++ p ∷ [] → left_of b p + 1 ≡ left_of a p → ((q : ℕ) → q ≢ p → left_of b q ≡ left_of a q) → ((first : B) → Replays first a → Replays first b)
-      → Follows journal left_of Replays a b
+      → HasAppliedMore journal left_of Replays a b
   follows_item a b p grown own others replays = record {
     replays = replays;
     left = λ q. let more = total-append (is_one q) (journal a) (p ∷ []) in let same = ap (times q) grown in
@@ -28,7 +28,7 @@ module _ {B : Type 0} (journal : B → List ℕ) (left_of : B → ℕ → ℕ) (
         (λ ne. omega (arith, more, same, one_other q p ne, others q (λ z. ne (sym z))));
   }
 
-  pub whole_of : (passes : ℕ) (first a b : B) → Replays first a → ((p : ℕ) → left_of a p + times p (journal a) ≡ left_of first p) → Follows journal left_of Replays a b → IsDone left_of passes b
+  pub whole_of : (passes : ℕ) (first a b : B) → Replays first a → ((p : ℕ) → left_of a p + times p (journal a) ≡ left_of first p) → HasAppliedMore journal left_of Replays a b → IsDone left_of passes b
       → IsWhole journal left_of Replays passes first b
   whole_of passes first a b replays left follows done = record {
     replays = follows.replays first replays;

@@ -10,7 +10,7 @@ use Rattle.atomic_table.specs.Table.{State, opening, Splits, Joins, Final, Seen}
 use Rattle.atomic_table.proofs.Lists.{at_map, at_set, set_else, at_snoc}
 use Rattle.cab_row.specs.declared.view.View.{View}
 use Rattle.cab_row.specs.Views.{total, is_one, times, is_given, is_at, count, owns, has, added, first_view, giver, newcomer, joined, spent}
-use Rattle.cab_row.specs.Rule.{Stands, Since, Knows, IsSmall, Keeps}
+use Rattle.cab_row.specs.Rule.{StandsFrom, Since, Knows, IsSmall, RowKeeps}
 use Rattle.cab_row.proofs.Sums.{total-append, total-set, term_le, terms_le, total-none, one_same, one_other, below, length_of, below_le}
 use Rattle.cab_row.proofs.Steps.{given_yes, given_no, given_one, has_no, has_free, not_both, other_view, number_below, one_owner, own_count, none_yet}
 
@@ -28,7 +28,7 @@ module _ {B : Type 0} (code : B → Gv) (journal : B → List ℕ) (left : B →
 
   -- one number more is given
   pub may_split : (books : List B) (passes id : ℕ) (v : View) → 0 < v.given → v.given < v.passes → owns v.number v ≡ 1
-      → Splits (Keeps code journal left Replays books passes) id v (giver v) (newcomer v)
+      → Splits (RowKeeps code journal left Replays books passes) id v (giver v) (newcomer v)
   may_split books passes id v gives more own s k at =
       let w : View = giver v in let n : View = newcomer v in let vs : List View = set s.views id w ++ n ∷ [] in
       let sums : (g : View → ℕ) → total g vs + g v ≡ total g s.views + g w + g n = λ g. omega (arith, total-append g (set s.views id w) (n ∷ []), total-set g s.views id v w at) in
@@ -81,7 +81,7 @@ module _ {B : Type 0} (code : B → Gv) (journal : B → List ℕ) (left : B →
 
   -- a seat takes over what another counts
   pub may_join : (books : List B) (passes id other : ℕ) (v w : View) → 0 < owns v.number v → v.holds ≡ None → w.holds ≡ None
-      → Joins (Keeps code journal left Replays books passes) id v other w (joined v w) spent
+      → Joins (RowKeeps code journal left Replays books passes) id v other w (joined v w) spent
   may_join books passes id other v w own free free' s k at apart there =
       let u' : View = joined v w in let vs : List View = set (set s.views id u') other spent in let s' : St = board s.words s.homes vs in
       let there' : get_elem? s.views other ≡ some w = sym (set_else s.views id other u' apart) ∙ there in
@@ -127,7 +127,7 @@ module _ {B : Type 0} (code : B → Gv) (journal : B → List ℕ) (left : B →
   -- a row begins
   pub may_open : ((x y : B) → code x ≡ code y → x ≡ y) → (books : List B) (passes : ℕ) (ws : List ℕ) → 0 < passes → passes ≤ 8 → IsSmall code journal left Replays books → length ws ≡ length books → ((c : ℕ) → get_or ws c 0 ≡ 0)
       → ((c : ℕ) (first : B) → get_elem? books c ≡ some first → (journal first ≡ []) × Replays first first)
-      → Keeps code journal left Replays books passes (opening ws books (first_view (map code books) passes))
+      → RowKeeps code journal left Replays books passes (opening ws books (first_view (map code books) passes))
   may_open inj books passes ws some_pass eight small wide quiet fresh = let v : View = first_view (map code books) passes in let s : St = opening ws books v in
       record {
         given = 1;
@@ -141,7 +141,7 @@ module _ {B : Type 0} (code : B → Gv) (journal : B → List ℕ) (left : B →
           t.0,
           t.2,
           omega (arith, quiet c, ap length f.0),
-          (λ first there. let same : t.0 ≡ first = inj t.0 first (some-injective (code t.0) (code first) (sym (at_map code books c t.0 t.1) ∙ there)) in subst (λ x. Stands code journal left Replays x t.0) same (f.1, λ p. omega (arith, ap (times p) f.0))),
+          (λ first there. let same : t.0 ≡ first = inj t.0 first (some-injective (code t.0) (code first) (sym (at_map code books c t.0 t.1) ∙ there)) in subst (λ x. StandsFrom code journal left Replays x t.0) same (f.1, λ p. omega (arith, ap (times p) f.0))),
           (λ p. ap (times p) f.0),
         );
         adds = λ c h. omega (arith, quiet c);
@@ -165,7 +165,7 @@ module _ {B : Type 0} (code : B → Gv) (journal : B → List ℕ) (left : B →
       dite (ℕ_discrete p n) (λ e. omega (arith, h n, up, ap f e)) (λ ne. all_ones f n h (omega (arith, h n)) p (omega arith))
 
   -- a row ends: the seat that has as many numbers as were given counts what the journals have
-  pub closes : (books : List B) (passes id : ℕ) (v : View) (ws : List ℕ) (xs : List B) → Final (Seen (Keeps code journal left Replays books passes) id v) ws xs → v.holds ≡ None → length v.numbers ≡ passes
+  pub closes : (books : List B) (passes id : ℕ) (v : View) (ws : List ℕ) (xs : List B) → Final (Seen (RowKeeps code journal left Replays books passes) id v) ws xs → v.holds ≡ None → length v.numbers ≡ passes
       → (length xs ≡ length books)
       × ((p : ℕ) → owns p v ≤ 1)
       × ((c : ℕ) → c < length books → (b : B) × (get_elem? xs c ≡ some b) × Since code journal left Replays (map code books) c b × ((p : ℕ) → times p (journal b) ≡ count p c v))

@@ -13,7 +13,7 @@ use Rattle.atomic_table.specs.Table.{State, step, keeps, takes, gives, Valid, st
 use Rattle.atomic_table.proofs.Lists.{at_map, at_set, set_here, set_else, exchanged}
 use Rattle.cab_row.specs.declared.view.View.{View}
 use Rattle.cab_row.specs.Views.{total, is_one, times, is_given, is_pair, is_at, is_cab, count, owns, has, added, looked, holding, finished_with}
-use Rattle.cab_row.specs.Rule.{Counted, Since, IsHome, Knows, Keeps}
+use Rattle.cab_row.specs.Rule.{Counted, Since, IsHome, Knows, RowKeeps}
 use Rattle.cab_row.specs.Plays.{Sat, IsAlone, looks, finishes, takes_book}
 use Rattle.cab_row.proofs.Sums.{total-append, total-set, total-same, total-zeros, total-ones, total-alike, term_le, terms_le, total-none, total-only, one_same, one_other, below, length_of, below_le}
 
@@ -104,8 +104,8 @@ module _ {B : Type 0} (code : B → Gv) (journal : B → List ℕ) (left : B →
   }
 
   -- a look changes nothing but what the view says of looks
-  looked_on : (books : List B) (passes : ℕ) (s : St) → Keeps code journal left Replays books passes s → (id : ℕ) (v : View) (c n : ℕ) → get_elem? s.views id ≡ some v
-      → Keeps code journal left Replays books passes (board s.words s.homes (set s.views id (looked v c n)))
+  looked_on : (books : List B) (passes : ℕ) (s : St) → RowKeeps code journal left Replays books passes s → (id : ℕ) (v : View) (c n : ℕ) → get_elem? s.views id ≡ some v
+      → RowKeeps code journal left Replays books passes (board s.words s.homes (set s.views id (looked v c n)))
   looked_on books passes s k id v c n at = let w : View = looked v c n in let vs : List View = set s.views id w in
       let counts : (p d : ℕ) → total (count p d) vs ≡ total (count p d) s.views = λ p d. total-same (count p d) s.views id v w at refl in
       let mine = k.knows id v at in
@@ -134,7 +134,7 @@ module _ {B : Type 0} (code : B → Gv) (journal : B → List ℕ) (left : B →
       }
 
   -- what holds of numbers and their owners
-  module _ (books : List B) (passes : ℕ) (s : St) (k : Keeps code journal left Replays books passes s) where
+  module _ (books : List B) (passes : ℕ) (s : St) (k : RowKeeps code journal left Replays books passes s) where
     pub number_below : (id p : ℕ) (v : View) → get_elem? s.views id ≡ some v → owns p v ≡ 1 → p < k.given
     number_below id p v at one = dite (dec_le k.given p) (λ h. absurd (omega (arith, term_le (owns p) s.views id v at, k.owned p, given_no p k.given h))) (λ h. omega arith)
 
@@ -166,17 +166,17 @@ module _ {B : Type 0} (code : B → Gv) (journal : B → List ℕ) (left : B →
 
   -- a load
   pub may_look : (books : List B) (passes slots id c : ℕ) (v : View) → v.holds ≡ None → owns v.number v ≡ 1 → c < length books
-      → Allows (Keeps code journal left Replays books passes) slots id (v, []) c (λ n. n) (looks (step slots c 0 0 none) (v, []))
+      → Allows (RowKeeps code journal left Replays books passes) slots id (v, []) c (λ n. n) (looks (step slots c 0 0 none) (v, []))
   may_look books passes slots id c v free one inside s k wide at _ = (
     looked v c (get_or s.words c 0),
     keeps,
     tt,
-    subst (λ ws. Keeps code journal left Replays books passes (board ws s.homes (set s.views id (looked v c (get_or s.words c 0))))) (sym (set-get_or s.words c 0)) (looked_on books passes s k id v c (get_or s.words c 0) at),
+    subst (λ ws. RowKeeps code journal left Replays books passes (board ws s.homes (set s.views id (looked v c (get_or s.words c 0))))) (sym (set-get_or s.words c 0)) (looked_on books passes s k id v c (get_or s.words c 0) at),
     (free, refl, alone books passes s k id c v at free one inside),
   )
 
   -- the word rises by what the view adds
-  adds_on : (books : List B) (passes : ℕ) (s : St) (k : Keeps code journal left Replays books passes s) (id c new more : ℕ) (v w : View) → get_elem? s.views id ≡ some v → c < length books
+  adds_on : (books : List B) (passes : ℕ) (s : St) (k : RowKeeps code journal left Replays books passes s) (id c new more : ℕ) (v w : View) → get_elem? s.views id ≡ some v → c < length books
       → new ≡ get_or s.words c 0 + more → added c w ≡ added c v + more → ((d : ℕ) → d ≢ c → added d w ≡ added d v) → (d : ℕ) → d < length books → get_or (set s.words c new) d 0 ≡ total (added d) (set s.views id w)
   adds_on books passes s k id c new more v w at inside next up same d h =
       dite (ℕ_discrete d c)
@@ -184,9 +184,9 @@ module _ {B : Type 0} (code : B → Gv) (journal : B → List ℕ) (left : B →
       (λ ne. omega (arith, get_or-set_other s.words c d new 0 ne, k.adds d h, total-set (added d) s.views id v w at, same d ne))
 
   -- the compare and exchange that finds the word takes the book
-  taken_on : (books : List B) (passes : ℕ) (s : St) (k : Keeps code journal left Replays books passes s) (id c new : ℕ) (v : View) (b : B) → get_elem? s.views id ≡ some v → v.holds ≡ None → owns v.number v ≡ 1 → c < length books
+  taken_on : (books : List B) (passes : ℕ) (s : St) (k : RowKeeps code journal left Replays books passes s) (id c new : ℕ) (v : View) (b : B) → get_elem? s.views id ≡ some v → v.holds ≡ None → owns v.number v ≡ 1 → c < length books
       → get_or s.words c 0 % 2 ≡ 0 → new ≡ get_or s.words c 0 + 1 → new ≡ 2 * length (journal b) + 1 → Counted c (journal b) s.views
-      → Keeps code journal left Replays books passes (board (set s.words c new) (set s.homes c none) (set s.views id (holding v c (journal b))))
+      → RowKeeps code journal left Replays books passes (board (set s.words c new) (set s.homes c none) (set s.views id (holding v c (journal b))))
   taken_on books passes s k id c new v b at free one inside even next long counted =
       let w : View = holding v c (journal b) in let vs : List View = set s.views id w in let ws : List ℕ = set s.words c new in let hs : List (Option B) = set s.homes c none in
       let counts : (p d : ℕ) → total (count p d) vs ≡ total (count p d) s.views = λ p d. total-same (count p d) s.views id v w at refl in
@@ -226,11 +226,11 @@ module _ {B : Type 0} (code : B → Gv) (journal : B → List ℕ) (left : B →
       }
 
   pub may_take : (books : List B) (passes slots id c old new : ℕ) (v : View) → v.holds ≡ None → owns v.number v ≡ 1 → c < length books → old % 2 ≡ 0 → new ≡ old + 1
-      → Allows (Keeps code journal left Replays books passes) slots id (v, []) c (λ n. either (eqb n old) new n) (takes_book code journal left Replays (step slots c old new none) (v, []))
+      → Allows (RowKeeps code journal left Replays books passes) slots id (v, []) c (λ n. either (eqb n old) new n) (takes_book code journal left Replays (step slots c old new none) (v, []))
   may_take books passes slots id c old new v free one inside even next s k wide at _ =
       let single : IsAlone v c (get_or s.words c 0) = alone books passes s k id c v at free one inside in
       exchanged (get_or s.words c 0) old new
-      (λ n. (w : View) × (a : Rattle.atomic_table.specs.Table.Act B) × Valid s.homes [] a × Keeps code journal left Replays books passes (stepped s c n id [] w a) × takes_book code journal left Replays (step slots c old new none) (v, []) (get_or s.words c 0) (w, Rattle.atomic_table.specs.Table.carried_after [] a))
+      (λ n. (w : View) × (a : Rattle.atomic_table.specs.Table.Act B) × Valid s.homes [] a × RowKeeps code journal left Replays books passes (stepped s c n id [] w a) × takes_book code journal left Replays (step slots c old new none) (v, []) (get_or s.words c 0) (w, Rattle.atomic_table.specs.Table.carried_after [] a))
       (λ hit. let free_word : get_or s.words c 0 % 2 ≡ 0 = ap (λ n. n % 2) hit ∙ even in let t = k.even c inside free_word in let b : B = t.0 in (
         holding v c (journal b),
         takes c b,
@@ -247,12 +247,12 @@ module _ {B : Type 0} (code : B → Gv) (journal : B → List ℕ) (left : B →
         looked v c (get_or s.words c 0),
         keeps,
         tt,
-        subst (λ ws. Keeps code journal left Replays books passes (board ws s.homes (set s.views id (looked v c (get_or s.words c 0))))) (sym (set-get_or s.words c 0)) (looked_on books passes s k id v c (get_or s.words c 0) at),
+        subst (λ ws. RowKeeps code journal left Replays books passes (board ws s.homes (set s.views id (looked v c (get_or s.words c 0))))) (sym (set-get_or s.words c 0)) (looked_on books passes s k id v c (get_or s.words c 0) at),
         (free, (λ hit. absurd (miss hit)), (λ _. refl), single),
       ))
 
   -- the journal, with these items, is short
-  short_journal : (books : List B) (passes : ℕ) (s : St) (k : Keeps code journal left Replays books passes s) (id c many : ℕ) (v : View) (b : B) → get_elem? s.views id ≡ some v → v.holds ≡ Some c
+  short_journal : (books : List B) (passes : ℕ) (s : St) (k : RowKeeps code journal left Replays books passes s) (id c many : ℕ) (v : View) (b : B) → get_elem? s.views id ≡ some v → v.holds ≡ Some c
       → journal b ≡ v.taken ++ replicate many v.number → Since code journal left Replays (map code books) c b → length (journal b) ≤ 17179869184
   short_journal books passes s k id c many v b at holds grown since = let mine = k.knows id v at in let t = mine.held c holds in
       let f = there_is books c t.0 in
@@ -262,9 +262,9 @@ module _ {B : Type 0} (code : B → Gv) (journal : B → List ℕ) (left : B →
       let most : below (λ p. times p (journal b)) k.given ≤ k.given * 2147483648 = below_le (λ p. times p (journal b)) k.given 2147483648 (λ p. omega (arith, (since f.0 (at_map code books c f.0 f.1)).1 p, k.small c p f.0 f.1)) in
       omega (arith, long, most, k.few, k.eight)
 
-  given_on : (books : List B) (passes : ℕ) (s : St) (k : Keeps code journal left Replays books passes s) (id c new many : ℕ) (v : View) (b : B) → get_elem? s.views id ≡ some v → v.holds ≡ Some c → 1 ≤ many
+  given_on : (books : List B) (passes : ℕ) (s : St) (k : RowKeeps code journal left Replays books passes s) (id c new many : ℕ) (v : View) (b : B) → get_elem? s.views id ≡ some v → v.holds ≡ Some c → 1 ≤ many
       → journal b ≡ v.taken ++ replicate many v.number → Since code journal left Replays (map code books) c b → new ≡ 2 * length (journal b)
-      → Keeps code journal left Replays books passes (board (set s.words c new) (set s.homes c (some b)) (set s.views id (finished_with v c many)))
+      → RowKeeps code journal left Replays books passes (board (set s.words c new) (set s.homes c (some b)) (set s.views id (finished_with v c many)))
   given_on books passes s k id c new many v b at holds some_more grown since long =
       let w : View = finished_with v c many in let more : List (ℕ × ℕ) = replicate many (v.number, c) in let vs : List View = set s.views id w in let ws : List ℕ = set s.words c new in let hs : List (Option B) = set s.homes c (some b) in
       let mine = k.knows id v at in let t = mine.held c holds in let inside : c < length books = t.0 in
@@ -308,7 +308,7 @@ module _ {B : Type 0} (code : B → Gv) (journal : B → List ℕ) (left : B →
 
   -- the `fetch_add` gives the book back, with so many items more
   pub may_finish : (books : List B) (passes slots id c many more : ℕ) (v : View) (b : B) → v.holds ≡ Some c → 1 ≤ many → more + 1 ≡ 2 * many → journal b ≡ v.taken ++ replicate many v.number → Since code journal left Replays v.opening c b
-      → Allows (Keeps code journal left Replays books passes) slots id (v, (c, b) ∷ []) c (λ n. (n + more) % 18446744073709551616) (finishes (step slots c more 0 none) (v, (c, b) ∷ []))
+      → Allows (RowKeeps code journal left Replays books passes) slots id (v, (c, b) ∷ []) c (λ n. (n + more) % 18446744073709551616) (finishes (step slots c more 0 none) (v, (c, b) ∷ []))
   may_finish books passes slots id c many more v b holds some_more rise grown since s k wide at _ = let mine = k.knows id v at in let t = mine.held c holds in
       let opening : v.opening ≡ map code books = (mine.opened (omega (arith, mine.holder (λ e. not_both e holds)))).0 in
       let since' : Since code journal left Replays (map code books) c b = subst (λ l. Since code journal left Replays l c b) opening since in
@@ -318,6 +318,6 @@ module _ {B : Type 0} (code : B → Gv) (journal : B → List ℕ) (left : B →
       (finished_with v c many, gives, tt, given_on books passes s k id c _ many v b at holds some_more grown since' new, λ j e. ap (λ (n : ℕ). (finished_with v c n, [])) (omega (arith, e, rise)))
 
   pub may_look_at : (books : List B) (passes slots id c : ℕ) (m : Sat B) → m.1 ≡ [] → m.0.holds ≡ None → owns m.0.number m.0 ≡ 1 → c < length books
-      → Allows (Keeps code journal left Replays books passes) slots id m c (λ n. n) (looks (step slots c 0 0 none) m)
+      → Allows (RowKeeps code journal left Replays books passes) slots id m c (λ n. n) (looks (step slots c 0 0 none) m)
   may_look_at books passes slots id c m empty free one inside =
-      subst (λ l. Allows (Keeps code journal left Replays books passes) slots id (m.0, l) c (λ n. n) (looks (step slots c 0 0 none) (m.0, l))) (sym empty) (may_look books passes slots id c m.0 free one inside)
+      subst (λ l. Allows (RowKeeps code journal left Replays books passes) slots id (m.0, l) c (λ n. n) (looks (step slots c 0 0 none) (m.0, l))) (sym empty) (may_look books passes slots id c m.0 free one inside)

@@ -17,7 +17,7 @@ seat_view (v ∷ vs) = v
 abbrev pub view_of : Pass → View
 view_of pass = seat_view pass.badge.views
 
--- how many calls of the pass at the cabinet (counted from 1) were answered Done
+-- how many items the calls of the pass at the cabinet (counted from 1) were answered as done
 abbrev pub done_by : Pass → ℕ → ℕ
 done_by pass cab = count pass.number (cab - 1) (view_of pass)
 
@@ -101,7 +101,7 @@ HasSeen v w c word = (v.looks < w.looks) × (w.last ≡ (c, word))
     × ((word % 2 ≡ 1) ⊎ ((v.looks + 2 ≤ w.looks) × (w.before.0 ≡ c) × (w.before.1 ≢ word)))
 
 module _ {B : Type 0} (journal : B → List ℕ) (left_of : B → ℕ → ℕ) (Replays : B → B → Type 0) where
-  -- the book replays its journal from the first one, and the journal has each pass as often as its calls there were answered Done, and no other pass
+  -- the book replays its journal from the first one, and the journal has each pass as often as its items there were answered as done, and no other pass
   pub record IsMerged (first : B) (passes : List Pass) (cab : ℕ) (b : B) : Type 0 where
     pub replays : Replays first b
     pub left : (p : ℕ) → left_of b p + times p (journal b) ≡ left_of first p

@@ -13,12 +13,12 @@ Counted c journal views = (p : ℕ) → times p journal ≡ total (count p c) vi
 
 module _ {B : Type 0} (code : B → Gv) (journal : B → List ℕ) (left : B → ℕ → ℕ) (Replays : B → B → Type 0) where
   -- the book is the first one after its journal, and has left what the journal leaves
-  abbrev pub Stands : B → B → Type 0
-  Stands first b = Replays first b × ((p : ℕ) → left b p + times p (journal b) ≡ left first p)
+  abbrev pub StandsFrom : B → B → Type 0
+  StandsFrom first b = Replays first b × ((p : ℕ) → left b p + times p (journal b) ≡ left first p)
 
   -- it stands so from the book that the cabinet was opened with
   abbrev pub Since : List Gv → ℕ → B → Type 0
-  Since opening c b = (first : B) → get_elem? opening c ≡ some (code first) → Stands first b
+  Since opening c b = (first : B) → get_elem? opening c ≡ some (code first) → StandsFrom first b
 
   -- the book is at home, the word is twice its journal's length, and the views count what the journal has
   abbrev pub IsHome : List B → State B View → ℕ → Type 0
@@ -38,7 +38,7 @@ module _ {B : Type 0} (code : B → Gv) (journal : B → List ℕ) (left : B →
   abbrev pub IsSmall : List B → Type 0
   IsSmall books = (c p : ℕ) (first : B) → get_elem? books c ≡ some first → left first p ≤ 2147483648
 
-  pub record Keeps (books : List B) (passes : ℕ) (s : State B View) : Type 0 where
+  pub record RowKeeps (books : List B) (passes : ℕ) (s : State B View) : Type 0 where
     -- how many pass numbers were given
     pub given : ℕ
     pub few : given ≤ passes

@@ -8,5 +8,5 @@ abbrev pub HasTaken : {B : Type 0} → Me B View → ℕ → (B → Type 0) → 
 HasTaken {B} m c P = (b : B) × (m.1 ≡ (c, b) ∷ []) × P b
 
 -- x is b with k items more of the pass n
-abbrev pub HasMore : {B : Type 0} → (B → List ℕ) → (B → ℕ → ℕ) → (B → B → Type 0) → ℕ → ℕ → B → B → Type 0
-HasMore {B} journal left Replays n k b x = (journal x ≡ journal b ++ replicate k n) × (left x n + k ≡ left b n) × ((p : ℕ) → p ≢ n → left x p ≡ left b p) × ((first : B) → Replays first b → Replays first x)
+abbrev pub HasBroughtMore : {B : Type 0} → (B → List ℕ) → (B → ℕ → ℕ) → (B → B → Type 0) → ℕ → ℕ → B → B → Type 0
+HasBroughtMore {B} journal left Replays n k b x = (journal x ≡ journal b ++ replicate k n) × (left x n + k ≡ left b n) × ((p : ℕ) → p ≢ n → left x p ≡ left b p) × ((first : B) → Replays first b → Replays first x)

@@ -4,7 +4,7 @@ use Rattle.cab_row.specs.Views.{times}
 
 module _ {B : Type 0} (journal : B → List ℕ) (left_of : B → ℕ → ℕ) (Replays : B → B → Type 0) where
   -- the second book is the first one with more of its items applied
-  pub record Follows (before after : B) : Type 0 where
+  pub record HasAppliedMore (before after : B) : Type 0 where
     pub replays : (first : B) → Replays first before → Replays first after
     pub left : (p : ℕ) → left_of after p + times p (journal after) ≡ left_of before p + times p (journal before)
 

@@ -4,7 +4,7 @@
 ghost use Rattle.std.specs.Prelude.{◌≡◌, ◌≢◌, ℕ, ◌+◌, ◌-◌, ◌<◌, ◌≤◌, [], ◌∷◌, length, map};
 ghost use Rattle.cab_row.specs.Passes.{IsPassOf, IsOwn, books_of, view_of, remains, done_by, HasActed, HasBrought, WasMet, SameCounts, HasSeen};
 ghost use Rattle.cab_row.specs.Views.{count};
-ghost use Rattle.cab_row.specs.Taken.{HasTaken, HasMore};
+ghost use Rattle.cab_row.specs.Taken.{HasTaken, HasBroughtMore};
 ghost use mathlib.Core.Option.{some};
 ghost use lib.ListN.{get_elem?};
 
@@ -26,7 +26,7 @@ pub enum Act {
 /// What came of one call that applies some items: so many were applied, or another pass was met, and this is the word
 /// that showed it.
 #[derive(Clone, Copy, PartialEq, Eq)]
-pub enum Acts {
+pub enum Brought {
     Done(u32),
     Busy(u64),
 }
@@ -60,61 +60,61 @@ impl<B: Logged> Row<B> {
         ensures alone { self.now.passes ≡ 1 → result ≡ Act.Done }
     {
         match self.act_some(pass, cab, 1) {
-            Acts::Done(_) => Act::Done,
-            Acts::Busy(word) => Act::Busy(word),
+            Brought::Done(_) => Act::Done,
+            Brought::Busy(word) => Act::Busy(word),
         }
     }
 
     /// Does what `act` does, with as many of the pass's next items as the book applies in one go: at least one, and
     /// at most so many. Done: it looked, found the cabinet free, and applied these items. The word is twice the
     /// length of the journal again, so each item has its place there.
-    pub fn act_some(&self, pass: &mut Pass, cab: u32, most: u32) -> Acts
+    pub fn act_some(&self, pass: &mut Pass, cab: u32, most: u32) -> Brought
         requires pass { IsPassOf B.row.coded.code B.left_of self.now pass.old }
         requires cab { (1 ≤ cab) × (cab ≤ length (books_of self.now)) }
         requires most { (1 ≤ most) × (most ≤ remains self.now pass.old cab) }
         ensures pass { IsPassOf B.row.coded.code B.left_of self.now pass.new × (pass.new.number ≡ pass.old.number) }
-        ensures done { (k : ℕ) → result ≡ Acts.Done k → HasBrought (view_of pass.old) (view_of pass.new) (cab - 1) k }
-        ensures some { (k : ℕ) → result ≡ Acts.Done k → (1 ≤ k) × (k ≤ most) }
-        ensures busy { (w : ℕ) → result ≡ Acts.Busy w → WasMet (view_of pass.old) (view_of pass.new) (cab - 1) w }
-        ensures same { (w : ℕ) → result ≡ Acts.Busy w → SameCounts (view_of pass.old) (view_of pass.new) }
-        ensures seen { (w : ℕ) → result ≡ Acts.Busy w → HasSeen (view_of pass.old) (view_of pass.new) (cab - 1) w }
-        ensures remains { (k : ℕ) → result ≡ Acts.Done k → remains self.now pass.new cab + k ≡ remains self.now pass.old cab }
-        ensures alone { self.now.passes ≡ 1 → (w : ℕ) → result ≢ Acts.Busy w }
+        ensures done { (k : ℕ) → result ≡ Brought.Done k → HasBrought (view_of pass.old) (view_of pass.new) (cab - 1) k }
+        ensures some { (k : ℕ) → result ≡ Brought.Done k → (1 ≤ k) × (k ≤ most) }
+        ensures busy { (w : ℕ) → result ≡ Brought.Busy w → WasMet (view_of pass.old) (view_of pass.new) (cab - 1) w }
+        ensures same { (w : ℕ) → result ≡ Brought.Busy w → SameCounts (view_of pass.old) (view_of pass.new) }
+        ensures seen { (w : ℕ) → result ≡ Brought.Busy w → HasSeen (view_of pass.old) (view_of pass.new) (cab - 1) w }
+        ensures remains { (k : ℕ) → result ≡ Brought.Done k → remains self.now pass.new cab + k ≡ remains self.now pass.old cab }
+        ensures alone { self.now.passes ≡ 1 → (w : ℕ) → result ≢ Brought.Busy w }
     {
         let c = cab as usize - 1;
         let mut seat = replace(&mut pass.badge, Badge::blank()).into_seat();
         let answer = self.turn(&mut seat, pass.number, c, most);
         pass.badge = seat.into_badge();
-        if let Acts::Done(count) = answer {
+        if let Brought::Done(count) = answer {
             pass.done[c] += count;
         }
         answer
     }
 
     // One try of a pass that has so many items left at the cabinet, which is counted from 0.
-    fn turn(&self, seat: &mut Seat<B, View>, number: u32, c: usize, most: u32) -> Acts
+    fn turn(&self, seat: &mut Seat<B, View>, number: u32, c: usize, most: u32) -> Brought
         requires seat { (seat.old.table_id ≡ self.now.table.shared.table_id) × (seat.old.me.1 ≡ []) × IsOwn (map B.row.coded.code (books_of self.now)) self.now.passes number seat.old.me.0 }
         requires cab { c < length (books_of self.now) }
         requires some { 1 ≤ most }
         requires left { (first : B) → get_elem? (books_of self.now) c ≡ some first → count number c seat.old.me.0 + most ≤ B.left_of first number }
         ensures seat { (seat.new.table_id ≡ self.now.table.shared.table_id) × (seat.new.me.1 ≡ []) × IsOwn (map B.row.coded.code (books_of self.now)) self.now.passes number seat.new.me.0 }
-        ensures done { (k : ℕ) → result ≡ Acts.Done k → HasBrought seat.old.me.0 seat.new.me.0 c k }
-        ensures some { (k : ℕ) → result ≡ Acts.Done k → (1 ≤ k) × (k ≤ most) }
-        ensures busy { (w : ℕ) → result ≡ Acts.Busy w → WasMet seat.old.me.0 seat.new.me.0 c w }
-        ensures alone { self.now.passes ≡ 1 → (w : ℕ) → result ≢ Acts.Busy w }
+        ensures done { (k : ℕ) → result ≡ Brought.Done k → HasBrought seat.old.me.0 seat.new.me.0 c k }
+        ensures some { (k : ℕ) → result ≡ Brought.Done k → (1 ≤ k) × (k ≤ most) }
+        ensures busy { (w : ℕ) → result ≡ Brought.Busy w → WasMet seat.old.me.0 seat.new.me.0 c w }
+        ensures alone { self.now.passes ≡ 1 → (w : ℕ) → result ≢ Brought.Busy w }
     {
         let shared = &self.table.shared;
         let seen = shared.load::<Look>(seat, c);
         if seen % 2 == 1 {
-            return Acts::Busy(seen);
+            return Brought::Busy(seen);
         }
         let found = shared.compare_exchange::<Take>(seat, c, seen, seen + 1);
         if found != seen {
-            return Acts::Busy(found);
+            return Brought::Busy(found);
         }
         let count = self.bring(seat, number, c, most);
         shared.fetch_add::<Finish>(seat, c, 2 * count as u64 - 1);
-        Acts::Done(count)
+        Brought::Done(count)
     }
 
     // Some next items of the pass come to the book that its seat has taken, which has so many left: how many these are.
@@ -123,7 +123,7 @@ impl<B: Logged> Row<B> {
         requires some { 1 ≤ most }
         requires held { HasTaken seat.old.me c (λ b. most ≤ B.left_of b number) }
         ensures table { seat.new.table_id ≡ seat.old.table_id }
-        ensures brought { HasTaken seat.old.me c (λ b. HasTaken seat.new.me c (λ x. HasMore B.journal B.left_of B.replays number result b x)) }
+        ensures brought { HasTaken seat.old.me c (λ b. HasTaken seat.new.me c (λ x. HasBroughtMore B.journal B.left_of B.replays number result b x)) }
         ensures some { (1 ≤ result) × (result ≤ most) }
         ensures view { seat.new.me.0 ≡ seat.old.me.0 }
     {

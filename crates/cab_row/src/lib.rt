@@ -17,7 +17,7 @@ mod row;
 mod view;
 mod worker;
 
-pub use act::{Act, Acts};
+pub use act::{Act, Brought};
 pub use by_workers::{joined, worked};
 pub use logged::Logged;
 pub use pass::Pass;

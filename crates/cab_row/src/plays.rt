@@ -2,7 +2,7 @@
 //! proofs.
 ghost use Rattle.std.specs.Prelude.{map};
 ghost use Rattle.cab_row.specs.Views.{first_view, giver, newcomer, joined, spent};
-ghost use Rattle.cab_row.specs.Rule.{Keeps};
+ghost use Rattle.cab_row.specs.Rule.{RowKeeps};
 ghost use Rattle.cab_row.specs.Plays.{looks, takes_book, finishes};
 
 use crate::logged::Logged;
@@ -21,7 +21,7 @@ pub struct Opening<B> {
 pub struct RowRule;
 
 impl<B: Logged> TableRule<B, View, Opening<B>> for RowRule {
-    ghost holds = { λ key. Keeps B.row.coded.code B.journal B.left_of B.replays key.books.value.items key.passes };
+    ghost holds = { λ key. RowKeeps B.row.coded.code B.journal B.left_of B.replays key.books.value.items key.passes };
 
     ghost first = { λ key. first_view (map B.row.coded.code key.books.value.items) key.passes };
 }

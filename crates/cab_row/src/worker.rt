@@ -5,7 +5,7 @@ ghost use Rattle.cab_row.specs.Passes.{IsPassOf, books_of};
 ghost use denote.Param.Send.{IsSync, IsSend};
 ghost use Rattle.cab_row.specs.Hands.{IsReady, HaveWorked, passes_in};
 
-use crate::{Acts, Logged, Pass, Row};
+use crate::{Brought, Logged, Pass, Row};
 use io_edge::Gate;
 use std::thread::{Threads, join};
 
@@ -28,8 +28,8 @@ fn act_on<B: Logged, G: Gate>(row: &Row<B>, pass: &mut Pass, cab: u32, gate: &G)
     while left > 0 {
         gate.at(pass.number(), cab);
         match row.act_some(pass, cab, if most < left { most } else { left }) {
-            Acts::Done(count) => left -= count,
-            Acts::Busy(_) => return true,
+            Brought::Done(count) => left -= count,
+            Brought::Busy(_) => return true,
         }
         if most < 512 {
             most *= 8;

@@ -1,6 +1,6 @@
 use Rattle.std.proofs.Common.{ℕ, [], ◌∷◌, map, sym, refl, ap, ◌∙◌, subst, arith, replicate}
 use Rattle.atomic_table.specs.Table.{Splits}
-use Rattle.cab_row.specs.Rule.{Keeps}
+use Rattle.cab_row.specs.Rule.{RowKeeps}
 use Rattle.cab_row.specs.Views.{dealing, giver, newcomer}
 use Rattle.cab_row.specs.Passes.{books_of, AreNew, IsNew}
 use Rattle.cab_row.proofs.Ends.{may_split}
@@ -11,7 +11,7 @@ pub split_seat-seat-requires : goal.split_seat-seat-requires
 split_seat-seat-requires g c = let row = c.args.row.now in let i = c.loop-number.invariant in let L = g.B.Logged in let n : ℕ = c.loop-number.number in (
   i.0,
   omega (arith, row.sized.0, c.requires.row.2),
-  subst (λ v. Splits (Keeps g.row.B.coded.code L.journal L.left_of L.replays row.table.shared.key.books.value.items row.table.shared.key.passes) c.loop-number.first.id v (giver v) (newcomer v)) (sym (ap (λ m. m.0) i.1))
+  subst (λ v. Splits (RowKeeps g.row.B.coded.code L.journal L.left_of L.replays row.table.shared.key.books.value.items row.table.shared.key.passes) c.loop-number.first.id v (giver v) (newcomer v)) (sym (ap (λ m. m.0) i.1))
       (may_split g.row.B.coded.code L.journal L.left_of L.replays _ _ _ (dealing (map g.row.B.coded.code (books_of row)) row.passes n) (omega (arith, i.3)) (omega (arith, c.loop-number-test.true)) refl),
 )
 

@@ -2,7 +2,7 @@ use Rattle.std.proofs.Common.{length, sym, ap, ◌∙◌, subst, arith, ℕ, ◌
 use lib.ListN.{get_elem?}
 use Rattle.cab_row.specs.Moves.{items_row}
 use Rattle.atomic_table.specs.Table.{opening}
-use Rattle.cab_row.specs.Rule.{Keeps}
+use Rattle.cab_row.specs.Rule.{RowKeeps}
 use Rattle.cab_row.specs.Views.{first_view}
 use Rattle.cab_row.proofs.Ends.{may_open}
 use Rattle.cab_row.proofs.Opens.{some_zeros, all_zeros, items_there, all_new, new_at}
@@ -14,7 +14,7 @@ IsSmallBook left_of b = (p : ℕ) → left_of b p ≤ 2147483648
 
 pub new-requires : goal.new-requires
 new-requires g c = let L = g.B.Logged in let same = ap (λ v. v.items) c.of.ensures in
-    subst (λ l. Keeps g.row.B.coded.code L.journal L.left_of L.replays l c.args.passes (opening (take c.len-count.result (replicate 64 0)) c.args.books.items (first_view (map g.row.B.coded.code l) c.args.passes))) (sym same)
+    subst (λ l. RowKeeps g.row.B.coded.code L.journal L.left_of L.replays l c.args.passes (opening (take c.len-count.result (replicate 64 0)) c.args.books.items (first_view (map g.row.B.coded.code l) c.args.passes))) (sym same)
     (may_open g.row.B.coded.code L.journal L.left_of L.replays g.row.B.coded.inj _ _ _ (omega (arith, c.requires.passes.0)) c.requires.passes.1
     (λ k p first there. one_of_all (IsSmallBook L.left_of) c.args.books.items k first c.requires.small there p)
     (some_zeros c.len-count.result 64 (omega (arith, c.len-count.ensures, c.requires.books.1)) ∙ (c.len-count.ensures ∙ c.args.books.ok.0))

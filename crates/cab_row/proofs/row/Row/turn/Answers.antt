@@ -1,7 +1,7 @@
 use Rattle.std.proofs.Common.{◌≡◌, ℕ, ◌+◌, ◌-◌, ◌*◌, ◌%◌, [], ◌∷◌, ◌++◌, map, replicate, sym, refl, ap, ◌∙◌, subst, arith, eqb}
 use prog.Atomic.{either}
 use Rattle.atomic_table.specs.Table.{Allows, step, rest}
-use Rattle.cab_row.specs.Rule.{Keeps, Since}
+use Rattle.cab_row.specs.Rule.{RowKeeps, Since}
 use Rattle.cab_row.specs.Plays.{takes_book, finishes}
 use Rattle.cab_row.specs.Passes.{books_of, IsOwn}
 use Rattle.cab_row.specs.Views.{looked, holding, finished_with}
@@ -19,7 +19,7 @@ compare_exchange-found-requires g c = let row = c.args.self.now in let L = g.B.L
     let e = c.load-seen.ensures.2.1 ∙ ap (λ l. (looked c.args.seat.now.me.0 i old, l)) r.1 in (
       c.load-seen.ensures.0 ∙ r.0,
       omega (arith, row.sized.0, c.requires.cab),
-      subst (λ m. Allows (Keeps g.row.B.coded.code L.journal L.left_of L.replays row.table.shared.key.books.value.items row.table.shared.key.passes) row.table.shared.table_id.slots c.load-seen.new.seat.id m i (λ n. either (eqb n old) (old + 1) n) (takes_book g.row.B.coded.code L.journal L.left_of L.replays (step row.table.shared.table_id.slots i old (old + 1) mathlib.Core.Option.none) m))
+      subst (λ m. Allows (RowKeeps g.row.B.coded.code L.journal L.left_of L.replays row.table.shared.key.books.value.items row.table.shared.key.passes) row.table.shared.table_id.slots c.load-seen.new.seat.id m i (λ n. either (eqb n old) (old + 1) n) (takes_book g.row.B.coded.code L.journal L.left_of L.replays (step row.table.shared.table_id.slots i old (old + 1) mathlib.Core.Option.none) m))
           (sym e)
           (may_take g.row.B.coded.code L.journal L.left_of L.replays _ _ _ _ i old (old + 1) _ v.free (own_one _ _ _ _ v) c.requires.cab (not_odd old c.if-seen-eq1.false) refl),
     )
@@ -50,7 +50,7 @@ fetch_add-requires g c = let row = c.args.self.now in let L = g.B.Logged in let 
     (subst (λ y. Since g.row.B.coded.code L.journal L.left_of L.replays v.opening i y) same (subst (λ l. Since g.row.B.coded.code L.journal L.left_of L.replays l i t.0) (ap (λ m. m.0.opening) e) t.2)) more.0 more.1 more.2 more.3 in (
       c.bring-count.ensures.table ∙ (c.compare_exchange-found.ensures.0 ∙ (c.load-seen.ensures.0 ∙ r.0)),
       omega (arith, row.sized.0, c.requires.cab),
-      subst (λ m. Allows (Keeps g.row.B.coded.code L.journal L.left_of L.replays row.table.shared.key.books.value.items row.table.shared.key.passes) row.table.shared.table_id.slots c.bring-count.new.seat.id m i (λ n. (n + more_on) % 18446744073709551616) (finishes (step row.table.shared.table_id.slots i more_on 0 mathlib.Core.Option.none) m))
+      subst (λ m. Allows (RowKeeps g.row.B.coded.code L.journal L.left_of L.replays row.table.shared.key.books.value.items row.table.shared.key.passes) row.table.shared.table_id.slots c.bring-count.new.seat.id m i (λ n. (n + more_on) % 18446744073709551616) (finishes (step row.table.shared.table_id.slots i more_on 0 mathlib.Core.Option.none) m))
           (sym now)
           (may_finish g.row.B.coded.code L.journal L.left_of L.replays _ _ _ _ i count more_on w x refl some.0 (omega (arith, some.0)) grown since),
     )
