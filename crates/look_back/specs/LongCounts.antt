@@ -13,7 +13,7 @@ pub record LongCountsStands (f : LongCounts) (past : List Moment) : Type 0 where
   pub stage : f.stage ≡ stage_of (last_frame past).mode
   pub stages : RowStands f.stages (λ m. stage_of m.frame.mode == f.stage) past
   pub inputs : (i : ℕ) → 0 < i → i ≤ 8 → RowStands (get_or f.inputs (i - 1) no_row) (λ m. is_in m.preempts i) past
-  pub orders : RowStands f.orders (λ m. not m.is_commanded) past
+  pub uncommanded : RowStands f.uncommanded (λ m. not m.is_commanded) past
   pub first : get_or f.last_on 0 0 ≡ last_on 1 past
   pub second : get_or f.last_on 1 0 ≡ last_on 2 past
   pub latest : f.latest_on ≡ latest_on past

@@ -31,7 +31,7 @@ pub struct LongCounts {
     /// For how many last ticks in a row each preempt input was on.
     inputs: [Row; 8],
     /// For how many last ticks in a row no pattern was commanded.
-    orders: Row,
+    uncommanded: Row,
     /// The phase that was last on in each ring since start-up, and a phase of the latest frame since it that has one on.
     last_on: [u8; 2],
     latest_on: u8,
@@ -105,7 +105,7 @@ impl LongCounts {
             stage: 0,
             stages: Row::new(),
             inputs: [Row::new(); 8],
-            orders: Row::new(),
+            uncommanded: Row::new(),
             last_on: [0; 2],
             latest_on: 0,
         }
@@ -122,7 +122,7 @@ impl LongCounts {
         self.stages = stages_after(self.stages, stage == self.stage);
         self.stage = stage;
         step_inputs(&mut self.inputs, preempts);
-        self.orders = self.orders.step(!is_commanded);
+        self.uncommanded = self.uncommanded.step(!is_commanded);
         let starts = is_start(shown.mode);
         let [first, second] = shown.on;
         self.latest_on = latest_after(self.latest_on, starts, first, second);
@@ -140,7 +140,7 @@ impl LongCounts {
     {
         self.stages = self.stages.more(ticks);
         self.inputs = [Row::new(); 8];
-        self.orders = self.orders.more(ticks);
+        self.uncommanded = self.uncommanded.more(ticks);
     }
 
     /// Whether a preempt has been served for its least time, of so many seconds.
@@ -174,7 +174,7 @@ impl LongCounts {
         if seconds == 0 {
             false
         } else {
-            self.orders
+            self.uncommanded
                 .lasts_now(u32::from(seconds) * 10 - 1, !is_commanded)
         }
     }

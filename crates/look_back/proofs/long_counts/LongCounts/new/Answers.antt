@@ -8,7 +8,7 @@ returns c = record {
   stage = refl;
   stages = c.new.ensures (λ m. stage_of m.frame.mode == 0);
   inputs = λ i above below. inputs-first _ c.new-2.result i above below refl c.new-2.ensures;
-  orders = c.new-3.ensures (λ m. not m.is_commanded);
+  uncommanded = c.new-3.ensures (λ m. not m.is_commanded);
   first = refl;
   second = refl;
   latest = refl;

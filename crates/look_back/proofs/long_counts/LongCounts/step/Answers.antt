@@ -16,7 +16,7 @@ returns c = λ past m stands frame saw commanded.
       stages = subst P (sym stage)
           (c.stages_after-self.ensures c.args.self.now.stage past m stands.stage (ap (λ (i : ℕ). i == c.args.self.now.stage) stage) stands.stages);
       inputs = inputs-step _ _ c.args.preempts past m c.step_inputs.ensures saw stands.inputs;
-      orders = c.step-self.ensures (λ n. not n.is_commanded) past m stands.orders (ap (λ (b : Bool). not b) commanded);
+      uncommanded = c.step-self.ensures (λ n. not n.is_commanded) past m stands.uncommanded (ap (λ (b : Bool). not b) commanded);
       first = c.on_after.ensures ∙ on-steps 1 m past _ _ _ starts (ap (λ (f : Frame). on_in f 1) (sym frame)) stands.first;
       second = c.on_after-2.ensures ∙ on-steps 2 m past _ _ _ starts (ap (λ (f : Frame). on_in f 2) (sym frame)) stands.second;
       latest = c.latest_after-self.ensures

@@ -12,7 +12,7 @@ returns c = λ active pressed past ms stands few all.
       stages = c.more-self.ensures (λ m. stage_of m.frame.mode == c.args.self.now.stage) past ms stands.stages few
           (all-in-stage active pressed ms past c.args.self.now.stage stands.stage all);
       inputs = inputs-off active pressed ms past _ c.new-self.result refl some all c.new-self.ensures;
-      orders = c.more-self-2.ensures (λ m. not m.is_commanded) past ms stands.orders few (all-uncommanded active pressed ms past all);
+      uncommanded = c.more-self-2.ensures (λ m. not m.is_commanded) past ms stands.uncommanded few (all-uncommanded active pressed ms past all);
       first = stands.first ∙ sym (last-on-all 1 active pressed ms past all);
       second = stands.second ∙ sym (last-on-all 2 active pressed ms past all);
       latest = stands.latest ∙ sym (latest-on-all active pressed ms past all);
