@@ -29,8 +29,8 @@ use Rattle.tick_context.specs.Shows.{is_clearing, is_signalling}
 use Rattle.tick_context.specs.Walks.{crossing_seen, walk_after}
 use Rattle.tick_context.specs.Lasting.{IsFresh, StaysFree, StaysInStep, Lasts, opposed_with}
 use Rattle.tick_context.specs.Passed.{timed}
-use Rattle.tick_context.proofs.Again.{free-on, rings-ring_turn, no-counter, no-moves, no-walk, frame-going, shut}
-use Rattle.tick_context.proofs.Stays.{colour-stays, signal-stays, rings-stay}
+use Rattle.tick_context.proofs.Again.{free-on, rings-ring_turn, no-counter, no-moves, no-walk, frame-going, open-empty}
+use Rattle.tick_context.proofs.Stays.{colour-stays, signal-stays, GoesAhead, rings-stay}
 use Rattle.tick_context.proofs.Free.{command-none}
 use Rattle.tick_context.proofs.InStep.{mode-in, counter-next, no-walk-in, no-zero}
 
@@ -41,6 +41,7 @@ pub record Goes (mode : Mode) (past : Past) : Type 0 where
   pub reached : mode_reached mode past.tables (frame_seen past).veh ≡ mode
   pub active : (tick_state_of past).active ≡ 0
   pub counter : (tick_state_of past).counter ≤ (frame_seen past).counter + 1
+  pub ahead : GoesAhead (bound mode) past
   pub walks : (p : ℕ) → is_phase p ≡ true → walk_after past mode (frame_seen past).veh p ≡ false
   pub full : (p : ℕ) → lesser_in past.tables mode p ≡ InFull
   pub started : is_start mode ≡ false
@@ -58,6 +59,7 @@ goes-free past fresh was beside s =
       reached = refl;
       active = ap (λ (m : Mode). active_in past.tables m ((moment_seen past).number + 1) past.asked) mode;
       counter = omega (arith, zero);
+      ahead = λ n none. absurd (cc none);
       walks = λ p h.
           no-walk (crossing_seen past Free) Free p (colour_of (frame_seen past) p) (colour_in (frame_seen past).veh p) (signal_of (frame_seen past) p) refl refl
           (ap (λ (o : Option ℕ). (has_walk past.tables p && is_in (pedestrian_seen past) p)
@@ -81,6 +83,7 @@ goes-coord n j past fresh was version beside s =
       active = ap (λ (m : Mode). active_in past.tables m ((moment_seen past).number + 1) past.asked) mode
           ∙ s.unasked ((moment_seen past).number + 1) more;
       counter = omega (arith, counter);
+      ahead = λ k e. omega (arith, counter);
       walks = λ p h.
           no-walk-in n (crossing_seen past (Coord n)) p (colour_of (frame_seen past) p) (signal_of (frame_seen past) p)
           (no-zero (Coord n) (tick_state_of past).counter (frame_seen past).counter (frame_seen past) counter);
@@ -114,8 +117,8 @@ frame-goes mode j past l =
     λ p h e. colour-stays j p past.tables past.moments (colour_of (frame_seen past) p) (l.phases p h).colour in
     let moves : moves_seen past ≡ no-moves =
     ap (λ (t : RingTurn). moves_of t (view_seen past)) g.ring_turn
-    ∙ rings-stay j past (bound mode) (ap bound g.now) g.active g.counter l.phases
-    (shut past (on_in (frame_seen past) 1) l.first clear) (shut past (on_in (frame_seen past) 2) l.second clear) in
+    ∙ rings-stay j past (bound mode) (ap bound g.now) g.active g.counter g.ahead l.phases l.some
+    (sym (open-empty past (on_in (frame_seen past) 1) clear)) (sym (open-empty past (on_in (frame_seen past) 2) clear)) l.first l.second in
     frame-going past mode l.version l.on l.was g.now g.reached moves l.wide l.long clear
     (λ p h e.
     ap (λ (m : Mode). signal_runs_within (lesser_in past.tables m p) p past.tables past.moments (signal_of (frame_seen past) p)) g.now

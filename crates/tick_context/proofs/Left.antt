@@ -61,7 +61,6 @@ dark-lasts o k past p green clearing signals =
       colour = steady-lasts k p past.tables past.moments (colour_of (frame_seen past) p) clearing;
       signal = dont-lasts k p past.tables past.moments (signal_of (frame_seen past) p) signals;
       unforced = λ h. absurd (false≢true (sym none ∙ h));
-      stays = λ h. absurd (false≢true (sym none ∙ h));
     }
 
 -- of two sets none of which has it

@@ -19,6 +19,8 @@ pub mod Pickups
 pub mod Events
 pub mod Pairs
 pub mod Free
+pub mod Waiting
+pub mod Unwanted
 pub mod Stays
 pub mod InStep
 pub mod GoesOn

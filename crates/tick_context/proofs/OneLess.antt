@@ -1,5 +1,5 @@
 -- What lasts so many ticks more lasts one less after the next of them.
-use Rattle.std.proofs.Common.{◌≡◌, ◌<◌, ◌≤◌, ◌+◌, ◌-◌, ◌&&◌, ◌||◌, not, if◌then◌else◌, ℕ, suc, Bool, true, false}
+use Rattle.std.proofs.Common.{◌≡◌, ◌<◌, ◌≤◌, ◌+◌, ◌-◌, ◌&&◌, ◌||◌, ◌==◌, ◌⊎◌, not, if◌then◌else◌, ℕ, suc, Bool, true, false}
 use Rattle.std.proofs.Common.{List, [], ◌∷◌, length, get_or, Option, None, Some, refl, sym, ◌∙◌, ap, arith, subst, inl, inr}
 use Rattle.std.proofs.lemmas.Bool.{false≢true}
 use Rattle.sig_types.specs.declared.frame.Colour.{Colour}
@@ -11,17 +11,18 @@ use Rattle.sig_types.specs.declared.frame.Mode.{Mode}
 use Rattle.sig_types.specs.declared.frame.Mode.TheVariants.{Start, Free, Seek, Coord, Ending, Flash as InFlash, Entry, Track, Dwell, Exit}
 use Rattle.sig_types.specs.Phases.{all_phases, is_in, some, those}
 use Rattle.sig_types.specs.PhaseSet.{has}
-use Rattle.sig_types.specs.Colour.{same_colour, same_signal, colour_in, colour_of, signal_of}
+use Rattle.sig_types.specs.Colour.{same_colour, same_signal, colour_in, colour_of, signal_of, on_in}
 use Rattle.sig_tables.specs.declared.tables.Tables.{Tables}
-use Rattle.sig_tables.specs.Tables.{is_enabled, least_green, yellow_time, red_clear_time, walk_time, pedestrian_clear_time, gap_time, maximum_time}
-use Rattle.sig_tables.specs.Slots.{is_omitted, force_point, cycle_time}
+use Rattle.sig_tables.specs.Tables.{is_enabled, ring_of, least_green, yellow_time, red_clear_time, walk_time, pedestrian_clear_time, gap_time, maximum_time}
+use Rattle.sig_tables.specs.Slots.{is_omitted, force_point, cycle_time, window, least_service}
 use Rattle.sig_tables.specs.Clock.{target_at}
 use Rattle.sig_tables.specs.Command.{is_commanded}
 use Rattle.sig_tables.specs.Past.{Past, Moment, Heard}
 use Rattle.sig_tables.specs.Looking.{in_a_row, begun, run, latched, shows, signals, signal_run, signal_latched}
 use Rattle.sig_tables.specs.Calls.{is_green, is_called, is_active, opposed_of}
 use Rattle.sig_tables.specs.SplitCalls.{demand_in, quiet_in, is_called_by}
-use Rattle.sig_tables.specs.Sides.{are_incompatible}
+use Rattle.sig_tables.specs.Sides.{are_incompatible, are_of_one_side}
+use Rattle.sig_tables.specs.View.{other_ring}
 use Rattle.sig_tables.specs.Splits.{split_maximum}
 use Rattle.sig_tables.specs.Modes.{bound}
 use Rattle.sig_tables.specs.Preempts.{all_preempts}
@@ -34,10 +35,11 @@ use Rattle.call_store.specs.Signals.{SignalLasts}
 use Rattle.preempt_stages.proofs.Inputs.{seen-is}
 use Rattle.tick_context.specs.declared.seeing.TickInputs.{TickInputs}
 use Rattle.tick_context.specs.Shows.{is_signalling}
-use Rattle.tick_context.specs.Lasting.{IsFresh, Looks, ColourLasts, StaysUnserved, HasNoGap, HasNoMaximum, HasNoReason, StaysUnforced, PhaseLasts, StaysFree, StaysInStep, ModeLasts, Lasts, opposed_with}
+use Rattle.tick_context.specs.Lasting.{IsFresh, Looks, ColourLasts, StaysUnserved, HasNoGap, HasNoMaximum, HasNoReason, StaysUnforced, PhaseLasts, StaysOn, HasNoRoom, IsUnwanted, RingLasts, present_on, StaysFree, StaysInStep, ModeLasts, Lasts, opposed_with}
 use Rattle.tick_context.proofs.Again.{no-counter, no-target}
 use Rattle.tick_context.proofs.Free.{command-none}
 use Rattle.tick_context.proofs.InStep.{command-in, clock-in, target-next, counter-next}
+use Rattle.tick_context.proofs.Stays.{GoesAhead}
 use Rattle.tick_context.proofs.GoesOn.{Goes, tick-goes, Alike, goes-alike}
 
 -- a count of moments in a row has at most one more
@@ -240,12 +242,67 @@ phase-less o j past p a g most l =
       signal = subst (λ (s : Ped). SignalLasts j p past.tables (m ∷ past.moments) s) (sym signal)
           (signal-less j p past.tables m past.moments (signal_of (frame_seen past) p) signal refl l.signal);
       unforced = λ h. unforced-less o j past p most (l.unforced (here h));
-      stays = λ h. elim (l.stays (here h)) [
-        | inl none ↦ inl (g.demand ∙ none)
-        | inr (inl unserved) ↦ inr (inl (unserved-less j past p a (second-of (is_enabled past.tables p) _ h) unserved))
-        | inr (inr reason) ↦ inr (inr (reason-less o j past p g most reason))
-      ];
     }
+
+on-same : (past : Past) (r : ℕ) → Alike (next_moment past).frame (frame_seen past) → on_in (next_moment past).frame r ≡ on_in (frame_seen past) r
+on-same past r a = ap (λ (on : List ℕ). get_or on (r - 1) 0) a.on
+
+present-same : (past : Past) → Alike (next_moment past).frame (frame_seen past) → present_on (with_moment past (next_moment past)) ≡ present_on past
+present-same past a = ap (λ (on : List ℕ). if get_or on 0 0 == 0 then get_or on 1 0 else get_or on 0 0) a.on
+
+-- what stays on, or is not wanted
+stays-less : (o : Option ℕ) (j : ℕ) (past : Past) (r : ℕ) → Alike (next_moment past).frame (frame_seen past) → SeenAgain o past
+    → (next_moment past).frame.counter ≤ (frame_seen past).counter + 1 → StaysOn o (suc j) past r
+    → StaysOn o j (with_moment past (next_moment past)) r
+stays-less o j past r a g most l =
+    let f : Frame = (next_moment past).frame in
+    let same : on_in f r ≡ on_in (frame_seen past) r = on-same past r a in
+    record {
+      on = λ e. l.on (sym same ∙ e);
+      undone = subst
+          (λ (p : ℕ). (is_enabled past.tables p && is_green f p) ≡ true
+          → StaysUnserved j (with_moment past (next_moment past)) p ⊎ HasNoReason o j (with_moment past (next_moment past)) p)
+          (sym same)
+          (λ h. elim (l.undone (ap (λ (veh : List Colour). is_enabled past.tables (on_in (frame_seen past) r)
+          && same_colour (colour_in veh (on_in (frame_seen past) r)) Green) (sym a.veh) ∙ h)) [
+            | inl unserved ↦
+                inl (unserved-less j past (on_in (frame_seen past) r) a (second-of (is_enabled past.tables (on_in (frame_seen past) r)) _ h) unserved)
+            | inr reason ↦ inr (reason-less o j past (on_in (frame_seen past) r) g most reason)
+          ]);
+    }
+
+room-less : (o : Option ℕ) (j : ℕ) (past : Past) (q : ℕ) → (next_moment past).frame.counter ≤ (frame_seen past).counter + 1 → GoesAhead o past
+    → HasNoRoom o (suc j) past q → HasNoRoom o j (with_moment past (next_moment past)) q
+room-less None j past q most ahead h = absurd h
+room-less (Some n) j past q most ahead (free, inl late) =
+    let k : force_point past.tables n q < (frame_seen past).counter + 1 + least_service past.tables q = late in
+    let more : (frame_seen past).counter + 1 ≤ (next_moment past).frame.counter = ahead n refl in
+    (free, inl (omega (arith, k, more)))
+room-less (Some n) j past q most ahead (free, inr early) =
+    (free, inr (before-less (frame_seen past).counter (window past.tables n) j (next_moment past).frame.counter early most))
+
+unwanted-less : (o : Option ℕ) (j : ℕ) (past : Past) (q : ℕ) → SeenAgain o past → (next_moment past).frame.counter ≤ (frame_seen past).counter + 1
+    → GoesAhead o past → IsUnwanted o (suc j) past q → IsUnwanted o j (with_moment past (next_moment past)) q
+unwanted-less o j past q g most ahead (inl none) = inl (ap (λ (xs : List ℕ). is_in xs q) g.demand ∙ none)
+unwanted-less o j past q g most ahead (inr full) = inr (room-less o j past q most ahead full)
+
+-- what a ring shows
+ring-less : (o : Option ℕ) (j : ℕ) (past : Past) (r : ℕ) → Alike (next_moment past).frame (frame_seen past) → SeenAgain o past
+    → (next_moment past).frame.counter ≤ (frame_seen past).counter + 1 → GoesAhead o past → RingLasts o (suc j) past r
+    → RingLasts o j (with_moment past (next_moment past)) r
+ring-less o j past r a g most ahead (inl stays) = inl (stays-less o j past r a g most stays)
+ring-less o j past r a g most ahead (inr (none, wait)) =
+    let side = present-same past a in
+    inr (
+      λ q h. unwanted-less o j past q g most ahead
+          (none q (ap (λ (s : ℕ). ring_of past.tables q == r && are_of_one_side past.tables s q) (sym side) ∙ h)),
+      elim wait [
+        | inl empty ↦ inl (on-same past r a ∙ empty)
+        | inr (inl beyond) ↦ inr (inl (λ q i h. unwanted-less o j past q g most ahead
+            (beyond q i (ap (λ (s : ℕ). are_of_one_side past.tables s q) (sym side) ∙ h))))
+        | inr (inr stays) ↦ inr (inr (stays-less o j past (other_ring r) a g most stays))
+      ],
+    )
 
 -- who is not called to
 uncalled-like : (t : Tables) (f g : Frame) (called more against for : List ℕ) (p : ℕ) → f.veh ≡ g.veh → f.ped ≡ g.ped → more ≡ called → for ≡ against
@@ -337,8 +394,9 @@ lasts-less mode j past l =
           ∙ ap (λ (xs : List ℕ). those (λ i. is_in xs i) all_preempts) (sym (seen-is past) ∙ l.beside);
       version = a.version ∙ l.version;
       on = a.on ∙ l.on ∙ ap (λ (veh : List Colour). on_of past.tables veh 1 ∷ on_of past.tables veh 2 ∷ []) (sym a.veh);
-      first = λ e. l.first (ap (λ (on : List ℕ). get_or on 0 0) (sym a.on) ∙ e);
-      second = λ e. l.second (ap (λ (on : List ℕ). get_or on 1 0) (sym a.on) ∙ e);
+      some = λ e. l.some (sym (present-same past a) ∙ e);
+      first = ring-less (bound mode) j past 1 a s g.counter g.ahead l.first;
+      second = ring-less (bound mode) j past 2 a s g.counter g.ahead l.second;
       wide = ap length a.veh ∙ l.wide;
       long = ap length a.ped ∙ l.long;
       goes = mode-less mode j past l.fresh l.was g a s l.goes;

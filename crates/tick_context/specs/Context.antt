@@ -12,13 +12,13 @@ use Rattle.coord_count.specs.declared.Count.{Count}
 use Rattle.coord_count.specs.Stands.{CountStands, counter_of}
 use Rattle.prio_queue.specs.Stands.{QueueStands}
 use Rattle.preempt_stages.specs.Dwelling.{NamesPhases}
-use Rattle.tick_context.specs.UnitCommands.{UnitCommandsStand, order_ticks}
+use Rattle.tick_context.specs.UnitCommands.{UnitCommandsStand, counted_ticks}
 use Rattle.tick_context.specs.Binds.{ActivePatternStands}
 use Rattle.tick_context.specs.declared.context.TickContext.{TickContext}
 
 -- the number of ticks so far
 abbrev pub told_ticks : TickContext → ℕ
-told_ticks c = order_ticks c.unit_commands
+told_ticks c = counted_ticks c.unit_commands
 
 -- the tables in force, the last frame and what was told are what the past gives. Of the past itself: there is a moment; the last
 -- frame names phases, or nothing; start-up is over after 60 frames, and no frame is of tables to come

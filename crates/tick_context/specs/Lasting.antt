@@ -1,5 +1,5 @@
 -- For how many ticks a cabinet goes on as it is: what would end lasts for so many ticks more.
-use Rattle.std.specs.Prelude.{ℕ, ◌≡◌, ◌≢◌, ◌<◌, ◌≤◌, ◌+◌, ◌*◌, ◌&&◌, ◌∷◌, ◌⊎◌, not, true, false, List, [], length, Option, None, Some}
+use Rattle.std.specs.Prelude.{ℕ, ◌≡◌, ◌≢◌, ◌<◌, ◌≤◌, ◌+◌, ◌*◌, ◌&&◌, ◌==◌, ◌∷◌, ◌⊎◌, not, if◌then◌else◌, true, false, List, [], length, Option, None, Some}
 use Rattle.sig_types.specs.declared.frame.Colour.{Colour}
 use Rattle.sig_types.specs.declared.frame.Colour.TheVariants.{Green, Yellow, Clear, Red}
 use Rattle.sig_types.specs.declared.frame.Mode.{Mode}
@@ -8,8 +8,10 @@ use Rattle.sig_types.specs.Phases.{is_phase, is_in}
 use Rattle.sig_types.specs.PhaseSet.{has, phases_of}
 use Rattle.sig_types.specs.Colour.{same_colour, colour_of, signal_of, on_in}
 use Rattle.sig_tables.specs.declared.tables.Tables.{Tables}
-use Rattle.sig_tables.specs.Tables.{is_enabled, least_green, yellow_time, red_clear_time, gap_time, maximum_time}
-use Rattle.sig_tables.specs.Slots.{is_defined, is_coordinated, force_point, window, cycle_time}
+use Rattle.sig_tables.specs.Tables.{is_enabled, ring_of, least_green, yellow_time, red_clear_time, gap_time, maximum_time}
+use Rattle.sig_tables.specs.Slots.{is_defined, is_coordinated, force_point, window, cycle_time, least_service}
+use Rattle.sig_tables.specs.Sides.{are_of_one_side}
+use Rattle.sig_tables.specs.View.{other_ring}
 use Rattle.sig_tables.specs.Coordinating.{is_floating}
 use Rattle.sig_tables.specs.Clock.{target_at}
 use Rattle.sig_tables.specs.Priority.{active_in}
@@ -81,14 +83,52 @@ abbrev pub StaysUnforced : Option ℕ → ℕ → Past → ℕ → Type 0
 StaysUnforced None k past p = Unit {0}
 StaysUnforced (Some n) k past p = (is_coordinated past.tables n p ≡ true) ⊎ ComesBefore n k past p
 
--- what phase p shows lasts so many ticks more, where this pattern binds: its clearance and its walk run on; and where it is Green it
--- is not forced off, and nothing has demand, or it is not served, or there is no reason to end it
+-- what phase p shows lasts so many ticks more, where this pattern binds: its clearance and its walk run on, and where it is Green it
+-- is not forced off
 pub record PhaseLasts (pattern : Option ℕ) (k : ℕ) (past : Past) (p : ℕ) : Type 0 where
   pub colour : ColourLasts k p past.tables past.moments (colour_of (frame_seen past) p)
   pub signal : SignalLasts k p past.tables past.moments (signal_of (frame_seen past) p)
   pub unforced : (is_enabled past.tables p && is_green (frame_seen past) p) ≡ true → StaysUnforced pattern k past p
-  pub stays : (is_enabled past.tables p && is_green (frame_seen past) p) ≡ true
-      → (demand_with pattern past ≡ []) ⊎ (StaysUnserved k past p ⊎ HasNoReason pattern k past p)
+
+-- something is on in ring r that is not done for so many ticks more: where it is Green, it is not served or there is no reason to end it
+pub record StaysOn (pattern : Option ℕ) (k : ℕ) (past : Past) (r : ℕ) : Type 0 where
+  pub on : on_in (frame_seen past) r ≢ 0
+  pub undone : (is_enabled past.tables (on_in (frame_seen past) r) && is_green (frame_seen past) (on_in (frame_seen past) r)) ≡ true
+      → StaysUnserved k past (on_in (frame_seen past) r) ⊎ HasNoReason pattern k past (on_in (frame_seen past) r)
+
+-- for so many ticks more there is no room for phase q: it is too late for its least service before its force point, or the window
+-- lasts
+abbrev pub HasNoRoom : Option ℕ → ℕ → Past → ℕ → Type 0
+HasNoRoom None k past q = ⊥
+HasNoRoom (Some n) k past q =
+    (is_coordinated past.tables n q ≡ false)
+    × ((force_point past.tables n q < (frame_seen past).counter + 1 + least_service past.tables q)
+    ⊎ ((frame_seen past).counter + k < window past.tables n))
+
+-- phase q is not wanted for so many ticks more
+abbrev pub IsUnwanted : Option ℕ → ℕ → Past → ℕ → Type 0
+IsUnwanted pattern k past q = (is_in (demand_with pattern past) q ≡ false) ⊎ HasNoRoom pattern k past q
+
+-- a phase of the present side: what is on in ring 1, and where nothing is, in ring 2
+abbrev pub present_on : Past → ℕ
+present_on past = if on_in (frame_seen past) 1 == 0 then on_in (frame_seen past) 2 else on_in (frame_seen past) 1
+
+-- no phase of ring r on the present side is wanted for so many ticks more, and none of another side
+abbrev pub NoneInRing : Option ℕ → ℕ → Past → ℕ → Type 0
+NoneInRing pattern k past r =
+    (q : ℕ) → (ring_of past.tables q == r && are_of_one_side past.tables (present_on past) q) ≡ true → IsUnwanted pattern k past q
+
+abbrev pub NoneElsewhere : Option ℕ → ℕ → Past → Type 0
+NoneElsewhere pattern k past =
+    (q : ℕ) → is_phase q ≡ true → are_of_one_side past.tables (present_on past) q ≡ false → IsUnwanted pattern k past q
+
+-- in ring r nothing ends and nothing begins for so many ticks more: what is on stays; or none of its phases here is wanted, and nothing
+-- is on, or no other side is wanted, or the other ring isn't free to leave
+abbrev pub RingLasts : Option ℕ → ℕ → Past → ℕ → Type 0
+RingLasts pattern k past r =
+    StaysOn pattern k past r
+    ⊎ (NoneInRing pattern k past r
+    × ((on_in (frame_seen past) r ≡ 0) ⊎ (NoneElsewhere pattern k past ⊎ StaysOn pattern k past (other_ring r))))
 
 -- the cabinet goes on in free operation, whatever becomes of its command, and no walk begins
 pub record StaysFree (past : Past) : Type 0 where
@@ -122,15 +162,16 @@ ModeLasts Free k past = StaysFree past
 ModeLasts (Coord n) k past = StaysInStep n k past
 ModeLasts mode k past = ⊥
 
--- nothing is told, and for so many ticks more the cabinet shows what it shows, in this mode: something is on in each ring
+-- nothing is told, and for so many ticks more the cabinet shows what it shows, in this mode: something is on
 pub record Lasts (mode : Mode) (k : ℕ) (past : Past) : Type 0 where
   pub fresh : IsFresh past
   pub was : (frame_seen past).mode ≡ mode
   pub beside : preempts_seen past ≡ []
   pub version : (frame_seen past).version ≡ past.version
   pub on : (frame_seen past).on ≡ on_of past.tables (frame_seen past).veh 1 ∷ on_of past.tables (frame_seen past).veh 2 ∷ []
-  pub first : on_in (frame_seen past) 1 ≢ 0
-  pub second : on_in (frame_seen past) 2 ≢ 0
+  pub some : present_on past ≢ 0
+  pub first : RingLasts (bound mode) k past 1
+  pub second : RingLasts (bound mode) k past 2
   pub wide : length (frame_seen past).veh ≡ 16
   pub long : length (frame_seen past).ped ≡ 16
   pub goes : ModeLasts mode k past

@@ -17,8 +17,8 @@ abbrev pub most : ℕ
 most = 4294967295
 
 -- the number of ticks that were counted
-abbrev pub order_ticks : UnitCommands → ℕ
-order_ticks o = o.ticks
+abbrev pub counted_ticks : UnitCommands → ℕ
+counted_ticks o = o.ticks
 
 -- the unit commands are those that looking back gives
 pub record UnitCommandsStand (o : UnitCommands) (past : Past) : Type 0 where

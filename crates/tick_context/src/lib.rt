@@ -10,6 +10,7 @@ mod context_lasting;
 mod context_moves;
 mod context_rings;
 mod context_state;
+mod context_waiting;
 mod modes;
 mod opening;
 mod seeing;

@@ -42,14 +42,14 @@ impl UnitCommands {
     ghost use Rattle.sig_tables.specs.Clock.{clock_now};
     ghost use Rattle.sig_tables.specs.Showing.{command_shown, clock_shown};
     ghost use Rattle.sig_tables.specs.Decide.{past_of, opening_commands, with_event, with_moment};
-    ghost use Rattle.tick_context.specs.UnitCommands.{UnitCommandsStand, SawUnitCommands, order_ticks};
+    ghost use Rattle.tick_context.specs.UnitCommands.{UnitCommandsStand, SawUnitCommands, counted_ticks};
     ghost use Rattle.tick_context.specs.Even.{IsEven, UnitCommandsPassed, even_ticks};
 
     /// The unit commands that a cabinet is opened with.
     pub fn of(command: u8, clock: u32) -> UnitCommands
         requires of_day { clock < 864000 }
         ensures stands { (t : Tables) → UnitCommandsStand result (past_of t (opening_commands command clock)) }
-        ensures ticks { order_ticks result ≡ 0 }
+        ensures ticks { counted_ticks result ≡ 0 }
     {
         UnitCommands {
             command,
@@ -64,7 +64,7 @@ impl UnitCommands {
     /// Commands a pattern.
     pub fn pattern(&mut self, command: u8)
         ensures stands { (past : Past) → UnitCommandsStand self.old past → UnitCommandsStand self.new (with_event (SetPattern command) past) }
-        ensures ticks { order_ticks self.new ≡ order_ticks self.old }
+        ensures ticks { counted_ticks self.new ≡ counted_ticks self.old }
     {
         self.command = command;
         self.since = 0;
@@ -74,7 +74,7 @@ impl UnitCommands {
     pub fn set_clock(&mut self, clock: u32)
         requires of_day { clock < 864000 }
         ensures stands { (past : Past) → UnitCommandsStand self.old past → UnitCommandsStand self.new (with_event (SetClock clock) past) }
-        ensures ticks { order_ticks self.new ≡ order_ticks self.old }
+        ensures ticks { counted_ticks self.new ≡ counted_ticks self.old }
     {
         self.clock = clock;
     }
@@ -82,7 +82,7 @@ impl UnitCommands {
     /// Sets the drift of the clock.
     pub fn drift(&mut self, gain: u32, lose: u32)
         ensures stands { (past : Past) → UnitCommandsStand self.old past → UnitCommandsStand self.new (with_event (SetDrift gain lose) past) }
-        ensures ticks { order_ticks self.new ≡ order_ticks self.old }
+        ensures ticks { counted_ticks self.new ≡ counted_ticks self.old }
     {
         self.gain = gain;
         self.lose = lose;
@@ -107,7 +107,7 @@ impl UnitCommands {
 
     /// How many ticks there were.
     pub fn ticks(&self) -> u32
-        ensures ticks { result ≡ order_ticks self.now }
+        ensures ticks { result ≡ counted_ticks self.now }
     {
         self.ticks
     }
@@ -134,7 +134,7 @@ impl UnitCommands {
 
     /// The clock at this tick.
     pub fn clock_now(&self) -> u32
-        requires few { order_ticks self.now < 4294967295 }
+        requires few { counted_ticks self.now < 4294967295 }
         ensures clock { (past : Past) → UnitCommandsStand self.now past → result ≡ clock_now past }
         ensures of_day { result < 864000 }
     {
@@ -145,11 +145,11 @@ impl UnitCommands {
 
     /// One tick, at which this pattern was in command and the clock stood so.
     pub fn step(&mut self, commanded: u8, clock: u32)
-        requires few { order_ticks self.old < 4294967295 }
+        requires few { counted_ticks self.old < 4294967295 }
         requires of_day { clock < 864000 }
         ensures stands { (past : Past) (m : Moment) → UnitCommandsStand self.old past → SawUnitCommands past m → commanded ≡ m.command → clock ≡ m.clock
             → UnitCommandsStand self.new (with_moment past m) }
-        ensures ticks { order_ticks self.new ≡ order_ticks self.old + 1 }
+        ensures ticks { counted_ticks self.new ≡ counted_ticks self.old + 1 }
     {
         self.command = commanded;
         self.clock = clock;
@@ -178,7 +178,7 @@ impl UnitCommands {
 
     /// Passes over so many such ticks.
     pub fn pass(&mut self, ticks: u32, tables: &Tables)
-        requires few { order_ticks self.old + ticks ≤ 4294967295 }
+        requires few { counted_ticks self.old + ticks ≤ 4294967295 }
         requires even { IsEven self.old tables.now ticks }
         ensures passed { UnitCommandsPassed ticks self.old self.new }
     {
