@@ -233,9 +233,9 @@ keeps-on mode j c new past by k l ready even few =
           k.signalling p h
           ∙ ap (λ (ped : List Ped). same_signal (get_or ped (p - 1) Walk) Walk || same_signal (get_or ped (p - 1) Walk) Flashes) (sym a.ped);
       last = each-ring c.last 0 (λ q. last_on q (m ∷ past.moments))
-          (k.last 1 (omega arith) (omega arith) ∙ last-again m past.moments 1 a.on a.mode going l.first)
-          (k.last 2 (omega arith) (omega arith) ∙ last-again m past.moments 2 a.on a.mode going l.second);
-      latest = k.latest ∙ latest-again m past.moments a.on a.mode going l.first;
+          (k.last 1 (omega arith) (omega arith) ∙ last-again m past.moments 1 a.on a.mode going)
+          (k.last 2 (omega arith) (omega arith) ∙ last-again m past.moments 2 a.on a.mode going);
+      latest = k.latest ∙ latest-again m past.moments a.on a.mode going;
       start = k.start ∙ start-zero past.moments going ∙ start-next m past.moments c.start_run false still k.start;
       counts = counts-on mode j c past k l g;
     }

@@ -2,11 +2,18 @@
 //! no register moves but those that count: the number of the tick, the clock, how long the command has stood, the counter
 //! of the cycle and its target.
 
-ghost use Rattle.std.specs.Prelude.{◌≡◌, ◌<◌, ◌≤◌, ◌+◌, ◌⊎◌, [], ℕ, true, IsTrue, None};
+ghost use Rattle.std.specs.Prelude.{◌≡◌, ◌≢◌, ◌==◌, get_or, if◌then◌else◌, ◌<◌, ◌≤◌, ◌+◌, ◌⊎◌, [], ℕ, true, IsTrue, None};
 
 use crate::Controller;
 use sig_types::{Mode, PhaseSet};
-use tick_context::{TickInputs, are_both_on, is_coord, is_defined, shows_sixteen};
+use tick_context::{TickInputs, is_coord, is_defined, shows_sixteen};
+
+/// Whether something is on in a ring.
+fn is_any_on(on: [u8; 2]) -> bool
+    ensures any { IsTrue result → (if get_or on 0 0 == 0 then get_or on 1 0 else get_or on 0 0) ≢ 0 }
+{
+    if on[0] == 0 { on[1] != 0 } else { true }
+}
 
 impl Controller {
     ghost use Rattle.sig_types.specs.Phases.{is_in};
@@ -144,7 +151,7 @@ impl Controller {
         ensures room { is_coord self.now.context.frame.mode ≡ true → 0 < result → counter_of self.now.count + result ≤ 4294967295 }
     {
         shows_sixteen(self.context.frame);
-        if !are_both_on(self.context.frame.on) {
+        if !is_any_on(self.context.frame.on) {
             0
         } else if !self.context.is_laid_out(self.shown.red) {
             0
@@ -152,7 +159,11 @@ impl Controller {
             0
         } else {
             let mode = self.mode_left(tick_inputs.opposed);
-            mode.min(self.phases_left(tick_inputs))
+            if mode == 0 {
+                return 0;
+            }
+            let shown = mode.min(self.phases_left());
+            shown.min(self.rings_left(tick_inputs))
         }
     }
 

@@ -11,14 +11,14 @@ use Rattle.controller.proofs.Controller.phases_left.Goals as goal
 
 pub returns-then-is_empty : goal.returns-then-is_empty
 returns-then-is_empty c = record {
-  left = λ past k p keeps b looks some within h. elim (cases_Bool (has c.union-busy.result p)) [
+  left = λ past k p keeps b some within h. elim (cases_Bool (has c.union-busy.result p)) [
     | inl i ↦ of-two (λ (q : ℕ). is_phase q ≡ true → PhaseLasts (bound c.args.self.now.context.frame.mode) k past q)
         c.union-busy.result c.of.result c.of-2.result c.minus.result c.minus-2.result _ _ p h
         c.of.ensures c.of-2.ensures c.minus.ensures.has c.minus-2.ensures.has
         (empty-has c.minus-2.result p h (c.is_empty.ensures.empty.0 c.if-is_empty.true))
         i
-        (c.place_left-one.ensures.left past k keeps b looks some (omega (arith, within)))
-        (c.place_left.ensures.left past k keeps b looks some (omega (arith, within))) h
+        (c.place_left-one.ensures.left past k keeps b some (omega (arith, within)))
+        (c.place_left.ensures.left past k keeps b some (omega (arith, within))) h
     | inr o ↦
         let apart = neither-of _ _ _ (c.union-busy.ensures.has p) o in
         let dark = neither-of _ _ _ (c.union-lit.ensures.has p) apart.0 in

@@ -78,9 +78,9 @@ returns-clause-keeps c = λ past k beside e at quiet opposed r.
       walking = walking;
       signalling = signalling;
       last = each-ring c.args.self.now.last 0 (λ q. last_on q (m ∷ past.moments))
-          (k.last 1 (omega arith) (omega arith) ∙ last-again m past.moments 1 (ap (λ (x : Frame). x.on) a) (ap (λ (x : Frame). x.mode) a) going r.first)
-          (k.last 2 (omega arith) (omega arith) ∙ last-again m past.moments 2 (ap (λ (x : Frame). x.on) a) (ap (λ (x : Frame). x.mode) a) going r.second);
-      latest = k.latest ∙ latest-again m past.moments (ap (λ (x : Frame). x.on) a) (ap (λ (x : Frame). x.mode) a) going r.first;
+          (k.last 1 (omega arith) (omega arith) ∙ last-again m past.moments 1 (ap (λ (x : Frame). x.on) a) (ap (λ (x : Frame). x.mode) a) going)
+          (k.last 2 (omega arith) (omega arith) ∙ last-again m past.moments 2 (ap (λ (x : Frame). x.on) a) (ap (λ (x : Frame). x.mode) a) going);
+      latest = k.latest ∙ latest-again m past.moments (ap (λ (x : Frame). x.on) a) (ap (λ (x : Frame). x.mode) a) going;
       start = k.start ∙ start-zero past.moments going
           ∙ start-next m past.moments c.args.self.now.start_run false (free-started m.frame.mode free) k.start;
       counts = λ n st. absurd (false≢true (sym (free-apart m.frame past.version n free) ∙ st));
