@@ -1,7 +1,7 @@
 //! For how many ticks a phase goes on with what it shows, by what was seen of it: until the first of its intervals is over, or a
 //! point of the plan comes at which it may end. An answer that is too small makes a stride shorter, and no frame another.
 
-ghost use Rattle.std.specs.Prelude.{◌≡◌, ◌<◌, ◌≤◌, ◌&&◌, ◌⊎◌, ℕ, true, not, Option, None, Some, []};
+ghost use Rattle.std.specs.Prelude.{◌≡◌, ◌<◌, ◌≤◌, ◌&&◌, ◌⊎◌, ℕ, true, not, Option, None, Some};
 
 use crate::Observer;
 use sig_types::{Colour, Ped, PhaseSet};
@@ -10,15 +10,15 @@ use tick_context::{TickInputs, is_coord};
 impl Observer {
     ghost use Rattle.sig_types.specs.Phases.{is_phase, is_in};
     ghost use Rattle.sig_types.specs.PhaseSet.{has};
-    ghost use Rattle.sig_types.specs.Colour.{colour_of, signal_of};
+    ghost use Rattle.sig_types.specs.Colour.{colour_of, signal_of, on_in};
     ghost use Rattle.sig_tables.specs.Past.{Past};
     ghost use Rattle.sig_tables.specs.Tables.{is_enabled};
     ghost use Rattle.sig_tables.specs.Calls.{is_green};
     ghost use Rattle.sig_tables.specs.Modes.{bound};
-    ghost use Rattle.sig_tables.specs.Seen.{frame_seen, demand_with, quiet_with};
+    ghost use Rattle.sig_tables.specs.Seen.{frame_seen, quiet_with};
     ghost use Rattle.call_store.specs.Signals.{SignalLasts};
     ghost use Rattle.tick_context.specs.Binds.{ActivePatternIs, IsBound};
-    ghost use Rattle.tick_context.specs.Lasting.{Looks, ColourLasts, StaysUnserved, HasNoGap, HasNoMaximum, HasNoReason, StaysUnforced, PhaseLasts, opposed_with};
+    ghost use Rattle.tick_context.specs.Lasting.{Looks, ColourLasts, StaysUnserved, HasNoGap, HasNoMaximum, HasNoReason, StaysUnforced, PhaseLasts, StaysOn, RingLasts, opposed_with};
     ghost use Rattle.observer.specs.Remembers.{Remembers};
 
     /// For how many ticks more a phase, 1 to 16, keeps its colour where it neither ends nor begins.
@@ -155,47 +155,68 @@ impl Observer {
         unserved.max(self.reason_left(phase, active, opposed))
     }
 
-    /// For how many ticks more a phase, 1 to 16, is not ended where it is Green: it is not forced off, and nothing has demand,
-    /// or it stays.
-    fn green_left(&self, tick_inputs: &TickInputs, phase: u8) -> u32
+    /// For how many ticks more what is on in a ring, or 0, is not done; none where nothing is on.
+    fn on_left(&self, tick_inputs: &TickInputs, phase: u8) -> u32
+        ensures left { (past : Past) (r k : ℕ) → Remembers self.now past → IsBound self.now.context.active_pattern past.tables self.now.context.frame.mode
+            → Looks (bound self.now.context.frame.mode) tick_inputs.now past → on_in (frame_seen past) r ≡ phase → 0 < k → k ≤ result
+            → StaysOn (bound self.now.context.frame.mode) k past r }
+    {
+        if phase == 0 {
+            0
+        } else if phase > 16 {
+            0
+        } else if !self.green().has(phase) {
+            u32::MAX
+        } else {
+            self.stay_left(tick_inputs, phase)
+        }
+    }
+
+    /// For how many ticks more both rings stay as they are: nothing ends in them, and nothing begins.
+    pub(crate) fn rings_left(&self, tick_inputs: &TickInputs) -> u32
+        ensures left { (past : Past) (k : ℕ) → Remembers self.now past → IsBound self.now.context.active_pattern past.tables self.now.context.frame.mode
+            → Looks (bound self.now.context.frame.mode) tick_inputs.now past → 0 < k → k ≤ result
+            → RingLasts (bound self.now.context.frame.mode) k past 1 × RingLasts (bound self.now.context.frame.mode) k past 2 }
+    {
+        let demand = tick_inputs.demand;
+        if demand.is_empty() {
+            return self.context.rings_left(demand, 0, 0);
+        }
+        let first = self.on_left(tick_inputs, self.context.frame.on[0]);
+        let second = self.on_left(tick_inputs, self.context.frame.on[1]);
+        self.context.rings_left(demand, first, second)
+    }
+
+    /// For how many ticks more a phase, 1 to 16, is not forced off where it is Green.
+    fn green_left(&self, phase: u8) -> u32
         requires above { 0 < phase }
         requires within { phase ≤ 16 }
         ensures unforced { (past : Past) (k : ℕ) → Remembers self.now past → IsBound self.now.context.active_pattern past.tables self.now.context.frame.mode
             → (is_enabled past.tables phase && is_green (frame_seen past) phase) ≡ true → 0 < k → k ≤ result
             → StaysUnforced (bound self.now.context.frame.mode) k past phase }
-        ensures stays { (past : Past) (k : ℕ) → Remembers self.now past → IsBound self.now.context.active_pattern past.tables self.now.context.frame.mode
-            → Looks (bound self.now.context.frame.mode) tick_inputs.now past
-            → (is_enabled past.tables phase && is_green (frame_seen past) phase) ≡ true → 0 < k → k ≤ result
-            → (demand_with (bound self.now.context.frame.mode) past ≡ [])
-            ⊎ (StaysUnserved k past phase ⊎ HasNoReason (bound self.now.context.frame.mode) k past phase) }
     {
         if !self.green().has(phase) {
             return u32::MAX;
         }
-        let unforced = self.context.unforced_left(phase);
-        if tick_inputs.demand.is_empty() {
-            unforced
-        } else {
-            unforced.min(self.stay_left(tick_inputs, phase))
-        }
+        self.context.unforced_left(phase)
     }
 
     /// For how many ticks more a phase, 1 to 16, goes on with what it shows.
-    fn phase_left(&self, tick_inputs: &TickInputs, phase: u8) -> u32
+    fn phase_left(&self, phase: u8) -> u32
         requires above { 0 < phase }
         requires within { phase ≤ 16 }
         ensures left { (past : Past) (k : ℕ) → Remembers self.now past → IsBound self.now.context.active_pattern past.tables self.now.context.frame.mode
-            → Looks (bound self.now.context.frame.mode) tick_inputs.now past → 0 < k → k ≤ result → PhaseLasts (bound self.now.context.frame.mode) k past phase }
+            → 0 < k → k ≤ result → PhaseLasts (bound self.now.context.frame.mode) k past phase }
     {
         let colour = self.colour_left(phase);
         let signal = self.signal_left(phase);
-        colour.min(signal).min(self.green_left(tick_inputs, phase))
+        colour.min(signal).min(self.green_left(phase))
     }
 
     /// For how many ticks more all of these phases go on with what they show.
-    fn least_left(&self, tick_inputs: &TickInputs, phases: PhaseSet) -> u32
+    fn least_left(&self, phases: PhaseSet) -> u32
         ensures left { (past : Past) (k p : ℕ) → Remembers self.now past → IsBound self.now.context.active_pattern past.tables self.now.context.frame.mode
-            → Looks (bound self.now.context.frame.mode) tick_inputs.now past → 0 < k → k ≤ result → is_phase p ≡ true → has phases p ≡ true
+            → 0 < k → k ≤ result → is_phase p ≡ true → has phases p ≡ true
             → PhaseLasts (bound self.now.context.frame.mode) k past p }
     {
         let mut rest = phases;
@@ -206,19 +227,19 @@ impl Observer {
             }
             let phase = rest.least();
             rest = rest.without(phase);
-            left = left.min(self.phase_left(tick_inputs, phase));
+            left = left.min(self.phase_left(phase));
         }
         0
     }
 
     /// For how many ticks more all phases go on with what they show; one in red with steady don't walk has no end.
-    pub(crate) fn phases_left(&self, tick_inputs: &TickInputs) -> u32
+    pub(crate) fn phases_left(&self) -> u32
         ensures left { (past : Past) (k p : ℕ) → Remembers self.now past → IsBound self.now.context.active_pattern past.tables self.now.context.frame.mode
-            → Looks (bound self.now.context.frame.mode) tick_inputs.now past → 0 < k → k ≤ result → is_phase p ≡ true
+            → 0 < k → k ≤ result → is_phase p ≡ true
             → PhaseLasts (bound self.now.context.frame.mode) k past p }
     {
         let lit = self.green().union(self.clearing());
         let busy = lit.union(self.signalling());
-        self.least_left(tick_inputs, busy)
+        self.least_left(busy)
     }
 }

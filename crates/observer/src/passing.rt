@@ -2,11 +2,18 @@
 //! what the last tick saw. The frame history has so many frames more, and beside it only what counts moves: the number of the
 //! tick, the clock, how long the command has stood, the counter of the cycle and its target.
 
-ghost use Rattle.std.specs.Prelude.{◌≡◌, ◌<◌, ◌≤◌, ◌+◌, ◌&&◌, [], ℕ, Bool, suc, true, false, not, IsTrue, None};
+ghost use Rattle.std.specs.Prelude.{◌≡◌, ◌≢◌, ◌==◌, get_or, if◌then◌else◌, ◌<◌, ◌≤◌, ◌+◌, ◌&&◌, [], ℕ, Bool, suc, true, false, not, IsTrue, None};
 
 use crate::Observer;
 use sig_types::{Mode, PhaseSet};
-use tick_context::{TickInputs, are_both_on, is_defined, shows_sixteen};
+use tick_context::{TickInputs, is_defined, shows_sixteen};
+
+/// Whether something is on in a ring.
+fn is_any_on(on: [u8; 2]) -> bool
+    ensures any { IsTrue result → (if get_or on 0 0 == 0 then get_or on 1 0 else get_or on 0 0) ≢ 0 }
+{
+    if on[0] == 0 { on[1] != 0 } else { true }
+}
 
 impl Observer {
     ghost use Rattle.sig_types.specs.Phases.{is_phase, is_in};
@@ -120,7 +127,7 @@ impl Observer {
         ensures room { 0 < result → self.now.context.frame.counter + result ≤ 4294967295 }
     {
         shows_sixteen(self.context.frame);
-        if !are_both_on(self.context.frame.on) {
+        if !is_any_on(self.context.frame.on) {
             return 0;
         }
         if !self.context.is_laid_out(self.red()) {
@@ -130,7 +137,8 @@ impl Observer {
         if mode == 0 {
             0
         } else {
-            mode.min(self.phases_left(tick_inputs))
+            let shown = mode.min(self.phases_left());
+            shown.min(self.rings_left(tick_inputs))
         }
     }
 

@@ -3,10 +3,9 @@ use Rattle.observer.proofs.Observer.phase_left.Goals as goal
 
 pub returns : goal.returns
 returns c = record {
-  left = λ past k keeps b looks some within. record {
+  left = λ past k keeps b some within. record {
     colour = c.colour_left-colour.ensures.left past k keeps some (omega (arith, within));
     signal = c.signal_left-signal.ensures.left past k keeps some (omega (arith, within));
     unforced = λ on. c.green_left.ensures.unforced past k keeps b on some (omega (arith, within));
-    stays = λ on. c.green_left.ensures.stays past k keeps b looks on some (omega (arith, within));
   };
 }

@@ -7,8 +7,8 @@ use Rattle.observer.proofs.Observer.phases_left.Goals as goal
 
 pub returns : goal.returns
 returns c = record {
-  left = λ past k p keeps b looks some within h. elim (cases_Bool (has c.union-busy.result p)) [
-    | inl i ↦ c.least_left.ensures.left past k p keeps b looks some within h i
+  left = λ past k p keeps b some within h. elim (cases_Bool (has c.union-busy.result p)) [
+    | inl i ↦ c.least_left.ensures.left past k p keeps b some within h i
     | inr o ↦
         let apart = neither-of _ _ _ (c.union-busy.ensures.has p) o in
         let dark = neither-of _ _ _ (c.union-lit.ensures.has p) apart.0 in
