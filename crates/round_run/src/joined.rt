@@ -1,4 +1,4 @@
-//! The order of a round that several workers settle, each in a thread of its own where one can be started.
+//! A round that several workers bring, in an order that they settle, each in a thread of its own where one can be started.
 
 ghost use Rattle.std.specs.Prelude.{ℕ, ◌≡◌, ◌<◌, ◌≤◌, ◌⊎◌, List, [], All, length, vec_len, vec_capacity, IfOk, IfErr};
 ghost use Rattle.scenario_data.specs.Content.{ScenarioContent};
@@ -12,12 +12,15 @@ use crate::serial::serial_round;
 use cab_book::Book;
 use cab_row::worked;
 use io_edge::Gate;
-use sig_types::NoMemory;
+use sig_types::{NoMemory, Stream};
 use std::alloc::Global;
 use std::thread::Threads;
 
 /// Fewer ticks than these, of all cabinets in a round, are few: their workers would be done before all had started.
 const FEW_TICKS: u64 = 16_384;
+
+/// An input or a frame counts as so many ticks, where it is asked whether a round brings little.
+const TICKS_OF_ITEM: u64 = 32;
 
 /// In how many parts so many workers share so many ticks of a round: one for up to five workers and for few ticks, two
 /// for six, and four for more.
@@ -38,13 +41,26 @@ fn parts_for(workers: u32, ticks: u64) -> u32
     }
 }
 
-/// The ticks of a round at all these cabinets, which are not shared yet.
-fn ticks_in(books: &[Book]) -> u64 {
-    let mut ticks: u64 = 0;
+/// How many items a pass has left at all these cabinets.
+fn left_in(books: &[Book], pass: u32) -> u64 {
+    let mut left: u64 = 0;
     for k in 0..books.len() {
-        ticks = ticks.wrapping_add(books[k].left(4) as u64);
+        left = left.wrapping_add(books[k].left(pass) as u64);
     }
-    ticks
+    left
+}
+
+/// Whether these cabinets have little to bring in a round whose ticks are not shared yet: threads would take longer to start than
+/// to bring it.
+fn is_little(books: &[Book]) -> bool {
+    let ticks = left_in(books, Stream::Ticks.number());
+    let mut items: u64 = 0;
+    for pass in 0..Stream::Ticks.number() {
+        items = items.wrapping_add(left_in(books, pass));
+    }
+    ticks < FEW_TICKS
+        && items < FEW_TICKS / TICKS_OF_ITEM
+        && ticks + items * TICKS_OF_ITEM < FEW_TICKS
 }
 
 /// Whether a pass has something to bring to one of these cabinets.
@@ -57,7 +73,7 @@ fn has_items(books: &[Book], pass: u32) -> bool {
     false
 }
 
-/// Whether one worker alone has something to bring in a round whose ticks are to be shared in so many parts.
+/// Whether at most one worker has something to bring in a round whose ticks are to be shared in so many parts.
 fn is_for_one(books: &[Book], workers: u32, parts: u32) -> bool
     requires { 1 ≤ workers }
 {
@@ -65,7 +81,7 @@ fn is_for_one(books: &[Book], workers: u32, parts: u32) -> bool
         return false;
     }
     let mut bringer = None;
-    for pass in 0..5 {
+    for pass in 0..=Stream::Ticks.number() {
         if has_items(books, pass) {
             let worker = pass % workers;
             match bringer {
@@ -79,6 +95,17 @@ fn is_for_one(books: &[Book], workers: u32, parts: u32) -> bool
         }
     }
     true
+}
+
+/// Whether a round whose ticks are to be shared in so many parts goes in the serial order.
+fn goes_serially<G: Gate>(books: &[Book], workers: u32, parts: u32, gate: &G) -> bool
+    requires { 1 ≤ workers }
+{
+    if is_for_one(books, workers, parts) {
+        true
+    } else {
+        !gate.wants_threads() && is_little(books)
+    }
 }
 
 /// Shares the ticks of each book's round, to which nothing was brought yet, in so many parts.
@@ -109,10 +136,11 @@ fn join_ticks(books: &mut Vec<Book>)
 /// All that comes to 1 to 64 cabinets in a round that was just begun is brought by passes in the hands of so many
 /// workers: the ticks are those of one pass for up to five workers or where they are few, of two for six, and of four
 /// for more, and there are four other passes. Worker w has the passes p with p mod workers = w, and calls the gate
-/// before each act (no clause says so). What the workers leave is brought in the serial order, and so is the whole
-/// round where one worker alone has something to bring. Whatever the order of the threads, each item of each stream
-/// is brought once, in its stream's order, and each book's journal tells the order that came of it. All memory is
-/// taken first: where it is wanting, the books come back as they were.
+/// before each act: no clause says who brings what, or that the gate is called. What the workers leave is brought in the
+/// serial order, and so is the whole round where at most one worker has something to bring, or where there is little
+/// and the gate wants no threads. Whatever the order of the threads, each item of each stream is brought once, in its
+/// stream's order, and each book's journal tells the order that came of it, with all ticks as those of one pass. All
+/// memory is taken first: where it is wanting, the books come back as they were.
 pub fn joined_round<R: Threads + Sync, G: Gate + Sync>(
     rt: &R,
     alloc: Global,
@@ -131,8 +159,8 @@ pub fn joined_round<R: Threads + Sync, G: Gate + Sync>(
     ensures room { IfOk result (λ v. vec_capacity v ≡ vec_capacity books) }
     ensures refused { IfErr result (λ e. (e.0.items ≡ books.items) × (vec_capacity e.0 ≡ vec_capacity books)) }
 {
-    let parts = parts_for(workers, ticks_in(books.as_slice()));
-    if is_for_one(books.as_slice(), workers, parts) {
+    let parts = parts_for(workers, left_in(books.as_slice(), Stream::Ticks.number()));
+    if goes_serially(books.as_slice(), workers, parts, gate) {
         serial_round(&mut books);
         return Ok(books);
     }
