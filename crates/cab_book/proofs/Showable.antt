@@ -1,5 +1,5 @@
 -- The numbers that an answer tells stay those of an INTEGER.
-use Rattle.std.proofs.Common.{◌≡◌, ◌≤◌, ◌<◌, ℕ, ◌==◌, ◌&&◌, ◌∙◌, Bool, true, false, inl, inr, if◌then◌else◌, nat_le, List, [], ◌∷◌, refl, sym, ap, subst, arith}
+use Rattle.std.proofs.Common.{◌≡◌, ◌≤◌, ◌<◌, ℕ, ◌==◌, ◌&&◌, ◌∙◌, Bool, true, false, inl, inr, if◌then◌else◌, nat_le, [], ◌∷◌, refl, sym, ap, subst, arith}
 use Rattle.std.proofs.lemmas.Nat.{mod_below}
 use Rattle.std.proofs.lemmas.Bool.{and_parts, and_from, leb-true, false≢true}
 use Rattle.std.proofs.lemmas.Bool.Decides.{eqb_tells}
@@ -12,8 +12,7 @@ use Rattle.sig_tables.specs.Putting.{EachFits}
 use Rattle.sig_tables.specs.Slots.{is_defined, cycle_time}
 use Rattle.sig_tables.specs.Clock.{clock_now, target_in}
 use Rattle.sig_tables.specs.Choosing.{mode_reached}
-use Rattle.sig_tables.specs.Counters.{counters_since, counter_in}
-use Rattle.sig_tables.specs.Counting.{last_counter}
+use Rattle.sig_tables.specs.Counters.{counter_in}
 use Rattle.sig_tables.specs.Past.{Past}
 use Rattle.sig_tables.specs.Seen.{mode_seen}
 use Rattle.sig_tables.specs.Decide.{next_moment, with_moment}

@@ -10,7 +10,7 @@ use Rattle.whole_run.proofs.Handed.{hands-first, hands-then, hands-none, within-
 use Rattle.scenario_data.specs.Content.{ScenarioContent}
 use Rattle.run_definition.specs.CabinetState.{CabinetState}
 use Rattle.run_definition.specs.Orders.{serial_rounds}
-use Rattle.run_definition.specs.Lines.{opening_lines, round_lines, rounds_lines, front_lines}
+use Rattle.run_definition.specs.Lines.{opening_lines, round_lines, front_lines}
 use Rattle.round_run.specs.Joined.{journals_in}
 use Rattle.round_run.specs.declared.rounds.ClosedLoop.{ClosedLoop}
 use Rattle.round_run.specs.ClosedLoop.{Between}

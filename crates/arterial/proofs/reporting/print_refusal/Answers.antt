@@ -1,4 +1,4 @@
-use Rattle.std.proofs.Common.{ℕ, List, codes, string_bytes, sym, ap, subst}
+use Rattle.std.proofs.Common.{ℕ, List, codes, sym, subst}
 use Rattle.scenario_data.specs.declared.refusal.Refusal.{Refusal}
 use Rattle.arterial.specs.Prints.{Prints}
 use Rattle.arterial.specs.Report.{named_line, refusal_line}
