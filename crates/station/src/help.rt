@@ -13,9 +13,10 @@ and its trace is proved to be the one that is due.
       with a mistake is refused before anything is written; one line on standard
       error says where the first mistake stands.
       With N from 1 to 8, so many workers bring what comes in a round, each in a
-      thread of its own, in an order that they settle among themselves; the
-      trace tells it. With 0, as without N, the order is always the same: what
-      comes from the street, the messages, the ticks.
+      thread of its own where the round brings enough, in an order that they
+      settle among themselves; the trace tells it. With 0, as without N, the
+      order is always the same: what comes from the street, the messages, the
+      ticks.
   arterial check < TRACE
       Reads a text (at most 67,108,864 bytes) from standard input and tells
       whether it is a trace: that of some scenario, in any order in which what
