@@ -67,6 +67,10 @@ impl Gate for Meeting {
             self.await_count(&self.inputs, 1);
         }
     }
+
+    fn wants_threads(&self) -> bool {
+        true
+    }
 }
 
 #[test]
