@@ -35,12 +35,13 @@ pub use faults::fault_in;
 pub use frames::frame_in;
 pub use inputs::input_in;
 pub use loads::load_in;
+pub use master::master_at;
 pub use members::{known_names, whole_at};
 pub use place::{Place, refuse_member};
 pub use priority::priority_in;
 pub use reading::{read, text};
 pub use scenario::{Parts, checked_parts, scenario_from};
-pub use setup::Setup;
+pub use setup::{Setup, community_at};
 pub use tables::all_judged;
 pub use values::{Unfit, flag_of, is_among, items_of, list_of, whole_of};
 

@@ -29,7 +29,7 @@ pub struct Setup {
 }
 
 /// The community of a scenario, 1 to 32 characters; `public` where none is said.
-fn community_at(alloc: Global, object: &Value) -> Result<ArrayVec<u8, 32>, ReadFail>
+pub fn community_at(alloc: Global, object: &Value) -> Result<ArrayVec<u8, 32>, ReadFail>
     ensures { Answers result (field_faults (steps_of Place.Top) (view object.now) community) (λ found. found.items ≡ text_of (held community (view object.now))) }
 {
     match object.get("community") {
