@@ -162,9 +162,10 @@ object-entire f is shape good goods path (object ms) sorted e = kept-object f is
 
 -- ---- the parts of a scenario
 
-cells-entire : (least most : ℕ) → Entire Rows (list_of least most cell)
-cells-entire least most =
-    list-entire Rows (record { opens = refl; closed = refl }) least most cell (λ path ds sorted few e. each-entire Row cell cell-entire (λ path n d e. refl) path 0 0 ds sorted e)
+cells-entire : (least most : ℕ) → most ≤ 4096 → Entire Rows (list_of least most cell)
+cells-entire least most low =
+    list-entire Rows (record { opens = refl; closed = refl }) least most cell
+    (λ path ds sorted few e. counted-entire Row cell cell-entire (λ n d. refl) path 4096 0 ds sorted (omega (arith, low, le-of (items_len ds) most few)) e)
 
 drift-entire : (two : Bool) → AllGive (KeptAt Cabinet) (if two then Table.gain ∷ Table.lose ∷ [] else [])
 drift-entire true = (rare-entire 12000 864000, (rare-entire 12000 864000, tt))
@@ -174,7 +175,7 @@ cabinet-entire : (version : ℕ) → Entire Cabinet (Table.cabinet version)
 cabinet-entire version =
     more-entire Cabinet (object_of (Table.cabinet_shape version)) (Table.drift_faults version)
     (object-entire Cabinet is-cabinet (Table.cabinet_shape version)
-    (word-entire (codes "std8" ∷ codes "max8" ∷ []), (cells-entire 0 4096, (whole-entire 0 255, (whole-entire 0 863999, (whole-entire 1 8, drift-entire (version == 2)))))) tt)
+    (word-entire (codes "std8" ∷ codes "max8" ∷ []), (cells-entire 0 4096 (omega arith), (whole-entire 0 255, (whole-entire 0 863999, (whole-entire 1 8, drift-entire (version == 2)))))) tt)
 
 cabinets-entire : (version : ℕ) → Entire Cabinets (list_of 1 64 (Table.cabinet version))
 cabinets-entire version =
@@ -206,7 +207,7 @@ input-entire rounds cabinets =
 load-entire : (rounds cabinets : ℕ) (earlier : List ℕ) → Entire Event (Table.load rounds cabinets earlier)
 load-entire rounds cabinets earlier =
     more-entire Event (object_of (Table.load_shape rounds cabinets)) (λ path d. Table.full_faults earlier path (Table.load_cabinet cabinets d))
-    (object-entire Event is-event (Table.load_shape rounds cabinets) (whole-entire 1 rounds, (whole-entire 1 cabinets, (cells-entire 1 768, tt))) tt)
+    (object-entire Event is-event (Table.load_shape rounds cabinets) (whole-entire 1 rounds, (whole-entire 1 cabinets, (cells-entire 1 768 (omega arith), tt))) tt)
 
 priority-entire : (rounds cabinets : ℕ) → Entire Event (Table.priority_item rounds cabinets)
 priority-entire rounds cabinets =

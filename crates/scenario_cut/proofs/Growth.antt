@@ -3,7 +3,7 @@ use Rattle.std.proofs.Common.{◌≡◌, ℕ, suc, ◌&&◌, true, false, if◌t
 use Rattle.std.specs.Cmp.Lexicographic.{slice_cmp}
 use Rattle.std.specs.Ordering.{match_ordering}
 use Rattle.serde_json.specs.Data.{Data, null, array, object, Items, no_items, item, Members, no_members, member, put}
-use Rattle.scenario_cut.specs.Cutting.{Form, Street, Field, Whole, Cabinets, Cabinet, Events, Event, Master, Entries, Entry, Respond, Sections, Section, Rows, Row, Bare, opens_array, opens_object, item_form, member_form, room, room_behind, cut, cut_items, cut_members}
+use Rattle.scenario_cut.specs.Cutting.{Form, Street, Field, Whole, Setup, Cabinets, Cabinet, Events, Event, Master, Entries, Entry, Respond, Sections, Section, Rows, Row, Bare, opens_array, opens_object, item_form, member_form, room, room_behind, cut, cut_items, cut_members}
 use Rattle.scenario_cut.specs.Growing.{both}
 use Rattle.scenario_cut.proofs.Members.{IsObject, some-cut, equal-names}
 use Rattle.scenario_cut.proofs.Turns.{both-more}
@@ -13,6 +13,7 @@ pub room-same : (f : Form) (n : ℕ) (d : Data) → room_behind f n (cut f d) �
 room-same Street n d = refl
 room-same Field n d = refl
 room-same Whole n d = refl
+room-same Setup n d = refl
 room-same Cabinets n d = refl
 room-same Cabinet n d = refl
 room-same Events n d = refl

@@ -118,11 +118,6 @@ behind-same kind says path (object ms) same = refl
 
 -- ---- what items say
 
-pub says-kept : {A : Type 0} (f : Form) (says : Data → A) → ((d : Data) → says (cut f d) ≡ says d) → ((n : ℕ) (d : Data) → room_behind f n d ≡ suc n) → (n : ℕ) (ds : Items) → each_of says (cut_items f (suc n) ds) ≡ each_of says ds
-says-kept f says same all n no_items = refl
-says-kept f says same all n (item d ds) =
-    ap (λ a. a ∷ each_of says (cut_items f (room_behind f n d) ds)) (same d) ∙ ap (λ m. says d ∷ each_of says (cut_items f m ds)) (all n d) ∙ ap (λ rest. says d ∷ rest) (says-kept f says same all n ds)
-
 pub says-counted : {A : Type 0} (f : Form) (says : Data → A) → ((d : Data) → says (cut f d) ≡ says d) → ((n : ℕ) (d : Data) → room_behind f n d ≡ n) → (n : ℕ) (ds : Items) → items_len ds ≤ n → each_of says (cut_items f n ds) ≡ each_of says ds
 says-counted f says same counts n no_items few = refl
 says-counted f says same counts zero (item d ds) few = absurd (omega (arith, few))

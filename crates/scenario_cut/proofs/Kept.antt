@@ -15,7 +15,7 @@ use Rattle.scenario_read.specs.Table.{number_at, act_of, request_of, load, full_
 use Rattle.scenario_cut.specs.Cutting.{Cabinet, Event, Master, Entries, Entry, Rows, Row, Bare, is_of_a_round, cut}
 use Rattle.scenario_cut.proofs.Same.{Same, Faulty, same-both, faulty-first, faulty-later}
 use Rattle.scenario_cut.proofs.Members.{IsObject, AllKeep, object-same, held-cut, some-cut}
-use Rattle.scenario_cut.proofs.Items.{KeepsItem, Stops, each-kept, each-counted, list-same}
+use Rattle.scenario_cut.proofs.Items.{KeepsItem, Stops, each-counted, list-same}
 use Rattle.scenario_cut.proofs.Bare.{bare-says, cell-fits}
 
 -- ---- a place where only a number, a text or a word may stand
@@ -46,12 +46,16 @@ bare-number = bare-says whole_of (λ (ds : Items). refl) (λ (ms : Members). ref
 
 -- ---- cells
 
+pub le-of : (n m : ℕ) → nat_le n m ≡ true → n ≤ m
+le-of n m e = leb-true n m e
+
 cell-same : KeepsItem Row cell
 cell-same path d = ap (λ fit. first_cause (fault_at path fit)) (cell-fits d)
 
-pub cells-same : (least most : ℕ) → KeepsItem Rows (list_of least most cell)
-cells-same least most path d =
-    list-same Rows (record { opens = refl; closed = refl }) least most cell path d (λ ds few. each-kept Row cell cell-same (λ n d. refl) path 0 0 ds)
+-- a list of no more cells than are kept
+pub cells-same : (least most : ℕ) → most ≤ 4096 → KeepsItem Rows (list_of least most cell)
+cells-same least most low path d =
+    list-same Rows (record { opens = refl; closed = refl }) least most cell path d (λ ds few. each-counted Row cell cell-same (λ n d. refl) path 4096 0 ds (omega (arith, low, le-of (items_len ds) most few)))
 
 -- ---- a cabinet
 
@@ -74,16 +78,13 @@ pub cabinet-same : (version : ℕ) → KeepsItem Cabinet (Table.cabinet version)
 cabinet-same version path d =
     same-both (object_of (Table.cabinet_shape version) path (cut Cabinet d)) (object_of (Table.cabinet_shape version) path d) (drift_faults version path (cut Cabinet d)) (drift_faults version path d)
     (object-same Cabinet is-cabinet (Table.cabinet_shape version) path d
-    (word-same (codes "std8" ∷ codes "max8" ∷ []), (cells-same 0 4096, (whole-same 0 255, (whole-same 0 863999, (whole-same 1 8, drift-fields version))))) tt)
+    (word-same (codes "std8" ∷ codes "max8" ∷ []), (cells-same 0 4096 (omega arith), (whole-same 0 255, (whole-same 0 863999, (whole-same 1 8, drift-fields version))))) tt)
     (ap first_cause (drift-same version path d))
 
 -- ---- the master
 
 entry-same : KeepsItem Entry (object_of Table.entry_shape)
 entry-same path d = object-same Entry (record { opens = refl; closed = refl }) Table.entry_shape path d (whole-same 0 86399, (whole-same 1 8, (whole-same 0 255, tt))) tt
-
-pub le-of : (n m : ℕ) → nat_le n m ≡ true → n ≤ m
-le-of n m e = leb-true n m e
 
 -- a list of no more entries than are kept
 pub entries-same : (most : ℕ) → most ≤ 1000 → (kind : Kind) → KeepsItem Entry kind → KeepsItem Entries (list_of 0 most kind)
@@ -112,7 +113,7 @@ load-cabinet-same cabinets d = held-cut Event is-event (cabinet_number cabinets)
 pub load-same : (rounds cabinets : ℕ) (earlier : List ℕ) → KeepsItem Event (load rounds cabinets earlier)
 load-same rounds cabinets earlier path d =
     same-both (object_of (Table.load_shape rounds cabinets) path (cut Event d)) (object_of (Table.load_shape rounds cabinets) path d) (full_faults earlier path (load_cabinet cabinets (cut Event d))) (full_faults earlier path (load_cabinet cabinets d))
-    (object-same Event is-event (Table.load_shape rounds cabinets) path d (whole-same 1 rounds, (whole-same 1 cabinets, (cells-same 1 768, tt))) tt)
+    (object-same Event is-event (Table.load_shape rounds cabinets) path d (whole-same 1 rounds, (whole-same 1 cabinets, (cells-same 1 768 (omega arith), tt))) tt)
     (ap (λ c. first_cause (full_faults earlier path c)) (load-cabinet-same cabinets d))
 
 pub act-same : (d : Data) → act_of (cut Event d) ≡ act_of d

@@ -11,3 +11,7 @@ pub mod Right
 pub mod Shapes
 pub mod Turns
 pub mod Growth
+pub mod Judging
+pub mod Verdicts
+pub mod Checking
+pub mod Lasting

@@ -77,7 +77,7 @@ EachKeeps f [] = Unit {0}
 EachKeeps f (fields ∷ more) = AllKeep f fields × EachKeeps f more
 
 module _ (f : Form) (is : IsObject f) where
-  field-same : (path : List Step) (d : Data) (field : Field) → CutKeeps f field → Same (field_faults path (cut f d) field) (field_faults path d field)
+  pub field-same : (path : List Step) (d : Data) (field : Field) → CutKeeps f field → Same (field_faults path (cut f d) field) (field_faults path d field)
   field-same path d field keeps =
       ap (λ o. first_cause (faults_of field.kind (then_named path field.name) (either o field.default))) (get-cut f is field.name d) ∙ at (get field.name d)
     where
@@ -124,7 +124,7 @@ module _ (f : Form) (is : IsObject f) where
       let all = fields ∷ more in
       ap (λ some. first_cause (chosen_faults path (cut f d) (only_one some))) (standing-same d all) ∙ chosen-same path d (only_one (filter (stands d) all)) (one-keeps d all each)
 
-  unknown-same : (known : List (List ℕ)) (path : List Step) (ms : Members) → unknown_faults known path (cut_members f ms) ≡ unknown_faults known path ms
+  pub unknown-same : (known : List (List ℕ)) (path : List Step) (ms : Members) → unknown_faults known path (cut_members f ms) ≡ unknown_faults known path ms
   unknown-same known path no_members = refl
   unknown-same known path (member name d ms) = ap (λ rest. if is_among known name then rest else FieldCause (path_text (then_named path name)) ∷ rest) (unknown-same known path ms)
 

@@ -1,5 +1,5 @@
 -- What is kept of a scenario's value has its first fault.
-use Rattle.std.proofs.Common.{◌≡◌, ℕ, suc, ◌*◌, ◌==◌, ◌&&◌, nat_le, Bool, true, false, if◌then◌else◌, List, [], ◌∷◌, ◌++◌, length, codes, Option, Some, None, option_map, unwrap_or, refl, sym, ap, ap₂, ◌∙◌, subst}
+use Rattle.std.proofs.Common.{◌≡◌, ◌≤◌, ℕ, zero, suc, ◌+◌, ◌*◌, ◌==◌, ◌&&◌, nat_le, Bool, true, false, if◌then◌else◌, List, [], ◌∷◌, ◌++◌, length, codes, Option, Some, None, option_map, unwrap_or, refl, sym, ap, ap₂, ◌∙◌, subst, arith}
 use Rattle.serde_json.specs.Data.{Data, null, boolean, number, string, array, object, Items, no_items, item, Members}
 use Rattle.serde_json.specs.Events.{items_len}
 use Rattle.serde_json.specs.Find.{get}
@@ -8,18 +8,18 @@ use Rattle.scenario_data.specs.declared.refusal.ReadFail.TheVariants.{Refused, N
 use Rattle.scenario_read.specs.Readers.{Refuses}
 use Rattle.scenario_data.specs.Causes.{Cause, Names}
 use Rattle.scenario_data.specs.Content.{CabinetContent}
-use Rattle.scenario_read.specs.Paths.{Step, then_named}
-use Rattle.scenario_read.specs.Kinds.{Fit, Fits, Wrong, Beyond, Kind, fault_at, list_fits, list_of, list_behind, items_in, each}
+use Rattle.scenario_read.specs.Paths.{Step, then_named, then_item}
+use Rattle.scenario_read.specs.Kinds.{Fit, Fits, Wrong, Beyond, Kind, fault_at, within, list_fits, list_of, list_behind, items_in, each}
 use Rattle.scenario_read.specs.Fields.{Field, held, either, faults_of, field_faults, fields_faults, object_of, unknown_faults, names, known_fields}
-use Rattle.scenario_read.specs.CellLists.{cell_of, whole_of}
+use Rattle.scenario_read.specs.CellLists.{cell, cell_of, whole_of}
 use Rattle.scenario_read.specs.Table
 use Rattle.scenario_read.specs.Table.{number_at, load, load_cabinet}
 use Rattle.scenario_read.specs.Content.{each_of, list_in, base_of, cabinet_of, drift_at, version_number, round_count, tick_count, cabinets_of, cabinet_count}
 use Rattle.scenario_read.specs.Faults.{named_faults, product_faults, all_table_faults, faults, first_cause}
-use Rattle.scenario_cut.specs.Cutting.{Whole, Cabinets, Cabinet, Events, Event, Rows, Row, Bare, cut, member_form}
+use Rattle.scenario_cut.specs.Cutting.{Whole, Cabinets, Cabinet, Events, Event, Rows, Row, Bare, cut, cut_items, member_form}
 use Rattle.scenario_cut.proofs.Same.{Same, Faulty, same-both, same-ended}
 use Rattle.scenario_cut.proofs.Members.{IsObject, AllKeep, object-same, held-cut, get-cut}
-use Rattle.scenario_cut.proofs.Items.{KeepsItem, Stops, items-len, list-same, each-counted, each-event, each-behind-event, behind-same, says-kept, says-counted}
+use Rattle.scenario_cut.proofs.Items.{KeepsItem, Stops, items-len, list-same, each-counted, each-event, each-behind-event, behind-same, says-counted}
 use Rattle.scenario_cut.proofs.Bare.{bare-says, cell-said}
 use Rattle.scenario_cut.proofs.Kept.{whole-same, text-same, bare-number, is-cabinet, cabinet-same, master-same, input-same, load-same, load-cabinet-same, priority-same, frame-same, fault-same, object-stops, load-stops, priority-stops, le-of}
 
@@ -117,44 +117,6 @@ named-same d =
 
 -- ---- the tables
 
-cells-said : (d : Data) → list_in cell_of (cut Rows d) ≡ list_in cell_of d
-cells-said null = refl
-cells-said (boolean b) = refl
-cells-said (number n) = refl
-cells-said (string s) = refl
-cells-said (array ds) = says-kept Row cell_of cell-said (λ n d. refl) 0 ds
-cells-said (object ms) = refl
-
-drift-said : (version : ℕ) (field : Field) → member_form Cabinet field.name ≡ Bare → (d : Data) → drift_at version field (cut Cabinet d) ≡ drift_at version field d
-drift-said version field bare d = ap (λ n. if version == 2 then n else 0) (held-cut Cabinet is-cabinet field whole_of (λ v. ap (λ f. whole_of (cut f v)) bare ∙ bare-number v) d)
-
-cabinet-said : (version : ℕ) (d : Data) → cabinet_of version (cut Cabinet d) ≡ cabinet_of version d
-cabinet-said version d =
-    rw (
-      held-cut Cabinet is-cabinet Table.base base_of (bare-says base_of (λ (ds : Items). refl) (λ (ms : Members). refl)) d,
-      held-cut Cabinet is-cabinet Table.cells (list_in cell_of) cells-said d,
-      held-cut Cabinet is-cabinet Table.pattern whole_of bare-number d,
-      held-cut Cabinet is-cabinet Table.clock whole_of bare-number d,
-      held-cut Cabinet is-cabinet Table.section whole_of bare-number d,
-      drift-said version Table.gain refl d,
-      drift-said version Table.lose refl d,
-    ) refl
-
--- where there are no more cabinets than there may be
-cabinets-said : (version : ℕ) (d : Data) → list_fits 1 64 d ≡ Fits → list_in (cabinet_of version) (cut Cabinets d) ≡ list_in (cabinet_of version) d
-cabinets-said version null fits = refl
-cabinets-said version (boolean b) fits = refl
-cabinets-said version (number n) fits = refl
-cabinets-said version (string s) fits = refl
-cabinets-said version (array ds) fits = says-counted Cabinet (cabinet_of version) (cabinet-said version) (λ n d. refl) 64 ds (le-of (items_len ds) 64 (few (nat_le 1 (items_len ds)) (nat_le (items_len ds) 64) refl fits))
-  where
-    few : (a b : Bool) → nat_le (items_len ds) 64 ≡ b → (if a && b then Fits else Beyond) ≡ Fits → nat_le (items_len ds) 64 ≡ true
-    few true true is fits = is
-    few true false is fits = absurd (cc)
-    few false true is fits = absurd (cc)
-    few false false is fits = absurd (cc)
-cabinets-said version (object ms) fits = refl
-
 none-first : (xs ys : List Cause) → xs ++ ys ≡ [] → xs ≡ []
 none-first [] ys e = refl
 none-first (x ∷ xs) ys e = absurd (cc)
@@ -168,13 +130,100 @@ fits-of path Fits e = refl
 fits-of path Wrong e = absurd (cc)
 fits-of path Beyond e = absurd (cc)
 
-cabinets-fit : (d w : Data) → named_faults d ≡ [] → get (codes "cabinets") d ≡ Some w → list_fits 1 64 w ≡ Fits
-cabinets-fit null w none is = absurd (cc)
-cabinets-fit (boolean b) w none is = absurd (cc)
-cabinets-fit (number n) w none is = absurd (cc)
-cabinets-fit (string s) w none is = absurd (cc)
-cabinets-fit (array ds) w none is = absurd (cc)
-cabinets-fit (object ms) w none is =
+few-of : (least most n : ℕ) → within least most n ≡ Fits → n ≤ most
+few-of least most n fits = le-of n most (at (nat_le least n) (nat_le n most) refl fits)
+  where
+    at : (a b : Bool) → nat_le n most ≡ b → (if a && b then Fits else Beyond) ≡ Fits → nat_le n most ≡ true
+    at true true is k = is
+    at true false is k = absurd (cc)
+    at false true is k = absurd (cc)
+    at false false is k = absurd (cc)
+
+-- where there are no more cells than are kept
+cells-said : (d : Data) → list_fits 0 4096 d ≡ Fits → list_in cell_of (cut Rows d) ≡ list_in cell_of d
+cells-said null fits = refl
+cells-said (boolean b) fits = refl
+cells-said (number n) fits = refl
+cells-said (string s) fits = refl
+cells-said (array ds) fits = says-counted Row cell_of cell-said (λ n d. refl) 4096 ds (few-of 0 4096 (items_len ds) fits)
+cells-said (object ms) fits = refl
+
+-- the cells that a cabinet has, or none
+abbrev cells_or_none : Option Data → Data
+cells_or_none o = unwrap_or (either o (Some (array no_items))) null
+
+abbrev pub CellsFit : Data → Type 0
+CellsFit d = list_fits 0 4096 (cells_or_none (get (codes "cells") d)) ≡ Fits
+
+held-cells : (d : Data) → CellsFit d → list_in cell_of (held Table.cells (cut Cabinet d)) ≡ list_in cell_of (held Table.cells d)
+held-cells d fits = ap (λ o. list_in cell_of (cells_or_none o)) (get-cut Cabinet is-cabinet (codes "cells") d) ∙ at (get (codes "cells") d) fits
+  where
+    at : (o : Option Data) → list_fits 0 4096 (cells_or_none o) ≡ Fits → list_in cell_of (cells_or_none (option_map (cut Rows) o)) ≡ list_in cell_of (cells_or_none o)
+    at None k = refl
+    at (Some v) k = cells-said v k
+
+drift-said : (version : ℕ) (field : Field) → member_form Cabinet field.name ≡ Bare → (d : Data) → drift_at version field (cut Cabinet d) ≡ drift_at version field d
+drift-said version field bare d = ap (λ n. if version == 2 then n else 0) (held-cut Cabinet is-cabinet field whole_of (λ v. ap (λ f. whole_of (cut f v)) bare ∙ bare-number v) d)
+
+pub cabinet-said : (version : ℕ) (d : Data) → CellsFit d → cabinet_of version (cut Cabinet d) ≡ cabinet_of version d
+cabinet-said version d fits =
+    rw (
+      held-cut Cabinet is-cabinet Table.base base_of (bare-says base_of (λ (ds : Items). refl) (λ (ms : Members). refl)) d,
+      held-cells d fits,
+      held-cut Cabinet is-cabinet Table.pattern whole_of bare-number d,
+      held-cut Cabinet is-cabinet Table.clock whole_of bare-number d,
+      held-cut Cabinet is-cabinet Table.section whole_of bare-number d,
+      drift-said version Table.gain refl d,
+      drift-said version Table.lose refl d,
+    ) refl
+
+-- a cabinet without faults has cells that fit
+pub cells-fit : (version : ℕ) (path : List Step) (d : Data) → Table.cabinet version path d ≡ [] → CellsFit d
+cells-fit version path null e = absurd (cc)
+cells-fit version path (boolean b) e = absurd (cc)
+cells-fit version path (number n) e = absurd (cc)
+cells-fit version path (string s) e = absurd (cc)
+cells-fit version path (array ds) e = absurd (cc)
+cells-fit version path (object ms) e =
+    let d = object ms in
+    let shape = Table.cabinet_shape version in
+    let named = none-first (object_of shape path d) (Table.drift_faults version path d) e in
+    let fields = none-first (fields_faults path d shape.fields) [] (none-later (unknown_faults (names (known_fields shape d)) path ms) (fields_faults path d shape.fields ++ []) named) in
+    let behind = Table.pattern ∷ Table.clock ∷ Table.section ∷ Table.drift_fields version in
+    let at-base = none-later (field_faults path d Table.base) (fields_faults path d (Table.cells ∷ behind)) fields in
+    at (then_named path (codes "cells")) (get (codes "cells") d) (none-first (field_faults path d Table.cells) (fields_faults path d behind) at-base)
+  where
+    at : (here : List Step) (o : Option Data) → faults_of (list_of 0 4096 cell) here (either o (Some (array no_items))) ≡ [] → list_fits 0 4096 (cells_or_none o) ≡ Fits
+    at here None k = refl
+    at here (Some v) k = fits-of here (list_fits 0 4096 v) (none-first (fault_at here (list_fits 0 4096 v)) (each cell here 0 (items_in v)) k)
+
+-- cabinets without faults
+each-said : (version : ℕ) (path : List Step) (n p : ℕ) (ds : Items) → items_len ds ≤ n → each (Table.cabinet version) path p ds ≡ [] → each_of (cabinet_of version) (cut_items Cabinet n ds) ≡ each_of (cabinet_of version) ds
+each-said version path n p no_items few e = refl
+each-said version path zero p (item d ds) few e = absurd (omega (arith, few))
+each-said version path (suc n) p (item d ds) few e =
+    let here = none-first (Table.cabinet version (then_item path p) d) (each (Table.cabinet version) path (p + 1) ds) e in
+    let later = none-later (Table.cabinet version (then_item path p) d) (each (Table.cabinet version) path (p + 1) ds) e in
+    ap₂ (λ (c : CabinetContent) cs. c ∷ cs) (cabinet-said version d (cells-fit version (then_item path p) d here)) (each-said version path n (p + 1) ds (omega (arith, few)) later)
+
+cabinets-said : (version : ℕ) (path : List Step) (d : Data) → list_of 1 64 (Table.cabinet version) path d ≡ [] → list_in (cabinet_of version) (cut Cabinets d) ≡ list_in (cabinet_of version) d
+cabinets-said version path null e = refl
+cabinets-said version path (boolean b) e = refl
+cabinets-said version path (number n) e = refl
+cabinets-said version path (string s) e = refl
+cabinets-said version path (array ds) e =
+    let own = fault_at path (within 1 64 (items_len ds)) in
+    let inner = each (Table.cabinet version) path 0 ds in
+    each-said version path 64 0 ds (few-of 1 64 (items_len ds) (fits-of path (within 1 64 (items_len ds)) (none-first own inner e))) (none-later own inner e)
+cabinets-said version path (object ms) e = refl
+
+cabinets-clean : (d w : Data) → named_faults d ≡ [] → get (codes "cabinets") d ≡ Some w → list_of 1 64 (Table.cabinet (version_number d)) (then_named [] (codes "cabinets")) w ≡ []
+cabinets-clean null w none is = absurd (cc)
+cabinets-clean (boolean b) w none is = absurd (cc)
+cabinets-clean (number n) w none is = absurd (cc)
+cabinets-clean (string s) w none is = absurd (cc)
+cabinets-clean (array ds) w none is = absurd (cc)
+cabinets-clean (object ms) w none is =
     let d = object ms in
     let version = version_number d in
     let events = Table.event_fields (round_count d) (cabinet_count d) in
@@ -186,8 +235,7 @@ cabinets-fit (object ms) w none is =
     let at-community = none-later (field_faults [] d Table.ticks) (fields_faults [] d (Table.community ∷ Table.cabinets version ∷ Table.master ∷ events)) at-ticks in
     let at-cabinets = none-later (field_faults [] d Table.community) (fields_faults [] d (Table.cabinets version ∷ Table.master ∷ events)) at-community in
     let here = none-first (field_faults [] d (Table.cabinets version)) (fields_faults [] d (Table.master ∷ events)) at-cabinets in
-    let there = subst (λ o. faults_of (list_of 1 64 (Table.cabinet version)) path (either o None) ≡ []) is here in
-    fits-of path (list_fits 1 64 w) (none-first (fault_at path (list_fits 1 64 w)) (each (Table.cabinet version) path 0 (items_in w)) there)
+    subst (λ o. faults_of (list_of 1 64 (Table.cabinet version)) path (either o None) ≡ []) is here
 
 tables-said : (d : Data) → named_faults d ≡ [] → cabinets_of (cut Whole d) ≡ cabinets_of d
 tables-said d none =
@@ -199,7 +247,7 @@ tables-said d none =
 
     at : (o : Option Data) → get (codes "cabinets") d ≡ o → list_in (cabinet_of version) (unwrap_or (either (option_map (cut Cabinets) o) None) null) ≡ list_in (cabinet_of version) (unwrap_or (either o None) null)
     at None is = refl
-    at (Some w) is = cabinets-said version w (cabinets-fit d w none is)
+    at (Some w) is = cabinets-said version (then_named [] (codes "cabinets")) w (cabinets-clean d w none is)
 
 pub first-kept : (d : Data) → Same (faults (cut Whole d)) (faults d)
 first-kept d = at (named_faults d) refl

@@ -5,7 +5,7 @@ use Rattle.std.specs.Prelude.{ℕ, zero, suc, ◌&&◌, ◌||◌, Bool, true, fa
 use Rattle.serde_json.specs.Data.{Data, null, boolean, number, string, array, object, Items, no_items, item, Members, no_members, member}
 use Rattle.serde_json.specs.Find.{get}
 pub use Rattle.scenario_cut.specs.declared.form.Form.{Form}
-pub use Rattle.scenario_cut.specs.declared.form.Form.TheVariants.{Street, Field, Whole, Cabinets, Cabinet, Events, Event, Master, Entries, Entry, Respond, Sections, Section, Rows, Row, Bare}
+pub use Rattle.scenario_cut.specs.declared.form.Form.TheVariants.{Street, Field, Whole, Setup, Cabinets, Cabinet, Events, Event, Master, Entries, Entry, Respond, Sections, Section, Rows, Row, Bare}
 
 -- an array may stand there
 abbrev pub opens_array : Form → Bool
@@ -22,6 +22,7 @@ abbrev pub opens_object : Form → Bool
 opens_object Street = true
 opens_object Field = true
 opens_object Whole = true
+opens_object Setup = true
 opens_object Cabinet = true
 opens_object Event = true
 opens_object Master = true
@@ -57,6 +58,7 @@ member_form Whole name =
     if bytes_eq name (codes "cabinets") then Cabinets else
     if bytes_eq name (codes "master") then Master else
     if is_event_list name then Events else Bare
+member_form Setup name = if bytes_eq name (codes "master") then Master else Bare
 member_form Cabinet name = if bytes_eq name (codes "cells") then Rows else Bare
 member_form Event name = if bytes_eq name (codes "cells") then Rows else Bare
 member_form Master name = if bytes_eq name (codes "schedule") then Entries else Bare
@@ -73,12 +75,14 @@ abbrev pub room : Form → ℕ
 room Cabinet = 64
 room Entry = 1000
 room Section = 8
+room Row = 4096
 room _ = 1
 
 abbrev pub room_behind : Form → ℕ → Data → ℕ
 room_behind Cabinet n d = n
 room_behind Entry n d = n
 room_behind Section n d = n
+room_behind Row n d = n
 room_behind Event n d = if is_of_a_round d then suc n else 0
 room_behind _ n d = suc n
 

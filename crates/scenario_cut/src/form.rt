@@ -7,14 +7,15 @@ ghost use Rattle.scenario_cut.specs.Cutting.{opens_array, opens_object, item_for
 
 use serde_json::Value;
 
-/// A place: an object that asks of bands, and a field file; a whole scenario; its lists of cabinets and of what happens, with their
-/// items; the master with its entries; the rules by which patterns follow traffic, with their sections; cells, one of them, and any
-/// other place, where only a number, a text or a word may stand.
+/// A place: an object that asks of bands, and a field file; a whole scenario; a scenario but for its lists of cabinets and of what
+/// happens; these lists, with their items; the master with its entries; the rules by which patterns follow traffic, with their
+/// sections; cells, one of them, and any other place, where only a number, a text or a word may stand.
 #[derive(Clone, Copy)]
 pub enum Form {
     Street,
     Field,
     Whole,
+    Setup,
     Cabinets,
     Cabinet,
     Events,
@@ -49,6 +50,7 @@ pub(crate) fn opens_object(form: Form) -> bool
         Form::Street
             | Form::Field
             | Form::Whole
+            | Form::Setup
             | Form::Cabinet
             | Form::Event
             | Form::Master
@@ -115,6 +117,11 @@ pub(crate) fn member_form(form: Form, name: &str) -> Form
         } else {
             Form::Bare
         },
+        Form::Setup => if name == "master" {
+            Form::Master
+        } else {
+            Form::Bare
+        },
         Form::Cabinet | Form::Event => if name == "cells" {
             Form::Rows
         } else {
@@ -149,24 +156,25 @@ fn is_of_a_round(object: &Value) -> bool
 /// How many items of this kind are kept at the most; 1 stands for any number.
 pub(crate) fn room(form: Form) -> usize
     ensures room { result ≡ room form }
-    ensures few { result ≤ 1000 }
+    ensures few { result ≤ 4096 }
 {
     match form {
         Form::Cabinet => 64,
         Form::Entry => 1000,
         Form::Section => 8,
+        Form::Row => 4096,
         _ => 1,
     }
 }
 
 /// How many more may be kept behind an item, where there is room for one and so many more.
 pub(crate) fn room_behind(form: Form, more: usize, item: &Value) -> usize
-    requires { more < 1000 }
+    requires { more < 4096 }
     ensures behind { result ≡ room_behind form more (view item.now) }
     ensures few { result ≤ more + 1 }
 {
     match form {
-        Form::Cabinet | Form::Entry | Form::Section => more,
+        Form::Cabinet | Form::Entry | Form::Section | Form::Row => more,
         Form::Event => if is_of_a_round(item) { more + 1 } else { 0 },
         _ => more + 1,
     }

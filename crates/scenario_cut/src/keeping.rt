@@ -15,7 +15,7 @@ use serde_json::{Map, Value};
 use std::alloc::Global;
 
 /// Puts a value at a name, in place of what stood there.
-fn put_member(members: &mut Map<String, Value>, name: String, value: Value) -> Option<()>
+pub(crate) fn put_member(members: &mut Map<String, Value>, name: String, value: Value) -> Option<()>
     ensures { IfSome result (λ _. members_view members.new.entries ≡ put (string_bytes name) (view value) (members_view members.old.entries)) }
 {
     match members.insert(name, value) {
@@ -93,10 +93,10 @@ fn keep_item(
     form: Form,
     left: usize,
 ) -> Option<(Value, usize)>
-    requires { left ≤ 1000 }
+    requires { left ≤ 4096 }
     ensures ok { IfSome result (λ kept. (d : Data) × (converted of_json (value depth reader.old) ≡ Some (d, reader.new))
         × ((rest : Items) → cut_items form left (item d rest) ≡ item (view kept.0) (cut_items form kept.1 rest))) }
-    ensures few { IfSome result (λ kept. kept.1 ≤ 1000) }
+    ensures few { IfSome result (λ kept. kept.1 ≤ 4096) }
     ensures shorter { IfSome result (λ _. length reader.new < length reader.old) }
 {
     if left == 0 {

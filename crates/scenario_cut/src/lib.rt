@@ -2,8 +2,13 @@
 //! itself where it has none.
 #![tactic(auto)]
 
+mod checks;
 mod form;
+mod judge;
 mod keeping;
+mod last;
+mod listing;
+mod named;
 mod numbers;
 mod passing;
 mod reading;

@@ -67,3 +67,17 @@ pub fn kept_of(alloc: Global, bytes: &[u8], form: Form) -> Result<Value, ReadFai
         None => Err(ReadFail::NoMemory),
     }
 }
+
+/// The same where little is kept at the most: only of what could not be kept it is asked whether it is JSON.
+pub(crate) fn kept_of_few(alloc: Global, bytes: &[u8], form: Form) -> Result<Value, ReadFail>
+    ensures kept { IfOk result (λ kept. (d : Data) × Reads bytes.now d × (view kept ≡ cut form d)) }
+    ensures none { IfErr result (λ fail. OnRefusal fail (IsNoText bytes.now)) }
+{
+    match kept_value(alloc, bytes, form) {
+        Some(kept) => Ok(kept),
+        None => match is_json(alloc, bytes) {
+            Ok(false) => Err(ReadFail::Refused(Refusal::Syntax)),
+            _ => Err(ReadFail::NoMemory),
+        },
+    }
+}

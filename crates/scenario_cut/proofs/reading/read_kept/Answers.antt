@@ -16,7 +16,7 @@ use Rattle.scenario_read.proofs.Compact.{faultless-floatless}
 use Rattle.scenario_read.proofs.Whole.{whole-content, faultless-parts}
 use Rattle.scenario_cut.proofs.Scenario.{refuses-kept}
 use Rattle.scenario_cut.proofs.Right.{scenario-right, no-text}
-use Rattle.scenario_cut.proofs.reading.read.Goals as goal
+use Rattle.scenario_cut.proofs.reading.read_kept.Goals as goal
 
 pub returns-in-Err-clause-refused : goal.returns-in-Err-clause-refused
 returns-in-Err-clause-refused c = no-text c.args.bytes.now c.in-Err.fail c.in-Err.ensures.none

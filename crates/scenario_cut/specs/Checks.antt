@@ -1,0 +1,37 @@
+-- The faults of a scenario, as they are looked for where its lists are not kept.
+use Rattle.std.specs.Prelude.{◌*◌, List, [], ◌∷◌, ◌++◌, length}
+use Rattle.serde_json.specs.Data.{Data}
+use Rattle.scenario_data.specs.Causes.{Cause}
+use Rattle.scenario_data.specs.Content.{CabinetContent}
+use Rattle.scenario_read.specs.Fields.{Field, held, field_faults, fields_faults, known_fields, names}
+use Rattle.scenario_read.specs.Readers.{names_faults}
+use Rattle.scenario_read.specs.Table.{version, rounds, ticks, community, cabinets, master, event_fields, scenario_shape}
+use Rattle.scenario_read.specs.Content.{list_in, cabinet_of, version_number, round_count, tick_count}
+use Rattle.scenario_read.specs.Faults.{product_faults, all_table_faults}
+use Rattle.scenario_cut.specs.declared.checks.Head.{Head}
+
+-- the fields before the cabinets
+abbrev pub head_fields : List Field
+head_fields = version ∷ rounds ∷ ticks ∷ community ∷ []
+
+-- the faults of names that aren't known, and of these fields
+abbrev pub head_faults : Data → List Cause
+head_faults d = names_faults (names (known_fields (scenario_shape 1 1 1) d)) [] d ++ fields_faults [] d head_fields
+
+-- the numbers that stand there
+abbrev pub head_of : Data → Head
+head_of d = record { version = version_number d; rounds = round_count d; ticks = tick_count d }
+
+-- the cabinets in a scenario of these numbers
+abbrev pub cabinets_at : Head → Data → List CabinetContent
+cabinets_at h d = list_in (cabinet_of h.version) (held (cabinets h.version) d)
+
+-- the faults behind those fields, where the numbers are these and the master is read from another value: of the cabinets, the master,
+-- what happens, the number of ticks, and the tables
+abbrev pub behind_faults : Head → Data → Data → List Cause
+behind_faults h d setup =
+    field_faults [] d (cabinets h.version)
+    ++ (field_faults [] setup master
+    ++ (fields_faults [] d (event_fields h.rounds (length (cabinets_at h d)))
+    ++ (product_faults (length (cabinets_at h d) * h.rounds * h.ticks)
+    ++ all_table_faults 1 (cabinets_at h d))))

@@ -1,0 +1,154 @@
+//! The checks of a scenario in their order, in little memory: the names and the numbers, then the cabinets one by one, the master, what
+//! happens, item by item and list by list, the number of ticks, and the tables.
+
+ghost use Rattle.std.specs.Prelude.{◌≡◌, ◌≤◌, ◌*◌, [], IfOk, IfErr};
+ghost use Rattle.serde_json.specs.Data.{Data};
+ghost use Rattle.serde_json.specs.View.{view};
+ghost use Rattle.scenario_read.specs.Answers.{IsFirstFault, OnRefusal, Reads};
+ghost use Rattle.scenario_read.specs.Faults.{product_faults};
+ghost use Rattle.scenario_read.specs.Fields.{fields_faults};
+ghost use Rattle.scenario_read.specs.Readers.{Answers};
+ghost use Rattle.scenario_read.specs.Table.{event_fields};
+ghost use Rattle.scenario_cut.specs.Checks.{head_of, head_faults, behind_faults};
+ghost use Rattle.scenario_cut.specs.Cutting.{Setup, cut};
+
+use crate::form::Form;
+use crate::judge::{Extent, Listing};
+use crate::named::judge_named;
+use crate::texts::kept_of_few;
+use scenario_data::ReadFail;
+use scenario_read::{
+    Place, Unfit, all_judged, community_at, known_names, master_at, refuse_member, whole_at,
+};
+use serde_json::Value;
+use std::alloc::Global;
+
+/// The numbers of a scenario that stand before its cabinets.
+#[derive(Clone, Copy)]
+pub(crate) struct Head {
+    pub version: u32,
+    pub rounds: u32,
+    pub ticks: u32,
+}
+
+/// The numbers before the cabinets, refused at the first fault of a name or of what stands before them.
+fn head_in(alloc: Global, setup: &Value) -> Result<Head, ReadFail>
+    ensures read { Answers result (head_faults (view setup.now)) (λ head. head ≡ head_of (view setup.now)) }
+    ensures few { IfOk result (λ head. (head.rounds ≤ 86400) × (head.ticks ≤ 600)) }
+{
+    known_names(
+        alloc,
+        setup,
+        Place::Top,
+        &[
+            "version",
+            "rounds",
+            "ticks",
+            "community",
+            "cabinets",
+            "master",
+            "inputs",
+            "loads",
+            "priority",
+            "frames",
+            "faults",
+        ],
+    )?;
+    let version = whole_at(alloc, setup, Place::Top, "version", 1, 2)?;
+    let rounds = whole_at(alloc, setup, Place::Top, "rounds", 1, 86_400)?;
+    let ticks = whole_at(alloc, setup, Place::Top, "ticks", 1, 600)?;
+    match community_at(alloc, setup) {
+        Ok(_) => Ok(Head {
+            version,
+            rounds,
+            ticks,
+        }),
+        Err(fail) => Err(fail),
+    }
+}
+
+/// Judges what happens in the rounds, list by list.
+fn judge_events(alloc: Global, bytes: &[u8], setup: &Value, extent: Extent) -> Result<(), ReadFail>
+    ensures { (d : Data) → Reads bytes.now d → view setup.now ≡ cut Setup d → Answers result (fields_faults [] d (event_fields extent.rounds extent.cabinets)) (λ _. Unit {0}) }
+{
+    judge_named(alloc, bytes, setup, Listing::Inputs, extent)?;
+    judge_named(alloc, bytes, setup, Listing::Loads, extent)?;
+    judge_named(alloc, bytes, setup, Listing::Priority, extent)?;
+    judge_named(alloc, bytes, setup, Listing::Frames, extent)?;
+    match judge_named(alloc, bytes, setup, Listing::Faults, extent) {
+        Ok(_) => Ok(()),
+        Err(fail) => Err(fail),
+    }
+}
+
+/// Refuses cabinets that would run for more than 55,296,000 ticks together.
+fn within_ticks(alloc: Global, cabinets: usize, head: Head) -> Result<(), ReadFail>
+    requires cabinets { cabinets ≤ 64 }
+    requires rounds { head.rounds ≤ 86400 }
+    requires ticks { head.ticks ≤ 600 }
+    ensures { Answers result (product_faults (cabinets * head.rounds * head.ticks)) (λ _. Unit {0}) }
+{
+    let ticks = cabinets as u64 * u64::from(head.rounds) * u64::from(head.ticks);
+    if ticks <= 55_296_000 {
+        Ok(())
+    } else {
+        Err(refuse_member(alloc, Place::Top, "rounds", Unfit::Beyond))
+    }
+}
+
+/// The checks behind the numbers, of a text of which this is kept beside its lists.
+fn judge_behind(alloc: Global, bytes: &[u8], setup: &Value, head: Head) -> Result<(), ReadFail>
+    requires rounds { head.rounds ≤ 86400 }
+    requires ticks { head.ticks ≤ 600 }
+    ensures { (d : Data) → Reads bytes.now d → view setup.now ≡ cut Setup d → Answers result (behind_faults head d (view setup.now)) (λ _. Unit {0}) }
+{
+    let extent = Extent {
+        version: head.version,
+        rounds: head.rounds,
+        cabinets: 0,
+    };
+    let found = judge_named(alloc, bytes, setup, Listing::Cabinets, extent)?;
+    let count = found.cabinets.len();
+    if count > 64 {
+        return Err(ReadFail::NoMemory);
+    }
+    match master_at(alloc, setup) {
+        Ok(_) => {}
+        Err(fail) => return Err(fail),
+    }
+    let extent = Extent {
+        version: head.version,
+        rounds: head.rounds,
+        cabinets: count as u32,
+    };
+    match judge_events(alloc, bytes, setup, extent) {
+        Ok(()) => {}
+        Err(fail) => return Err(fail),
+    }
+    match within_ticks(alloc, count, head) {
+        Ok(()) => {}
+        Err(fail) => return Err(fail),
+    }
+    match all_judged(&found.cabinets) {
+        Ok(()) => Ok(()),
+        Err(fail) => Err(fail),
+    }
+}
+
+/// Judges a scenario's text in little memory. Want of memory stands also for what this way does not tell.
+pub(crate) fn first_fault(alloc: Global, bytes: &[u8]) -> Result<(), ReadFail>
+    ensures { IfErr result (λ fail. OnRefusal fail (IsFirstFault bytes.now)) }
+{
+    let setup = match kept_of_few(alloc, bytes, Form::Setup) {
+        Ok(setup) => setup,
+        Err(fail) => return Err(fail),
+    };
+    let head = match head_in(alloc, &setup) {
+        Ok(head) => head,
+        Err(fail) => return Err(fail),
+    };
+    match judge_behind(alloc, bytes, &setup, head) {
+        Ok(()) => Ok(()),
+        Err(fail) => Err(fail),
+    }
+}

@@ -1,0 +1,211 @@
+//! A list at the top of a scenario, judged item by item. Behind its first fault, and past a million items, the items are passed over;
+//! so that no list takes more than one item's memory, beside what stays of the items.
+
+ghost use Rattle.std.specs.Prelude.{◌≡◌, ◌<◌, ◌≤◌, [], ◌∷◌, true, length, Some, IfSome};
+ghost use Rattle.json.specs.Json.{value, items};
+ghost use Rattle.json.specs.Reads.{token_of};
+ghost use Rattle.serde_json.specs.Data.{Data, Items, array, item, no_items};
+ghost use Rattle.serde_json.specs.Read.{of_json, of_items, converted};
+ghost use Rattle.scenario_cut.specs.Growing.{both};
+ghost use Rattle.scenario_cut.specs.Judging.{IsJudged, IsNoList, TellsOf, may_have};
+ghost use Rattle.scenario_cut.specs.declared.judge.Extent.{Extent};
+
+use crate::judge::{Extent, Found, Listing, judge_next, name_of};
+use crate::numbers::number_of;
+use crate::passing::{pass, pass_members};
+use json::{Reader, Token};
+use scenario_data::ReadFail;
+use scenario_read::{Place, Unfit, refuse_member};
+use std::alloc::Global;
+
+/// Items that were judged: how many, up to one more than a million, the refusal of the first at fault, and what stays of them.
+#[derive(Drop)]
+pub(crate) struct Judged {
+    pub count: usize,
+    pub refusal: Option<ReadFail>,
+    pub found: Found,
+}
+
+/// What is known of a list: its refusal, and what stays of its items where there is none.
+#[derive(Drop)]
+pub(crate) struct Told {
+    pub refusal: Option<ReadFail>,
+    pub found: Found,
+}
+
+/// Nothing.
+pub(crate) fn nothing(alloc: Global) -> Found
+    ensures cabinets { result.cabinets.items ≡ [] }
+    ensures loads { result.loads.items ≡ [] }
+{
+    Found {
+        cabinets: Vec::new(alloc),
+        loads: Vec::new(alloc),
+    }
+}
+
+/// Judges one more item, nested at most so deep, or passes it over.
+fn more(
+    alloc: Global,
+    reader: &mut Reader<'_>,
+    depth: usize,
+    list: Listing,
+    extent: Extent,
+    judged: &mut Judged,
+) -> Option<()>
+    ensures ok { IfSome result (λ _. (d : Data) × (converted of_json (value depth reader.old) ≡ Some (d, reader.new))
+        × ((ds : Items) → IsJudged list extent judged.old ds → IsJudged list extent judged.new (both ds (item d no_items)))) }
+    ensures shorter { IfSome result (λ _. length reader.new < length reader.old) }
+{
+    let count = judged.count;
+    if count > 1_000_000 {
+        if !pass(reader, depth) {
+            return None;
+        }
+        return Some(());
+    }
+    if judged.refusal.is_some() {
+        if !pass(reader, depth) {
+            return None;
+        }
+        judged.count = count + 1;
+        return Some(());
+    }
+    match judge_next(alloc, reader, depth, list, count, extent, &mut judged.found) {
+        Some(answer) => {
+            judged.count = count + 1;
+            judged.refusal = answer.err();
+            Some(())
+        }
+        None => None,
+    }
+}
+
+/// Judges the items up to the bracket that closes their list, each nested at most so deep.
+fn judge_items(
+    alloc: Global,
+    reader: &mut Reader<'_>,
+    depth: usize,
+    list: Listing,
+    extent: Extent,
+) -> Option<Judged>
+    ensures ok { IfSome result (λ judged. (ds : Items) × (converted of_items (items (value depth) (length reader.old) reader.old) ≡ Some (ds, reader.new))
+        × IsJudged list extent judged ds) }
+    ensures shorter { IfSome result (λ _. length reader.new < length reader.old) }
+{
+    let mut judged = Judged {
+        count: 0,
+        refusal: None,
+        found: nothing(alloc),
+    };
+    'items: while !reader.take_end_array() {
+        more(alloc, reader, depth, list, extent, &mut judged)?;
+    }
+    Some(judged)
+}
+
+/// Whether so many items may stand in a list; of loads any number, since each is counted with those of its cabinet.
+fn may_have(list: Listing, count: usize) -> bool
+    ensures { result ≡ may_have list count }
+{
+    match list {
+        Listing::Cabinets => 1 <= count && count <= 64,
+        Listing::Inputs => count <= 1_000_000,
+        Listing::Loads => true,
+        _ => count <= 100_000,
+    }
+}
+
+/// What is known of a list with these items; nothing, where they are more than were judged.
+fn verdict(alloc: Global, list: Listing, judged: Judged) -> Option<Told>
+    ensures { IfSome result (λ told. (e : Extent) → (ds : Items) → IsJudged list e judged ds → TellsOf list e told (array ds)) }
+{
+    let Judged {
+        count,
+        refusal,
+        found,
+    } = judged;
+    if !may_have(list, count) {
+        let beyond = refuse_member(alloc, Place::Top, name_of(list), Unfit::Beyond);
+        return Some(Told {
+            refusal: Some(beyond),
+            found,
+        });
+    }
+    if count > 1_000_000 {
+        return match refusal {
+            Some(fail) => Some(Told {
+                refusal: Some(fail),
+                found,
+            }),
+            None => None,
+        };
+    }
+    Some(Told { refusal, found })
+}
+
+/// Passes over the rest of a value that begins with this token, where it is no list.
+fn pass_other(reader: &mut Reader<'_>, depth: usize, token: Token<'_>) -> bool
+    ensures passed { result ≡ true → (d : Data) × (converted of_json (value depth (token_of token.entry ∷ reader.old)) ≡ Some (d, reader.new)) × IsNoList d }
+    ensures shorter { result ≡ true → length reader.new ≤ length reader.old }
+{
+    match token {
+        Token::String(_) => true,
+        Token::Number(text) => match number_of(text) {
+            Some(_) => true,
+            None => false,
+        },
+        Token::Bool(_) => true,
+        Token::Null => true,
+        Token::BeginObject => {
+            if depth == 0 {
+                return false;
+            }
+            pass_members(reader, depth - 1)
+        }
+        _ => false,
+    }
+}
+
+/// The refusal of what stands as a list and is none.
+fn no_list(alloc: Global, list: Listing) -> Told
+    ensures { (e : Extent) → (d : Data) → IsNoList d → TellsOf list e result d }
+{
+    Told {
+        refusal: Some(refuse_member(alloc, Place::Top, name_of(list), Unfit::Wrong)),
+        found: nothing(alloc),
+    }
+}
+
+/// What is known of the reader's next value as a list, nested at most so deep.
+pub(crate) fn judge_list(
+    alloc: Global,
+    reader: &mut Reader<'_>,
+    depth: usize,
+    list: Listing,
+    extent: Extent,
+) -> Option<Told>
+    ensures ok { IfSome result (λ told. (d : Data) × (converted of_json (value depth reader.old) ≡ Some (d, reader.new)) × TellsOf list extent told d) }
+    ensures shorter { IfSome result (λ _. length reader.new < length reader.old) }
+{
+    let token = reader.next()?;
+    match token {
+        Token::BeginArray => {
+            if depth == 0 {
+                return None;
+            }
+            let judged = judge_items(alloc, reader, depth - 1, list, extent)?;
+            match verdict(alloc, list, judged) {
+                Some(told) => Some(told),
+                None => None,
+            }
+        }
+        other => {
+            if pass_other(reader, depth, other) {
+                Some(no_list(alloc, list))
+            } else {
+                None
+            }
+        }
+    }
+}
