@@ -1,10 +1,10 @@
 """Proves the libraries that the program stands on, several side by side: first those with the longest chain of others
 above them.
 
-The kit's own command for all crates gives each one job, and a crate that waits holds a place. Towards the end of the
-chain one processor would work there, and the others wait. So each crate is proved here by a call of its own, in a
-copy of the sources that it needs, with the libraries below it linked into it, and with the processors that no other
-crate needs. What it makes is linked back into the checkout.
+The kit's own command for all crates (at_once.py) leaves nothing for a check after an edit, and needs a place beside the
+kit. Where a checkout is to keep what the proofs leave, or there is no such place, each crate is proved here by a call
+of its own, in a copy of the sources that it needs, with the libraries below it linked into it, and with the processors
+that no other crate needs. What it makes is linked back into the checkout.
 """
 
 import contextlib

@@ -17,7 +17,7 @@ from typing import BinaryIO
 from streettools.shared.saying import say
 from streettools.shared.status import Status
 
-from . import crates, kit, lanes, record
+from . import at_once, crates, kit, lanes, record
 from .course import Course
 
 LEAST = 15 * 10**9
@@ -43,7 +43,7 @@ def parser() -> argparse.ArgumentParser:
     words.add_argument(
         "--keep",
         action="store_true",
-        help="leave in crates/*/out what the proofs kept, for quicker proofs after an edit",
+        help="leave in crates/*/out what the proofs kept, for quicker proofs after an edit; this takes longer",
     )
     return words
 
@@ -102,18 +102,20 @@ def alone(top: pathlib.Path) -> Iterator[None]:
         yield
 
 
-def build(rt: str, top: pathlib.Path, log: BinaryIO) -> bool:
-    """Proves and builds the program's own crate over the libraries, and tells whether that went well."""
+def build(rt: str, top: pathlib.Path, log: BinaryIO) -> None:
+    """Proves and builds the program's own crate over the libraries; NotProved where that fails."""
     folder, jobs = top / "crates" / crates.PROGRAM, len(os.sched_getaffinity(0))
     words = [rt, "run", "--jobs", str(min(jobs, lanes.MOST_JOBS)), "--", "run"]
     with open(folder / "stdin", "rb") as given, subprocess.Popen(
         words, cwd=folder, stdin=given, stdout=log, stderr=log
     ) as tool:
         try:
-            return tool.wait() == 0
+            status = tool.wait()
         except BaseException:
             tool.send_signal(signal.SIGTERM)
             raise
+    if status:
+        raise lanes.NotProved(crates.PROGRAM)
 
 
 def why_of(log: pathlib.Path) -> str:
@@ -127,20 +129,20 @@ def prove(rt: str, top: pathlib.Path, keep: bool) -> None:
     """Proves and builds the program, and records it."""
     log = record.program_of(top).parent / "build.log"
     before = crates.sums(top)
-    with open(log, "wb", buffering=0) as out, Course(crates.parts(top), top) as course:
-        try:
-            lanes.prove_all(rt, top, out, course, keep)
-            failed = None if build(rt, top, out) else crates.PROGRAM
-        except lanes.NotProved as name:
-            failed = name
-        if failed:
-            raise Failed(
-                f"the program could not be built, since {failed} failed:\n{why_of(log)}\narterial: all that was said "
-                f"is in {log}"
-            )
-        course.done(crates.PROGRAM)
     try:
+        with open(log, "wb", buffering=0) as out, Course(crates.parts(top), top) as course:
+            if keep or not at_once.serves(rt):
+                lanes.prove_all(rt, top, out, course, keep)
+                build(rt, top, out)
+                course.done(crates.PROGRAM)
+            else:
+                at_once.prove_all(rt, top, out, course, before)
         record.write(top, before)
+    except lanes.NotProved as name:
+        raise Failed(
+            f"the program could not be built, since {name} failed:\n{why_of(log)}\narterial: all that was said is in "
+            f"{log}"
+        ) from None
     except record.Changed as name:
         raise Failed(f"{name} changed while it was proved: call ./arterial prove again") from None
 

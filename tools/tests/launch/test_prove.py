@@ -13,8 +13,13 @@ def lines_of(said):
     return [line.removeprefix("arterial: ").split(" (")[0] for line in said.splitlines() if " of 4: " in line]
 
 
-def test_it_tells_how_many_crates_and_which_are_done(tried):
-    status, written, said = tried.ran("prove")
+WAYS = pytest.mark.parametrize("words", [("prove",), ("prove", "--keep")])
+"""All by one call of the kit, and crate by crate."""
+
+
+@WAYS
+def test_it_tells_how_many_crates_and_which_are_done(tried, words):
+    status, written, said = tried.ran(*words)
     first, *_, last = said.splitlines()
     assert (status, written) == (0, "")
     assert first.startswith("arterial: the program is proved and built: 4 crates, ")
@@ -47,16 +52,18 @@ def test_it_leaves_what_the_proofs_left_if_asked_to(tried):
     assert not (tried.top / "crates/arterial/out/lanes").exists()
 
 
-def test_where_a_proof_fails_nothing_is_recorded(tried):
-    status, written, said = tried.ran("prove", FAILS="io_edge")
+@WAYS
+def test_where_a_proof_fails_nothing_is_recorded(tried, words):
+    status, written, said = tried.ran(*words, FAILS="io_edge")
     assert (status, written) == (125, "")
     assert "arterial: the program could not be built, since io_edge failed:\nerror: no proof of io_edge\n" in said
     assert said.splitlines()[-1].startswith("arterial: all that was said is in ")
-    assert not (tried.program.parent / "proved").exists()
+    assert not (tried.program.parent / "proved").exists() and not (tried.program.parent / "lanes").exists()
 
 
-def test_a_source_that_changes_meanwhile_is_told(tried):
-    running = tried.started("prove", PAUSE="0.3")
+@WAYS
+def test_a_source_that_changes_meanwhile_is_told(tried, words):
+    running = tried.started(*words, PAUSE="0.3")
     wait_for(lambda: tried.calls()[1])
     (tried.top / "crates/io_edge/src/lib.rt").write_text("// another\n")
     status, _, said = ended(running)
@@ -64,24 +71,28 @@ def test_a_source_that_changes_meanwhile_is_told(tried):
     assert not (tried.program.parent / "proved").exists()
 
 
-def test_interrupted_it_goes_on_where_it_was(tried):
-    running = tried.started("prove", PAUSE="0.5")
-    wait_for((tried.top / "crates/sig_types/out/proved-of").exists)
+@WAYS
+def test_interrupted_it_goes_on_where_it_was(tried, words):
+    running = tried.started(*words, PAUSE="0.5")
+    kept = (tried.top, "crates/*/out/proved-of") if len(words) > 1 else (tried.told, "kept-*")
+    wait_for(lambda: list(kept[0].glob(kept[1])))
     interrupt(running)
     status, written, said = ended(running)
     assert (status, written) == (130, "")
     assert said.endswith("arterial: interrupted: the crates that are done are kept, and ./arterial prove goes on\n")
-    before = len(list(tried.top.glob("crates/*/out/proved-of")))
+    assert not (tried.program.parent / "lanes").exists()
+    before = len(list(kept[0].glob(kept[1])))
     assert 1 <= before < 4
-    status, _, said = tried.ran("prove")
+    status, _, said = tried.ran(*words)
     assert status == 0 and f"arterial: {before} of 4 were proved before (0 min gone)\n" in said
     assert sorted(tried.calls()[1]) == sorted(PROVED)
     assert len([it for it in tried.calls()[0] if it.startswith("lib")]) <= 4
 
 
+@WAYS
 @pytest.mark.parametrize("pause", [0.01, 0.05, 0.1, 0.2, 0.5, 0.9])
-def test_an_interrupt_at_any_moment_leaves_no_trace_of_its_insides(tried, pause):
-    running = tried.started("prove", PAUSE="0.2")
+def test_an_interrupt_at_any_moment_leaves_no_trace_of_its_insides(tried, words, pause):
+    running = tried.started(*words, PAUSE="0.2")
     while running.poll() is None:
         try:
             running.wait(pause)
@@ -92,16 +103,17 @@ def test_an_interrupt_at_any_moment_leaves_no_trace_of_its_insides(tried, pause)
     assert tried.ran("prove")[0] == 0
 
 
-def test_of_two_calls_one_proves_and_the_other_waits(tried):
-    running = tried.started("prove", PAUSE="0.3")
-    wait_for(lambda: tried.calls()[0])
-    status, written, said = tried.ran("prove")
+@WAYS
+def test_of_two_calls_one_proves_and_the_other_waits(tried, words):
+    running = tried.started(*words, PAUSE="0.3")
+    wait_for(lambda: tried.calls()[1])
+    status, written, said = tried.ran(*words)
     assert (status, written) == (0, "") and said.startswith(
         "arterial: another call proves the program: waiting for it\n"
     )
     assert ended(running)[0] == 0
     assert sorted(tried.calls()[1]) == sorted(PROVED)
-    assert len([call for call in tried.calls()[0] if call.startswith("run")]) == 1
+    assert len([call for call in tried.calls()[0] if call.split()[0] in ("ci", "run")]) == 1
 
 
 def test_where_the_kit_is_missing_one_line_says_so(tried):

@@ -1,0 +1,123 @@
+"""Proves all that the program stands on, and the program, by one call of the kit's own command for all crates, `rt ci`,
+in a copy of their sources.
+
+The kit proves several crates side by side, those with the longest chain above them first, and gives a crate the
+processors that no other waits for. A check there reads what the libraries below state, and not their proofs, and
+leaves nothing for a check after an edit. Beside itself the kit keeps each crate that passed, so that a call that was
+interrupted goes on where it was, and what a gate has proved on this machine isn't proved again.
+"""
+
+import os
+import pathlib
+import re
+import select
+import shutil
+import signal
+import subprocess
+from collections.abc import Iterator
+from typing import BinaryIO
+
+from . import crates, kit, record
+from .course import Course
+from .lanes import NotProved
+
+DONE = re.compile(r"rt: (\w+) proved\n?")
+KEPT = re.compile(r"rt: (\w+) is kept: ")
+FAILED = re.compile(r"rt: (\w+) NOT PROVED")
+"""What the kit says of a crate: that it proved it, that an earlier call did, that it could not."""
+
+RUNS = ("args", "stdin", "stdout", "status", "data")
+"""What the kit runs the program on, once it is proved."""
+
+
+def serves(rt: str) -> bool:
+    """Tells whether the kit has the command, and a place beside itself in which it can keep what passed."""
+    folder = kit.folder()
+    if folder is None:
+        return False
+    kept = folder.parent / "rattle-kept"
+    told = subprocess.run([rt, "--help"], stdin=subprocess.DEVNULL, capture_output=True, text=True)
+    return "rt ci " in told.stdout + told.stderr and os.access(kept if kept.exists() else folder.parent, os.W_OK)
+
+
+def copied(top: pathlib.Path, to: pathlib.Path, before: dict[str, str]) -> None:
+    """Copies what the proof reads, which has these checksums, to a folder of its own, as the top of a repository:
+    without the edits that the kit would have to refuse, and without what other commands keep. Changed if a source has
+    another checksum."""
+    shutil.rmtree(to, ignore_errors=True)
+    (to / ".git").mkdir(parents=True)
+    names = crates.parts(top)
+    (to / crates.LISTS[0]).write_text(crates.listed(top, names))
+    shutil.copy2(top / crates.LISTS[1], to)
+    for name in names:
+        for part in (*crates.PARTS, *(RUNS if name == crates.PROGRAM else ())):
+            source = top / "crates" / name / part
+            if source.is_dir():
+                shutil.copytree(source, to / "crates" / name / part)
+            elif source.is_file():
+                shutil.copy2(source, to / "crates" / name / part)
+    # of the list, the copy has the lines of some crates
+    found = {**crates.sums(to), crates.LISTS[0]: crates.sum_of(top / crates.LISTS[0])}
+    for name in sorted({*before, *found}):
+        if before.get(name) != found.get(name):
+            raise record.Changed(name)
+
+
+def lines_of(said: BinaryIO) -> Iterator[bytes]:
+    """Yields each line as it is said, and nothing in it where a second passes without one."""
+    held = b""
+    while True:
+        if not select.select([said], [], [], 1)[0]:
+            yield b""
+            continue
+        more = os.read(said.fileno(), 1 << 16)
+        *whole, held = (held + more).splitlines(keepends=True) or [b""]
+        if held.endswith(b"\n") or not more:
+            whole, held = [*whole, held], b""
+        yield from (line for line in whole if line)
+        if not more:
+            return
+
+
+def followed(said: BinaryIO, log: BinaryIO, course: Course) -> str | None:
+    """Tells of the crates as the kit says that they are done, and returns the first whose proof failed, if one did."""
+    failed, before = None, []
+    for line in lines_of(said):
+        log.write(line)
+        told = line.decode(errors="replace")
+        if kept := KEPT.match(told):
+            before.append(kept[1])
+            continue
+        if before:
+            course.taken(before)
+            before = []
+        if done := DONE.fullmatch(told):
+            course.done(done[1])
+        elif lost := FAILED.match(told):
+            failed = failed or lost[1]
+    if before:
+        course.taken(before)
+    return failed
+
+
+def prove_all(rt: str, top: pathlib.Path, log: BinaryIO, course: Course, before: dict[str, str]) -> None:
+    """Proves sources with these checksums, and builds the program; NotProved where a crate fails. However it ends, the
+    copy is gone."""
+    out = top / "crates" / crates.PROGRAM / "out"
+    copy = out / "lanes"
+    try:
+        copied(top, copy, before)
+        with subprocess.Popen(
+            [rt, "ci"], cwd=copy, stdin=subprocess.DEVNULL, stdout=subprocess.PIPE, stderr=subprocess.STDOUT
+        ) as tool:
+            try:
+                failed = followed(tool.stdout, log, course)
+            except BaseException:
+                tool.send_signal(signal.SIGTERM)
+                raise
+        made = copy / "crates" / crates.PROGRAM / "out" / crates.PROGRAM
+        if tool.returncode or failed or not made.is_file():
+            raise NotProved(failed or crates.PROGRAM)
+        os.replace(made, out / crates.PROGRAM)
+    finally:
+        shutil.rmtree(copy, ignore_errors=True)
