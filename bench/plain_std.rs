@@ -2,6 +2,21 @@ macro_rules! prove {
     ($($told:tt)*) => {};
 }
 
+macro_rules! vec {
+    (in $alloc:expr; $item:expr; $many:expr) => {{
+        let mut all = crate::plain_std::Vec::new($alloc);
+        all.resize($many, $item).map(|()| all)
+    }};
+    ($($told:tt)*) => { std::vec![$($told)*] };
+}
+
+macro_rules! format {
+    (in $alloc:expr; $($told:tt)*) => {
+        Ok::<_, crate::plain_std::AllocError>(crate::plain_std::String::from(std::format!($($told)*)))
+    };
+    ($($told:tt)*) => { std::format!($($told)*) };
+}
+
 /// The words of Rattle's library and of its `arrayvec` that differ from Rust's, as the benches need them.
 pub mod plain_std {
     use std::ops::{Deref, DerefMut};
@@ -11,6 +26,11 @@ pub mod plain_std {
 
     #[derive(Clone, Copy, Debug)]
     pub struct Global;
+
+    /// What may be dropped, which everything may.
+    pub trait Drop {}
+
+    impl<T: ?Sized> Drop for T {}
 
     /// A value on the heap, whose place may be refused.
     pub struct Box<T>(std::boxed::Box<T>);
@@ -51,11 +71,54 @@ pub mod plain_std {
             Ok(Vec(all))
         }
 
-        pub fn from_slice(_: Global, items: &[T]) -> Result<Self, AllocError>
+        pub fn from_slice(alloc: Global, items: &[T]) -> Result<Self, AllocError>
         where
             T: Clone,
         {
-            Ok(Vec(items.to_vec()))
+            let mut all = Vec::with_capacity(alloc, items.len())?;
+            all.0.extend_from_slice(items);
+            Ok(all)
+        }
+
+        pub fn clone(&self) -> Result<Self, AllocError>
+        where
+            T: Clone,
+        {
+            Vec::from_slice(Global, self)
+        }
+
+        #[inline]
+        pub fn extend_from_slice(&mut self, items: &[T]) -> Result<(), AllocError>
+        where
+            T: Clone,
+        {
+            self.0.try_reserve(items.len()).map_err(|_| AllocError)?;
+            self.0.extend_from_slice(items);
+            Ok(())
+        }
+
+        pub fn resize(&mut self, len: usize, item: T) -> Result<(), AllocError>
+        where
+            T: Clone,
+        {
+            self.0.try_reserve(len.saturating_sub(self.0.len())).map_err(|_| AllocError)?;
+            self.0.resize(len, item);
+            Ok(())
+        }
+
+        pub fn insert(&mut self, place: usize, item: T) -> Result<(), AllocError> {
+            self.0.try_reserve(1).map_err(|_| AllocError)?;
+            self.0.insert(place, item);
+            Ok(())
+        }
+
+        pub fn remove(&mut self, place: usize) -> T {
+            self.0.remove(place)
+        }
+
+        #[inline]
+        pub fn capacity(&self) -> usize {
+            self.0.capacity()
         }
 
         #[inline]
@@ -85,6 +148,8 @@ pub mod plain_std {
         pub fn as_slice(&self) -> &[T] {
             &self.0
         }
+
+        pub fn destroy_empty(self) {}
 
         pub fn pop(&mut self) -> Option<T> {
             self.0.pop()
@@ -139,6 +204,140 @@ pub mod plain_std {
 
         fn into_iter(self) -> Self::IntoIter {
             self.0.into_iter()
+        }
+    }
+
+    impl AsRef<[u8]> for Vec<u8> {
+        fn as_ref(&self) -> &[u8] {
+            &self.0
+        }
+    }
+
+    impl std::io::Write for Vec<u8> {
+        fn write(&mut self, piece: &[u8]) -> std::io::Result<usize> {
+            match self.extend_from_slice(piece) {
+                Ok(()) => Ok(piece.len()),
+                Err(_) => Err(std::io::ErrorKind::OutOfMemory.into()),
+            }
+        }
+
+        fn flush(&mut self) -> std::io::Result<()> {
+            Ok(())
+        }
+    }
+
+    /// A list with the items of a slice, or of an iterator.
+    pub trait ToVecIn<T> {
+        fn to_vec_in(&self, alloc: Global) -> Result<Vec<T>, AllocError>;
+    }
+
+    impl<T: Clone> ToVecIn<T> for [T] {
+        fn to_vec_in(&self, alloc: Global) -> Result<Vec<T>, AllocError> {
+            Vec::from_slice(alloc, self)
+        }
+    }
+
+    pub trait CollectIn: Iterator + Sized {
+        fn collect_in<L: FromItems<Self::Item>>(self, alloc: Global) -> Result<L, AllocError> {
+            L::from_items(alloc, self)
+        }
+    }
+
+    impl<I: Iterator> CollectIn for I {}
+
+    pub trait FromItems<T>: Sized {
+        fn from_items(alloc: Global, items: impl Iterator<Item = T>) -> Result<Self, AllocError>;
+    }
+
+    impl<T> FromItems<T> for Vec<T> {
+        fn from_items(alloc: Global, items: impl Iterator<Item = T>) -> Result<Self, AllocError> {
+            let mut all = Vec::new(alloc);
+            for item in items {
+                all.push(item)?;
+            }
+            Ok(all)
+        }
+    }
+
+    /// A text whose growth may be refused.
+    #[derive(Debug, PartialEq, Eq, PartialOrd, Ord)]
+    pub struct String(std::string::String);
+
+    impl String {
+        pub fn new(_: Global) -> Self {
+            String(std::string::String::new())
+        }
+
+        pub fn with_capacity(_: Global, capacity: usize) -> Result<Self, AllocError> {
+            let mut text = std::string::String::new();
+            text.try_reserve_exact(capacity).map_err(|_| AllocError)?;
+            Ok(String(text))
+        }
+
+        pub fn from_str(alloc: Global, text: &str) -> Result<Self, AllocError> {
+            let mut all = String::with_capacity(alloc, text.len())?;
+            all.0.push_str(text);
+            Ok(all)
+        }
+
+        pub fn from_utf8(octets: Vec<u8>) -> Result<Self, std::string::FromUtf8Error> {
+            std::string::String::from_utf8(octets.0).map(String)
+        }
+
+        pub fn from_ascii(octets: Vec<u8>) -> Self {
+            String(unsafe { std::string::String::from_utf8_unchecked(octets.0) })
+        }
+
+        pub fn push_str(&mut self, text: &str) -> Result<(), AllocError> {
+            self.0.try_reserve(text.len()).map_err(|_| AllocError)?;
+            self.0.push_str(text);
+            Ok(())
+        }
+
+        pub fn push(&mut self, letter: char) -> Result<(), AllocError> {
+            self.0.try_reserve(4).map_err(|_| AllocError)?;
+            self.0.push(letter);
+            Ok(())
+        }
+
+        pub fn as_str(&self) -> &str {
+            &self.0
+        }
+
+        pub fn into_bytes(self) -> Vec<u8> {
+            Vec(self.0.into_bytes())
+        }
+    }
+
+    impl From<std::string::String> for String {
+        fn from(text: std::string::String) -> Self {
+            String(text)
+        }
+    }
+
+    impl std::borrow::Borrow<str> for String {
+        fn borrow(&self) -> &str {
+            &self.0
+        }
+    }
+
+    impl AsRef<[u8]> for String {
+        fn as_ref(&self) -> &[u8] {
+            self.0.as_bytes()
+        }
+    }
+
+    impl std::fmt::Display for String {
+        fn fmt(&self, out: &mut std::fmt::Formatter<'_>) -> std::fmt::Result {
+            self.0.fmt(out)
+        }
+    }
+
+    impl Deref for String {
+        type Target = str;
+
+        fn deref(&self) -> &str {
+            &self.0
         }
     }
 }
@@ -222,6 +421,16 @@ pub mod arrayvec {
             self.xs[self.len..end].copy_from_slice(items);
             self.len = end;
             Ok(())
+        }
+    }
+
+    impl<T: Copy + Default, const CAP: usize> TryFrom<&[T]> for ArrayVec<T, CAP> {
+        type Error = CapacityError;
+
+        fn try_from(items: &[T]) -> Result<Self, CapacityError> {
+            let mut all = ArrayVec::new();
+            all.try_extend_from_slice(items)?;
+            Ok(all)
         }
     }
 
