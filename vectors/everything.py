@@ -43,8 +43,9 @@ def faults():
                 yield {"round": 2 * place + 2, "cabinet": 1 + place % CABINETS, "stream": stream, "way": way, **kind}
 
 
-def everything():
-    """Returns the scenario's text."""
+def everything(*, crowded: bool = False):
+    """Returns the scenario's text. A crowded one has 25 cabinets more and rounds of a minute, so that several workers
+    take up each round."""
     request = {"number": 1, "class": 2, "level": 3, "phase": 6, "arrival": 20, "departure": 300}
     every = range(1, CABINETS + 1)
     lists = {
@@ -68,7 +69,9 @@ def everything():
     master = {
         "clock": 863_500, "poll_every": 2, "clock_every": 5, "pattern_every": 3, "retries": 2, "schedule": schedule
     }
+    others, ticks = ([{"base": "max8"}] * 25, 600) if crowded else ([], 50)
     head = {
-        "version": 2, "rounds": ROUNDS, "ticks": 50, "community": "public", "cabinets": cabinets(), "master": master
-    }
+        "version": 2, "rounds": ROUNDS, "ticks": ticks, "community": "public", "cabinets": [*cabinets(), *others],
+        "master": master,
+    }  # fmt: skip
     return json.dumps(head | lists).encode()
