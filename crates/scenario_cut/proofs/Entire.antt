@@ -13,12 +13,12 @@ use Rattle.scenario_read.specs.Fields.{Shape, object_of}
 use Rattle.scenario_read.specs.Sorted.{Sorted, ItemsSorted}
 use Rattle.scenario_read.specs.Table
 use Rattle.scenario_read.proofs.Whole.{faultless-parts}
-use Rattle.scenario_cut.specs.Cutting.{Form, Whole, Cabinets, Cabinet, Events, Event, Master, Entries, Entry, Rows, Row, Bare, is_of_a_round, room_behind, member_form, cut, cut_items, cut_members}
+use Rattle.scenario_cut.specs.Cutting.{Form, Whole, Cabinets, Cabinet, Events, Event, Pulses, Pulse, Master, Entries, Entry, Rows, Row, Bare, is_of_a_round, is_a_pulse, room_behind, member_form, cut, cut_items, cut_members}
 use Rattle.scenario_cut.proofs.Same.{Faulty}
 use Rattle.scenario_cut.proofs.Known.{none-left, AtEach, AllGive, EachGives, at-each}
 use Rattle.scenario_cut.proofs.Plain.{cell-whole}
 use Rattle.scenario_cut.proofs.Members.{IsObject, kept-object}
-use Rattle.scenario_cut.proofs.Items.{IsArray, kept, kept-list, Stops}
+use Rattle.scenario_cut.proofs.Items.{IsArray, kept, kept-list, Stops, PulseStops}
 use Rattle.scenario_cut.proofs.Kept.{le-of, is-cabinet, is-event, object-stops, load-stops, priority-stops}
 
 -- a value of the kind that has no faults is kept whole there
@@ -120,6 +120,17 @@ event-room kind stops path n d e = at (is_of_a_round d) refl
     at true is = refl
     at false is = absurd (subst Faulty e (stops path d is))
 
+pulse-room : (kind : Kind) → PulseStops kind → Roomy Pulse kind
+pulse-room kind stops path n d e = at (is_a_pulse d) refl
+  where
+    at : (b : Bool) → is_a_pulse d ≡ b → (if b then suc n else 0) ≡ suc n
+    at true is = refl
+    at false is = absurd (subst Faulty e (stops path d is))
+
+pub pulses-entire : (most : ℕ) (kind : Kind) → Entire Pulse kind → PulseStops kind → Entire Pulses (list_of 0 most kind)
+pulses-entire most kind good stops =
+    list-entire Pulses (record { opens = refl; closed = refl }) 0 most kind (λ path ds sorted few e. each-entire Pulse kind good (pulse-room kind stops) path 0 0 ds sorted e)
+
 pub events-entire : (most : ℕ) (kind : Kind) → Entire Event kind → Stops kind → Entire Events (list_of 0 most kind)
 events-entire most kind good stops =
     list-entire Events (record { opens = refl; closed = refl }) 0 most kind (λ path ds sorted few e. each-entire Event kind good (event-room kind stops) path 0 0 ds sorted e)
@@ -165,7 +176,7 @@ object-entire f is shape good goods path (object ms) sorted e = kept-object f is
 cells-entire : (least most : ℕ) → most ≤ 4096 → Entire Rows (list_of least most cell)
 cells-entire least most low =
     list-entire Rows (record { opens = refl; closed = refl }) least most cell
-    (λ path ds sorted few e. counted-entire Row cell cell-entire (λ n d. refl) path 4096 0 ds sorted (omega (arith, low, le-of (items_len ds) most few)) e)
+    (λ path ds sorted few e. counted-entire Row cell cell-entire (λ n d. refl) path 4097 0 ds sorted (omega (arith, low, le-of (items_len ds) most few)) e)
 
 drift-entire : (two : Bool) → AllGive (KeptAt Cabinet) (if two then Table.gain ∷ Table.lose ∷ [] else [])
 drift-entire true = (rare-entire 12000 864000, (rare-entire 12000 864000, tt))
@@ -189,7 +200,7 @@ entry-entire = object-entire Entry (record { opens = refl; closed = refl }) Tabl
 pub entries-entire : (most : ℕ) → most ≤ 1000 → (kind : Kind) → Entire Entry kind → Entire Entries (list_of 0 most kind)
 entries-entire most low kind good =
     list-entire Entries (record { opens = refl; closed = refl }) 0 most kind
-    (λ path ds sorted few e. counted-entire Entry kind good (λ n d. refl) path 1000 0 ds sorted (omega (arith, low, le-of (items_len ds) most few)) e)
+    (λ path ds sorted few e. counted-entire Entry kind good (λ n d. refl) path 1001 0 ds sorted (omega (arith, low, le-of (items_len ds) most few)) e)
 
 schedule-entire : Entire Entries (list_of 0 1000 (object_of Table.entry_shape))
 schedule-entire = entries-entire 1000 (omega arith) (object_of Table.entry_shape) entry-entire

@@ -3,7 +3,7 @@ use Rattle.std.proofs.Common.{◌≡◌, ℕ, suc, ◌&&◌, true, false, if◌t
 use Rattle.std.specs.Cmp.Lexicographic.{slice_cmp}
 use Rattle.std.specs.Ordering.{match_ordering}
 use Rattle.serde_json.specs.Data.{Data, null, array, object, Items, no_items, item, Members, no_members, member, put}
-use Rattle.scenario_cut.specs.Cutting.{Form, Street, Field, Whole, Setup, Cabinets, Cabinet, Events, Event, Master, Entries, Entry, Respond, Sections, Section, Rows, Row, Bare, opens_array, opens_object, item_form, member_form, room, room_behind, cut, cut_items, cut_members}
+use Rattle.scenario_cut.specs.Cutting.{Form, Street, Field, Outer, Whole, Setup, Cabinets, Cabinet, Events, Event, Pulses, Pulse, Master, Entries, Entry, Respond, Sections, Section, Rows, Row, Part, Times, Bare, opens_array, opens_object, item_form, member_form, room, room_behind, drops, cut, cut_items, cut_members}
 use Rattle.scenario_cut.specs.Growing.{both}
 use Rattle.scenario_cut.proofs.Members.{IsObject, some-cut, equal-names}
 use Rattle.scenario_cut.proofs.Turns.{both-more}
@@ -12,6 +12,7 @@ use Rattle.scenario_cut.proofs.Turns.{both-more}
 pub room-same : (f : Form) (n : ℕ) (d : Data) → room_behind f n (cut f d) ≡ room_behind f n d
 room-same Street n d = refl
 room-same Field n d = refl
+room-same Outer n d = refl
 room-same Whole n d = refl
 room-same Setup n d = refl
 room-same Cabinets n d = refl
@@ -20,6 +21,10 @@ room-same Events n d = refl
 room-same Event n d =
     let is : IsObject Event = record { opens = refl; closed = refl } in
     ap₂ (λ a b. if a && b then suc n else 0) (some-cut Event is (codes "round") d) (some-cut Event is (codes "cabinet") d)
+room-same Pulses n d = refl
+room-same Pulse n d =
+    let is : IsObject Pulse = record { opens = refl; closed = refl } in
+    rw (some-cut Pulse is (codes "round") d, some-cut Pulse is (codes "cabinet") d, some-cut Pulse is (codes "detector") d, some-cut Pulse is (codes "on") d) refl
 room-same Master n d = refl
 room-same Entries n d = refl
 room-same Entry n d = refl
@@ -28,6 +33,8 @@ room-same Sections n d = refl
 room-same Section n d = refl
 room-same Rows n d = refl
 room-same Row n d = refl
+room-same Part n d = refl
+room-same Times n d = refl
 room-same Bare n d = refl
 
 -- an item where there is room for it
@@ -37,10 +44,17 @@ item-first f left n d v behind rest is kept room =
     ∙ ap₂ (λ w m. item w (cut_items f m rest)) (sym kept) (sym (room ∙ ap (room_behind f n) kept ∙ room-same f n d))
 
 -- one item more
-pub kept-more : (f : Form) (start left behind : ℕ) (ds kept : Items) (d v : Data) → ((rest : Items) → cut_items f start (both ds rest) ≡ both kept (cut_items f left rest))
-    → ((rest : Items) → cut_items f left (item d rest) ≡ item v (cut_items f behind rest)) → (rest : Items) → cut_items f start (both (both ds (item d no_items)) rest) ≡ both (both kept (item v no_items)) (cut_items f behind rest)
-kept-more f start left behind ds kept d v so-far next rest =
-    ap (cut_items f start) (sym (both-more ds d rest)) ∙ so-far (item d rest) ∙ ap (both kept) (next rest) ∙ both-more kept v (cut_items f behind rest)
+pub kept-more : (f : Form) (start left behind : ℕ) (ds old new : Items) (d : Data) → ((rest : Items) → cut_items f start (both ds rest) ≡ both old (cut_items f left rest))
+    → ((rest : Items) → both old (cut_items f left (item d rest)) ≡ both new (cut_items f behind rest)) → (rest : Items) → cut_items f start (both (both ds (item d no_items)) rest) ≡ both new (cut_items f behind rest)
+kept-more f start left behind ds old new d so-far next rest = ap (cut_items f start) (sym (both-more ds d rest)) ∙ so-far (item d rest) ∙ next rest
+
+-- where there is no room for an item, it is dropped, or null stands for it
+pub none-more : (f : Form) → drops f ≡ true → (ds : Items) → cut_items f 0 ds ≡ no_items
+none-more f gone no_items = refl
+none-more f gone (item d ds) = ap (λ b. if b then no_items else item null (cut_items f 0 ds)) gone
+
+pub null-more : (f : Form) → drops f ≡ false → (d : Data) (ds : Items) → cut_items f 0 (item d ds) ≡ item null (cut_items f 0 ds)
+null-more f stays d ds = ap (λ b. if b then no_items else item null (cut_items f 0 ds)) stays
 
 -- a member that is put
 pub put-kept : (f : Form) (k : List ℕ) (d : Data) (ms : Members) → cut_members f (put k d ms) ≡ put k (cut (member_form f k) d) (cut_members f ms)

@@ -2,7 +2,6 @@
 use Rattle.std.proofs.Common.{◌≡◌, ◌≤◌, ℕ, ◌&&◌, ◌==◌, nat_lt, nat_le, Bool, true, false, if◌then◌else◌, List, [], ◌∷◌, codes, Option, Some, None, is_some, refl, sym, ap, ap₂, ◌∙◌, subst, arith}
 use Rattle.std.proofs.lemmas.Bool.{leb-true}
 use Rattle.serde_json.specs.Data.{Data, null, boolean, number, string, array, object, Items, Members}
-use Rattle.serde_json.specs.Events.{items_len}
 use Rattle.serde_json.specs.Find.{get}
 use Rattle.scenario_data.specs.declared.scenario.PriorityAct.TheVariants.{Request as AskRequest, Cancel}
 use Rattle.scenario_read.specs.Faults.{first_cause}
@@ -15,7 +14,7 @@ use Rattle.scenario_read.specs.Table.{number_at, act_of, request_of, load, full_
 use Rattle.scenario_cut.specs.Cutting.{Cabinet, Event, Master, Entries, Entry, Rows, Row, Bare, is_of_a_round, cut}
 use Rattle.scenario_cut.proofs.Same.{Same, Faulty, same-both, faulty-first, faulty-later}
 use Rattle.scenario_cut.proofs.Members.{IsObject, AllKeep, object-same, held-cut, some-cut}
-use Rattle.scenario_cut.proofs.Items.{KeepsItem, Stops, each-counted, list-same}
+use Rattle.scenario_cut.proofs.Items.{KeepsItem, Stops, few-same}
 use Rattle.scenario_cut.proofs.Bare.{bare-says, cell-fits}
 
 -- ---- a place where only a number, a text or a word may stand
@@ -55,7 +54,7 @@ cell-same path d = ap (λ fit. first_cause (fault_at path fit)) (cell-fits d)
 -- a list of no more cells than are kept
 pub cells-same : (least most : ℕ) → most ≤ 4096 → KeepsItem Rows (list_of least most cell)
 cells-same least most low path d =
-    list-same Rows (record { opens = refl; closed = refl }) least most cell path d (λ ds few. each-counted Row cell cell-same (λ n d. refl) path 4096 0 ds (omega (arith, low, le-of (items_len ds) most few)))
+    few-same Rows (record { opens = refl; closed = refl }) (λ n d. refl) least most (omega (arith, low)) cell cell-same path d
 
 -- ---- a cabinet
 
@@ -89,7 +88,7 @@ entry-same path d = object-same Entry (record { opens = refl; closed = refl }) T
 -- a list of no more entries than are kept
 pub entries-same : (most : ℕ) → most ≤ 1000 → (kind : Kind) → KeepsItem Entry kind → KeepsItem Entries (list_of 0 most kind)
 entries-same most low kind keeps path d =
-    list-same Entries (record { opens = refl; closed = refl }) 0 most kind path d (λ ds few. each-counted Entry kind keeps (λ n d. refl) path 1000 0 ds (omega (arith, low, le-of (items_len ds) most few)))
+    few-same Entries (record { opens = refl; closed = refl }) (λ n d. refl) 0 most (omega (arith, low)) kind keeps path d
 
 schedule-same : KeepsItem Entries (list_of 0 1000 (object_of Table.entry_shape))
 schedule-same = entries-same 1000 (omega arith) (object_of Table.entry_shape) entry-same

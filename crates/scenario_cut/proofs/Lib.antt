@@ -13,5 +13,7 @@ pub mod Turns
 pub mod Growth
 pub mod Judging
 pub mod Verdicts
+pub mod Passes
 pub mod Checking
 pub mod Lasting
+pub mod Naming

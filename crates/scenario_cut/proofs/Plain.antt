@@ -1,5 +1,6 @@
 -- A cell is kept whole. What it asks of an array or an object is what it asks of a float, and a cell has no float: so none stands in it.
-use Rattle.std.proofs.Common.{◌≡◌, ℕ, suc, false, List, [], refl, ap, ◌∙◌}
+use Rattle.std.proofs.Common.{◌≡◌, ◌≤◌, ℕ, zero, suc, nat_le, Bool, true, false, List, [], refl, sym, ap, ◌∙◌, arith}
+use Rattle.std.proofs.lemmas.Bool.{leb-true, leb-false}
 use Rattle.std.specs.Float.{nan}
 use Rattle.serde_json.specs.Data.{unsigned, negative, float, Data, null, boolean, number, string, array, object, Items, no_items, item, Members}
 use Rattle.serde_json.specs.Find.{as_str}
@@ -7,12 +8,13 @@ use Rattle.serde_json.specs.Written.{items_have_float}
 use Rattle.sig_tables.specs.declared.cells.Allowed.{Allowed}
 use Rattle.sig_tables.specs.declared.cells.Allowed.TheVariants.{Numbers, Lists}
 use Rattle.scenario_read.specs.Paths.{Step}
-use Rattle.scenario_read.specs.Kinds.{fault_at}
+use Rattle.serde_json.specs.Events.{items_len}
+use Rattle.scenario_read.specs.Kinds.{Wrong, fault_at}
 use Rattle.scenario_read.specs.CellLists.{octet_of, content_fits, content_in, cell}
 use Rattle.scenario_read.specs.Sorted.{Sorted, ItemsSorted}
 use Rattle.scenario_read.proofs.CellFloats.{cell-floatless}
-use Rattle.scenario_cut.specs.Cutting.{Bare, cut_items}
-use Rattle.scenario_cut.proofs.Bare.{each_item, AsksAlike, fits-alike}
+use Rattle.scenario_cut.specs.Cutting.{Part, cut_items}
+use Rattle.scenario_cut.proofs.Bare.{each_item, AsksAlike, each-becomes, long-wrong, fits-alike}
 
 -- an array or an object as a float
 abbrev as_float : Data → Data
@@ -56,18 +58,31 @@ floats-sorted no_items = tt
 floats-sorted (item d ds) = (float-sorted d, floats-sorted ds)
 
 -- without a float in their place there is neither an array nor an object
-unfloated : (n : ℕ) (ds : Items) → items_have_float (each_item as_float ds) ≡ false → cut_items Bare (suc n) ds ≡ ds
-unfloated n no_items e = refl
-unfloated n (item null ds) e = ap (item null) (unfloated n ds e)
-unfloated n (item (boolean b) ds) e = ap (item (boolean b)) (unfloated n ds e)
-unfloated n (item (number (unsigned k)) ds) e = ap (item (number (unsigned k))) (unfloated n ds e)
-unfloated n (item (number (negative z)) ds) e = ap (item (number (negative z))) (unfloated n ds e)
-unfloated n (item (number (float x)) ds) e = absurd (cc)
-unfloated n (item (string s) ds) e = ap (item (string s)) (unfloated n ds e)
-unfloated n (item (array es) ds) e = absurd (cc)
-unfloated n (item (object ms) ds) e = absurd (cc)
+unfloated : (n : ℕ) (ds : Items) → items_len ds ≤ n → items_have_float (each_item as_float ds) ≡ false → cut_items Part n ds ≡ ds
+unfloated n no_items few e = refl
+unfloated zero (item d ds) few e = absurd (omega (arith, few))
+unfloated (suc n) (item null ds) few e = ap (item null) (unfloated n ds (omega (arith, few)) e)
+unfloated (suc n) (item (boolean b) ds) few e = ap (item (boolean b)) (unfloated n ds (omega (arith, few)) e)
+unfloated (suc n) (item (number (unsigned k)) ds) few e = ap (item (number (unsigned k))) (unfloated n ds (omega (arith, few)) e)
+unfloated (suc n) (item (number (negative z)) ds) few e = ap (item (number (negative z))) (unfloated n ds (omega (arith, few)) e)
+unfloated (suc n) (item (number (float x)) ds) few e = absurd (cc)
+unfloated (suc n) (item (string s) ds) few e = ap (item (string s)) (unfloated n ds (omega (arith, few)) e)
+unfloated (suc n) (item (array es) ds) few e = absurd (cc)
+unfloated (suc n) (item (object ms) ds) few e = absurd (cc)
+
+-- a cell has no more parts than are kept
+parts-few : (path : List Step) (ds : Items) → cell path (array ds) ≡ [] → items_len ds ≤ 6
+parts-few path ds e = at (nat_le (items_len ds) 5) refl
+  where
+    wrong : fault_at path Wrong ≡ [] → ⊥
+    wrong k = absurd (cc)
+
+    at : (b : Bool) → nat_le (items_len ds) 5 ≡ b → items_len ds ≤ 6
+    at true few = let low = leb-true (items_len ds) 5 few in omega (arith, low)
+    at false many = absurd (wrong (sym (ap (fault_at path) (long-wrong ds (leb-false (items_len ds) 5 many))) ∙ e))
 
 -- the items of a cell are kept as they are
-pub cell-whole : (path : List Step) (ds : Items) → cell path (array ds) ≡ [] → cut_items Bare 1 ds ≡ ds
+pub cell-whole : (path : List Step) (ds : Items) → cell path (array ds) ≡ [] → cut_items Part 6 ds ≡ ds
 cell-whole path ds e =
-    unfloated 0 ds (cell-floatless path (array (each_item as_float ds)) (floats-sorted ds) (ap (fault_at path) (fits-alike as_float float-alike ds) ∙ e))
+    unfloated 6 ds (parts-few path ds e)
+    (cell-floatless path (array (each_item as_float ds)) (floats-sorted ds) (ap (fault_at path) (fits-alike as_float float-alike (each_item as_float ds) ds (each-becomes as_float ds)) ∙ e))

@@ -30,10 +30,10 @@ is-whole = record { opens = refl; closed = refl }
 
 cabinets-same : (version : ℕ) → KeepsItem Cabinets (list_of 1 64 (Table.cabinet version))
 cabinets-same version path d =
-    list-same Cabinets (record { opens = refl; closed = refl }) 1 64 (Table.cabinet version) path d (λ ds few. each-counted Cabinet (Table.cabinet version) (cabinet-same version) (λ n d. refl) path 64 0 ds (le-of (items_len ds) 64 few))
+    list-same Cabinets (record { opens = refl; closed = refl }) refl 1 64 (Table.cabinet version) path d (λ ds few. each-counted Cabinet (Table.cabinet version) (cabinet-same version) (λ n d. refl) path 64 0 ds (le-of (items_len ds) 64 few))
 
 pub events-same : (most : ℕ) (kind : Kind) → KeepsItem Event kind → Stops kind → KeepsItem Events (list_of 0 most kind)
-events-same most kind keeps stops path d = list-same Events (record { opens = refl; closed = refl }) 0 most kind path d (λ ds few. each-event kind keeps stops path 0 0 ds)
+events-same most kind keeps stops path d = list-same Events (record { opens = refl; closed = refl }) refl 0 most kind path d (λ ds few. each-event kind keeps stops path 0 0 ds)
 
 loads-same : (rounds cabinets : ℕ) → KeepsItem Events (list_behind (load rounds cabinets) (load_cabinet cabinets))
 loads-same rounds cabinets path d =
@@ -93,7 +93,7 @@ count-kept null = refl
 count-kept (boolean b) = refl
 count-kept (number n) = refl
 count-kept (string s) = refl
-count-kept (array ds) = items-len Cabinet 64 ds
+count-kept (array ds) = items-len Cabinet refl 64 ds
 count-kept (object ms) = refl
 
 each_of-len : {A : Type 0} (says : Data → A) (ds : Items) → length (each_of says ds) ≡ items_len ds
@@ -145,7 +145,7 @@ cells-said null fits = refl
 cells-said (boolean b) fits = refl
 cells-said (number n) fits = refl
 cells-said (string s) fits = refl
-cells-said (array ds) fits = says-counted Row cell_of cell-said (λ n d. refl) 4096 ds (few-of 0 4096 (items_len ds) fits)
+cells-said (array ds) fits = let few = few-of 0 4096 (items_len ds) fits in says-counted Row cell_of cell-said (λ n d. refl) 4097 ds (omega (arith, few))
 cells-said (object ms) fits = refl
 
 -- the cells that a cabinet has, or none

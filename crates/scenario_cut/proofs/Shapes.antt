@@ -2,11 +2,15 @@
 use Rattle.std.proofs.Common.{◌≤◌, ℕ, zero, suc, max, Bool, true, false, if◌then◌else◌, List, arith}
 use Rattle.serde_json.specs.Data.{Data, null, boolean, number, string, array, object, Items, no_items, item, Members, no_members, member, depth, items_depth, members_depth}
 use Rattle.scenario_read.specs.Sorted.{Below, Sorted, ItemsSorted, MembersSorted}
-use Rattle.scenario_cut.specs.Cutting.{Form, opens_array, opens_object, item_form, member_form, room, room_behind, cut, cut_items, cut_members}
+use Rattle.scenario_cut.specs.Cutting.{Form, opens_array, opens_object, item_form, member_form, room, room_behind, drops, cut, cut_items, cut_members}
 
 either-sorted : (b : Bool) (d : Data) → Sorted d → Sorted (if b then d else null)
 either-sorted true d sorted = sorted
 either-sorted false d sorted = tt
+
+dropped-sorted : (b : Bool) (ds : Items) → ItemsSorted ds → ItemsSorted (if b then no_items else ds)
+dropped-sorted true ds sorted = tt
+dropped-sorted false ds sorted = sorted
 
 below-kept : (f : Form) (name : List ℕ) (ms : Members) → Below name ms → Below name (cut_members f ms)
 below-kept f name no_members below = tt
@@ -23,7 +27,7 @@ mutual
 
   items-kept : (f : Form) (n : ℕ) (ds : Items) → ItemsSorted ds → ItemsSorted (cut_items f n ds)
   items-kept f n no_items sorted = tt
-  items-kept f zero (item d ds) sorted = (tt, items-kept f zero ds sorted.1)
+  items-kept f zero (item d ds) sorted = dropped-sorted (drops f) (item null (cut_items f zero ds)) (tt, items-kept f zero ds sorted.1)
   items-kept f (suc n) (item d ds) sorted = (sorted-kept f d sorted.0, items-kept f (room_behind f n d) ds sorted.1)
 
   members-kept : (f : Form) (ms : Members) → MembersSorted ms → MembersSorted (cut_members f ms)
@@ -33,6 +37,10 @@ mutual
 either-low : (b : Bool) (d e : Data) → depth d ≤ depth e → depth (if b then d else null) ≤ depth e
 either-low true d e low = low
 either-low false d e low = omega arith
+
+dropped-low : (b : Bool) (ds : Items) (n : ℕ) → items_depth ds ≤ n → items_depth (if b then no_items else ds) ≤ n
+dropped-low true ds n low = omega arith
+dropped-low false ds n low = low
 
 max-low : (a b c d : ℕ) → a ≤ c → b ≤ d → max a b ≤ max c d
 max-low a b c d p q = omega (arith, p, q)
@@ -48,7 +56,9 @@ mutual
 
   items-low : (f : Form) (n : ℕ) (ds : Items) → items_depth (cut_items f n ds) ≤ items_depth ds
   items-low f n no_items = omega arith
-  items-low f zero (item d ds) = max-low 0 (items_depth (cut_items f zero ds)) (depth d) (items_depth ds) (omega arith) (items-low f zero ds)
+  items-low f zero (item d ds) =
+      dropped-low (drops f) (item null (cut_items f zero ds)) (items_depth (item d ds))
+      (max-low 0 (items_depth (cut_items f zero ds)) (depth d) (items_depth ds) (omega arith) (items-low f zero ds))
   items-low f (suc n) (item d ds) = max-low (depth (cut f d)) (items_depth (cut_items f (room_behind f n d) ds)) (depth d) (items_depth ds) (depth-kept f d) (items-low f (room_behind f n d) ds)
 
   members-low : (f : Form) (ms : Members) → members_depth (cut_members f ms) ≤ members_depth ms

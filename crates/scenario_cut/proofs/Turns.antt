@@ -1,5 +1,5 @@
 -- The grammar's loops, a turn at a time, under the conversion to data.
-use Rattle.std.proofs.Common.{◌≡◌, ℕ, zero, suc, ◌-◌, ◌<◌, ◌≤◌, List, [], ◌∷◌, ◌++◌, length, Option, Some, None, option_map, option_and_then, refl, ap, ◌∙◌}
+use Rattle.std.proofs.Common.{◌≡◌, ℕ, zero, suc, ◌-◌, ◌<◌, ◌≤◌, List, [], ◌∷◌, ◌++◌, length, Option, Some, None, option_map, option_and_then, refl, sym, ap, ◌∙◌}
 use Rattle.json.specs.Token.{Token}
 use Rattle.json.specs.Json as json
 use Rattle.json.specs.Json.{Parse, parse_map, after_end_array, read_key, items, items_step, members, members_step, if_last}
@@ -116,6 +116,9 @@ none_before (Some p) = refl
 pub both-push : (vs : List Value) (v : Value) → items_view (vs ++ v ∷ []) ≡ both (items_view vs) (item (view v) no_items)
 both-push [] v = refl
 both-push (w ∷ vs) v = ap (item (view w)) (both-push vs v)
+
+pub push-more : (vs : List Value) (v : Value) (rest : Items) → both (items_view vs) (item (view v) rest) ≡ both (items_view (vs ++ v ∷ [])) rest
+push-more vs v rest = both-more (items_view vs) (view v) rest ∙ ap (λ es. both es rest) (sym (both-push vs v))
 
 -- ---- the whole text
 

@@ -1,30 +1,34 @@
--- What is kept of a scenario's value whose first fault is asked, in little memory; and of an object around a scenario.
--- null stands for an array or an object where only a number, a text or a word may stand, since it is at fault there
--- whatever it holds; for an item behind one that is at fault; and for an item past the most that a list may have.
+-- What is kept of a scenario's value whose first fault is asked, and of an object around a scenario. null stands for an array or an object
+-- where only a number, a text or a word may stand, since it is at fault there whatever it holds; for an item behind one that is at fault;
+-- and for a cabinet past the most. Of other lists nothing is kept past one item more than there may be.
 use Rattle.std.specs.Prelude.{ℕ, zero, suc, ◌&&◌, ◌||◌, Bool, true, false, if◌then◌else◌, List, codes, bytes_eq, is_some}
 use Rattle.serde_json.specs.Data.{Data, null, boolean, number, string, array, object, Items, no_items, item, Members, no_members, member}
 use Rattle.serde_json.specs.Find.{get}
 pub use Rattle.scenario_cut.specs.declared.form.Form.{Form}
-pub use Rattle.scenario_cut.specs.declared.form.Form.TheVariants.{Street, Field, Whole, Setup, Cabinets, Cabinet, Events, Event, Master, Entries, Entry, Respond, Sections, Section, Rows, Row, Bare}
+pub use Rattle.scenario_cut.specs.declared.form.Form.TheVariants.{Street, Field, Outer, Whole, Setup, Cabinets, Cabinet, Events, Event, Pulses, Pulse, Master, Entries, Entry, Respond, Sections, Section, Rows, Row, Part, Times, Bare}
 
 -- an array may stand there
 abbrev pub opens_array : Form → Bool
 opens_array Cabinets = true
 opens_array Events = true
+opens_array Pulses = true
 opens_array Entries = true
 opens_array Sections = true
 opens_array Rows = true
 opens_array Row = true
+opens_array Times = true
 opens_array _ = false
 
 -- an object may stand there
 abbrev pub opens_object : Form → Bool
 opens_object Street = true
 opens_object Field = true
+opens_object Outer = true
 opens_object Whole = true
 opens_object Setup = true
 opens_object Cabinet = true
 opens_object Event = true
+opens_object Pulse = true
 opens_object Master = true
 opens_object Entry = true
 opens_object Respond = true
@@ -35,9 +39,11 @@ opens_object _ = false
 abbrev pub item_form : Form → Form
 item_form Cabinets = Cabinet
 item_form Events = Event
+item_form Pulses = Pulse
 item_form Entries = Entry
 item_form Sections = Section
 item_form Rows = Row
+item_form Row = Part
 item_form _ = Bare
 
 -- the name of a list of what happens
@@ -48,12 +54,13 @@ is_event_list name = bytes_eq name (codes "inputs") || (bytes_eq name (codes "lo
 abbrev pub member_form : Form → List ℕ → Form
 member_form Street name =
     if bytes_eq name (codes "scenario") then Whole else
-    if bytes_eq name (codes "travel") then Row else Bare
+    if bytes_eq name (codes "travel") then Times else Bare
 member_form Field name =
     if bytes_eq name (codes "scenario") then Whole else
     if bytes_eq name (codes "bank") then Entries else
-    if bytes_eq name (codes "pulses") then Events else
+    if bytes_eq name (codes "pulses") then Pulses else
     if bytes_eq name (codes "respond") then Respond else Bare
+member_form Outer name = if bytes_eq name (codes "scenario") then Setup else Bare
 member_form Whole name =
     if bytes_eq name (codes "cabinets") then Cabinets else
     if bytes_eq name (codes "master") then Master else
@@ -70,12 +77,17 @@ member_form _ name = Bare
 abbrev pub is_of_a_round : Data → Bool
 is_of_a_round d = is_some (get (codes "round") d) && is_some (get (codes "cabinet") d)
 
+-- a pulse is of a detector too, and puts it on or off, or is at fault
+abbrev pub is_a_pulse : Data → Bool
+is_a_pulse d = is_of_a_round d && (is_some (get (codes "detector") d) && is_some (get (codes "on") d))
+
 -- how many items of this kind may still be kept: at the beginning, and behind an item; 1 stands for any number
 abbrev pub room : Form → ℕ
 room Cabinet = 64
-room Entry = 1000
-room Section = 8
-room Row = 4096
+room Entry = 1001
+room Section = 9
+room Row = 4097
+room Part = 6
 room _ = 1
 
 abbrev pub room_behind : Form → ℕ → Data → ℕ
@@ -83,8 +95,18 @@ room_behind Cabinet n d = n
 room_behind Entry n d = n
 room_behind Section n d = n
 room_behind Row n d = n
+room_behind Part n d = n
 room_behind Event n d = if is_of_a_round d then suc n else 0
+room_behind Pulse n d = if is_a_pulse d then suc n else 0
 room_behind _ n d = suc n
+
+-- items for which there is no room are dropped: so many are kept that their list is at fault for its number of items
+abbrev pub drops : Form → Bool
+drops Entry = true
+drops Section = true
+drops Row = true
+drops Part = true
+drops _ = false
 
 abbrev mutual
   pub cut : Form → Data → Data
@@ -97,7 +119,7 @@ abbrev mutual
 
   pub cut_items : Form → ℕ → Items → Items
   cut_items f n no_items = no_items
-  cut_items f zero (item d ds) = item null (cut_items f zero ds)
+  cut_items f zero (item d ds) = if drops f then no_items else item null (cut_items f zero ds)
   cut_items f (suc n) (item d ds) = item (cut f d) (cut_items f (room_behind f n d) ds)
 
   pub cut_members : Form → Members → Members

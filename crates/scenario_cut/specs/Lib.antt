@@ -1,6 +1,9 @@
 pub mod Cutting
+pub mod Around
 pub mod Growing
 pub mod Texts
 pub mod Judging
+pub mod Known
 pub mod Checks
 pub mod Last
+pub mod Others

@@ -1,20 +1,20 @@
 //! The checks of a scenario in their order, in little memory: the names and the numbers, then the cabinets one by one, the master, what
 //! happens, item by item and list by list, the number of ticks, and the tables.
 
-ghost use Rattle.std.specs.Prelude.{◌≡◌, ◌≤◌, ◌*◌, [], IfOk, IfErr};
+ghost use Rattle.std.specs.Prelude.{◌≡◌, ◌≤◌, ◌*◌, IfOk, IfErr};
 ghost use Rattle.serde_json.specs.Data.{Data};
 ghost use Rattle.serde_json.specs.View.{view};
 ghost use Rattle.scenario_read.specs.Answers.{IsFirstFault, OnRefusal, Reads};
-ghost use Rattle.scenario_read.specs.Faults.{product_faults};
-ghost use Rattle.scenario_read.specs.Fields.{fields_faults};
-ghost use Rattle.scenario_read.specs.Readers.{Answers};
-ghost use Rattle.scenario_read.specs.Table.{event_fields};
+ghost use Rattle.scenario_read.specs.Faults.{product_faults, faults};
+ghost use Rattle.scenario_read.specs.Readers.{Answers, Refuses};
+ghost use Rattle.scenario_cut.specs.Around.{Object, scenario_in};
 ghost use Rattle.scenario_cut.specs.Checks.{head_of, head_faults, behind_faults};
-ghost use Rattle.scenario_cut.specs.Cutting.{Setup, cut};
+ghost use Rattle.scenario_cut.specs.Cutting.{Outer, Setup, cut};
 
+use crate::around::Around;
 use crate::form::Form;
-use crate::judge::{Extent, Listing};
-use crate::named::judge_named;
+use crate::groups::{judge_cabinets, judge_events};
+use crate::judge::Extent;
 use crate::texts::kept_of_few;
 use scenario_data::ReadFail;
 use scenario_read::{
@@ -67,20 +67,6 @@ fn head_in(alloc: Global, setup: &Value) -> Result<Head, ReadFail>
     }
 }
 
-/// Judges what happens in the rounds, list by list.
-fn judge_events(alloc: Global, bytes: &[u8], setup: &Value, extent: Extent) -> Result<(), ReadFail>
-    ensures { (d : Data) → Reads bytes.now d → view setup.now ≡ cut Setup d → Answers result (fields_faults [] d (event_fields extent.rounds extent.cabinets)) (λ _. Unit {0}) }
-{
-    judge_named(alloc, bytes, setup, Listing::Inputs, extent)?;
-    judge_named(alloc, bytes, setup, Listing::Loads, extent)?;
-    judge_named(alloc, bytes, setup, Listing::Priority, extent)?;
-    judge_named(alloc, bytes, setup, Listing::Frames, extent)?;
-    match judge_named(alloc, bytes, setup, Listing::Faults, extent) {
-        Ok(_) => Ok(()),
-        Err(fail) => Err(fail),
-    }
-}
-
 /// Refuses cabinets that would run for more than 55,296,000 ticks together.
 fn within_ticks(alloc: Global, cabinets: usize, head: Head) -> Result<(), ReadFail>
     requires cabinets { cabinets ≤ 64 }
@@ -96,18 +82,25 @@ fn within_ticks(alloc: Global, cabinets: usize, head: Head) -> Result<(), ReadFa
     }
 }
 
-/// The checks behind the numbers, of a text of which this is kept beside its lists.
-fn judge_behind(alloc: Global, bytes: &[u8], setup: &Value, head: Head) -> Result<(), ReadFail>
+/// The checks behind the numbers, of a text of whose scenario this is kept beside its lists.
+fn judge_behind(
+    alloc: Global,
+    bytes: &[u8],
+    around: Around,
+    setup: &Value,
+    head: Head,
+) -> Result<(), ReadFail>
     requires rounds { head.rounds ≤ 86400 }
     requires ticks { head.ticks ≤ 600 }
-    ensures { (d : Data) → Reads bytes.now d → view setup.now ≡ cut Setup d → Answers result (behind_faults head d (view setup.now)) (λ _. Unit {0}) }
+    ensures { (d : Data) → Reads bytes.now d → view setup.now ≡ cut Setup (scenario_in around d)
+        → Answers result (behind_faults head (scenario_in around d) (view setup.now)) (λ _. Unit {0}) }
 {
     let extent = Extent {
         version: head.version,
         rounds: head.rounds,
         cabinets: 0,
     };
-    let found = judge_named(alloc, bytes, setup, Listing::Cabinets, extent)?;
+    let found = judge_cabinets(alloc, bytes, around, setup, extent)?;
     let count = found.cabinets.len();
     if count > 64 {
         return Err(ReadFail::NoMemory);
@@ -121,7 +114,7 @@ fn judge_behind(alloc: Global, bytes: &[u8], setup: &Value, head: Head) -> Resul
         rounds: head.rounds,
         cabinets: count as u32,
     };
-    match judge_events(alloc, bytes, setup, extent) {
+    match judge_events(alloc, bytes, around, setup, extent) {
         Ok(()) => {}
         Err(fail) => return Err(fail),
     }
@@ -135,6 +128,21 @@ fn judge_behind(alloc: Global, bytes: &[u8], setup: &Value, head: Head) -> Resul
     }
 }
 
+/// The first fault of the scenario of a text, of which this is kept beside its lists. Want of memory stands also for what this way does
+/// not tell.
+fn fault_of(alloc: Global, bytes: &[u8], around: Around, setup: &Value) -> Result<(), ReadFail>
+    ensures { IfErr result (λ fail. (d : Data) → Reads bytes.now d → view setup.now ≡ cut Setup (scenario_in around d) → Refuses fail (faults (scenario_in around d))) }
+{
+    let head = match head_in(alloc, setup) {
+        Ok(head) => head,
+        Err(fail) => return Err(fail),
+    };
+    match judge_behind(alloc, bytes, around, setup, head) {
+        Ok(()) => Ok(()),
+        Err(fail) => Err(fail),
+    }
+}
+
 /// Judges a scenario's text in little memory. Want of memory stands also for what this way does not tell.
 pub(crate) fn first_fault(alloc: Global, bytes: &[u8]) -> Result<(), ReadFail>
     ensures { IfErr result (λ fail. OnRefusal fail (IsFirstFault bytes.now)) }
@@ -143,11 +151,25 @@ pub(crate) fn first_fault(alloc: Global, bytes: &[u8]) -> Result<(), ReadFail>
         Ok(setup) => setup,
         Err(fail) => return Err(fail),
     };
-    let head = match head_in(alloc, &setup) {
-        Ok(head) => head,
-        Err(fail) => return Err(fail),
+    match fault_of(alloc, bytes, Around::Nothing, &setup) {
+        Ok(()) => Ok(()),
+        Err(fail) => Err(fail),
+    }
+}
+
+/// The first fault of the scenario that stands at `scenario` in the object that the bytes are, found in little memory, list by list.
+/// `frame` is what is kept of the object as `Form::Outer`. Want of memory stands also for what this way does not tell, as of an object
+/// in which no object stands there.
+pub fn inner_fault(alloc: Global, bytes: &[u8], frame: &Value) -> Result<(), ReadFail>
+    ensures { IfErr result (λ fail. (d : Data) → Reads bytes.now d → view frame.now ≡ cut Outer d → Refuses fail (faults (scenario_in Object d))) }
+{
+    let Some(setup) = frame.get("scenario") else {
+        return Err(ReadFail::NoMemory);
     };
-    match judge_behind(alloc, bytes, &setup, head) {
+    if !matches!(setup, Value::Object(_)) {
+        return Err(ReadFail::NoMemory);
+    }
+    match fault_of(alloc, bytes, Around::Object, setup) {
         Ok(()) => Ok(()),
         Err(fail) => Err(fail),
     }

@@ -3,23 +3,27 @@
 
 ghost use Rattle.std.specs.Prelude.{◌≡◌, ◌<◌, ◌≤◌, ◌+◌};
 ghost use Rattle.serde_json.specs.View.{view};
-ghost use Rattle.scenario_cut.specs.Cutting.{opens_array, opens_object, item_form, member_form, is_of_a_round, is_event_list, room, room_behind};
+ghost use Rattle.scenario_cut.specs.Cutting.{opens_array, opens_object, item_form, member_form, is_of_a_round, is_a_pulse, is_event_list, room, room_behind, drops};
 
 use serde_json::Value;
 
-/// A place: an object that asks of bands, and a field file; a whole scenario; a scenario but for its lists of cabinets and of what
-/// happens; these lists, with their items; the master with its entries; the rules by which patterns follow traffic, with their
-/// sections; cells, one of them, and any other place, where only a number, a text or a word may stand.
+/// A place: an object that asks of bands, and a field file; either of them but for all beside its scenario, of which the lists are not
+/// kept; a whole scenario; a scenario but for its lists of cabinets and of what happens; these lists, with their items; pulses of
+/// detectors; the master with its entries; the rules by which patterns follow traffic, with their sections; cells, one of them, and a
+/// part of it; travel times; and any other place, where only a number, a text or a word may stand.
 #[derive(Clone, Copy)]
 pub enum Form {
     Street,
     Field,
+    Outer,
     Whole,
     Setup,
     Cabinets,
     Cabinet,
     Events,
     Event,
+    Pulses,
+    Pulse,
     Master,
     Entries,
     Entry,
@@ -28,6 +32,8 @@ pub enum Form {
     Section,
     Rows,
     Row,
+    Part,
+    Times,
     Bare,
 }
 
@@ -37,7 +43,14 @@ pub(crate) fn opens_array(form: Form) -> bool
 {
     matches!(
         form,
-        Form::Cabinets | Form::Events | Form::Entries | Form::Sections | Form::Rows | Form::Row
+        Form::Cabinets
+            | Form::Events
+            | Form::Pulses
+            | Form::Entries
+            | Form::Sections
+            | Form::Rows
+            | Form::Row
+            | Form::Times
     )
 }
 
@@ -49,10 +62,12 @@ pub(crate) fn opens_object(form: Form) -> bool
         form,
         Form::Street
             | Form::Field
+            | Form::Outer
             | Form::Whole
             | Form::Setup
             | Form::Cabinet
             | Form::Event
+            | Form::Pulse
             | Form::Master
             | Form::Entry
             | Form::Respond
@@ -67,9 +82,11 @@ pub(crate) fn item_form(form: Form) -> Form
     match form {
         Form::Cabinets => Form::Cabinet,
         Form::Events => Form::Event,
+        Form::Pulses => Form::Pulse,
         Form::Entries => Form::Entry,
         Form::Sections => Form::Section,
         Form::Rows => Form::Row,
+        Form::Row => Form::Part,
         _ => Form::Bare,
     }
 }
@@ -93,7 +110,7 @@ pub(crate) fn member_form(form: Form, name: &str) -> Form
         Form::Street => if name == "scenario" {
             Form::Whole
         } else if name == "travel" {
-            Form::Row
+            Form::Times
         } else {
             Form::Bare
         },
@@ -102,9 +119,14 @@ pub(crate) fn member_form(form: Form, name: &str) -> Form
         } else if name == "bank" {
             Form::Entries
         } else if name == "pulses" {
-            Form::Events
+            Form::Pulses
         } else if name == "respond" {
             Form::Respond
+        } else {
+            Form::Bare
+        },
+        Form::Outer => if name == "scenario" {
+            Form::Setup
         } else {
             Form::Bare
         },
@@ -153,29 +175,45 @@ fn is_of_a_round(object: &Value) -> bool
     object.get("round").is_some() && object.get("cabinet").is_some()
 }
 
-/// How many items of this kind are kept at the most; 1 stands for any number.
+/// Whether an object is of a round, a cabinet and a detector, and puts it on or off.
+fn is_a_pulse(object: &Value) -> bool
+    ensures { result ≡ is_a_pulse (view object.now) }
+{
+    is_of_a_round(object) && (object.get("detector").is_some() && object.get("on").is_some())
+}
+
+/// How many items of this kind are kept at the most, one more than there may be but of cabinets; 1 stands for any number.
 pub(crate) fn room(form: Form) -> usize
     ensures room { result ≡ room form }
-    ensures few { result ≤ 4096 }
+    ensures few { result ≤ 4097 }
 {
     match form {
         Form::Cabinet => 64,
-        Form::Entry => 1000,
-        Form::Section => 8,
-        Form::Row => 4096,
+        Form::Entry => 1001,
+        Form::Section => 9,
+        Form::Row => 4097,
+        Form::Part => 6,
         _ => 1,
     }
 }
 
 /// How many more may be kept behind an item, where there is room for one and so many more.
 pub(crate) fn room_behind(form: Form, more: usize, item: &Value) -> usize
-    requires { more < 4096 }
+    requires { more < 4097 }
     ensures behind { result ≡ room_behind form more (view item.now) }
     ensures few { result ≤ more + 1 }
 {
     match form {
-        Form::Cabinet | Form::Entry | Form::Section | Form::Row => more,
+        Form::Cabinet | Form::Entry | Form::Section | Form::Row | Form::Part => more,
         Form::Event => if is_of_a_round(item) { more + 1 } else { 0 },
+        Form::Pulse => if is_a_pulse(item) { more + 1 } else { 0 },
         _ => more + 1,
     }
+}
+
+/// Whether items for which there is no room are dropped.
+pub(crate) fn drops(form: Form) -> bool
+    ensures { result ≡ drops form }
+{
+    matches!(form, Form::Entry | Form::Section | Form::Row | Form::Part)
 }

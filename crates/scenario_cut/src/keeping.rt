@@ -6,8 +6,11 @@ ghost use Rattle.serde_json.specs.Data.{Data, Items, item, Members, no_members, 
 ghost use Rattle.serde_json.specs.Read.{of_json, of_items, of_members, converted};
 ghost use Rattle.serde_json.specs.View.{view, items_view, members_view};
 ghost use Rattle.scenario_cut.specs.Cutting.{room, cut, cut_items, cut_members};
+ghost use Rattle.scenario_cut.specs.Growing.{both};
 
-use crate::form::{Form, item_form, member_form, opens_array, opens_object, room, room_behind};
+use crate::form::{
+    Form, drops, item_form, member_form, opens_array, opens_object, room, room_behind,
+};
 use crate::numbers::number_of;
 use crate::passing::{pass, pass_items, pass_members};
 use json::{Reader, Token};
@@ -24,6 +27,39 @@ pub(crate) fn put_member(members: &mut Map<String, Value>, name: String, value: 
             Some(())
         }
         Err(_) => None,
+    }
+}
+
+/// Puts a value behind the items that are kept.
+fn put_item(found: &mut Vec<Value>, value: Value) -> Option<()>
+    ensures { IfSome result (λ _. (rest : Items) → both (items_view found.old.items) (item (view value) rest) ≡ both (items_view found.new.items) rest) }
+{
+    match found.push(value) {
+        Ok(()) => Some(()),
+        Err(_) => None,
+    }
+}
+
+/// Passes over an item for which there is no room. Null stands for it, or it is dropped.
+fn pass_item(
+    reader: &mut Reader<'_>,
+    depth: usize,
+    form: Form,
+    found: &mut Vec<Value>,
+) -> Option<()>
+    ensures ok { IfSome result (λ _. (d : Data) × (converted of_json (value depth reader.old) ≡ Some (d, reader.new))
+        × ((rest : Items) → both (items_view found.old.items) (cut_items form 0 (item d rest)) ≡ both (items_view found.new.items) (cut_items form 0 rest))) }
+    ensures shorter { IfSome result (λ _. length reader.new < length reader.old) }
+{
+    if !pass(reader, depth) {
+        return None;
+    }
+    if drops(form) {
+        return Some(());
+    }
+    match put_item(found, Value::Null) {
+        Some(()) => Some(()),
+        None => None,
     }
 }
 
@@ -84,7 +120,7 @@ pub(crate) fn keep(
     }
 }
 
-/// What is kept of the next item of a list that has room for so many; and the room behind it.
+/// Keeps what is kept of the next item of a list that has room for so many, behind those before. Returns the room behind it.
 #[cycle(keep)]
 fn keep_item(
     alloc: Global,
@@ -92,24 +128,24 @@ fn keep_item(
     depth: usize,
     form: Form,
     left: usize,
-) -> Option<(Value, usize)>
-    requires { left ≤ 4096 }
-    ensures ok { IfSome result (λ kept. (d : Data) × (converted of_json (value depth reader.old) ≡ Some (d, reader.new))
-        × ((rest : Items) → cut_items form left (item d rest) ≡ item (view kept.0) (cut_items form kept.1 rest))) }
-    ensures few { IfSome result (λ kept. kept.1 ≤ 4096) }
+    found: &mut Vec<Value>,
+) -> Option<usize>
+    requires { left ≤ 4097 }
+    ensures ok { IfSome result (λ behind. (d : Data) × (converted of_json (value depth reader.old) ≡ Some (d, reader.new))
+        × ((rest : Items) → both (items_view found.old.items) (cut_items form left (item d rest)) ≡ both (items_view found.new.items) (cut_items form behind rest))) }
+    ensures few { IfSome result (λ behind. behind ≤ 4097) }
     ensures shorter { IfSome result (λ _. length reader.new < length reader.old) }
 {
     if left == 0 {
-        if pass(reader, depth) {
-            return Some((Value::Null, 0));
-        }
-        return None;
+        return match pass_item(reader, depth, form, found) {
+            Some(()) => Some(0),
+            None => None,
+        };
     }
-    match keep(alloc, reader, depth, form) {
-        Some(item) => {
-            let behind = room_behind(form, left - 1, &item);
-            Some((item, behind))
-        }
+    let kept = keep(alloc, reader, depth, form)?;
+    let behind = room_behind(form, left - 1, &kept);
+    match put_item(found, kept) {
+        Some(()) => Some(behind),
         None => None,
     }
 }
@@ -129,13 +165,7 @@ fn keep_items(
     let mut found = Vec::new(alloc);
     let mut left = room(form);
     'items: while !reader.take_end_array() {
-        let next = keep_item(alloc, reader, depth, form, left)?;
-        let (item, behind) = next;
-        match found.push(item) {
-            Ok(()) => {}
-            Err(_) => return None,
-        }
-        left = behind;
+        left = keep_item(alloc, reader, depth, form, left, &mut found)?;
     }
     Some(found)
 }

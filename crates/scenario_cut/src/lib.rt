@@ -2,14 +2,18 @@
 //! itself where it has none.
 #![tactic(auto)]
 
+mod around;
 mod checks;
 mod form;
+mod groups;
 mod judge;
 mod keeping;
 mod last;
 mod listing;
+mod look;
 mod named;
 mod numbers;
+mod others;
 mod passing;
 mod reading;
 mod texts;
@@ -20,9 +24,11 @@ ghost use Rattle.scenario_read.specs.Faults.{faults, first_cause};
 ghost use Rattle.scenario_read.specs.Sorted.{Sorted};
 ghost use Rattle.scenario_cut.specs.Cutting.{Whole, cut};
 
+pub use around::Around;
+pub use checks::inner_fault;
 pub use form::Form;
 pub use reading::read;
-pub use texts::kept_of;
+pub use texts::{kept_of, kept_of_few};
 
 /// A law: what is kept of a value has the first fault of the value.
 pub fn first_fault_is_kept()

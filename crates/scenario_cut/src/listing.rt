@@ -52,6 +52,7 @@ fn more(
     list: Listing,
     extent: Extent,
     judged: &mut Judged,
+    file: &[u8],
 ) -> Option<()>
     ensures ok { IfSome result (λ _. (d : Data) × (converted of_json (value depth reader.old) ≡ Some (d, reader.new))
         × ((ds : Items) → IsJudged list extent judged.old ds → IsJudged list extent judged.new (both ds (item d no_items)))) }
@@ -71,7 +72,16 @@ fn more(
         judged.count = count + 1;
         return Some(());
     }
-    match judge_next(alloc, reader, depth, list, count, extent, &mut judged.found) {
+    match judge_next(
+        alloc,
+        reader,
+        depth,
+        list,
+        count,
+        extent,
+        &mut judged.found,
+        file,
+    ) {
         Some(answer) => {
             judged.count = count + 1;
             judged.refusal = answer.err();
@@ -88,6 +98,7 @@ fn judge_items(
     depth: usize,
     list: Listing,
     extent: Extent,
+    file: &[u8],
 ) -> Option<Judged>
     ensures ok { IfSome result (λ judged. (ds : Items) × (converted of_items (items (value depth) (length reader.old) reader.old) ≡ Some (ds, reader.new))
         × IsJudged list extent judged ds) }
@@ -99,7 +110,7 @@ fn judge_items(
         found: nothing(alloc),
     };
     'items: while !reader.take_end_array() {
-        more(alloc, reader, depth, list, extent, &mut judged)?;
+        more(alloc, reader, depth, list, extent, &mut judged, file)?;
     }
     Some(judged)
 }
@@ -177,13 +188,14 @@ fn no_list(alloc: Global, list: Listing) -> Told
     }
 }
 
-/// What is known of the reader's next value as a list, nested at most so deep.
+/// What is known of the reader's next value as a list, nested at most so deep, in this file.
 pub(crate) fn judge_list(
     alloc: Global,
     reader: &mut Reader<'_>,
     depth: usize,
     list: Listing,
     extent: Extent,
+    file: &[u8],
 ) -> Option<Told>
     ensures ok { IfSome result (λ told. (d : Data) × (converted of_json (value depth reader.old) ≡ Some (d, reader.new)) × TellsOf list extent told d) }
     ensures shorter { IfSome result (λ _. length reader.new < length reader.old) }
@@ -194,7 +206,7 @@ pub(crate) fn judge_list(
             if depth == 0 {
                 return None;
             }
-            let judged = judge_items(alloc, reader, depth - 1, list, extent)?;
+            let judged = judge_items(alloc, reader, depth - 1, list, extent, file)?;
             match verdict(alloc, list, judged) {
                 Some(told) => Some(told),
                 None => None,

@@ -1,27 +1,46 @@
-//! A list of a scenario's text, found by its name and judged; all that stands beside it is passed over. Of equal names the last counts.
+//! The lists of a scenario's text that are looked for in one pass, found by their names and judged; all that stands beside them is
+//! passed over. Of equal names the last counts.
 
-ghost use Rattle.std.specs.Prelude.{◌≡◌, ◌<◌, [], length, is_some, Some, IfSome};
+ghost use Rattle.std.specs.Prelude.{◌≡◌, ◌<◌, true, length, Some, IfSome};
 ghost use Rattle.json.specs.Json.{value, members};
 ghost use Rattle.serde_json.specs.Data.{Data, Members, object, no_members, put};
-ghost use Rattle.serde_json.specs.Find.{get};
 ghost use Rattle.serde_json.specs.Read.{of_json, of_members, converted};
-ghost use Rattle.serde_json.specs.View.{view};
-ghost use Rattle.scenario_read.specs.Answers.{Reads};
-ghost use Rattle.scenario_read.specs.Fields.{held, field_faults};
-ghost use Rattle.scenario_read.specs.Readers.{Answers};
-ghost use Rattle.scenario_cut.specs.Cutting.{Setup, cut};
-ghost use Rattle.scenario_cut.specs.Judging.{list_field, name_of, StaysIn, TellsIn};
+ghost use Rattle.scenario_cut.specs.Judging.{TellsIn};
+ghost use Rattle.scenario_cut.specs.Known.{Knows, list_named, told_of, with_told};
 ghost use Rattle.scenario_cut.specs.declared.judge.Extent.{Extent};
 ghost use Rattle.scenario_cut.specs.declared.judge.Listing.{Listing};
 
-use crate::judge::{Extent, Found, Listing, name_of};
+use crate::judge::{Extent, Listing};
 use crate::listing::{Told, judge_list, nothing};
 use crate::passing::pass;
-use json::{Reader, Scratch, Token};
-use scenario_data::ReadFail;
+use json::Reader;
 use scenario_read::{Place, Unfit, refuse_member};
-use serde_json::Value;
 use std::alloc::Global;
+
+/// Lists that are looked for in one pass: the cabinets, or those of what happens.
+#[derive(Clone, Copy)]
+pub(crate) enum Group {
+    Cabinets,
+    Events,
+}
+
+/// What is looked for: lists of a scenario of this extent.
+#[derive(Clone, Copy)]
+pub(crate) struct Search {
+    pub group: Group,
+    pub extent: Extent,
+}
+
+/// What is known of each list.
+#[derive(Drop)]
+pub(crate) struct Known {
+    pub cabinets: Told,
+    pub inputs: Told,
+    pub loads: Told,
+    pub priority: Told,
+    pub frames: Told,
+    pub faults: Told,
+}
 
 /// What is known of a list that doesn't stand: the cabinets must, and any other has no items.
 fn absent(alloc: Global, list: Listing) -> Told
@@ -39,113 +58,109 @@ fn absent(alloc: Global, list: Listing) -> Told
     }
 }
 
-/// What is known of the list behind the next member, nested at most so deep, from what was known before it.
+/// What is known where none of the lists stands.
+pub(crate) fn all_absent(alloc: Global) -> Known
+    ensures { (e : Extent) → (l : Listing) → TellsIn l e (told_of l result) (object no_members) }
+{
+    let cabinets = absent(alloc, Listing::Cabinets);
+    let inputs = absent(alloc, Listing::Inputs);
+    let loads = absent(alloc, Listing::Loads);
+    let priority = absent(alloc, Listing::Priority);
+    let frames = absent(alloc, Listing::Frames);
+    let faults = absent(alloc, Listing::Faults);
+    Known {
+        cabinets,
+        inputs,
+        loads,
+        priority,
+        frames,
+        faults,
+    }
+}
+
+/// The list of this name, if it is looked for.
+fn list_named(group: Group, name: &str) -> Option<Listing>
+    ensures { result ≡ list_named group name.now }
+{
+    match group {
+        Group::Cabinets => if name == "cabinets" {
+            Some(Listing::Cabinets)
+        } else {
+            None
+        },
+        Group::Events => if name == "inputs" {
+            Some(Listing::Inputs)
+        } else if name == "loads" {
+            Some(Listing::Loads)
+        } else if name == "priority" {
+            Some(Listing::Priority)
+        } else if name == "frames" {
+            Some(Listing::Frames)
+        } else if name == "faults" {
+            Some(Listing::Faults)
+        } else {
+            None
+        },
+    }
+}
+
+/// Puts what is known of a list in place of what was known of it.
+fn put_told(known: &mut Known, list: Listing, told: Told)
+    ensures { known.new ≡ with_told list told known.old }
+{
+    match list {
+        Listing::Cabinets => known.cabinets = told,
+        Listing::Inputs => known.inputs = told,
+        Listing::Loads => known.loads = told,
+        Listing::Priority => known.priority = told,
+        Listing::Frames => known.frames = told,
+        Listing::Faults => known.faults = told,
+    }
+}
+
+/// Judges the next member, nested at most so deep, if it is one of the lists that are looked for; else passes it over.
 fn judge_member(
     alloc: Global,
     reader: &mut Reader<'_>,
     depth: usize,
     name: &str,
-    list: Listing,
-    extent: Extent,
-    told: Told,
-) -> Option<Told>
-    ensures ok { IfSome result (λ now. (d : Data) × (converted of_json (value depth reader.old) ≡ Some (d, reader.new))
-        × ((ms : Members) → TellsIn list extent told (object ms) → TellsIn list extent now (object (put name.now d ms)))) }
+    search: Search,
+    known: &mut Known,
+    file: &[u8],
+) -> Option<()>
+    ensures ok { IfSome result (λ _. (d : Data) × (converted of_json (value depth reader.old) ≡ Some (d, reader.new))
+        × ((ms : Members) → Knows search known.old (object ms) → Knows search known.new (object (put name.now d ms)))) }
     ensures shorter { IfSome result (λ _. length reader.new < length reader.old) }
 {
-    if name == name_of(list) {
-        drop(told);
-        match judge_list(alloc, reader, depth, list, extent) {
-            Some(now) => Some(now),
-            None => None,
+    match list_named(search.group, name) {
+        Some(list) => {
+            let told = judge_list(alloc, reader, depth, list, search.extent, file)?;
+            put_told(known, list, told);
+            Some(())
         }
-    } else if pass(reader, depth) {
-        Some(told)
-    } else {
-        None
+        None => if pass(reader, depth) { Some(()) } else { None },
     }
 }
 
-/// What is known of the list in the members up to the brace that closes the whole object, each nested at most so deep.
-fn judge_members(
+/// What is known of the lists in the members up to the brace that closes a scenario, each nested at most so deep.
+pub(crate) fn judge_members(
     alloc: Global,
     reader: &mut Reader<'_>,
     depth: usize,
-    list: Listing,
-    extent: Extent,
-) -> Option<Told>
-    ensures ok { IfSome result (λ told. (ms : Members) × (converted (λ js. of_members js no_members) (members (value depth) (length reader.old) reader.old) ≡ Some (ms, reader.new))
-        × TellsIn list extent told (object ms)) }
+    search: Search,
+    file: &[u8],
+) -> Option<Known>
+    ensures ok { IfSome result (λ known. (ms : Members) × (converted (λ js. of_members js no_members) (members (value depth) (length reader.old) reader.old) ≡ Some (ms, reader.new))
+        × Knows search known (object ms)) }
+    ensures shorter { IfSome result (λ _. length reader.new < length reader.old) }
 {
-    let mut told = absent(alloc, list);
+    let mut known = all_absent(alloc);
     'members: loop {
         let name = match reader.next_key() {
             Ok(Some(name)) => name,
-            Ok(None) => return Some(told),
+            Ok(None) => return Some(known),
             Err(_) => return None,
         };
-        told = judge_member(alloc, reader, depth, name, list, extent, told)?;
-    }
-}
-
-/// What is known of the list of a text that is one object.
-fn told_of(alloc: Global, bytes: &[u8], list: Listing, extent: Extent) -> Option<Told>
-    ensures { IfSome result (λ told. (d : Data) × Reads bytes.now d × TellsIn list extent told d) }
-{
-    let Ok(text) = std::str::from_utf8(bytes) else {
-        return None;
-    };
-    let mut scratch = Scratch::new(alloc);
-    let Ok(mut reader) = Reader::new(text, &mut scratch) else {
-        return None;
-    };
-    match reader.next() {
-        Some(Token::BeginObject) => {}
-        _ => return None,
-    }
-    let told = judge_members(alloc, &mut reader, 126, list, extent)?;
-    match reader.next() {
-        Some(_) => None,
-        None => Some(told),
-    }
-}
-
-/// Whether a list stands in a scenario, of which this is kept.
-fn stands(setup: &Value, list: Listing) -> bool
-    ensures { result ≡ is_some (get (name_of list) (view setup.now)) }
-{
-    setup.get(name_of(list)).is_some()
-}
-
-/// What is known of a list, as an answer.
-fn answer_of(told: Told) -> Result<Found, ReadFail>
-    ensures { (l : Listing) → (e : Extent) → (d : Data) → TellsIn l e told d
-        → Answers result (field_faults [] d (list_field l e)) (λ found. StaysIn l e found (held (list_field l e) d)) }
-{
-    let Told { refusal, found } = told;
-    match refusal {
-        Some(fail) => Err(fail),
-        None => Ok(found),
-    }
-}
-
-/// Judges the list of a text, in a scenario of this extent of which this is kept beside its lists: what stays of it, or its first fault.
-/// Want of memory stands for what this way does not tell.
-pub(crate) fn judge_named(
-    alloc: Global,
-    bytes: &[u8],
-    setup: &Value,
-    list: Listing,
-    extent: Extent,
-) -> Result<Found, ReadFail>
-    ensures { (d : Data) → Reads bytes.now d → view setup.now ≡ cut Setup d
-        → Answers result (field_faults [] d (list_field list extent)) (λ found. StaysIn list extent found (held (list_field list extent) d)) }
-{
-    if !stands(setup, list) {
-        return answer_of(absent(alloc, list));
-    }
-    match told_of(alloc, bytes, list, extent) {
-        Some(told) => answer_of(told),
-        None => Err(ReadFail::NoMemory),
+        judge_member(alloc, reader, depth, name, search, &mut known, file)?;
     }
 }

@@ -10,7 +10,7 @@ use Rattle.serde_json.specs.declared.value.Value.{String, Number, Bool, Null, th
 use Rattle.serde_json.proofs.Views.{view-Array, view-Object}
 use Rattle.scenario_cut.specs.Cutting.{opens_array, opens_object, item_form, member_form, room, cut, cut_items}
 use Rattle.scenario_cut.specs.Growing.{both}
-use Rattle.scenario_cut.proofs.Turns.{converted-array, converted-object, item_read, items_over, member_read, members_over, both-end, one_more, none_before, both-push}
+use Rattle.scenario_cut.proofs.Turns.{converted-array, converted-object, item_read, items_over, member_read, members_over, both-end, one_more, none_before}
 use Rattle.scenario_cut.proofs.Growth.{item-first, kept-more, put-kept, kept-array, no-array, kept-object, no-object}
 use Rattle.scenario_cut.proofs.keeping.+keep.Goals as goal
 
@@ -80,19 +80,23 @@ keep-returns-in-Some-keep_members-clause-ok t c =
     let opens : opens_object c.args.form ≡ true = grind arith in
     (object ms, opened ∙ ap (parse_map object) found.1, view-Object c.in-Some-keep_members.members ∙ ap object found.2 ∙ kept-object c.args.form ms opens)
 
-pub keep_item-returns-then-pass-clause-ok : goal.keep_item-returns-then-pass-clause-ok
-keep_item-returns-then-pass-clause-ok t c =
-    let found = c.pass.ensures.passed c.if-pass.true in
-    let none : c.args.left ≡ 0 = omega arith in
-    let seen : view Null ≡ null = search (rules, the_lemmas) in
-    (found.0, found.1, λ rest. ap (λ m. cut_items c.args.form m (item found.0 rest)) none ∙ ap (λ v. item v (cut_items c.args.form 0 rest)) (sym seen))
-
 pub keep_item-returns-in-Some-clause-ok : goal.keep_item-returns-in-Some-clause-ok
 keep_item-returns-in-Some-clause-ok t c =
     let found = c.in-Some.ensures.ok in
+    let none : c.args.left ≡ 0 = omega arith in
+    (found.0, found.1, λ rest. ap (λ m. both (items_view c.args.found.now.items) (cut_items c.args.form m (item found.0 rest))) none ∙ found.2 rest)
+
+pub keep_item-returns-in-Some-put_item-clause-ok : goal.keep_item-returns-in-Some-put_item-clause-ok
+keep_item-returns-in-Some-put_item-clause-ok t c =
+    let found = c.in_ok-kept.ensures.ok in
     let n = c.args.left - 1 in
     let some : c.args.left ≡ suc n = omega arith in
-    (found.0, found.1, λ rest. item-first c.args.form c.args.left n found.0 (view c.in-Some.item) c.room_behind-behind.result rest some found.2 c.room_behind-behind.ensures.behind)
+    let behind = c.room_behind-behind.result in (
+      found.0,
+      found.1,
+      λ rest. ap (both (items_view c.args.found.now.items)) (item-first c.args.form c.args.left n found.0 (view c.in_ok-kept.kept) behind rest some found.2 c.room_behind-behind.ensures.behind)
+          ∙ c.in-Some-put_item.ensures (cut_items c.args.form behind rest),
+    )
 
 pub keep_items-items-init : goal.keep_items-items-init
 keep_items-items-init t c =
@@ -106,9 +110,8 @@ keep_items-items-preserved t c =
     let n = l.invariant.0 in
     let ds = l.invariant.1 in
     let going : (after_end_array l.reader ≡ None) × (c.take_end_array.new.self ≡ l.reader) = grind arith in
-    let done = c.in_ok-next.ensures in
+    let done = c.in_ok-left.ensures in
     let d = done.ok.0 in
-    let v = c.in_ok-next.next.0 in
     let r = c.keep_item.new.reader in
     let less : length r < length l.reader = rw (← going.1) done.shorter in
     let turn = item_read p n l.reader r d (omega (arith, l.invariant.2)) going.0 (rw (← going.1) done.ok.1) in (
@@ -117,8 +120,7 @@ keep_items-items-preserved t c =
       omega (arith, l.invariant.2),
       l.invariant.3 ∙ ap (parse_map (both ds)) turn ∙ one_more ds d _,
       omega (arith, l.invariant.4),
-      λ rest. kept-more c.args.form (room c.args.form) l.left c.in_ok-next.next.1 ds (items_view l.found.items) d (view v) l.invariant.5 done.ok.2 rest
-          ∙ ap (λ vs. both vs (cut_items c.args.form c.in_ok-next.next.1 rest)) (sym (both-push l.found.items v) ∙ ap items_view (sym c.in-Ok.ensures.items)),
+      kept-more c.args.form (room c.args.form) l.left c.in_ok-left.left ds (items_view l.found.items) (items_view c.keep_item.new.found.items) d l.invariant.5 done.ok.2,
       done.few,
     )
 

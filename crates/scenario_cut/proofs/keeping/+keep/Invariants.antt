@@ -26,7 +26,7 @@ invariant-keep_items-items l =
     × (converted of_items (items (value l.depth) (length l.initial.reader) l.initial.reader) ≡ parse_map (both ds) (converted of_items (items (value l.depth) n l.reader)))
     × (length l.reader ≤ length l.initial.reader)
     × ((rest : Items) → cut_items l.form (room l.form) (both ds rest) ≡ both (items_view l.found.items) (cut_items l.form l.left rest))
-    × (l.left ≤ 4096)
+    × (l.left ≤ 4097)
 
 abbrev pub decreases-keep_items-items : goal.decreases-keep_items-items
 decreases-keep_items-items l = length l.reader

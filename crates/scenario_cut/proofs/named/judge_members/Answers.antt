@@ -6,7 +6,7 @@ use Rattle.scenario_cut.proofs.Turns.{member_read, members_over}
 use Rattle.scenario_cut.proofs.named.judge_members.Goals as goal
 
 pub members-init : goal.members-init
-members-init c = (length c.args.reader.now, no_members, omega arith, refl, c.absent-told.ensures c.args.extent)
+members-init c = (length c.args.reader.now, no_members, omega arith, refl, omega arith, λ l looked. c.all_absent-known.ensures c.args.search.extent l)
 
 pub members-preserved : goal.members-preserved
 members-preserved c =
@@ -17,7 +17,7 @@ members-preserved c =
     let k = c.in-Ok-Some.name.now in
     let s = c.next_key.new.self in
     let named : read_key l.reader ≡ Some (Some k, s) = grind arith in
-    let done = c.in_ok-told.ensures in
+    let done = c.in_ok-judge_member.ensures in
     let d = done.ok.0 in
     let r = c.judge_member.new.reader in
     let less = read_key-shorter l.reader (Some k) s named in
@@ -26,13 +26,14 @@ members-preserved c =
       put k d ms,
       omega (arith, l.invariant.2),
       l.invariant.3 ∙ member_read p ms n k l.reader s r d (omega (arith, l.invariant.2)) named done.ok.1,
-      done.ok.2 ms l.invariant.4,
+      omega (arith, l.invariant.4),
+      done.ok.2 ms l.invariant.5,
     )
 
-pub returns-in-Ok-None : goal.returns-in-Ok-None
-returns-in-Ok-None c =
+pub returns-in-Ok-None-clause-ok : goal.returns-in-Ok-None-clause-ok
+returns-in-Ok-None-clause-ok c =
     let p = value c.args.depth in
     let l = c.members in
     let n = l.invariant.0 in
     let ms = l.invariant.1 in
-    record { ok = (ms, l.invariant.3 ∙ members_over p ms n l.reader c.next_key.new.self l.invariant.2 (grind arith), l.invariant.4) }
+    (ms, l.invariant.3 ∙ members_over p ms n l.reader c.next_key.new.self l.invariant.2 (grind arith), l.invariant.5)

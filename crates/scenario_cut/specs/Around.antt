@@ -1,0 +1,12 @@
+-- Where the scenario of a text stands: it is the text's value, or stands at `scenario` of the object that this is.
+use Rattle.std.specs.Prelude.{codes, unwrap_or, None}
+use Rattle.serde_json.specs.Data.{Data, null}
+use Rattle.serde_json.specs.Find.{get}
+use Rattle.scenario_read.specs.Fields.{either}
+pub use Rattle.scenario_cut.specs.declared.around.Around.{Around}
+pub use Rattle.scenario_cut.specs.declared.around.Around.TheVariants.{Nothing, Object}
+
+-- the scenario of a text's value; null where the object has none
+abbrev pub scenario_in : Around → Data → Data
+scenario_in Nothing d = d
+scenario_in Object d = unwrap_or (either (get (codes "scenario") d) None) null
