@@ -4,9 +4,9 @@ use Rattle.std.proofs.lemmas.Cmp.{nat_list_cmp_total, tied_itself}
 use Rattle.std.proofs.lemmas.Slice.Eq.{bytes_eq-Decides}
 use Rattle.std.specs.Cmp.Lexicographic.{slice_cmp}
 use Rattle.std.specs.Ordering.{match_ordering}
-use Rattle.serde_json.specs.Data.{Data, null, boolean, number, string, array, object, Items, Members, no_members, member, put}
+use Rattle.serde_json.specs.Data.{Data, null, boolean, number, string, array, object, Items, Members, no_members, member}
 use Rattle.serde_json.specs.Find.{get, get_member}
-use Rattle.scenario_read.specs.Sorted.{Below, MembersSorted}
+use Rattle.scenario_read.specs.Sorted.{Below}
 use Rattle.scenario_cut.proofs.Members.{equal-names}
 use Rattle.scenario_file.specs.Framing.{is_list, filled, filled_in, scheduled, master_with, value_in, with_rows, Enters}
 
@@ -26,32 +26,6 @@ not-greater o a b = cc
 pub Below-chain : (low name : List ℕ) (ms : Members) → slice_cmp nat_cmp low name ≡ Less → Below name ms → Below low ms
 Below-chain low name no_members less below = tt
 Below-chain low name (member other d ms) less below = (nat_list_cmp_total.trans low name other less below.0, Below-chain low name ms less below.1)
-
-module _ (l : List ℕ) (old now : List ℕ → Data → Data) (d standing : Data) (enters : Enters old now l d standing) where
-  without : (ms : Members) → Below l ms → filled old ms ≡ filled now ms
-  without no_members below = refl
-  without (member name e ms) below =
-      let first = enters.others name (apart-names l name (not-less (slice_cmp nat_cmp l name) below.0)) e in
-      ap (λ v. member name v (filled old ms)) first ∙ ap (member name (now name e)) (without ms below.1)
-
-  -- a value that enters at the name, is put into the frame as what stands for it
-  pub put-through : (ms : Members) → MembersSorted ms → put l d (filled old ms) ≡ filled now (put l standing ms)
-  put-through no_members sorted = ap (λ e. member l e no_members) (sym enters.here)
-  put-through (member name e ms) sorted = at (slice_cmp nat_cmp l name) refl (put-through ms sorted.2)
-    where
-      at : (o : Ordering) → slice_cmp nat_cmp l name ≡ o → put l d (filled old ms) ≡ filled now (put l standing ms)
-          → match_ordering o (member l d (filled old (member name e ms))) (member name d (filled old ms)) (member name (old name e) (put l d (filled old ms)))
-          ≡ filled now (match_ordering o (member l standing (member name e ms)) (member name standing ms) (member name e (put l standing ms)))
-      at Less less rest =
-          let below : Below l (member name e ms) = (less, Below-chain l name ms less sorted.1) in
-          ap (λ v. member l v (filled old (member name e ms))) (sym enters.here) ∙ ap (member l (now l standing)) (without (member name e ms) below)
-      at Equal same rest =
-          let here : l ≡ name = equal-names l name same in
-          let below : Below l ms = subst (λ n. Below n ms) (sym here) sorted.1 in
-          ap (λ v. member name v (filled old ms)) (sym enters.here ∙ ap (λ n. now n standing) here) ∙ ap (member name (now name standing)) (without ms below)
-      at Greater more rest =
-          let first = enters.others name (apart-names l name (not-greater (slice_cmp nat_cmp l name) more)) e in
-          ap (λ v. member name v (put l d (filled old ms))) first ∙ ap (member name (now name e)) rest
 
 -- ---- the names of lists
 

@@ -1,6 +1,9 @@
 pub mod Numbers
 pub mod Growth
+pub mod Inputs
+pub mod InputTexts
 pub mod Frames
+pub mod Leaving
 pub mod Standing
 pub mod Blanks
 pub mod Versions

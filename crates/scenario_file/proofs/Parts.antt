@@ -16,6 +16,7 @@ use Rattle.scenario_read.specs.Table.{master}
 use Rattle.scenario_read.proofs.Rising.{sorted-put}
 use Rattle.scenario_cut.specs.Growing.{both}
 use Rattle.scenario_cut.proofs.Turns.{both-end, both-push}
+use Rattle.scenario_cut.proofs.Lasting.{put-through}
 use Rattle.scenario_file.specs.declared.lists.Texts.{Texts}
 use Rattle.scenario_file.specs.declared.source.ScenarioText.{ScenarioText}
 use Rattle.scenario_file.specs.declared.written.Written.{Written}
@@ -23,7 +24,7 @@ use Rattle.scenario_file.specs.Growing.{written, inner_text, follows}
 use Rattle.scenario_file.specs.Framing.{scheduled, master_with, value_in, with_lists, with_rows, IsHeld, text_named, TextsStand}
 use Rattle.scenario_file.specs.Source.{with_member, with_inputs, master_and, with_schedule, Writes}
 use Rattle.scenario_file.proofs.Growth.{text-next, follows-next}
-use Rattle.scenario_file.proofs.Frames.{by-name, put-through, enters-list, enters-master, enters-schedule, get-through}
+use Rattle.scenario_file.proofs.Frames.{by-name, enters-list, enters-master, enters-schedule, get-through}
 use Rattle.scenario_file.proofs.Masters.{master-value}
 use Rattle.scenario_file.proofs.Standing.{apart}
 use Rattle.scenario_file.proofs.Putting.{Plain, each-there, each-sorted, each-plain, put-again, put-same, plain-put, with-sorted, with-plain}

@@ -3,13 +3,14 @@
 use Rattle.std.specs.Prelude.{ℕ, List, [], ◌≡◌, ◌||◌, Bool, true, false, codes, if◌then◌else◌, bytes_eq, Option, Some, None, Vec}
 use Rattle.std.specs.declared.alloc.Global.{Global}
 use Rattle.serde_json.specs.Events.{items_len}
-use Rattle.serde_json.specs.Data.{Data, null, boolean, number, string, array, object, Items, no_items, Members, no_members, member, put}
+use Rattle.serde_json.specs.Data.{Data, null, boolean, number, string, array, object, Items, no_items, Members, put}
 use Rattle.serde_json.specs.Find.{get, get_member}
 use Rattle.scenario_data.specs.declared.scenario.Cabinet.{Cabinet}
 use Rattle.scenario_data.specs.declared.scenario.Entry.{Entry}
 use Rattle.scenario_read.specs.declared.setup.Setup.{Setup}
 use Rattle.scenario_read.specs.Fields.{held}
 use Rattle.scenario_read.specs.Table.{master}
+pub use Rattle.scenario_cut.specs.Last.{filled, Enters}
 use Rattle.scenario_file.specs.Growing.{written, inner_text, blanks}
 use Rattle.scenario_file.specs.Listing.{Holds, name_of, AllOf, Within, Lists as ListsItems}
 use Rattle.scenario_file.specs.declared.found.Found.{Found}
@@ -32,11 +33,6 @@ Begins None name = is_list name ≡ false
 Begins (Some found) name = (name_of found ≡ name) × (is_list name ≡ true) × Holds found no_items
 
 -- ---- a frame, and the value of which it is one
-
--- the members, with what this makes of each name and what stands there
-abbrev pub filled : (List ℕ → Data → Data) → Members → Members
-filled fill no_members = no_members
-filled fill (member name d ms) = member name (fill name d) (filled fill ms)
 
 -- the same of an object; any other value as it is
 abbrev pub filled_in : (List ℕ → Data → Data) → Data → Data
@@ -68,11 +64,6 @@ with_lists rows = filled (value_in rows)
 -- the items, with these at a name
 abbrev pub with_rows : (List ℕ → Items) → List ℕ → Items → List ℕ → Items
 with_rows rows name ds other = if bytes_eq other name then ds else rows other
-
--- a value enters at a name, and something for it in the frame; what the other names make of theirs stays
-pub record Enters (old now : List ℕ → Data → Data) (name : List ℕ) (d standing : Data) : Type 0 where
-  pub here : now name standing ≡ d
-  pub others : (other : List ℕ) → bytes_eq other name ≡ false → (e : Data) → old other e ≡ now other e
 
 -- ---- the texts of lists
 

@@ -1,4 +1,6 @@
 pub mod Growing
+pub mod Plain
 pub mod Listing
 pub mod Framing
+pub mod Left
 pub mod Source

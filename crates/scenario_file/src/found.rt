@@ -2,12 +2,13 @@
 //! so that they are held to the most that any scenario has; what they ask for is tested against these later.
 
 ghost use Rattle.std.specs.Prelude.{◌≡◌, ◌≤◌, ◌<◌, ◌⊎◌, [], ◌∷◌, ◌++◌, false, length, IfSome, IsTrue};
-ghost use Rattle.serde_json.specs.Data.{Items, item, no_items, array};
+ghost use Rattle.serde_json.specs.Data.{Items, item, no_items, array, object};
 ghost use Rattle.serde_json.specs.Written.{has_float};
 ghost use Rattle.serde_json.specs.View.{view};
 ghost use Rattle.scenario_read.specs.Sorted.{Sorted};
 ghost use Rattle.scenario_cut.specs.Growing.{both};
 ghost use Rattle.scenario_file.specs.Growing.{blanks};
+ghost use Rattle.scenario_file.specs.Plain.{InputFits, input_members};
 ghost use Rattle.scenario_file.specs.Listing.{Further, Holds, Within, asked_version, name_of};
 ghost use Rattle.scenario_file.specs.Framing.{Begins, stand_in};
 
@@ -35,6 +36,13 @@ pub(crate) struct Reach {
     pub round: u32,
     pub cabinet: u32,
     pub version: u32,
+}
+
+impl Found {
+    /// Whether this is the list of the inputs.
+    pub(crate) fn is_inputs(&self) -> bool {
+        matches!(self, Found::Inputs(_))
+    }
 }
 
 /// The greater of two numbers.
@@ -169,6 +177,38 @@ fn add_input(alloc: Global, object: &Value, inputs: &mut Vec<Input>) -> Option<R
     match inputs.push(input) {
         Ok(()) => Some(reach),
         Err(_) => None,
+    }
+}
+
+/// Puts an input that is without fault at the end of a million at most.
+fn push_plain(input: Input, inputs: &mut Vec<Input>) -> Option<Reach>
+    requires fits { InputFits input }
+    ensures added { IfSome result (λ _. (ds : Items) → Holds (Found.Inputs inputs.old) ds → Holds (Found.Inputs inputs.new) (both ds (item (object (input_members input)) no_items))) }
+    ensures reach { IfSome result (λ reach. Within (name_of (Found.Inputs inputs.old)) reach (object (input_members input))) }
+{
+    if inputs.len() >= 1_000_000 {
+        return None;
+    }
+    match inputs.push(input) {
+        Ok(()) => Some(Reach {
+            round: input.round,
+            cabinet: input.cabinet,
+            version: 0,
+        }),
+        Err(_) => None,
+    }
+}
+
+/// Adds an input that is without fault, to a list of inputs.
+pub(crate) fn add_plain(input: Input, found: &mut Found) -> Option<Reach>
+    requires fits { InputFits input }
+    ensures added { IfSome result (λ _. (ds : Items) → Holds found.old ds → Holds found.new (both ds (item (object (input_members input)) no_items))) }
+    ensures reach { IfSome result (λ reach. Within (name_of found.old) reach (object (input_members input))) }
+    ensures list { name_of found.new ≡ name_of found.old }
+{
+    match found {
+        Found::Inputs(inputs) => push_plain(input, inputs),
+        _ => None,
     }
 }
 

@@ -4,21 +4,28 @@
 //! which takes further inputs and another schedule.
 #![tactic(auto)]
 
+mod any_number;
 mod compact;
 mod entries;
 mod found;
+mod left;
 mod listed;
 mod lists;
+mod look;
 mod master;
 mod members;
+mod passing;
 mod pieces;
+mod plain;
 mod reading;
 mod source;
 mod top;
 mod trees;
 mod written;
 
+pub use left::Left;
 pub use members::{put_in_master, put_named};
+pub use passing::pass;
 pub use reading::{read, scenario_of};
-pub use source::{ScenarioText, Source, scenario_at};
+pub use source::{LARGE_NAMES, ScenarioText, Source, last_scenario_at, scenario_at};
 pub use trees::{Level, tree};

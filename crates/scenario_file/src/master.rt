@@ -11,7 +11,7 @@ ghost use Rattle.scenario_file.specs.Framing.{filled, scheduled, Enters, MasterS
 
 use crate::found::{Found, Reach};
 use crate::listed::{Listed, list_at};
-use crate::trees::{put_member, tree};
+use crate::trees::{is_full, put_member, tree};
 use crate::written::Written;
 use json::{Reader, Token};
 use serde_json::{Map, Value};
@@ -97,6 +97,9 @@ fn members_of<'a>(
             Ok(key) => key,
             Err(_) => return None,
         };
+        if is_full(&members) {
+            return None;
+        }
         let value = member_at(alloc, reader, depth, name, &mut schedule, file)?;
         put_member(&mut members, key, value)?;
     }

@@ -1,25 +1,47 @@
-//! The scenario file: bytes in, a scenario or the first fault out. A right scenario is read with little memory; of any other text that
-//! is kept on which its first fault may hang. This also tells a right scenario in which an earlier of equal names holds what
-//! none may hold. No tree of the whole value is made.
+//! The scenario file: bytes in, a scenario or the first fault out. A right scenario is read with little memory, also where an earlier of
+//! equal names is at fault or large. Of any other text the first fault is told by `scenario_cut`. No tree of the whole value is made.
 
 ghost use Rattle.std.specs.Prelude.{IfOk, IfErr, IfSome};
 ghost use Rattle.scenario_data.specs.Content.{scenario_content};
 ghost use Rattle.scenario_read.specs.Answers.{IsScenario, IsFirstFault, OnRefusal};
 
-use crate::source::{Source, source_of};
+use crate::left::Left;
+use crate::source::{LARGE_NAMES, Source, source_of};
 use crate::top::whole_of;
 use scenario_data::{ReadFail, Scenario};
 use std::alloc::Global;
 
-/// Reads a scenario that is right, list by list, without a tree of the whole. None where the text isn't right, where an earlier
-/// of equal names holds what none may hold, and where memory is wanting: which of these it is, `read` tells.
+/// Reads a scenario that is right, list by list, without a tree of the whole, and of its members of equal names the last alone, where
+/// so many come. None where the text isn't right, where an earlier one that is read holds what none may hold, and where memory is
+/// wanting.
+fn listed(alloc: Global, bytes: &[u8], left: Left) -> Option<Scenario>
+    ensures scenario { IfSome result (λ s. IsScenario bytes.now (scenario_content s)) }
+    ensures reads_back { IfSome result (λ s. IsScenario s.compact.items (scenario_content s)) }
+{
+    let whole = whole_of(alloc, bytes, left)?;
+    let Source { scenario, .. } = source_of(alloc, whole, bytes.len())?;
+    Some(scenario)
+}
+
+/// How often the large names come in a text that is one object, where one of them comes again.
+fn again(alloc: Global, bytes: &[u8]) -> Option<Left> {
+    let left = Left::of(alloc, bytes, &LARGE_NAMES)?;
+    if left.has_again() { Some(left) } else { None }
+}
+
+/// Reads a scenario that is right without a tree of the whole: first all of it, and where that gives none, of equal names the last
+/// alone. None where the text isn't right and where memory is wanting, mostly: which of these it is, `read` tells.
 pub fn scenario_of(alloc: Global, bytes: &[u8]) -> Option<Scenario>
     ensures scenario { IfSome result (λ s. IsScenario bytes.now (scenario_content s)) }
     ensures reads_back { IfSome result (λ s. IsScenario s.compact.items (scenario_content s)) }
 {
-    let whole = whole_of(alloc, bytes)?;
-    let Source { scenario, .. } = source_of(alloc, whole, bytes.len())?;
-    Some(scenario)
+    match listed(alloc, bytes, Left::none(alloc)) {
+        Some(scenario) => Some(scenario),
+        None => {
+            let left = again(alloc, bytes)?;
+            listed(alloc, bytes, left)
+        }
+    }
 }
 
 /// Reads a scenario, in time and memory that grow with its bytes. The refusal is the first fault in the order of the

@@ -17,6 +17,7 @@ ghost use Rattle.scenario_file.specs.Framing.{setup_with};
 ghost use Rattle.scenario_file.specs.Source.{Writes, IsRead, IsSource, with_inputs, with_schedule};
 
 use crate::compact::compact;
+use crate::left::Left;
 use crate::lists::{Lists, Texts};
 use crate::master::no_entries;
 use crate::members::{put_in_master, put_named};
@@ -27,6 +28,11 @@ use scenario_data::{Cabinet, Entry, MasterSetup, Scenario};
 use scenario_read::{Parts, Setup, all_judged, checked_parts, scenario_from};
 use serde_json::{Map, Value};
 use std::alloc::Global;
+
+/// The names of a scenario that may have much behind them.
+pub const LARGE_NAMES: [&str; 7] = [
+    "cabinets", "master", "inputs", "loads", "priority", "frames", "faults",
+];
 
 /// A scenario's text in parts: its members but for the lists, the text of each list between its brackets, and whether there is an
 /// input. After a change that had not the memory it is no text any more.
@@ -114,9 +120,15 @@ pub(crate) fn source_of<'a>(alloc: Global, whole: Whole<'a>, room: usize) -> Opt
     })
 }
 
-/// Reads the scenario that is the reader's next value, in this file, nested at most 126 deep. Nothing, where it is not right, where an
-/// earlier of equal names holds what none may hold, or where there is no memory.
-pub fn scenario_at<'a>(alloc: Global, reader: &mut Reader<'_>, file: &'a [u8]) -> Option<Source<'a>>
+/// Reads the scenario that is the reader's next value, in this file, nested at most 126 deep, and of its members of equal names the
+/// last alone, where so many come. Nothing, where it is not right, where an earlier one that is read holds what none may hold, or where
+/// there is no memory.
+pub fn last_scenario_at<'a>(
+    alloc: Global,
+    reader: &mut Reader<'_>,
+    left: Left,
+    file: &'a [u8],
+) -> Option<Source<'a>>
     ensures ok { IfSome result (λ s. (d : Data) × (converted of_json (value 126 reader.old) ≡ Some (d, reader.new)) × (faults d ≡ [])
         × (scenario_content s.scenario ≡ scenario_of d) × Writes s.text d) }
     ensures shorter { IfSome result (λ _. length reader.new < length reader.old) }
@@ -127,11 +139,23 @@ pub fn scenario_at<'a>(alloc: Global, reader: &mut Reader<'_>, file: &'a [u8]) -
         Some(Token::BeginObject) => {}
         _ => return None,
     }
-    let whole = members_of(alloc, reader, 125, file)?;
+    let whole = members_of(alloc, reader, 125, left, file)?;
     match source_of(alloc, whole, file.len()) {
         Some(source) => Some(source),
         None => None,
     }
+}
+
+/// Reads the scenario that is the reader's next value, in this file, nested at most 126 deep. Nothing, where it is not right, where an
+/// earlier of equal names holds what none may hold, or where there is no memory.
+pub fn scenario_at<'a>(alloc: Global, reader: &mut Reader<'_>, file: &'a [u8]) -> Option<Source<'a>>
+    ensures ok { IfSome result (λ s. (d : Data) × (converted of_json (value 126 reader.old) ≡ Some (d, reader.new)) × (faults d ≡ [])
+        × (scenario_content s.scenario ≡ scenario_of d) × Writes s.text d) }
+    ensures shorter { IfSome result (λ _. length reader.new < length reader.old) }
+    ensures few { IfSome result (λ s. length s.scenario.cabinets.items ≤ 64) }
+    ensures reads_back { IfSome result (λ s. IsScenario s.scenario.compact.items (scenario_content s.scenario)) }
+{
+    last_scenario_at(alloc, reader, Left::none(alloc), file)
 }
 
 /// The text of entries between the brackets of their list.

@@ -3,18 +3,21 @@
 
 ghost use Rattle.std.specs.Prelude.{◌≡◌, ◌<◌, ◌≤◌, ℕ, List, true, length, Some, IfSome, IsUtf8, codes};
 ghost use Rattle.json.specs.Json.{value, members};
-ghost use Rattle.serde_json.specs.Data.{Data, Items, object, no_members, no_items};
+ghost use Rattle.serde_json.specs.Data.{Data, Items, Members, object, no_members, no_items, put};
 ghost use Rattle.serde_json.specs.Read.{of_json, of_members, converted, read};
 ghost use Rattle.serde_json.specs.View.{view, members_view};
 ghost use Rattle.scenario_read.specs.Sorted.{Sorted, MembersSorted};
 ghost use Rattle.scenario_file.specs.Listing.{Holds, name_of};
 ghost use Rattle.scenario_file.specs.Framing.{is_list, with_lists, Puts, AllStand};
+ghost use Rattle.scenario_file.specs.Left.{Grows, ReadSoFar};
 
 use crate::found::{Found, list_named, stand_in};
+use crate::left::Left;
 use crate::listed::list_at;
 use crate::lists::{Lists, no_lists, put_list};
 use crate::master::{Master, master_at};
-use crate::trees::{put_member, tree};
+use crate::passing::pass;
+use crate::trees::{is_full, put_member, tree};
 use json::{Reader, Scratch, Token};
 use serde_json::{Map, Value};
 use std::alloc::Global;
@@ -24,6 +27,13 @@ use std::alloc::Global;
 pub(crate) struct Whole<'a> {
     pub frame: Map<String, Value>,
     pub lists: Lists<'a>,
+}
+
+/// A scenario's value so far, and how often its names are still to come.
+#[derive(Drop)]
+pub(crate) struct Reading<'a> {
+    pub whole: Whole<'a>,
+    pub left: Left,
 }
 
 /// Reads a list that is nested at most so deep, and gives what stands for it.
@@ -96,11 +106,73 @@ fn member_at<'a>(
     }
 }
 
-/// The members up to the brace that closes the whole object, each nested at most so deep. Of equal names the last counts.
+/// Reads what stands at the next name, nested at most so deep, and puts what stands for it into the frame.
+fn put_next<'a>(
+    alloc: Global,
+    reader: &mut Reader<'_>,
+    depth: usize,
+    name: &str,
+    whole: &mut Whole<'a>,
+    file: &'a [u8],
+) -> Option<()>
+    requires deep { 2 ≤ depth }
+    ensures ok { IfSome result (λ _. (d : Data) × (converted of_json (value depth reader.old) ≡ Some (d, reader.new)) × Grows whole.old whole.new name.now d) }
+    ensures shorter { IfSome result (λ _. length reader.new < length reader.old) }
+{
+    let Ok(key) = String::from_str(alloc, name) else {
+        return None;
+    };
+    if is_full(&whole.frame) {
+        return None;
+    }
+    let value = member_at(alloc, reader, depth, name, &mut whole.lists, file)?;
+    put_member(&mut whole.frame, key, value)?;
+    Some(())
+}
+
+/// Reads what stands at the next name, nested at most so deep, where the name comes for the last time, or else passes over it.
+fn next_member<'a>(
+    alloc: Global,
+    reader: &mut Reader<'_>,
+    depth: usize,
+    name: &str,
+    reading: &mut Reading<'a>,
+    file: &'a [u8],
+) -> Option<()>
+    requires deep { 2 ≤ depth }
+    ensures ok { IfSome result (λ _. (d : Data) × (converted of_json (value depth reader.old) ≡ Some (d, reader.new))
+        × ((ms : Members) → MembersSorted ms → ReadSoFar reading.old ms → ReadSoFar reading.new (put name.now d ms))) }
+    ensures shorter { IfSome result (λ _. length reader.new < length reader.old) }
+{
+    if reading.left.is_last(name) {
+        put_next(alloc, reader, depth, name, &mut reading.whole, file)?;
+        Some(())
+    } else if pass(reader, depth) {
+        Some(())
+    } else {
+        None
+    }
+}
+
+/// Nothing was read yet.
+fn nothing_read<'a>(alloc: Global, left: Left) -> Reading<'a>
+    ensures { ReadSoFar result no_members }
+{
+    let frame = Map::new(alloc);
+    let lists = no_lists(alloc);
+    Reading {
+        whole: Whole { frame, lists },
+        left,
+    }
+}
+
+/// The members up to the brace that closes the whole object, each nested at most so deep. Of equal names the last counts; of those
+/// of which more is to come none is read.
 pub(crate) fn members_of<'a>(
     alloc: Global,
     reader: &mut Reader<'_>,
     depth: usize,
+    left: Left,
     file: &'a [u8],
 ) -> Option<Whole<'a>>
     requires deep { 2 ≤ depth }
@@ -110,25 +182,25 @@ pub(crate) fn members_of<'a>(
     ensures sorted { IfSome result (λ whole. MembersSorted (members_view whole.frame.entries)) }
     ensures shorter { IfSome result (λ _. length reader.new < length reader.old) }
 {
-    let mut frame = Map::new(alloc);
-    let mut lists = no_lists(alloc);
+    let mut reading = nothing_read(alloc, left);
     'members: loop {
         let name = match reader.next_key() {
             Ok(Some(name)) => name,
-            Ok(None) => return Some(Whole { frame, lists }),
+            Ok(None) => break,
             Err(_) => return None,
         };
-        let key = match String::from_str(alloc, name) {
-            Ok(key) => key,
-            Err(_) => return None,
-        };
-        let value = member_at(alloc, reader, depth, name, &mut lists, file)?;
-        put_member(&mut frame, key, value)?;
+        next_member(alloc, reader, depth, name, &mut reading, file)?;
+    }
+    if reading.left.none_left() {
+        let Reading { whole, .. } = reading;
+        Some(whole)
+    } else {
+        None
     }
 }
 
-/// The parts of a text that is one object.
-pub(crate) fn whole_of<'a>(alloc: Global, bytes: &'a [u8]) -> Option<Whole<'a>>
+/// The parts of a text that is one object, of whose names so many come.
+pub(crate) fn whole_of<'a>(alloc: Global, bytes: &'a [u8], left: Left) -> Option<Whole<'a>>
     ensures utf8 { IfSome result (λ _. IsUtf8 bytes.now) }
     ensures ok { IfSome result (λ whole. (rows : List ℕ → Items)
         × (read bytes.now ≡ Some (object (with_lists rows (members_view whole.frame.entries))))
@@ -146,7 +218,7 @@ pub(crate) fn whole_of<'a>(alloc: Global, bytes: &'a [u8]) -> Option<Whole<'a>>
         Some(Token::BeginObject) => {}
         _ => return None,
     }
-    let whole = members_of(alloc, &mut reader, 126, bytes)?;
+    let whole = members_of(alloc, &mut reader, 126, left, bytes)?;
     match reader.next() {
         Some(_) => None,
         None => Some(whole),

@@ -3,7 +3,7 @@
 
 ghost use Rattle.std.specs.Prelude.{◌≡◌, ◌<◌, length, Some, IfSome, string_bytes};
 ghost use Rattle.json.specs.Json.{value, items, members};
-ghost use Rattle.serde_json.specs.Data.{no_members, put};
+ghost use Rattle.serde_json.specs.Data.{no_members, put, unsigned};
 ghost use Rattle.serde_json.specs.Read.{of_json, of_items, of_members, converted, number_of};
 ghost use Rattle.serde_json.specs.View.{view, number_view, items_view, members_view};
 
@@ -22,6 +22,12 @@ pub enum Level {
 /// An item of a list: an object, in which the cells of a cabinet or a load are lists of a list.
 pub(crate) const ITEM: [Level; 3] = [Level::Members, Level::Items(4096), Level::Items(8)];
 
+/// How many names an object may have: more than any object of a scenario.
+const MOST_NAMES: usize = 32;
+
+/// How many arrays may stand in an object: more than in any object of a list.
+const MOST_ARRAYS: usize = 2;
+
 /// How many items an array may have at the first level, and the levels below; none, where no array may open.
 fn items_below(levels: &[Level]) -> Option<(usize, &[Level])> {
     match levels {
@@ -39,16 +45,24 @@ fn members_below(levels: &[Level]) -> Option<&[Level]> {
 }
 
 /// The number that a token writes, where it is whole, not below 0, and has 64 bits.
-fn whole_number(text: &str) -> Option<Number>
-    ensures { IfSome result (λ n. number_of text.now ≡ Some (number_view n)) }
+pub(crate) fn whole_of(text: &str) -> Option<u64>
+    ensures { IfSome result (λ n. number_of text.now ≡ Some (unsigned n)) }
 {
     let bytes = text.as_bytes();
     if bytes.is_empty() || bytes[0] == b'-' {
         return None;
     }
-    let Some(whole) = Numeral::scan(bytes).to_u64() else {
-        return None;
-    };
+    match Numeral::scan(bytes).to_u64() {
+        Some(whole) => Some(whole),
+        None => None,
+    }
+}
+
+/// The number that a token writes, as one of a tree, where it is such a number.
+fn whole_number(text: &str) -> Option<Number>
+    ensures { IfSome result (λ n. number_of text.now ≡ Some (number_view n)) }
+{
+    let whole = whole_of(text)?;
     match Number::from_u128(u128::from(whole)) {
         Some(number) => Some(number),
         None => None,
@@ -65,6 +79,25 @@ pub(crate) fn put_member(members: &mut Map<String, Value>, name: String, value: 
             Some(())
         }
         Err(_) => None,
+    }
+}
+
+/// Whether an object has as many names as it may have.
+pub(crate) fn is_full(members: &Map<String, Value>) -> bool {
+    members.len() >= MOST_NAMES
+}
+
+/// How many arrays were read in an object, with this member of it; none, where they are too many.
+fn arrays_with(member: &Value, arrays: usize) -> Option<usize> {
+    match member {
+        Value::Array(_) => {
+            if arrays < MOST_ARRAYS {
+                Some(arrays + 1)
+            } else {
+                None
+            }
+        }
+        _ => Some(arrays),
     }
 }
 
@@ -136,7 +169,7 @@ fn tree_items(
     Some(found)
 }
 
-/// The members up to the brace that closes an object. Of equal names the last counts.
+/// The members up to the brace that closes an object. Of equal names the last counts. Gives up at too many names or arrays.
 #[cycle(tree)]
 fn tree_members(
     alloc: Global,
@@ -148,6 +181,7 @@ fn tree_members(
     ensures shorter { IfSome result (λ _. length reader.new < length reader.old) }
 {
     let mut found = Map::new(alloc);
+    let mut arrays = 0;
     'members: loop {
         let name = match reader.next_key() {
             Ok(Some(name)) => name,
@@ -158,7 +192,11 @@ fn tree_members(
             Ok(key) => key,
             Err(_) => return None,
         };
+        if is_full(&found) {
+            return None;
+        }
         let member = tree(alloc, reader, depth, levels)?;
+        arrays = arrays_with(&member, arrays)?;
         put_member(&mut found, key, member)?;
     }
 }

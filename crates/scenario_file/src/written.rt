@@ -4,7 +4,10 @@
 ghost use Rattle.std.specs.Prelude.{◌≤◌, length};
 
 use crate::pieces::{add, comma, piece_of};
+use itoa::Buffer;
+use scenario_data::Input;
 use serde_json::Value;
+use sig_types::Field;
 use std::alloc::Global;
 
 /// A text: the first `len` bytes of a part of the file, and what follows them.
@@ -17,10 +20,12 @@ pub(crate) struct Written<'a> {
 }
 
 impl<'a> Written<'a> {
-    ghost use Rattle.std.specs.Prelude.{◌≡◌, ◌+◌, ◌++◌, [], take, drop, false, IsTrue, IfSome, string_bytes};
+    ghost use Rattle.std.specs.Prelude.{◌≡◌, ◌+◌, ◌++◌, [], take, drop, true, false, codes, decimal, IsTrue, IfSome, string_bytes};
+    ghost use Rattle.serde_json.specs.Data.{Members, boolean, member, object};
     ghost use Rattle.serde_json.specs.View.{view};
-    ghost use Rattle.serde_json.specs.Written.{has_float, comma_if, compact_text};
+    ghost use Rattle.serde_json.specs.Written.{has_float, comma_if, compact_text, members_text};
     ghost use Rattle.scenario_file.specs.Growing.{written};
+    ghost use Rattle.scenario_file.specs.Plain.{before_round, behind_round, input_members};
 
     /// No text yet, in a file that may have it from this place on.
     pub(crate) fn nothing(alloc: Global, file: &'a [u8], place: usize) -> Option<Written<'a>>
@@ -76,6 +81,83 @@ impl<'a> Written<'a> {
         let piece = piece_of(alloc, value)?;
         self.add(comma(later))?;
         self.add(piece.as_str())?;
+        Some(())
+    }
+
+    /// Adds a piece, and a number in digits.
+    fn add_number(&mut self, piece: &str, number: u32) -> Option<()>
+        ensures { IfSome result (λ _. written self.new ≡ (written self.old ++ piece.now) ++ decimal number) }
+    {
+        let mut digits = Buffer::new();
+        self.add(piece)?;
+        self.add(digits.format(number))?;
+        Some(())
+    }
+
+    /// Adds the flag of an input.
+    fn add_flag(&mut self, flag: bool) -> Option<()>
+        ensures { IfSome result (λ _. (ms : Members) → written self.new ++ members_text true ms ≡ written self.old ++ members_text true (member (codes "on") (boolean flag) ms)) }
+    {
+        if flag {
+            self.add(",\"on\":true")?;
+            Some(())
+        } else {
+            self.add(",\"on\":false")?;
+            Some(())
+        }
+    }
+
+    /// Adds what stands before the round of an input.
+    fn add_before(&mut self, field: Field) -> Option<()>
+        ensures { IfSome result (λ _. (ms : Members) → written self.new ++ members_text true ms ≡ written self.old ++ members_text true (before_round field ms)) }
+    {
+        match field {
+            Field::Veh { on, .. } => {
+                self.add_flag(on)?;
+                Some(())
+            }
+            Field::Ped { phase } => {
+                self.add_number(",\"ped\":", u32::from(phase))?;
+                Some(())
+            }
+            Field::Preempt { number, on } => {
+                self.add_flag(on)?;
+                self.add_number(",\"preempt\":", u32::from(number))?;
+                Some(())
+            }
+        }
+    }
+
+    /// Adds what stands behind the round of an input.
+    fn add_behind(&mut self, field: Field) -> Option<()>
+        ensures { IfSome result (λ _. written self.new ≡ written self.old ++ members_text true (behind_round field)) }
+    {
+        match field {
+            Field::Veh { phase, .. } => {
+                self.add_number(",\"veh\":", u32::from(phase))?;
+                self.add("}")?;
+                Some(())
+            }
+            Field::Ped { .. } => {
+                self.add("}")?;
+                Some(())
+            }
+            Field::Preempt { .. } => {
+                self.add("}")?;
+                Some(())
+            }
+        }
+    }
+
+    /// Adds the compact text of an input, behind a comma where one stands before.
+    pub(crate) fn add_input(&mut self, input: Input, later: bool) -> Option<()>
+        ensures { IfSome result (λ _. written self.new ≡ (written self.old ++ comma_if later) ++ compact_text (object (input_members input))) }
+    {
+        self.add(comma(later))?;
+        self.add_number("{\"cabinet\":", input.cabinet)?;
+        self.add_before(input.field)?;
+        self.add_number(",\"round\":", input.round)?;
+        self.add_behind(input.field)?;
         Some(())
     }
 

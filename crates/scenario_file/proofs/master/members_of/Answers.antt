@@ -8,7 +8,7 @@ use Rattle.scenario_read.specs.Sorted.{MembersSorted}
 use Rattle.scenario_read.proofs.Rising.{sorted-put}
 use Rattle.scenario_file.specs.Framing.{filled, scheduled, MasterStands}
 use Rattle.scenario_cut.proofs.Turns.{member_read, members_over}
-use Rattle.scenario_file.proofs.Frames.{put-through}
+use Rattle.scenario_cut.proofs.Lasting.{put-through}
 use Rattle.scenario_file.proofs.master.members_of.Goals as goal
 
 pub members-init : goal.members-init

@@ -1,14 +1,9 @@
-use Rattle.std.proofs.Common.{◌≡◌, ◌<◌, ◌^◌, ◌==◌, get_or, false, sym, ap, ◌∙◌, ne_eqb, subst}
-use Rattle.fast_float.specs.Text.{Parts, scan, digits_of, IsInteger}
-use Rattle.serde_json.specs.Read.{number_of}
-use Rattle.scenario_file.proofs.Numbers.{whole-number, made}
+use Rattle.std.proofs.Common.{◌<◌, ◌^◌, ◌∙◌, arith}
+use Rattle.scenario_file.proofs.Numbers.{made}
 use Rattle.scenario_file.proofs.trees.whole_number.Goals as goal
 
-pub returns-in-Some-from_u128 : goal.returns-in-Some-from_u128
-returns-in-Some-from_u128 c =
-    let s = c.as_bytes-bytes.result.now in
-    let plain : (get_or s 0 0 == 45) ≡ false = ne_eqb (get_or s 0 0) 45 c.if-bytes-eq45.false in
-    let digits : (IsInteger (scan s) × (digits_of (scan s) < 2 ^ 64)) × (c.in-Some.whole ≡ digits_of (scan s)) =
-    subst (λ (p : Parts). (IsInteger p × (digits_of p < 2 ^ 64)) × (c.in-Some.whole ≡ digits_of p)) c.scan.ensures.parts c.in-Some.ensures in
-    ap number_of (sym c.as_bytes-bytes.ensures.value) ∙ whole-number s plain digits.0.0 digits.0.1
-    ∙ made c.from_u128.result c.in-Some-from_u128.number c.from.result (digits_of (scan s)) c.in-Some-from_u128.is c.from_u128.ensures (c.from.ensures ∙ digits.1) digits.0.1
+pub returns-in-Some : goal.returns-in-Some
+returns-in-Some c =
+    let whole = c.in_ok-whole.whole in
+    let few : whole < 2 ^ 64 = omega arith in
+    c.in_ok-whole.ensures ∙ made c.from_u128.result c.in-Some.number c.from.result whole c.in-Some.is c.from_u128.ensures c.from.ensures few

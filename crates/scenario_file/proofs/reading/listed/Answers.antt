@@ -1,5 +1,5 @@
 use Rattle.scenario_file.proofs.Right.{read-whole}
-use Rattle.scenario_file.proofs.reading.scenario_of.Goals as goal
+use Rattle.scenario_file.proofs.reading.listed.Goals as goal
 
 pub source_of-requires : goal.source_of-requires
 source_of-requires c =

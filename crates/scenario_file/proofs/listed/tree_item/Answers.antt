@@ -6,7 +6,7 @@ use Rattle.serde_json.specs.Written.{has_float}
 use Rattle.scenario_read.proofs.Rising.{tree-sorted}
 use Rattle.scenario_cut.proofs.Turns.{converted_some}
 use Rattle.scenario_file.proofs.Growth.{lists-next}
-use Rattle.scenario_file.proofs.listed.next_item.Goals as goal
+use Rattle.scenario_file.proofs.listed.tree_item.Goals as goal
 
 pub returns-clause-ok : goal.returns-clause-ok
 returns-clause-ok c =

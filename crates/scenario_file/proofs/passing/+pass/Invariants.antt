@@ -1,0 +1,35 @@
+use Rattle.std.proofs.Common.{◌≡◌, ℕ, ◌+◌, ◌*◌, ◌≤◌, length}
+use Rattle.json.specs.Json.{items, members, value, parse_map}
+use Rattle.serde_json.specs.Data.{Items, Members, no_members}
+use Rattle.serde_json.specs.Read.{of_items, of_members, converted}
+use Rattle.scenario_cut.specs.Growing.{both}
+use Rattle.scenario_file.proofs.passing.+pass.Given as goal
+
+abbrev pub decreases-pass : goal.decreases-pass
+decreases-pass l = 2 * l.depth
+
+abbrev pub decreases-pass_items : goal.decreases-pass_items
+decreases-pass_items l = 2 * l.depth + 1
+
+abbrev pub decreases-pass_members : goal.decreases-pass_members
+decreases-pass_members l = 2 * l.depth + 1
+
+-- these items were passed
+abbrev pub invariant-pass_items-items : goal.invariant-pass_items-items
+invariant-pass_items-items l =
+    (n : ℕ) × (ds : Items) × (length l.reader ≤ n)
+    × (converted of_items (items (value l.depth) (length l.initial.reader) l.initial.reader) ≡ parse_map (both ds) (converted of_items (items (value l.depth) n l.reader)))
+    × (length l.reader ≤ length l.initial.reader)
+
+abbrev pub decreases-pass_items-items : goal.decreases-pass_items-items
+decreases-pass_items-items l = length l.reader
+
+-- these members were passed
+abbrev pub invariant-pass_members-members : goal.invariant-pass_members-members
+invariant-pass_members-members l =
+    (n : ℕ) × (ms : Members) × (length l.reader ≤ n)
+    × (converted (λ js. of_members js no_members) (members (value l.depth) (length l.initial.reader) l.initial.reader) ≡ converted (λ js. of_members js ms) (members (value l.depth) n l.reader))
+    × (length l.reader ≤ length l.initial.reader)
+
+abbrev pub decreases-pass_members-members : goal.decreases-pass_members-members
+decreases-pass_members-members l = length l.reader

@@ -1,0 +1,42 @@
+-- Names that come again among the members of an object: of which members more is to come, and what stands without these.
+use Rattle.std.specs.Prelude.{ℕ, zero, suc, ◌≡◌, nat_lt, Bool, List, [], ◌∷◌, map, bytes_eq, get_or, if◌then◌else◌, Option, Some, None, string_bytes}
+use Rattle.serde_json.specs.Data.{Data, Items, Members, no_members, member, put}
+use Rattle.serde_json.specs.View.{members_view}
+use Rattle.scenario_read.specs.Sorted.{MembersSorted}
+use Rattle.scenario_file.specs.Framing.{with_lists, AllStand}
+use Rattle.scenario_file.specs.declared.left.Left.{Left}
+use Rattle.scenario_file.specs.declared.top.Whole.{Whole}
+use Rattle.scenario_file.specs.declared.top.Reading.{Reading}
+
+-- the place of a name among these, which stand from this place on
+abbrev pub place_from : ℕ → List (List ℕ) → List ℕ → Option ℕ
+place_from i [] name = None
+place_from i (first ∷ names) name = if bytes_eq name first then Some i else place_from (suc i) names name
+
+-- the number at a place; 0 where there is no such place
+abbrev pub count_at : List ℕ → Option ℕ → ℕ
+count_at counts None = zero
+count_at counts (Some place) = get_or counts place 0
+
+-- more is to come of a name
+abbrev pub is_left : Left → List ℕ → Bool
+is_left left name = nat_lt 0 (count_at left.counts (place_from 0 (map string_bytes left.names.items) name))
+
+-- the members but those of such names
+abbrev pub without : (List ℕ → Bool) → Members → Members
+without gone no_members = no_members
+without gone (member name d ms) = if gone name then without gone ms else member name d (without gone ms)
+
+-- these members were read, and the frame and the lists are those of the ones of which no more is to come
+pub record ReadSoFar (reading : Reading) (ms : Members) : Type 0 where
+  pub rows : List ℕ → Items
+  pub is : without (is_left reading.left) ms ≡ with_lists rows (members_view reading.whole.frame.entries)
+  pub stands : AllStand reading.whole.lists (members_view reading.whole.frame.entries) rows
+  pub sorted : MembersSorted (members_view reading.whole.frame.entries)
+
+-- a value was read at a name, and what stands for it was put into the frame
+abbrev pub Grows : Whole → Whole → List ℕ → Data → Type 0
+Grows old new name d =
+    (rows : List ℕ → Items) → AllStand old.lists (members_view old.frame.entries) rows → MembersSorted (members_view old.frame.entries)
+    → (now : List ℕ → Items) × (put name d (with_lists rows (members_view old.frame.entries)) ≡ with_lists now (members_view new.frame.entries))
+    × AllStand new.lists (members_view new.frame.entries) now × MembersSorted (members_view new.frame.entries)
