@@ -1,6 +1,6 @@
 -- What is kept of an object that asks of bands has its first fault; where it has none, that is the object.
-use Rattle.std.proofs.Common.{◌≡◌, ℕ, List, [], ◌++◌, length, refl, sym, ap, ◌∙◌, subst}
-use Rattle.serde_json.specs.Data.{Data, null, boolean, number, string, array, object, Items, Members}
+use Rattle.std.proofs.Common.{◌≡◌, ℕ, List, [], length, refl, sym, ap, ◌∙◌, subst}
+use Rattle.serde_json.specs.Data.{Data, null, boolean, number, string, array, object}
 use Rattle.scenario_data.specs.declared.refusal.ReadFail.{ReadFail}
 use Rattle.scenario_data.specs.declared.refusal.ReadFail.TheVariants.{Refused, NoMemory}
 use Rattle.scenario_data.specs.declared.refusal.Refusal.{Refusal}
@@ -14,7 +14,7 @@ use Rattle.scenario_read.specs.Kinds.{whole}
 use Rattle.scenario_read.specs.Readers.{Refuses}
 use Rattle.scenario_read.specs.Sorted.{Sorted}
 use Rattle.scenario_read.proofs.Rising.{read-sorted}
-use Rattle.scenario_cut.specs.declared.form.Form.TheVariants.{Street, Whole, Row, Bare}
+use Rattle.scenario_cut.specs.declared.form.Form.TheVariants.{Street, Whole, Times, Bare}
 use Rattle.scenario_cut.specs.Cutting.{cut}
 use Rattle.scenario_cut.specs.Texts.{IsNoText}
 use Rattle.scenario_cut.proofs.Same.{Same, same-map, map-none, same-more, kept-right}
@@ -37,7 +37,7 @@ scenario-same path d = same-map inner_cause (faults (cut Whole d)) (faults d) (f
 scenario-entire : Entire Whole inner_scenario
 scenario-entire path d sorted e = faultless-entire d sorted (map-none inner_cause (faults d) e)
 
-travel-same : KeepsItem Row (list_of_any (whole 0 864000))
+travel-same : KeepsItem Times (list_of_any (whole 0 864000))
 travel-same path null = refl
 travel-same path (boolean b) = refl
 travel-same path (number n) = refl
@@ -45,7 +45,7 @@ travel-same path (string s) = refl
 travel-same path (array ds) = each-kept Bare (whole 0 864000) (whole-same 0 864000) (λ n d. refl) path 0 0 ds
 travel-same path (object ms) = refl
 
-travel-entire : Entire Row (list_of_any (whole 0 864000))
+travel-entire : Entire Times (list_of_any (whole 0 864000))
 travel-entire path null sorted e = refl
 travel-entire path (boolean b) sorted e = refl
 travel-entire path (number n) sorted e = refl
@@ -75,6 +75,17 @@ street-same d sorted = same-more names against (cut Street d) d (names-same d) (
 
 -- ---- its text
 
+named : (bytes : List ℕ) (d : Data) (reads : Reads bytes d) (refusal : Refusal) → Names refusal (first_cause (band_faults d)) → IsFirstBandFault bytes refusal
+named bytes d reads Syntax h = absurd h
+named bytes d reads (Field path) h = (d, reads, h)
+named bytes d reads (Limit path) h = (d, reads, h)
+named bytes d reads (Broken cabinet rule row) h = (d, reads, h)
+
+-- the first fault of a value is that of its text
+pub refused-first : (bytes : List ℕ) (d : Data) (fail : ReadFail) → Reads bytes d → Refuses fail (band_faults d) → OnRefusal fail (IsFirstBandFault bytes)
+refused-first bytes d (Refused refusal) reads h = named bytes d reads refusal h
+refused-first bytes d NoMemory reads h = tt
+
 module _ (bytes : List ℕ) (d v : Data) (reads : Reads bytes d) (is : v ≡ cut Street d) where
   sorted : Sorted d
   sorted = read-sorted bytes d reads.1
@@ -86,15 +97,9 @@ module _ (bytes : List ℕ) (d v : Data) (reads : Reads bytes d) (is : v ≡ cut
   pub street-right : band_faults v ≡ [] → v ≡ d
   street-right none = kept-right band_faults v d same (λ clean. is ∙ names-entire d sorted (none-left (names d) (against d) clean).0) none
 
-  named : (refusal : Refusal) → Names refusal (first_cause (band_faults d)) → IsFirstBandFault bytes refusal
-  named Syntax h = absurd h
-  named (Field path) h = (d, reads, h)
-  named (Limit path) h = (d, reads, h)
-  named (Broken cabinet rule row) h = (d, reads, h)
-
   -- its first fault is that of the text
   pub street-refused : (fail : ReadFail) → Refuses fail (band_faults v) → OnRefusal fail (IsFirstBandFault bytes)
-  street-refused (Refused refusal) h = named refusal (subst (λ o. Names refusal o) same h)
+  street-refused (Refused refusal) h = named bytes d reads refusal (subst (λ o. Names refusal o) same h)
   street-refused NoMemory h = tt
 
 -- bytes that are no JSON have that as their first fault

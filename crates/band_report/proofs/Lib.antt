@@ -7,3 +7,6 @@ pub mod Windows
 pub mod OneAnswer
 pub mod LimitNames
 pub mod Kept
+pub mod Beside
+pub mod ByParts
+pub mod FirstFaults

@@ -2,4 +2,5 @@ pub mod Street
 pub mod Bands
 pub mod Arcs
 pub mod Asked
+pub mod Parts
 pub mod Told

@@ -5,12 +5,13 @@ ghost use Rattle.serde_json.specs.View.{view, items_view};
 ghost use Rattle.scenario_data.specs.Content.{scenario_content};
 ghost use Rattle.scenario_read.specs.Paths.{Named, then_named, then_item};
 ghost use Rattle.scenario_read.specs.Kinds.{each, whole, fault_at};
-ghost use Rattle.scenario_read.specs.Fields.{field_faults, object_of};
+ghost use Rattle.scenario_read.specs.Fields.{names, field_faults, fields_faults, object_of};
 ghost use Rattle.scenario_read.specs.Content.{whole_of, each_of};
-ghost use Rattle.scenario_read.specs.Readers.{Answers, Refuses, fit_of, refusal_at, steps_of};
+ghost use Rattle.scenario_read.specs.Readers.{Answers, Refuses, fit_of, names_faults, refusal_at, steps_of};
 ghost use Rattle.scenario_checked.specs.Inside.{scenario};
 ghost use Rattle.band_report.specs.Street.{misfit_of};
 ghost use Rattle.band_report.specs.Asked.{travel, asked_shape, cabinets_asked, travel_asked, misfit_causes, band_faults};
+ghost use Rattle.band_report.specs.Parts.{beside_fields, SaysBeside};
 ghost use Rattle.band_report.specs.Told.{Says};
 
 use crate::{Misfit, misfit_of};
@@ -109,30 +110,65 @@ fn travel_at(alloc: Global, object: &Value) -> Result<Vec<u32>, ReadFail>
     }
 }
 
+/// What stands beside the scenario.
+#[derive(Drop)]
+pub(crate) struct Beside {
+    pub section: u8,
+    pub pattern: u8,
+    pub travel: Vec<u32>,
+}
+
+/// What the names beside the scenario's say.
+pub(crate) fn beside_in(alloc: Global, object: &Value) -> Result<Beside, ReadFail>
+    ensures { Answers result (fields_faults (steps_of Place.Top) (view object.now) beside_fields) (λ beside. SaysBeside beside (view object.now)) }
+{
+    let section = whole_at(alloc, object, Place::Top, "section", 1, 8)?;
+    let pattern = whole_at(alloc, object, Place::Top, "pattern", 1, 48)?;
+    let travel = travel_at(alloc, object)?;
+    Ok(Beside {
+        section: section as u8,
+        pattern: pattern as u8,
+        travel,
+    })
+}
+
+/// Refuses what is no object, and the least name, by bytes, that may not stand there.
+pub(crate) fn names_known(alloc: Global, object: &Value) -> Result<(), ReadFail>
+    ensures { Answers result (names_faults (names asked_shape.fields) (steps_of Place.Top) (view object.now)) (λ _. Unit {0}) }
+{
+    known_names(
+        alloc,
+        object,
+        Place::Top,
+        &["scenario", "section", "pattern", "travel"],
+    )
+}
+
 /// What the names of an object say, refused at the first fault of a name or a value.
 fn named_in(alloc: Global, value: &Value) -> Result<Asked, ReadFail>
     ensures read { Answers result (object_of asked_shape (steps_of Place.Top) (view value.now)) (λ a. Says a (view value.now)) }
     ensures few { IfOk result (λ a. length a.scenario.cabinets.items ≤ 64) }
 {
-    known_names(
-        alloc,
-        value,
-        Place::Top,
-        &["scenario", "section", "pattern", "travel"],
-    )?;
+    names_known(alloc, value)?;
     let scenario = match scenario_at(alloc, value) {
         Ok(scenario) => scenario,
         Err(fail) => return Err(fail),
     };
-    let section = whole_at(alloc, value, Place::Top, "section", 1, 8)?;
-    let pattern = whole_at(alloc, value, Place::Top, "pattern", 1, 48)?;
-    let travel = travel_at(alloc, value)?;
-    Ok(Asked {
-        scenario,
-        section: section as u8,
-        pattern: pattern as u8,
-        travel,
-    })
+    match beside_in(alloc, value) {
+        Ok(
+            Beside {
+                section,
+                pattern,
+                travel,
+            },
+        ) => Ok(Asked {
+            scenario,
+            section,
+            pattern,
+            travel,
+        }),
+        Err(fail) => Err(fail),
+    }
 }
 
 /// The refusal of what stands against any band.
@@ -148,7 +184,7 @@ fn refuse_misfit(alloc: Global, misfit: Misfit) -> ReadFail
 }
 
 /// Refuses what stands against any band.
-fn fitting(alloc: Global, asked: &Asked) -> Result<(), ReadFail>
+pub(crate) fn fitting(alloc: Global, asked: &Asked) -> Result<(), ReadFail>
     requires few { length asked.now.scenario.cabinets.items ≤ 64 }
     ensures { Answers result (misfit_causes (misfit_of (scenario_content asked.now.scenario).cabinets asked.now.section asked.now.pattern (length asked.now.travel.items)))
         (λ _. misfit_of (scenario_content asked.now.scenario).cabinets asked.now.section asked.now.pattern (length asked.now.travel.items) ≡ None) }

@@ -6,8 +6,12 @@
 mod arcs;
 mod asked;
 mod band;
+mod by_parts;
+mod coming;
 mod file_laws;
+mod first;
 mod misfit;
+mod parts;
 mod signals;
 mod told;
 

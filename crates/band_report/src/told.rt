@@ -1,17 +1,23 @@
 //! The two lines that answer an object.
 
-ghost use Rattle.std.specs.Prelude.{◌≡◌, IfOk, IfErr, string_bytes};
+ghost use Rattle.std.specs.Prelude.{◌≡◌, ◌≤◌, length, None, IfOk, IfErr, string_bytes};
+ghost use Rattle.serde_json.specs.Data.{Data};
 ghost use Rattle.serde_json.specs.View.{view};
+ghost use Rattle.scenario_data.specs.Content.{scenario_content};
 ghost use Rattle.scenario_read.specs.Answers.{OnRefusal};
 ghost use Rattle.scenario_read.specs.Readers.{Answers};
+ghost use Rattle.band_report.specs.Street.{misfit_of};
 ghost use Rattle.band_report.specs.Asked.{band_faults};
-ghost use Rattle.band_report.specs.Told.{band_text, two_lines, TellsOf, TellsBands, IsFirstBandFault};
+ghost use Rattle.band_report.specs.Told.{band_text, two_lines, Says, TellsOf, TellsBands, IsFirstBandFault};
 
-use crate::asked::asked_in;
+use crate::asked::{Asked, asked_in};
+use crate::by_parts::asked_by_parts;
+use crate::first::first_fault;
 use crate::{Band, greatest};
 use scenario_cut::{Form, kept_of};
 use scenario_data::ReadFail;
 use serde_json::Value;
+use sig_types::NoMemory;
 use std::alloc::{AllocError, Global};
 
 /// A band as its four numbers: start and width in ticks, and the cabinets that stand in its way before and behind it.
@@ -46,45 +52,64 @@ fn two_lines(
     Ok(text.into_bytes())
 }
 
-/// The two lines that answer an object, refused at its first fault.
-fn report_of(alloc: Global, value: &Value) -> Result<Vec<u8>, ReadFail>
-    ensures { Answers result (band_faults (view value.now)) (λ text. TellsOf (view value.now) text.items) }
+/// The two lines that answer what is asked.
+fn lines_of(alloc: Global, asked: &Asked) -> Result<Vec<u8>, NoMemory>
+    requires few { length asked.now.scenario.cabinets.items ≤ 64 }
+    requires fits { misfit_of (scenario_content asked.now.scenario).cabinets asked.now.section asked.now.pattern (length asked.now.travel.items) ≡ None }
+    ensures { IfOk result (λ text. (d : Data) → Says asked.now d → TellsOf d text.items) }
 {
-    let asked = asked_in(alloc, value)?;
     let (section, pattern) = (asked.section, asked.pattern);
-    let outbound = match greatest(
+    let outbound = greatest(
         alloc,
         &asked.scenario,
         section,
         pattern,
         &asked.travel,
         false,
-    ) {
-        Ok(outbound) => outbound,
-        Err(_) => return Err(ReadFail::NoMemory),
-    };
-    let inbound = match greatest(
+    )?;
+    let inbound = greatest(
         alloc,
         &asked.scenario,
         section,
         pattern,
         &asked.travel,
         true,
-    ) {
-        Ok(inbound) => inbound,
-        Err(_) => return Err(ReadFail::NoMemory),
-    };
+    )?;
     match two_lines(alloc, outbound, inbound) {
         Ok(text) => Ok(text),
-        Err(_) => Err(ReadFail::NoMemory),
+        Err(_) => Err(NoMemory),
     }
 }
 
-/// The greatest bands, outbound and inbound, that the bytes of one JSON object ask of: two lines, `outbound START WIDTH A B`
-/// and `inbound START WIDTH A B`, or `none` behind the word where no time is open. The refusal is the first fault in the
-/// order of the checks: the JSON reading, the four names and what stands there, those of the scenario with their paths behind
-/// `scenario.`, and then what stands against any band. Only what these hang on is kept of the object.
-pub fn report(alloc: Global, bytes: &[u8]) -> Result<Vec<u8>, ReadFail>
+/// The answer to bytes whose parts are read in little memory: the two lines, or their first fault. Want of memory stands also for what
+/// this way does not tell.
+fn report_by_parts(alloc: Global, bytes: &[u8]) -> Result<Vec<u8>, ReadFail>
+    ensures told { IfOk result (λ text. TellsBands bytes.now text.items) }
+    ensures refused { IfErr result (λ fail. OnRefusal fail (IsFirstBandFault bytes.now)) }
+{
+    let asked = match asked_by_parts(alloc, bytes) {
+        Ok(asked) => asked,
+        Err(fail) => return Err(fail),
+    };
+    match lines_of(alloc, &asked) {
+        Ok(text) => Ok(text),
+        Err(NoMemory) => Err(ReadFail::NoMemory),
+    }
+}
+
+/// The two lines that answer an object, refused at its first fault.
+fn report_of(alloc: Global, value: &Value) -> Result<Vec<u8>, ReadFail>
+    ensures { Answers result (band_faults (view value.now)) (λ text. TellsOf (view value.now) text.items) }
+{
+    let asked = asked_in(alloc, value)?;
+    match lines_of(alloc, &asked) {
+        Ok(text) => Ok(text),
+        Err(NoMemory) => Err(ReadFail::NoMemory),
+    }
+}
+
+/// The answer to bytes by what is kept of their object: that on which its first fault may hang.
+fn report_by_kept(alloc: Global, bytes: &[u8]) -> Result<Vec<u8>, ReadFail>
     ensures told { IfOk result (λ text. TellsBands bytes.now text.items) }
     ensures refused { IfErr result (λ fail. OnRefusal fail (IsFirstBandFault bytes.now)) }
 {
@@ -95,5 +120,24 @@ pub fn report(alloc: Global, bytes: &[u8]) -> Result<Vec<u8>, ReadFail>
     match report_of(alloc, &kept) {
         Ok(text) => Ok(text),
         Err(fail) => Err(fail),
+    }
+}
+
+/// The greatest bands, outbound and inbound, that the bytes of one JSON object ask of: two lines, `outbound START WIDTH A B`
+/// and `inbound START WIDTH A B`, or `none` behind the word where no time is open. The refusal is the first fault in the
+/// order of the checks: the JSON reading, the four names and what stands there, those of the scenario with their paths behind
+/// `scenario.`, and then what stands against any band. Where the scenario is right, little is kept of the object; else a fault of it
+/// is looked for with its lists judged item by item, and only where none was found so that is kept on which a fault may hang.
+pub fn report(alloc: Global, bytes: &[u8]) -> Result<Vec<u8>, ReadFail>
+    ensures told { IfOk result (λ text. TellsBands bytes.now text.items) }
+    ensures refused { IfErr result (λ fail. OnRefusal fail (IsFirstBandFault bytes.now)) }
+{
+    match report_by_parts(alloc, bytes) {
+        Err(ReadFail::NoMemory) => {}
+        told => return told,
+    }
+    match first_fault(alloc, bytes) {
+        Err(ReadFail::Refused(refusal)) => Err(ReadFail::Refused(refusal)),
+        _ => report_by_kept(alloc, bytes),
     }
 }

@@ -9,6 +9,6 @@ use Rattle.band_report.proofs.asked.named_in.Goals as goal
 
 pub returns-in-Err-clause-read : goal.returns-in-Err-clause-read
 returns-in-Err-clause-read c =
-    let known = known-object asked_shape [] (view c.args.value.now) c.in_ok-known_names.ensures.0 in
+    let known = known-object asked_shape [] (view c.args.value.now) c.in_ok-names_known.ensures.0 in
     subst (λ (causes : List Cause). Refuses c.in-Err.fail causes) (sym known)
     (refuses_more c.in-Err.fail _ _ (refuses_more c.in-Err.fail _ _ c.in-Err.ensures.read))

@@ -3,7 +3,7 @@ use Rattle.serde_json.specs.View.{view}
 use Rattle.band_report.specs.Asked.{band_faults}
 use Rattle.band_report.specs.Told.{TellsOf}
 use Rattle.band_report.proofs.Kept.{street-right, street-refused, no-street}
-use Rattle.band_report.proofs.told.report.Goals as goal
+use Rattle.band_report.proofs.told.report_by_kept.Goals as goal
 
 pub returns-in-Err-clause-refused : goal.returns-in-Err-clause-refused
 returns-in-Err-clause-refused c = no-street c.args.bytes.now c.in-Err.fail c.in-Err.ensures.none
