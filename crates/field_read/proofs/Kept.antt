@@ -1,7 +1,8 @@
 -- What is kept of a field file's value has its first fault; where it has none, that is the value.
-use Rattle.std.proofs.Common.{◌≡◌, ◌≤◌, ℕ, List, [], ◌∷◌, ◌++◌, codes, refl, sym, ap, ◌∙◌, subst, arith}
-use Rattle.serde_json.specs.Data.{Data, depth}
+use Rattle.std.proofs.Common.{◌≡◌, ◌≤◌, ℕ, ◌&&◌, Bool, true, false, List, [], ◌∷◌, ◌++◌, codes, Option, Some, None, is_some, refl, sym, ap, ◌∙◌, subst, arith}
+use Rattle.serde_json.specs.Data.{Data, null, boolean, number, string, array, object, depth}
 use Rattle.serde_json.specs.Events.{items_len}
+use Rattle.serde_json.specs.Find.{get}
 use Rattle.serde_json.specs.Read.{max_depth}
 use Rattle.serde_json.proofs.Nesting.{depth-read}
 use Rattle.scenario_data.specs.declared.refusal.ReadFail.{ReadFail}
@@ -12,22 +13,23 @@ use Rattle.scenario_data.specs.Causes.{Cause, Names}
 use Rattle.scenario_read.specs.Answers.{Reads, OnRefusal}
 use Rattle.scenario_read.specs.Content.{round_count, cabinet_count}
 use Rattle.scenario_read.specs.Faults.{faults, first_cause}
-use Rattle.scenario_read.specs.Fields.{object_of}
+use Rattle.scenario_read.specs.Fields.{either, faults_of, field_faults, fields_faults, names, known_fields, unknown_faults, object_of}
 use Rattle.scenario_read.specs.Kinds.{list_of}
+use Rattle.scenario_read.specs.Paths.{Step, then_named}
 use Rattle.scenario_read.specs.Readers.{Refuses}
 use Rattle.scenario_read.specs.Sorted.{Sorted}
-use Rattle.scenario_read.specs.Table.{on}
+use Rattle.scenario_read.specs.Table.{round, cabinet_number, on}
 use Rattle.scenario_read.proofs.Rising.{read-sorted}
-use Rattle.scenario_cut.specs.declared.form.Form.TheVariants.{Field, Whole, Events, Event, Entries, Entry, Respond, Sections, Section}
-use Rattle.scenario_cut.specs.Cutting.{cut}
+use Rattle.scenario_cut.specs.declared.form.Form.TheVariants.{Field, Whole, Pulse, Entries, Entry, Respond, Sections, Section}
+use Rattle.scenario_cut.specs.Cutting.{is_of_a_round, cut}
 use Rattle.scenario_cut.specs.Texts.{IsNoText}
-use Rattle.scenario_cut.proofs.Same.{Same, same-map, map-none, same-more, kept-right}
+use Rattle.scenario_cut.proofs.Same.{Same, Faulty, faulty-first, faulty-later, same-map, map-none, same-more, kept-right}
 use Rattle.scenario_cut.proofs.Known.{none-left, AllGive}
 use Rattle.scenario_cut.proofs.Members.{IsObject, AllKeep, object-same, held-cut}
-use Rattle.scenario_cut.proofs.Items.{KeepsItem, list-same, each-counted}
-use Rattle.scenario_cut.proofs.Kept.{whole-same, flag-same, le-of, is-event, entries-same, object-stops}
-use Rattle.scenario_cut.proofs.Scenario.{first-kept, events-same, rounds-same, count-same}
-use Rattle.scenario_cut.proofs.Entire.{Entire, KeptAt, whole-entire, flag-entire, list-entire, counted-entire, entries-entire, events-entire, object-entire, faultless-entire}
+use Rattle.scenario_cut.proofs.Items.{KeepsItem, PulseStops, few-same, pulses-same}
+use Rattle.scenario_cut.proofs.Kept.{whole-same, flag-same, le-of, entries-same, object-stops}
+use Rattle.scenario_cut.proofs.Scenario.{first-kept, rounds-same, count-same}
+use Rattle.scenario_cut.proofs.Entire.{Entire, KeptAt, whole-entire, flag-entire, list-entire, counted-entire, entries-entire, pulses-entire, object-entire, faultless-entire}
 use Rattle.scenario_cut.proofs.Shapes.{sorted-kept, depth-kept}
 use Rattle.scenario_checked.specs.Inside.{inner_cause, inner_scenario, scenario}
 use Rattle.field_read.specs.Table.{detector, detector_shape, pulse_shape, step_shape, section_shape, respond_shape, field_shape}
@@ -58,13 +60,42 @@ detector-entire cabinets =
     object-entire Entry is-entry (detector_shape cabinets)
     (whole-entire 1 cabinets, (whole-entire 1 64, (whole-entire 1 16, (whole-entire 0 255, (whole-entire 0 255, (whole-entire 0 65535, (whole-entire 0 65535, (whole-entire 0 255, tt)))))))) tt
 
-pulse-same : (rounds cabinets : ℕ) → KeepsItem Event (object_of (pulse_shape rounds cabinets))
-pulse-same rounds cabinets path d =
-    object-same Event is-event (pulse_shape rounds cabinets) path d (whole-same 1 rounds, (whole-same 1 cabinets, (whole-same 1 64, (flag-same, tt)))) tt
+is-pulse : IsObject Pulse
+is-pulse = record { opens = refl; closed = refl }
 
-pulse-entire : (rounds cabinets : ℕ) → Entire Event (object_of (pulse_shape rounds cabinets))
+pulse-same : (rounds cabinets : ℕ) → KeepsItem Pulse (object_of (pulse_shape rounds cabinets))
+pulse-same rounds cabinets path d =
+    object-same Pulse is-pulse (pulse_shape rounds cabinets) path d (whole-same 1 rounds, (whole-same 1 cabinets, (whole-same 1 64, (flag-same, tt)))) tt
+
+pulse-entire : (rounds cabinets : ℕ) → Entire Pulse (object_of (pulse_shape rounds cabinets))
 pulse-entire rounds cabinets =
-    object-entire Event is-event (pulse_shape rounds cabinets) (whole-entire 1 rounds, (whole-entire 1 cabinets, (whole-entire 1 64, (flag-entire, tt)))) tt
+    object-entire Pulse is-pulse (pulse_shape rounds cabinets) (whole-entire 1 rounds, (whole-entire 1 cabinets, (whole-entire 1 64, (flag-entire, tt)))) tt
+
+-- a pulse of a round and a cabinet that has no detector, or is neither on nor off
+undetected : (rounds cabinets : ℕ) (path : List Step) (d : Data) → (is_some (get (codes "detector") d) && is_some (get (codes "on") d)) ≡ false → Faulty (fields_faults path d (pulse_shape rounds cabinets).fields)
+undetected rounds cabinets path d none =
+    faulty-later (field_faults path d (round rounds)) _ (faulty-later (field_faults path d (cabinet_number cabinets)) _ (at (get (codes "detector") d) (get (codes "on") d) refl refl none))
+  where
+    at : (a b : Option Data) → get (codes "detector") d ≡ a → get (codes "on") d ≡ b → (is_some a && is_some b) ≡ false → Faulty (fields_faults path d (detector ∷ on ∷ []))
+    at None b is was none = faulty-first (field_faults path d detector) _ (subst (λ o. Faulty (faults_of detector.kind (then_named path (codes "detector")) (either o None))) (sym is) tt)
+    at (Some v) None is was none = faulty-later (field_faults path d detector) _ (faulty-first (field_faults path d on) _ (subst (λ o. Faulty (faults_of on.kind (then_named path (codes "on")) (either o None))) (sym was) tt))
+    at (Some v) (Some w) is was none = absurd (cc)
+
+pulse-stops : (rounds cabinets : ℕ) → PulseStops (object_of (pulse_shape rounds cabinets))
+pulse-stops rounds cabinets path null none = tt
+pulse-stops rounds cabinets path (boolean b) none = tt
+pulse-stops rounds cabinets path (number n) none = tt
+pulse-stops rounds cabinets path (string s) none = tt
+pulse-stops rounds cabinets path (array ds) none = tt
+pulse-stops rounds cabinets path (object ms) none = at (is_of_a_round (object ms)) refl none
+  where
+    known : List (List ℕ)
+    known = names (known_fields (pulse_shape rounds cabinets) (object ms))
+
+    at : (b : Bool) → is_of_a_round (object ms) ≡ b → (b && (is_some (get (codes "detector") (object ms)) && is_some (get (codes "on") (object ms)))) ≡ false
+        → Faulty (object_of (pulse_shape rounds cabinets) path (object ms))
+    at true is k = faulty-later (unknown_faults known path ms) _ (faulty-first (fields_faults path (object ms) (pulse_shape rounds cabinets).fields) _ (undetected rounds cabinets path (object ms) k))
+    at false is k = object-stops rounds cabinets (detector ∷ on ∷ []) [] path (object ms) is
 
 -- ---- the rules of the sections
 
@@ -86,13 +117,12 @@ section-entire = object-entire Section is-section section_shape (whole-entire 1 
 
 sections-same : KeepsItem Sections (list_of 1 8 (object_of section_shape))
 sections-same path d =
-    list-same Sections (record { opens = refl; closed = refl }) 1 8 (object_of section_shape) path d
-    (λ ds few. each-counted Section (object_of section_shape) section-same (λ n d. refl) path 8 0 ds (le-of (items_len ds) 8 few))
+    few-same Sections (record { opens = refl; closed = refl }) (λ n d. refl) 1 8 (omega arith) (object_of section_shape) section-same path d
 
 sections-entire : Entire Sections (list_of 1 8 (object_of section_shape))
 sections-entire =
     list-entire Sections (record { opens = refl; closed = refl }) 1 8 (object_of section_shape)
-    (λ path ds sorted few e. counted-entire Section (object_of section_shape) section-entire (λ n d. refl) path 8 0 ds sorted (le-of (items_len ds) 8 few) e)
+    (λ path ds sorted few e. let low = le-of (items_len ds) 8 few in counted-entire Section (object_of section_shape) section-entire (λ n d. refl) path 9 0 ds sorted (omega (arith, low)) e)
 
 is-respond : IsObject Respond
 is-respond = record { opens = refl; closed = refl }
@@ -117,7 +147,7 @@ cabinets-kept = held-cut Field is-field scenario cabinet_count count-same
 shape-same : (rounds cabinets : ℕ) (d : Data) → Same (object_of (field_shape rounds cabinets) [] (cut Field d)) (object_of (field_shape rounds cabinets) [] d)
 shape-same rounds cabinets d =
     object-same Field is-field (field_shape rounds cabinets) [] d
-    (scenario-same, (entries-same 512 (omega arith) (object_of (detector_shape cabinets)) (detector-same cabinets), (events-same 1000000 (object_of (pulse_shape rounds cabinets)) (pulse-same rounds cabinets) (object-stops rounds cabinets (detector ∷ on ∷ []) []), (respond-same, tt)))) tt
+    (scenario-same, (entries-same 512 (omega arith) (object_of (detector_shape cabinets)) (detector-same cabinets), (pulses-same 1000000 (object_of (pulse_shape rounds cabinets)) (pulse-same rounds cabinets) (pulse-stops rounds cabinets), (respond-same, tt)))) tt
 
 names-same : (d : Data) → Same (named_faults (cut Field d)) (named_faults d)
 names-same d =
@@ -128,7 +158,7 @@ names-same d =
 shape-entire : (rounds cabinets : ℕ) → Entire Field (object_of (field_shape rounds cabinets))
 shape-entire rounds cabinets =
     object-entire Field is-field (field_shape rounds cabinets)
-    (scenario-entire, (entries-entire 512 (omega arith) (object_of (detector_shape cabinets)) (detector-entire cabinets), (events-entire 1000000 (object_of (pulse_shape rounds cabinets)) (pulse-entire rounds cabinets) (object-stops rounds cabinets (detector ∷ on ∷ []) []), (respond-entire, tt)))) tt
+    (scenario-entire, (entries-entire 512 (omega arith) (object_of (detector_shape cabinets)) (detector-entire cabinets), (pulses-entire 1000000 (object_of (pulse_shape rounds cabinets)) (pulse-entire rounds cabinets) (pulse-stops rounds cabinets), (respond-entire, tt)))) tt
 
 names-entire : (d : Data) → Sorted d → named_faults d ≡ [] → cut Field d ≡ d
 names-entire d sorted e = shape-entire (rounds_run d) (cabinets_run d) [] d sorted e

@@ -12,3 +12,4 @@ pub mod Standing
 pub mod Narrow
 pub mod Saying
 pub mod Kept
+pub mod FirstFaults

@@ -5,6 +5,8 @@
 
 mod across;
 mod bank;
+mod coming;
+mod first;
 mod found;
 mod inner;
 mod list_reading;

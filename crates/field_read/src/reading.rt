@@ -14,6 +14,7 @@ ghost use Rattle.field_read.specs.Checks.{file_faults};
 ghost use Rattle.field_read.specs.Answers.{IsFirstFieldFault};
 
 use crate::across::lists_fit;
+use crate::first::first_fault;
 use crate::named::{Field, named_in};
 use scenario_cut::{Form, kept_of};
 use scenario_data::ReadFail;
@@ -44,11 +45,8 @@ pub struct Source {
     pub value: Value,
 }
 
-/// Reads a field file with its value, in time and memory that grow with its bytes. The refusal is the first fault in the order
-/// of the checks: the JSON reading, the names and values in the order of their table, those of the scenario with their paths
-/// behind `scenario.`, and then what lies across the lists. The compact text of its scenario reads as that scenario. Of a value with a
-/// fault only that is kept on which its first fault may hang.
-pub fn read_source(alloc: Global, bytes: &[u8]) -> Result<Source, ReadFail>
+/// Reads a field file with what is kept of its value: all of a right one, and of any other that on which its first fault may hang.
+fn read_kept(alloc: Global, bytes: &[u8]) -> Result<Source, ReadFail>
     ensures value { IfOk result (λ s. Reads bytes.now (view s.value)) }
     ensures nests { IfOk result (λ s. depth (view s.value) ≤ max_depth) }
     ensures clean { IfOk result (λ s. file_faults (view s.value) ≡ []) }
@@ -63,5 +61,23 @@ pub fn read_source(alloc: Global, bytes: &[u8]) -> Result<Source, ReadFail>
     match field_in(alloc, &value) {
         Ok(field) => Ok(Source { field, value }),
         Err(fail) => Err(fail),
+    }
+}
+
+/// Reads a field file with its value, in time and memory that grow with its bytes. The refusal is the first fault in the order
+/// of the checks: the JSON reading, the names and values in the order of their table, those of the scenario with their paths
+/// behind `scenario.`, and then what lies across the lists. The compact text of its scenario reads as that scenario. A fault of the
+/// scenario is looked for with its lists judged item by item; only where none was found so is a value kept.
+pub fn read_source(alloc: Global, bytes: &[u8]) -> Result<Source, ReadFail>
+    ensures value { IfOk result (λ s. Reads bytes.now (view s.value)) }
+    ensures nests { IfOk result (λ s. depth (view s.value) ≤ max_depth) }
+    ensures clean { IfOk result (λ s. file_faults (view s.value) ≡ []) }
+    ensures told { IfOk result (λ s. field_content s.field ≡ field_of (view s.value)) }
+    ensures refused { IfErr result (λ fail. OnRefusal fail (IsFirstFieldFault bytes.now)) }
+    ensures scenario { IfOk result (λ s. IsScenario s.field.scenario.compact.items (scenario_content s.field.scenario)) }
+{
+    match first_fault(alloc, bytes) {
+        Err(ReadFail::Refused(refusal)) => Err(ReadFail::Refused(refusal)),
+        _ => read_kept(alloc, bytes),
     }
 }

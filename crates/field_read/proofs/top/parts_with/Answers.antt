@@ -7,7 +7,7 @@ use Rattle.json.proofs.Grammar.{value-begin_object}
 use Rattle.serde_json.specs.Data.{object}
 use Rattle.serde_json.specs.Read.{of_json, converted, read}
 use Rattle.scenario_cut.proofs.Turns.{converted-object, whole_read}
-use Rattle.field_read.proofs.top.parts_of.Goals as goal
+use Rattle.field_read.proofs.top.parts_with.Goals as goal
 
 pub returns-clause-ok : goal.returns-clause-ok
 returns-clause-ok c =

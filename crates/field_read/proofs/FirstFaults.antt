@@ -1,0 +1,60 @@
+-- A fault of a name of a field file, or of its scenario, is the first fault of the file.
+use Rattle.std.proofs.Common.{◌≡◌, List, [], map, Option, Some, None, unwrap_or, codes, refl, sym, ◌∙◌, subst}
+use Rattle.serde_json.specs.Data.{Data, null, boolean, number, string, array, object}
+use Rattle.serde_json.specs.Find.{get}
+use Rattle.scenario_data.specs.declared.refusal.ReadFail.{ReadFail}
+use Rattle.scenario_data.specs.Causes.{Cause}
+use Rattle.scenario_read.specs.Paths.{then_named}
+use Rattle.scenario_read.specs.Kinds.{Wrong, fault_at}
+use Rattle.scenario_read.specs.Fields.{either, faults_of, field_faults, held}
+use Rattle.scenario_read.specs.Faults.{faults}
+use Rattle.scenario_read.specs.Readers.{Refuses, names_faults}
+use Rattle.scenario_read.proofs.Refusing.{refuses_more}
+use Rattle.scenario_cut.specs.declared.form.Form.TheVariants.{Outer}
+use Rattle.scenario_cut.specs.Cutting.{cut}
+use Rattle.scenario_cut.proofs.Judging.{refuses-same}
+use Rattle.scenario_cut.proofs.Members.{IsObject, unknown-same}
+use Rattle.scenario_checked.specs.Inside.{inner_cause, inner_scenario, scenario}
+use Rattle.field_read.specs.Checks.{file_faults}
+use Rattle.field_read.specs.Parts.{known}
+use Rattle.field_read.proofs.WholeFields.{two-parts, at-first}
+
+is-outer : IsObject Outer
+is-outer = record { opens = refl; closed = refl }
+
+-- what is kept has the names of the object
+names-kept : (d : Data) → names_faults known [] (cut Outer d) ≡ names_faults known [] d
+names-kept null = refl
+names-kept (boolean b) = refl
+names-kept (number n) = refl
+names-kept (string s) = refl
+names-kept (array ds) = refl
+names-kept (object ms) = unknown-same Outer is-outer known [] ms
+
+names-in : (d v : Data) → v ≡ cut Outer d → names_faults known [] v ≡ names_faults known [] d
+names-in d v is = subst (λ (w : Data). names_faults known [] w ≡ names_faults known [] d) (sym is) (names-kept d)
+
+name-first : (fail : ReadFail) (d : Data) → Refuses fail (names_faults known [] d) → Refuses fail (file_faults d)
+name-first fail null h = refuses_more fail _ _ h
+name-first fail (boolean b) h = refuses_more fail _ _ h
+name-first fail (number n) h = refuses_more fail _ _ h
+name-first fail (string s) h = refuses_more fail _ _ h
+name-first fail (array ds) h = refuses_more fail _ _ h
+name-first fail (object ms) h = refuses_more fail _ _ (refuses_more fail _ _ h)
+
+pub name-refused : (fail : ReadFail) (d v : Data) → v ≡ cut Outer d → Refuses fail (names_faults known [] v) → Refuses fail (file_faults d)
+name-refused fail d v is h = name-first fail d (subst (λ (causes : List Cause). Refuses fail causes) (names-in d v is) h)
+
+-- null in place of a scenario has the fault of a scenario that doesn't stand
+at-scenario : (fail : ReadFail) (o : Option Data) → Refuses fail (map inner_cause (faults (unwrap_or (either o None) null)))
+    → Refuses fail (faults_of inner_scenario (then_named [] (codes "scenario")) (either o None))
+at-scenario fail None h = refuses-same fail (map inner_cause (faults null)) (fault_at (then_named [] (codes "scenario")) Wrong) refl h
+at-scenario fail (Some d) h = h
+
+-- where all names are known, the first fault of the scenario is that of the file
+pub scenario-first : (fail : ReadFail) (d v : Data) → v ≡ cut Outer d → names_faults known [] v ≡ [] → Refuses fail (map inner_cause (faults (held scenario d)))
+    → Refuses fail (file_faults d)
+scenario-first fail d v is clean h =
+    let here : Refuses fail (field_faults [] d scenario) = at-scenario fail (get (codes "scenario") d) h in
+    let all = two-parts d (sym (names-in d v is) ∙ clean) in
+    refuses_more fail _ _ (subst (λ (causes : List Cause). Refuses fail causes) (sym all) (at-first fail (field_faults [] d scenario) _ here))

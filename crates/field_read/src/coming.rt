@@ -1,0 +1,43 @@
+//! Names that come again in a field file, and in its scenario. All but the last of each can so be passed over unread.
+
+use scenario_file::{LARGE_NAMES, Left};
+use std::alloc::Global;
+
+/// The names of a field file.
+const NAMES: [&str; 4] = ["scenario", "bank", "pulses", "respond"];
+
+/// How often names are still to come: the whole object's own, and the large ones of the last scenario in it.
+#[derive(Drop)]
+pub(crate) struct Coming {
+    pub own: Left,
+    pub inner: Left,
+}
+
+/// The large names of the last scenario; none are counted where a scenario is no object.
+fn inner_of(alloc: Global, bytes: &[u8]) -> Left {
+    match Left::of_inner(alloc, bytes, "scenario", &LARGE_NAMES) {
+        Some(inner) => inner,
+        None => Left::none(alloc),
+    }
+}
+
+impl Coming {
+    /// No names.
+    pub fn none(alloc: Global) -> Coming {
+        Coming {
+            own: Left::none(alloc),
+            inner: Left::none(alloc),
+        }
+    }
+
+    /// The names in a text that is one object, where one of them comes again.
+    pub fn again(alloc: Global, bytes: &[u8]) -> Option<Coming> {
+        let own = Left::of(alloc, bytes, &NAMES)?;
+        let inner = inner_of(alloc, bytes);
+        if own.has_again() || inner.has_again() {
+            Some(Coming { own, inner })
+        } else {
+            None
+        }
+    }
+}

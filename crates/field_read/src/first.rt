@@ -1,0 +1,36 @@
+//! The first fault of a field file, where it is that of a name or of the scenario: found in little memory.
+
+ghost use Rattle.std.specs.Prelude.{IfErr};
+ghost use Rattle.scenario_read.specs.Answers.{OnRefusal};
+ghost use Rattle.field_read.specs.Answers.{IsFirstFieldFault};
+
+use crate::members::known_names;
+use crate::place::Place;
+use scenario_checked::inner_fail;
+use scenario_cut::{Form, inner_fault, kept_of_few};
+use scenario_data::ReadFail;
+use std::alloc::Global;
+
+/// The first fault of the bytes: that they are no JSON, of a name, or of the scenario, whose lists are judged item by item. Want of
+/// memory stands also for what this way does not tell.
+pub(crate) fn first_fault(alloc: Global, bytes: &[u8]) -> Result<(), ReadFail>
+    ensures { IfErr result (λ fail. OnRefusal fail (IsFirstFieldFault bytes.now)) }
+{
+    let frame = match kept_of_few(alloc, bytes, Form::Outer) {
+        Ok(frame) => frame,
+        Err(fail) => return Err(fail),
+    };
+    match known_names(
+        alloc,
+        &frame,
+        Place::Top,
+        &["scenario", "bank", "pulses", "respond"],
+    ) {
+        Ok(()) => {}
+        Err(fail) => return Err(fail),
+    }
+    match inner_fault(alloc, bytes, &frame) {
+        Ok(()) => Ok(()),
+        Err(fail) => Err(inner_fail(alloc, fail)),
+    }
+}
