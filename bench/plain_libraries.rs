@@ -439,6 +439,24 @@ pub mod json {
             }
         }
 
+        pub fn skip_value(&mut self, depth: usize) -> Result<(), Invalid> {
+            match self.next() {
+                Some(Token::String(_) | Token::Number(_) | Token::Bool(_) | Token::Null) => {}
+                Some(Token::BeginArray) if depth > 0 => {
+                    while !self.take_end_array() {
+                        self.skip_value(depth - 1)?;
+                    }
+                }
+                Some(Token::BeginObject) if depth > 0 => {
+                    while self.next_key()?.is_some() {
+                        self.skip_value(depth - 1)?;
+                    }
+                }
+                _ => return Err(Invalid),
+            }
+            Ok(())
+        }
+
         /// The text that begins here, behind its quote.
         fn string(&mut self) -> Option<&'a str> {
             let (text, start) = (self.text, self.at + 1);
