@@ -6,7 +6,7 @@ use Rattle.scenario_read.specs.Fields.{either}
 pub use Rattle.scenario_cut.specs.declared.around.Around.{Around}
 pub use Rattle.scenario_cut.specs.declared.around.Around.TheVariants.{Nothing, Object}
 
--- the scenario of a text's value; null where the object has none
+-- the scenario of a text's value; null where that is no object or has none
 abbrev pub scenario_in : Around → Data → Data
 scenario_in Nothing d = d
 scenario_in Object d = unwrap_or (either (get (codes "scenario") d) None) null

@@ -1,6 +1,6 @@
 -- What is kept of a scenario's value whose first fault is asked, and of an object around a scenario. null stands for an array or an object
--- where only a number, a text or a word may stand, since it is at fault there whatever it holds; for an item behind one that is at fault;
--- and for a cabinet past the most. Of other lists nothing is kept past one item more than there may be.
+-- where only a number, a text or a word may stand, since it is at fault there whatever it holds, and in Setup and Outer for a list, of which
+-- nothing is asked; for an item behind one that is at fault; and for a cabinet past the most. Of some other lists only so many are kept.
 use Rattle.std.specs.Prelude.{ℕ, zero, suc, ◌&&◌, ◌||◌, Bool, true, false, if◌then◌else◌, List, codes, bytes_eq, is_some}
 use Rattle.serde_json.specs.Data.{Data, null, boolean, number, string, array, object, Items, no_items, item, Members, no_members, member}
 use Rattle.serde_json.specs.Find.{get}

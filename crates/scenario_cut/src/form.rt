@@ -7,8 +7,8 @@ ghost use Rattle.scenario_cut.specs.Cutting.{opens_array, opens_object, item_for
 
 use serde_json::Value;
 
-/// A place: an object that asks of bands, and a field file; either of them but for all beside its scenario, of which the lists are not
-/// kept; a whole scenario; a scenario but for its lists of cabinets and of what happens; these lists, with their items; pulses of
+/// A place: an object that asks of bands, and a field file; either of them with its scenario but for its lists, and beside it with
+/// numbers, texts and words alone; a whole scenario; a scenario but for its lists of cabinets and of what happens; these lists, with their items; pulses of
 /// detectors; the master with its entries; the rules by which patterns follow traffic, with their sections; cells, one of them, and a
 /// part of it; travel times; and any other place, where only a number, a text or a word may stand.
 #[derive(Clone, Copy)]
@@ -182,7 +182,7 @@ fn is_a_pulse(object: &Value) -> bool
     is_of_a_round(object) && (object.get("detector").is_some() && object.get("on").is_some())
 }
 
-/// How many items of this kind are kept at the most, one more than there may be but of cabinets; 1 stands for any number.
+/// How many items of this kind are kept at the most, more than any right list has but for cabinets; 1 stands for any number.
 pub(crate) fn room(form: Form) -> usize
     ensures room { result ≡ room form }
     ensures few { result ≤ 4097 }
