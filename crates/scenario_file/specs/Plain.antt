@@ -33,7 +33,7 @@ plain_members p =
     (flag_then (codes "on") p.on
     (number_then (codes "ped") p.ped (number_then (codes "preempt") p.preempt (number_then (codes "round") p.round (number_then (codes "veh") p.veh no_members)))))
 
--- what an input has before its round, and then these members
+-- what an input has between its cabinet and its round, and then these members
 abbrev pub before_round : Field → Members → Members
 before_round (Veh phase on) ms = member (codes "on") (boolean on) ms
 before_round (Ped phase) ms = member (codes "ped") (number (unsigned phase)) ms

@@ -161,7 +161,7 @@ impl Left {
     }
 
     /// How often each of these names comes in the object that stands at a name in the object that the bytes are; of such the last
-    /// counts.
+    /// counts. None also where something else than an object stands there.
     pub fn of_inner(alloc: Global, bytes: &[u8], outer: &str, names: &[&str]) -> Option<Left> {
         let mut left = Left::of_names(alloc, names)?;
         if counted(alloc, bytes, Some(outer), &mut left) {

@@ -1,5 +1,5 @@
-//! The scenario file: bytes in, a scenario or the first fault out. A right scenario is read with little memory, also where an earlier of
-//! equal names is at fault or large. Of any other text the first fault is told by `scenario_cut`. No tree of the whole value is made.
+//! The scenario file: bytes in, a scenario or the first fault out. A right scenario is read with little memory, also where what
+//! stood earlier at one of its large names is at fault. Of any other text the first fault is told by `scenario_cut`.
 
 ghost use Rattle.std.specs.Prelude.{IfOk, IfErr, IfSome};
 ghost use Rattle.scenario_data.specs.Content.{scenario_content};

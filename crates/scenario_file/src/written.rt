@@ -107,7 +107,7 @@ impl<'a> Written<'a> {
         }
     }
 
-    /// Adds what stands before the round of an input.
+    /// Adds what stands between the cabinet and the round of an input.
     fn add_before(&mut self, field: Field) -> Option<()>
         ensures { IfSome result (λ _. (ms : Members) → written self.new ++ members_text true ms ≡ written self.old ++ members_text true (before_round field ms)) }
     {
