@@ -25,7 +25,7 @@ pub record SaysScenario (s : Scenario) (d : Data) : Type 0 where
   pub clean : faults d ≡ []
   pub said : scenario_content s ≡ scenario_of d
 
--- a scenario was read, or none, and null stands at its name among the other members
+-- a scenario was read, and null stands at its name among the other members; or none was, and nothing stands there
 abbrev pub ScenarioStands : Option Scenario → Data → Members → Type 0
 ScenarioStands None d beside = get_member (codes "scenario") beside ≡ None
 ScenarioStands (Some s) d beside = (get_member (codes "scenario") beside ≡ Some null) × SaysScenario s d

@@ -45,7 +45,7 @@ fn put_value(alloc: Global, beside: &mut Map<String, Value>, name: &str, value: 
     }
 }
 
-/// Reads the scenario, of whose large names so many come. Its text is left out.
+/// Reads the scenario, of whose large names so many come. The parts of its text are left out.
 fn scenario_member(
     alloc: Global,
     reader: &mut Reader<'_>,
@@ -201,7 +201,7 @@ fn parts_with(alloc: Global, bytes: &[u8], coming: Coming) -> Option<Parts>
 }
 
 /// The parts of a text that is one object: first all of it is read, and where that gives none, of equal names the last alone. None,
-/// where the scenario is not right, where what stands beside it is not small, and where memory is wanting.
+/// where the text is no JSON, no object or has another name, where the scenario is not right, where what stands beside it is not small, and where memory is wanting.
 pub(crate) fn parts_of(alloc: Global, bytes: &[u8]) -> Option<Parts>
     ensures utf8 { IfSome result (λ _. IsUtf8 bytes.now) }
     ensures ok { IfSome result (λ parts. (ms : Members) × (read bytes.now ≡ Some (object ms)) × PartsStand parts ms) }
