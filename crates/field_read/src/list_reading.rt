@@ -15,7 +15,7 @@ use crate::whole::{Listed, whole_of};
 use std::alloc::Global;
 
 /// Reads a field file that is right, in time that grows with its bytes and in the memory of what it says: nothing, where it
-/// isn't right, where an earlier of equal names inside a list or a section isn't, or where memory is wanting.
+/// isn't right, where an earlier of equal names isn't (but for its own and the scenario's large ones), or where memory is wanting.
 pub fn listed<'a>(alloc: Global, bytes: &'a [u8]) -> Option<Listed<'a>>
     ensures ok { IfSome result (λ l. (d : Data) × Reads bytes.now d × (file_faults d ≡ []) × (field_content l.field ≡ field_of d) × Writes l.text (held scenario d)) }
 {
