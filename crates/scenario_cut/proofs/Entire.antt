@@ -1,6 +1,7 @@
 -- A value without faults is kept whole: an array or an object stands only where one may stand, each list has room for its items, and what
 -- stands for another thing than itself is at fault.
 use Rattle.std.proofs.Common.{◌≡◌, ◌≤◌, ℕ, zero, suc, ◌+◌, ◌==◌, ◌&&◌, nat_le, Bool, true, false, if◌then◌else◌, List, [], ◌∷◌, ◌++◌, codes, refl, ap, ap₂, ◌∙◌, subst, arith}
+use Rattle.std.proofs.lemmas.Bool.{and_parts}
 use Rattle.serde_json.specs.Data.{Data, null, boolean, number, string, array, object, Items, no_items, item, Members, no_members, member}
 use Rattle.serde_json.specs.Events.{items_len}
 use Rattle.scenario_data.specs.Causes.{Cause}
@@ -9,17 +10,18 @@ use Rattle.scenario_read.specs.Content.{version_number, round_count, cabinet_cou
 use Rattle.scenario_read.specs.Paths.{Step, then_item}
 use Rattle.scenario_read.specs.Kinds.{Fit, Fits, Wrong, Beyond, Kind, fault_at, within, whole, rare, text, word, flag, whole_fits, rare_fits, text_fits, word_fits, flag_fits, each, list_of, each_behind, list_behind}
 use Rattle.scenario_read.specs.CellLists.{cell, octets_fits, hex_text}
-use Rattle.scenario_read.specs.Fields.{Shape, object_of}
+use Rattle.scenario_read.specs.Fields.{Shape, fields_faults, alternative_faults, known_fields, names, unknown_faults, object_of}
 use Rattle.scenario_read.specs.Sorted.{Sorted, ItemsSorted}
 use Rattle.scenario_read.specs.Table
 use Rattle.scenario_read.proofs.Whole.{faultless-parts}
-use Rattle.scenario_cut.specs.Cutting.{Form, Whole, Cabinets, Cabinet, Events, Event, Pulses, Pulse, Master, Entries, Entry, Rows, Row, Bare, is_of_a_round, is_a_pulse, room_behind, member_form, cut, cut_items, cut_members}
+use Rattle.scenario_cut.specs.Cutting.{Form, Whole, Cabinets, Cabinet, Events, Event, Pulses, Pulse, Master, Entries, Entry, Rows, Row, Bare, is_of_a_round, is_a_pulse, room_behind, member_form, names_at, few, cut, cut_items, cut_members}
 use Rattle.scenario_cut.proofs.Same.{Faulty}
 use Rattle.scenario_cut.proofs.Known.{none-left, AtEach, AllGive, EachGives, at-each}
 use Rattle.scenario_cut.proofs.Plain.{cell-whole}
+use Rattle.scenario_cut.proofs.Few.{all_among, each_among, covers, known-among, whole-few}
 use Rattle.scenario_cut.proofs.Members.{IsObject, kept-object}
 use Rattle.scenario_cut.proofs.Items.{IsArray, kept, kept-list, Stops, PulseStops}
-use Rattle.scenario_cut.proofs.Kept.{le-of, is-cabinet, is-event, object-stops, load-stops, priority-stops}
+use Rattle.scenario_cut.proofs.Kept.{le-of, is-cabinet, covers-cabinet, is-event, object-stops, load-stops, priority-stops}
 
 -- a value of the kind that has no faults is kept whole there
 abbrev pub Entire : Form → Kind → Type 0
@@ -163,13 +165,19 @@ members-kept : (f : Form) (ms : Members) → AtEach (KeptAt f) ms → cut_member
 members-kept f no_members each = refl
 members-kept f (member name d ms) each = ap₂ (member name) each.0 (members-kept f ms each.1)
 
-pub object-entire : (f : Form) → IsObject f → (shape : Shape) → AllGive (KeptAt f) shape.fields → EachGives (KeptAt f) shape.alternatives → Entire f (object_of shape)
-object-entire f is shape good goods path null sorted e = refl
-object-entire f is shape good goods path (boolean b) sorted e = refl
-object-entire f is shape good goods path (number n) sorted e = refl
-object-entire f is shape good goods path (string s) sorted e = refl
-object-entire f is shape good goods path (array ds) sorted e = absurd (cc)
-object-entire f is shape good goods path (object ms) sorted e = kept-object f is ms ∙ ap object (members-kept f ms (at-each (KeptAt f) shape good goods path ms sorted e))
+pub object-entire : (f : Form) → IsObject f → (shape : Shape) → covers f shape ≡ true → AllGive (KeptAt f) shape.fields → EachGives (KeptAt f) shape.alternatives → Entire f (object_of shape)
+object-entire f is shape has good goods path null sorted e = refl
+object-entire f is shape has good goods path (boolean b) sorted e = refl
+object-entire f is shape has good goods path (number n) sorted e = refl
+object-entire f is shape has good goods path (string s) sorted e = refl
+object-entire f is shape has good goods path (array ds) sorted e = absurd (cc)
+object-entire f is shape has good goods path (object ms) sorted e =
+    let d = object ms in
+    let parts = and_parts (all_among (names_at f) shape.fields) (each_among (names_at f) shape.alternatives) has in
+    let asked = known_fields shape d in
+    let clean = none-left (unknown_faults (names asked) path ms) (fields_faults path d shape.fields ++ alternative_faults path d shape.alternatives) e in
+    kept-object f is ms ∙ ap (λ some. object (few (names_at f) some)) (members-kept f ms (at-each (KeptAt f) shape good goods path ms sorted e))
+    ∙ ap object (whole-few (names_at f) asked (known-among (names_at f) shape d parts.0 parts.1) path ms clean.0)
 
 -- ---- the parts of a scenario
 
@@ -185,16 +193,16 @@ drift-entire false = tt
 cabinet-entire : (version : ℕ) → Entire Cabinet (Table.cabinet version)
 cabinet-entire version =
     more-entire Cabinet (object_of (Table.cabinet_shape version)) (Table.drift_faults version)
-    (object-entire Cabinet is-cabinet (Table.cabinet_shape version)
+    (object-entire Cabinet is-cabinet (Table.cabinet_shape version) (covers-cabinet version)
     (word-entire (codes "std8" ∷ codes "max8" ∷ []), (cells-entire 0 4096 (omega arith), (whole-entire 0 255, (whole-entire 0 863999, (whole-entire 1 8, drift-entire (version == 2)))))) tt)
 
 cabinets-entire : (version : ℕ) → Entire Cabinets (list_of 1 64 (Table.cabinet version))
 cabinets-entire version =
     list-entire Cabinets (record { opens = refl; closed = refl }) 1 64 (Table.cabinet version)
-    (λ path ds sorted few e. counted-entire Cabinet (Table.cabinet version) (cabinet-entire version) (λ n d. refl) path 64 0 ds sorted (le-of (items_len ds) 64 few) e)
+    (λ path ds sorted few e. counted-entire Cabinet (Table.cabinet version) (cabinet-entire version) (λ n d. refl) path 65 0 ds sorted (let low = le-of (items_len ds) 64 few in omega (arith, low)) e)
 
 entry-entire : Entire Entry (object_of Table.entry_shape)
-entry-entire = object-entire Entry (record { opens = refl; closed = refl }) Table.entry_shape (whole-entire 0 86399, (whole-entire 1 8, (whole-entire 0 255, tt))) tt
+entry-entire = object-entire Entry (record { opens = refl; closed = refl }) Table.entry_shape refl (whole-entire 0 86399, (whole-entire 1 8, (whole-entire 0 255, tt))) tt
 
 -- a list of no more entries than are kept
 pub entries-entire : (most : ℕ) → most ≤ 1000 → (kind : Kind) → Entire Entry kind → Entire Entries (list_of 0 most kind)
@@ -207,34 +215,34 @@ schedule-entire = entries-entire 1000 (omega arith) (object_of Table.entry_shape
 
 master-entire : Entire Master (object_of Table.master_shape)
 master-entire =
-    object-entire Master (record { opens = refl; closed = refl }) Table.master_shape
+    object-entire Master (record { opens = refl; closed = refl }) Table.master_shape refl
     (whole-entire 0 863999, (whole-entire 0 86400, (whole-entire 0 86400, (whole-entire 0 86400, (whole-entire 1 10, (schedule-entire, tt)))))) tt
 
 input-entire : (rounds cabinets : ℕ) → Entire Event (object_of (Table.input_shape rounds cabinets))
 input-entire rounds cabinets =
-    object-entire Event is-event (Table.input_shape rounds cabinets) (whole-entire 1 rounds, (whole-entire 1 cabinets, tt))
+    object-entire Event is-event (Table.input_shape rounds cabinets) refl (whole-entire 1 rounds, (whole-entire 1 cabinets, tt))
     ((whole-entire 1 16, (flag-entire, tt)), ((whole-entire 1 16, tt), ((whole-entire 1 8, (flag-entire, tt)), tt)))
 
 load-entire : (rounds cabinets : ℕ) (earlier : List ℕ) → Entire Event (Table.load rounds cabinets earlier)
 load-entire rounds cabinets earlier =
     more-entire Event (object_of (Table.load_shape rounds cabinets)) (λ path d. Table.full_faults earlier path (Table.load_cabinet cabinets d))
-    (object-entire Event is-event (Table.load_shape rounds cabinets) (whole-entire 1 rounds, (whole-entire 1 cabinets, (cells-entire 1 768 (omega arith), tt))) tt)
+    (object-entire Event is-event (Table.load_shape rounds cabinets) refl (whole-entire 1 rounds, (whole-entire 1 cabinets, (cells-entire 1 768 (omega arith), tt))) tt)
 
 priority-entire : (rounds cabinets : ℕ) → Entire Event (Table.priority_item rounds cabinets)
 priority-entire rounds cabinets =
     more-entire Event (object_of (Table.priority_shape rounds cabinets)) (λ path d. Table.departure_faults path (Table.act_of d))
-    (object-entire Event is-event (Table.priority_shape rounds cabinets) (whole-entire 1 rounds, (whole-entire 1 cabinets, tt)) (
+    (object-entire Event is-event (Table.priority_shape rounds cabinets) refl (whole-entire 1 rounds, (whole-entire 1 cabinets, tt)) (
       (whole-entire 1 10, tt),
       ((whole-entire 1 10, (whole-entire 1 10, (whole-entire 1 10, (whole-entire 1 16, (whole-entire 0 65535, (whole-entire 0 65535, tt)))))), tt),
     ))
 
 frame-entire : (rounds cabinets : ℕ) → Entire Event (object_of (Table.frame_shape rounds cabinets))
 frame-entire rounds cabinets =
-    object-entire Event is-event (Table.frame_shape rounds cabinets) (whole-entire 1 rounds, (whole-entire 1 cabinets, (word-entire Table.stream_words, (hex-entire 1472, tt)))) tt
+    object-entire Event is-event (Table.frame_shape rounds cabinets) refl (whole-entire 1 rounds, (whole-entire 1 cabinets, (word-entire Table.stream_words, (hex-entire 1472, tt)))) tt
 
 fault-entire : (rounds cabinets : ℕ) → Entire Event (object_of (Table.fault_shape rounds cabinets))
 fault-entire rounds cabinets =
-    object-entire Event is-event (Table.fault_shape rounds cabinets)
+    object-entire Event is-event (Table.fault_shape rounds cabinets) refl
     (whole-entire 1 rounds, (whole-entire 1 cabinets, (word-entire Table.stream_words, (word-entire Table.way_words, (whole-entire 0 65535, (word-entire Table.fault_kind_words, (whole-entire 0 86400, (whole-entire 1 255, tt)))))))) tt
 
 events-kept : (rounds cabinets : ℕ) → AllGive (KeptAt Whole) (Table.event_fields rounds cabinets)
@@ -260,7 +268,7 @@ events-kept r k = (
 
 names-entire : (version rounds cabinets : ℕ) → Entire Whole (object_of (Table.scenario_shape version rounds cabinets))
 names-entire version rounds cabinets =
-    object-entire Whole (record { opens = refl; closed = refl }) (Table.scenario_shape version rounds cabinets)
+    object-entire Whole (record { opens = refl; closed = refl }) (Table.scenario_shape version rounds cabinets) refl
     (whole-entire 1 2, (whole-entire 1 86400, (whole-entire 1 600, (text-entire 1 32, (cabinets-entire version, (master-entire, events-kept rounds cabinets)))))) tt
 
 -- a value without faults is kept whole

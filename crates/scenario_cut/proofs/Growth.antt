@@ -3,7 +3,7 @@ use Rattle.std.proofs.Common.{◌≡◌, ℕ, suc, ◌&&◌, true, false, if◌t
 use Rattle.std.specs.Cmp.Lexicographic.{slice_cmp}
 use Rattle.std.specs.Ordering.{match_ordering}
 use Rattle.serde_json.specs.Data.{Data, null, array, object, Items, no_items, item, Members, no_members, member, put}
-use Rattle.scenario_cut.specs.Cutting.{Form, Street, Field, Outer, Whole, Setup, Cabinets, Cabinet, Events, Event, Pulses, Pulse, Master, Entries, Entry, Respond, Sections, Section, Rows, Row, Part, Times, Bare, opens_array, opens_object, item_form, member_form, room, room_behind, drops, cut, cut_items, cut_members}
+use Rattle.scenario_cut.specs.Cutting.{Form, Street, Field, Outer, Whole, Setup, Cabinets, Cabinet, Events, Event, Pulses, Pulse, Master, Entries, Entry, Respond, Sections, Section, Steps, Step, Rows, Row, Part, Times, Bare, opens_array, opens_object, item_form, member_form, names_at, few, room, room_behind, drops, cut, cut_items, cut_members}
 use Rattle.scenario_cut.specs.Growing.{both}
 use Rattle.scenario_cut.proofs.Members.{IsObject, some-cut, equal-names}
 use Rattle.scenario_cut.proofs.Turns.{both-more}
@@ -20,17 +20,19 @@ room-same Cabinet n d = refl
 room-same Events n d = refl
 room-same Event n d =
     let is : IsObject Event = record { opens = refl; closed = refl } in
-    ap₂ (λ a b. if a && b then suc n else 0) (some-cut Event is (codes "round") d) (some-cut Event is (codes "cabinet") d)
+    ap₂ (λ a b. if a && b then suc n else 0) (some-cut Event is (codes "round") refl d) (some-cut Event is (codes "cabinet") refl d)
 room-same Pulses n d = refl
 room-same Pulse n d =
     let is : IsObject Pulse = record { opens = refl; closed = refl } in
-    rw (some-cut Pulse is (codes "round") d, some-cut Pulse is (codes "cabinet") d, some-cut Pulse is (codes "detector") d, some-cut Pulse is (codes "on") d) refl
+    rw (some-cut Pulse is (codes "round") refl d, some-cut Pulse is (codes "cabinet") refl d, some-cut Pulse is (codes "detector") refl d, some-cut Pulse is (codes "on") refl d) refl
 room-same Master n d = refl
 room-same Entries n d = refl
 room-same Entry n d = refl
 room-same Respond n d = refl
 room-same Sections n d = refl
 room-same Section n d = refl
+room-same Steps n d = refl
+room-same Step n d = refl
 room-same Rows n d = refl
 room-same Row n d = refl
 room-same Part n d = refl
@@ -75,8 +77,8 @@ kept-array f ds opens = ap (λ b. if b then array (cut_items (item_form f) (room
 pub no-array : (f : Form) (ds : Items) → opens_array f ≡ false → null ≡ cut f (array ds)
 no-array f ds shut = ap (λ b. if b then array (cut_items (item_form f) (room (item_form f)) ds) else null) (sym shut)
 
-pub kept-object : (f : Form) (ms : Members) → opens_object f ≡ true → object (cut_members f ms) ≡ cut f (object ms)
-kept-object f ms opens = ap (λ b. if b then object (cut_members f ms) else null) (sym opens)
+pub kept-object : (f : Form) (ms : Members) → opens_object f ≡ true → object (few (names_at f) (cut_members f ms)) ≡ cut f (object ms)
+kept-object f ms opens = ap (λ b. if b then object (few (names_at f) (cut_members f ms)) else null) (sym opens)
 
 pub no-object : (f : Form) (ms : Members) → opens_object f ≡ false → null ≡ cut f (object ms)
-no-object f ms shut = ap (λ b. if b then object (cut_members f ms) else null) (sym shut)
+no-object f ms shut = ap (λ b. if b then object (few (names_at f) (cut_members f ms)) else null) (sym shut)

@@ -8,7 +8,7 @@ use Rattle.scenario_read.specs.Faults.{first_cause}
 use Rattle.scenario_read.specs.Paths.{Step, then_item}
 use Rattle.scenario_read.specs.Kinds.{Fits, Beyond, Kind, fault_at, within, each, each_behind, list_of, list_behind}
 use Rattle.scenario_read.specs.Content.{each_of}
-use Rattle.scenario_cut.specs.Cutting.{Form, Events, Event, Pulses, Pulse, opens_array, opens_object, item_form, is_of_a_round, is_a_pulse, room, room_behind, drops, cut, cut_items, cut_members}
+use Rattle.scenario_cut.specs.Cutting.{Form, Events, Event, Pulses, Pulse, opens_array, opens_object, item_form, names_at, few, is_of_a_round, is_a_pulse, room, room_behind, drops, cut, cut_items, cut_members}
 use Rattle.scenario_cut.proofs.Same.{Same, Faulty, same-both, same-ended}
 
 -- where none is dropped there are as many
@@ -46,7 +46,7 @@ pub kept-list : (f : Form) → IsArray f → (ds : Items) → cut f (array ds) �
 kept-list f is ds = ap (λ b. if b then array (kept f ds) else null) is.opens
 
 pub kept-no-object : (f : Form) → IsArray f → (ms : Members) → cut f (object ms) ≡ null
-kept-no-object f is ms = ap (λ b. if b then object (cut_members f ms) else null) is.closed
+kept-no-object f is ms = ap (λ b. if b then object (few (names_at f) (cut_members f ms)) else null) is.closed
 
 -- what the first fault of an item is, is kept
 abbrev pub KeepsItem : Form → Kind → Type 0
@@ -120,7 +120,7 @@ too-many : (path : List Step) (a : Bool) → Faulty (fault_at path (if a && fals
 too-many path true = tt
 too-many path false = tt
 
-past-most : (least most n : ℕ) → most < n → within least most n ≡ Beyond
+pub past-most : (least most n : ℕ) → most < n → within least most n ≡ Beyond
 past-most least most n over = at (nat_le least n) (nat_le n most) refl
   where
     at : (a b : Bool) → nat_le n most ≡ b → (if a && b then Fits else Beyond) ≡ Beyond

@@ -16,7 +16,7 @@ use Rattle.scenario_read.specs.Readers.{Refuses, Answers, load_cabinets}
 use Rattle.scenario_read.proofs.Refusing.{refuses_more}
 use Rattle.scenario_cut.specs.Cutting.{Cabinet, cut}
 use Rattle.scenario_cut.specs.Growing.{both}
-use Rattle.scenario_cut.specs.Judging.{form_of, list_path, item_kind, cabinets_of, items_faults, Stays, TellsUpTo, Counted, IsJudged}
+use Rattle.scenario_cut.specs.Judging.{form_of, list_path, item_kind, cabinets_of, items_faults, Stays, TellsUpTo, Counted, IsJudged, most_judged}
 use Rattle.scenario_cut.specs.declared.judge.Extent.{Extent}
 use Rattle.scenario_cut.specs.declared.judge.Found.{Found}
 use Rattle.scenario_cut.specs.declared.judge.Listing.{Listing}
@@ -114,14 +114,11 @@ len-next : (ds : Items) (d : Data) → items_len (both ds (item d no_items)) ≡
 len-next no_items d = refl
 len-next (item first ds) d = let later = len-next ds d in omega (arith, later)
 
-pub counted-next : (count : ℕ) (ds : Items) (d : Data) → count ≤ 1000000 → Counted count (items_len ds) → Counted (count + 1) (items_len (both ds (item d no_items)))
-counted-next count ds d low c =
+pub counted-next : (most count : ℕ) (ds : Items) (d : Data) → count ≤ most → Counted most count (items_len ds) → Counted most (count + 1) (items_len (both ds (item d no_items)))
+counted-next most count ds d low c =
     let one = len-next ds d in
     let is = c.exact low in
     record { few = omega (arith, low); exact = λ k. omega (arith, one, is); many = λ k. omega (arith, one, is, k) }
-
-pub refused-longer : (l : Listing) (e : Extent) (ds : Items) (d : Data) (fail : ReadFail) → Refuses fail (items_faults l e ds) → Refuses fail (items_faults l e (both ds (item d no_items)))
-refused-longer l e ds d fail h = subst (Refuses fail) (sym (items-next l e ds d (items_len ds) refl)) (refuses_more fail (items_faults l e ds) _ h)
 
 -- a cabinet, and a load, behind those before
 pub cabinet-judged : (e : Extent) (old new : Found) (ds : Items) (d : Data) (path : List Step) (answer : Result (Unit {0}) ReadFail)
@@ -137,55 +134,61 @@ load-judged e old new ds d path (Ok u) h stays =
     (subst (λ xs. load e.rounds e.cabinets xs path d ≡ []) stays h.0, h.1 ∙ ap (λ xs. xs ++ load_cabinet e.cabinets d ∷ []) stays ∙ sym (each-next (load_cabinet e.cabinets) ds d))
 load-judged e old new ds d path (Err fail) h stays = subst (λ xs. Refuses fail (load e.rounds e.cabinets xs path d)) stays h
 
--- an item past a million
-pub judged-past : (l : Listing) (e : Extent) (judged : Judged) (ds : Items) (d : Data) → 1000000 < judged.count → IsJudged l e judged ds → IsJudged l e judged (both ds (item d no_items))
-judged-past l e judged ds d past j =
+-- what is known of items that were counted, with further faults behind theirs: past the most that are judged, behind a refusal, and of an item that is judged
+pub counted-past : (most count : ℕ) (ds : Items) (d : Data) → most < count → Counted most count (items_len ds) → Counted most count (items_len (both ds (item d no_items)))
+counted-past most count ds d past c =
     let one = len-next ds d in
-    let many = j.counted.many past in
-    let few = j.counted.few in
-    record { counted = record { few = few; exact = λ k. absurd (omega (arith, k, past)); many = λ k. omega (arith, many, one) }; told = at judged.refusal j.told }
+    let many = c.many past in
+    record { few = c.few; exact = λ k. absurd (omega (arith, k, past)); many = λ k. omega (arith, many, one) }
+
+pub tells-past : (most : ℕ) (o : Option ReadFail) (count : ℕ) (causes more : List Cause) (P Q : Type 0) → most < count → TellsUpTo most o count causes P → TellsUpTo most o count (causes ++ more) Q
+tells-past most None count causes more P Q past h = λ k. absurd (omega (arith, k, past))
+tells-past most (Some fail) count causes more P Q past h = refuses_more fail causes more h
+
+pub tells-behind : (most : ℕ) (o : Option ReadFail) (old new : ℕ) (causes more : List Cause) (P Q : Type 0) → is_some o ≡ true → TellsUpTo most o old causes P → TellsUpTo most o new (causes ++ more) Q
+tells-behind most None old new causes more P Q there h = absurd (cc)
+tells-behind most (Some fail) old new causes more P Q there h = refuses_more fail causes more h
+
+pub tells-next : (most : ℕ) (o : Option ReadFail) (old new : ℕ) (causes here : List Cause) (P Q : Type 0) (answer : Result (Unit {0}) ReadFail) → old ≤ most → is_some o ≡ false
+    → (P → Answers answer here (λ _. Q)) → TellsUpTo most o old causes P → TellsUpTo most (result_err answer) new (causes ++ here) Q
+tells-next most None old new causes here P Q answer low none judges h = let clean = h low in so answer (judges clean.1)
   where
-    at : (o : Option ReadFail) → TellsUpTo o judged.count (items_faults l e ds) (Stays l e judged.found ds)
-        → TellsUpTo o judged.count (items_faults l e (both ds (item d no_items))) (Stays l e judged.found (both ds (item d no_items)))
-    at None h = λ k. absurd (omega (arith, k, past))
-    at (Some fail) h = refused-longer l e ds d fail h
+    all : causes ++ here ≡ here
+    all = ap (λ xs. xs ++ here) (h low).0
+
+    so : (r : Result (Unit {0}) ReadFail) → Answers r here (λ _. Q) → TellsUpTo most (result_err r) new (causes ++ here) Q
+    so (Ok u) a = λ k. (all ∙ a.0, a.1)
+    so (Err fail) a = subst (Refuses fail) (sym all) a
+tells-next most (Some fail) old new causes here P Q answer low none judges h = absurd (cc)
+
+-- an item past the most that are judged
+pub judged-past : (l : Listing) (e : Extent) (judged : Judged) (ds : Items) (d : Data) → most_judged l < judged.count → IsJudged l e judged ds → IsJudged l e judged (both ds (item d no_items))
+judged-past l e judged ds d past j =
+    record {
+      counted = counted-past (most_judged l) judged.count ds d past j.counted;
+      told = subst (λ causes. TellsUpTo (most_judged l) judged.refusal judged.count causes (Stays l e judged.found (both ds (item d no_items)))) (sym (items-next l e ds d (items_len ds) refl))
+          (tells-past (most_judged l) judged.refusal judged.count (items_faults l e ds) _ (Stays l e judged.found ds) _ past j.told);
+    }
 
 -- an item behind one at fault
-pub judged-behind : (l : Listing) (e : Extent) (old new : Judged) (ds : Items) (d : Data) → old.count ≤ 1000000 → new.count ≡ old.count + 1 → new.refusal ≡ old.refusal → is_some old.refusal ≡ true
+pub judged-behind : (l : Listing) (e : Extent) (old new : Judged) (ds : Items) (d : Data) → old.count ≤ most_judged l → new.count ≡ old.count + 1 → new.refusal ≡ old.refusal → is_some old.refusal ≡ true
     → IsJudged l e old ds → IsJudged l e new (both ds (item d no_items))
 judged-behind l e old new ds d low more same some j =
     record {
-      counted = subst (λ n. Counted n (items_len (both ds (item d no_items)))) (sym more) (counted-next old.count ds d low j.counted);
-      told = subst (λ o. TellsUpTo o new.count (items_faults l e (both ds (item d no_items))) (Stays l e new.found (both ds (item d no_items)))) (sym same) (at old.refusal some j.told);
+      counted = subst (λ n. Counted (most_judged l) n (items_len (both ds (item d no_items)))) (sym more) (counted-next (most_judged l) old.count ds d low j.counted);
+      told = subst (λ o. TellsUpTo (most_judged l) o new.count (items_faults l e (both ds (item d no_items))) (Stays l e new.found (both ds (item d no_items)))) (sym same)
+          (subst (λ causes. TellsUpTo (most_judged l) old.refusal new.count causes (Stays l e new.found (both ds (item d no_items)))) (sym (items-next l e ds d (items_len ds) refl))
+          (tells-behind (most_judged l) old.refusal old.count new.count (items_faults l e ds) _ (Stays l e old.found ds) _ some j.told));
     }
-  where
-    at : (o : Option ReadFail) → is_some o ≡ true → TellsUpTo o old.count (items_faults l e ds) (Stays l e old.found ds)
-        → TellsUpTo o new.count (items_faults l e (both ds (item d no_items))) (Stays l e new.found (both ds (item d no_items)))
-    at None there h = absurd (cc)
-    at (Some fail) there h = refused-longer l e ds d fail h
 
 -- an item that is judged, behind others without faults
-pub judged-next : (l : Listing) (e : Extent) (old new : Judged) (ds : Items) (d : Data) (answer : Result (Unit {0}) ReadFail) → old.count ≤ 1000000 → new.count ≡ old.count + 1 → is_some old.refusal ≡ false → new.refusal ≡ result_err answer
+pub judged-next : (l : Listing) (e : Extent) (old new : Judged) (ds : Items) (d : Data) (answer : Result (Unit {0}) ReadFail) → old.count ≤ most_judged l → new.count ≡ old.count + 1 → is_some old.refusal ≡ false → new.refusal ≡ result_err answer
     → (Stays l e old.found ds → Answers answer (item_kind l e (cabinets_of e ds) (then_item (list_path l) old.count) d) (λ _. Stays l e new.found (both ds (item d no_items))))
     → IsJudged l e old ds → IsJudged l e new (both ds (item d no_items))
 judged-next l e old new ds d answer low more none is judges j =
     record {
-      counted = subst (λ n. Counted n (items_len (both ds (item d no_items)))) (sym more) (counted-next old.count ds d low j.counted);
-      told = subst (λ o. TellsUpTo o new.count (items_faults l e (both ds (item d no_items))) (Stays l e new.found (both ds (item d no_items)))) (sym is) (at old.refusal none j.told);
+      counted = subst (λ n. Counted (most_judged l) n (items_len (both ds (item d no_items)))) (sym more) (counted-next (most_judged l) old.count ds d low j.counted);
+      told = subst (λ o. TellsUpTo (most_judged l) o new.count (items_faults l e (both ds (item d no_items))) (Stays l e new.found (both ds (item d no_items)))) (sym is)
+          (subst (λ causes. TellsUpTo (most_judged l) (result_err answer) new.count causes (Stays l e new.found (both ds (item d no_items)))) (sym (items-next l e ds d old.count (j.counted.exact low)))
+          (tells-next (most_judged l) old.refusal old.count new.count (items_faults l e ds) _ (Stays l e old.found ds) _ answer low none judges j.told));
     }
-  where
-    here : List Cause
-    here = item_kind l e (cabinets_of e ds) (then_item (list_path l) old.count) d
-
-    all : items_faults l e (both ds (item d no_items)) ≡ items_faults l e ds ++ here
-    all = items-next l e ds d old.count (j.counted.exact low)
-
-    so : (r : Result (Unit {0}) ReadFail) → items_faults l e ds ≡ [] → Answers r here (λ _. Stays l e new.found (both ds (item d no_items)))
-        → TellsUpTo (result_err r) new.count (items_faults l e (both ds (item d no_items))) (Stays l e new.found (both ds (item d no_items)))
-    so (Ok u) clean h = λ k. (all ∙ ap (λ causes. causes ++ here) clean ∙ h.0, h.1)
-    so (Err fail) clean h = subst (Refuses fail) (sym (all ∙ ap (λ causes. causes ++ here) clean)) h
-
-    at : (o : Option ReadFail) → is_some o ≡ false → TellsUpTo o old.count (items_faults l e ds) (Stays l e old.found ds)
-        → TellsUpTo (result_err answer) new.count (items_faults l e (both ds (item d no_items))) (Stays l e new.found (both ds (item d no_items)))
-    at None there h = let clean = h low in so answer clean.0 (judges clean.1)
-    at (Some fail) there h = absurd (cc)

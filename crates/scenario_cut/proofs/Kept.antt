@@ -13,6 +13,7 @@ use Rattle.scenario_read.specs.Table
 use Rattle.scenario_read.specs.Table.{number_at, act_of, request_of, load, full_faults, load_cabinet, priority_item, departure_faults, drift_faults, drifts_both_ways, round, cabinet_number}
 use Rattle.scenario_cut.specs.Cutting.{Cabinet, Event, Master, Entries, Entry, Rows, Row, Bare, is_of_a_round, cut}
 use Rattle.scenario_cut.proofs.Same.{Same, Faulty, same-both, faulty-first, faulty-later}
+use Rattle.scenario_cut.proofs.Few.{covers}
 use Rattle.scenario_cut.proofs.Members.{IsObject, AllKeep, object-same, held-cut, some-cut}
 use Rattle.scenario_cut.proofs.Items.{KeepsItem, Stops, few-same}
 use Rattle.scenario_cut.proofs.Bare.{bare-says, cell-fits}
@@ -61,6 +62,14 @@ cells-same least most low path d =
 pub is-cabinet : IsObject Cabinet
 is-cabinet = record { opens = refl; closed = refl }
 
+-- a cabinet has the names of its version
+pub covers-cabinet : (version : ℕ) → covers Cabinet (Table.cabinet_shape version) ≡ true
+covers-cabinet version = at (version == 2)
+  where
+    at : (b : Bool) → covers Cabinet (record { fields = Table.base ∷ Table.cells ∷ Table.pattern ∷ Table.clock ∷ Table.section ∷ (if b then Table.gain ∷ Table.lose ∷ [] else []); alternatives = [] }) ≡ true
+    at true = refl
+    at false = refl
+
 drift-fields : (version : ℕ) → AllKeep Cabinet (Table.drift_fields version)
 drift-fields version = at (version == 2)
   where
@@ -71,19 +80,19 @@ drift-fields version = at (version == 2)
 drift-same : (version : ℕ) (path : List Step) (d : Data) → drift_faults version path (cut Cabinet d) ≡ drift_faults version path d
 drift-same version path d =
     ap₂ (λ (g l : ℕ). fault_at path (if version == 2 && (nat_lt 0 g && nat_lt 0 l) then Wrong else Fits))
-    (held-cut Cabinet is-cabinet Table.gain whole_of bare-number d) (held-cut Cabinet is-cabinet Table.lose whole_of bare-number d)
+    (held-cut Cabinet is-cabinet Table.gain refl whole_of bare-number d) (held-cut Cabinet is-cabinet Table.lose refl whole_of bare-number d)
 
 pub cabinet-same : (version : ℕ) → KeepsItem Cabinet (Table.cabinet version)
 cabinet-same version path d =
     same-both (object_of (Table.cabinet_shape version) path (cut Cabinet d)) (object_of (Table.cabinet_shape version) path d) (drift_faults version path (cut Cabinet d)) (drift_faults version path d)
-    (object-same Cabinet is-cabinet (Table.cabinet_shape version) path d
+    (object-same Cabinet is-cabinet (Table.cabinet_shape version) (covers-cabinet version) path d
     (word-same (codes "std8" ∷ codes "max8" ∷ []), (cells-same 0 4096 (omega arith), (whole-same 0 255, (whole-same 0 863999, (whole-same 1 8, drift-fields version))))) tt)
     (ap first_cause (drift-same version path d))
 
 -- ---- the master
 
 entry-same : KeepsItem Entry (object_of Table.entry_shape)
-entry-same path d = object-same Entry (record { opens = refl; closed = refl }) Table.entry_shape path d (whole-same 0 86399, (whole-same 1 8, (whole-same 0 255, tt))) tt
+entry-same path d = object-same Entry (record { opens = refl; closed = refl }) Table.entry_shape refl path d (whole-same 0 86399, (whole-same 1 8, (whole-same 0 255, tt))) tt
 
 -- a list of no more entries than are kept
 pub entries-same : (most : ℕ) → most ≤ 1000 → (kind : Kind) → KeepsItem Entry kind → KeepsItem Entries (list_of 0 most kind)
@@ -94,7 +103,7 @@ schedule-same : KeepsItem Entries (list_of 0 1000 (object_of Table.entry_shape))
 schedule-same = entries-same 1000 (omega arith) (object_of Table.entry_shape) entry-same
 
 pub master-same : KeepsItem Master (object_of Table.master_shape)
-master-same path d = object-same Master (record { opens = refl; closed = refl }) Table.master_shape path d
+master-same path d = object-same Master (record { opens = refl; closed = refl }) Table.master_shape refl path d
     (whole-same 0 863999, (whole-same 0 86400, (whole-same 0 86400, (whole-same 0 86400, (whole-same 1 10, (schedule-same, tt)))))) tt
 
 -- ---- what happens
@@ -103,45 +112,45 @@ pub is-event : IsObject Event
 is-event = record { opens = refl; closed = refl }
 
 pub input-same : (rounds cabinets : ℕ) → KeepsItem Event (object_of (Table.input_shape rounds cabinets))
-input-same rounds cabinets path d = object-same Event is-event (Table.input_shape rounds cabinets) path d (whole-same 1 rounds, (whole-same 1 cabinets, tt))
+input-same rounds cabinets path d = object-same Event is-event (Table.input_shape rounds cabinets) refl path d (whole-same 1 rounds, (whole-same 1 cabinets, tt))
     ((whole-same 1 16, (flag-same, tt)), ((whole-same 1 16, tt), ((whole-same 1 8, (flag-same, tt)), tt)))
 
 pub load-cabinet-same : (cabinets : ℕ) (d : Data) → load_cabinet cabinets (cut Event d) ≡ load_cabinet cabinets d
-load-cabinet-same cabinets d = held-cut Event is-event (cabinet_number cabinets) whole_of bare-number d
+load-cabinet-same cabinets d = held-cut Event is-event (cabinet_number cabinets) refl whole_of bare-number d
 
 pub load-same : (rounds cabinets : ℕ) (earlier : List ℕ) → KeepsItem Event (load rounds cabinets earlier)
 load-same rounds cabinets earlier path d =
     same-both (object_of (Table.load_shape rounds cabinets) path (cut Event d)) (object_of (Table.load_shape rounds cabinets) path d) (full_faults earlier path (load_cabinet cabinets (cut Event d))) (full_faults earlier path (load_cabinet cabinets d))
-    (object-same Event is-event (Table.load_shape rounds cabinets) path d (whole-same 1 rounds, (whole-same 1 cabinets, (cells-same 1 768 (omega arith), tt))) tt)
+    (object-same Event is-event (Table.load_shape rounds cabinets) refl path d (whole-same 1 rounds, (whole-same 1 cabinets, (cells-same 1 768 (omega arith), tt))) tt)
     (ap (λ c. first_cause (full_faults earlier path c)) (load-cabinet-same cabinets d))
 
 pub act-same : (d : Data) → act_of (cut Event d) ≡ act_of d
 act-same d =
-    ap (λ b. if b then Cancel (number_at Table.cancel (cut Event d)) else AskRequest (request_of (cut Event d))) (some-cut Event is-event (codes "cancel") d)
-    ∙ ap₂ (λ n r. if is_some (get (codes "cancel") d) then Cancel n else AskRequest r) (held-cut Event is-event Table.cancel whole_of bare-number d) request
+    ap (λ b. if b then Cancel (number_at Table.cancel (cut Event d)) else AskRequest (request_of (cut Event d))) (some-cut Event is-event (codes "cancel") refl d)
+    ∙ ap₂ (λ n r. if is_some (get (codes "cancel") d) then Cancel n else AskRequest r) (held-cut Event is-event Table.cancel refl whole_of bare-number d) request
   where
     request : request_of (cut Event d) ≡ request_of d
     request = rw (
-      held-cut Event is-event Table.request_number whole_of bare-number d,
-      held-cut Event is-event Table.class whole_of bare-number d,
-      held-cut Event is-event Table.level whole_of bare-number d,
-      held-cut Event is-event Table.phase whole_of bare-number d,
-      held-cut Event is-event Table.arrival whole_of bare-number d,
-      held-cut Event is-event Table.departure whole_of bare-number d,
+      held-cut Event is-event Table.request_number refl whole_of bare-number d,
+      held-cut Event is-event Table.class refl whole_of bare-number d,
+      held-cut Event is-event Table.level refl whole_of bare-number d,
+      held-cut Event is-event Table.phase refl whole_of bare-number d,
+      held-cut Event is-event Table.arrival refl whole_of bare-number d,
+      held-cut Event is-event Table.departure refl whole_of bare-number d,
     ) refl
 
 pub priority-same : (rounds cabinets : ℕ) → KeepsItem Event (priority_item rounds cabinets)
 priority-same rounds cabinets path d =
     same-both (object_of (Table.priority_shape rounds cabinets) path (cut Event d)) (object_of (Table.priority_shape rounds cabinets) path d) (departure_faults path (act_of (cut Event d))) (departure_faults path (act_of d))
-    (object-same Event is-event (Table.priority_shape rounds cabinets) path d (whole-same 1 rounds, (whole-same 1 cabinets, tt))
+    (object-same Event is-event (Table.priority_shape rounds cabinets) refl path d (whole-same 1 rounds, (whole-same 1 cabinets, tt))
     ((whole-same 1 10, tt), ((whole-same 1 10, (whole-same 1 10, (whole-same 1 10, (whole-same 1 16, (whole-same 0 65535, (whole-same 0 65535, tt)))))), tt)))
     (ap (λ act. first_cause (departure_faults path act)) (act-same d))
 
 pub frame-same : (rounds cabinets : ℕ) → KeepsItem Event (object_of (Table.frame_shape rounds cabinets))
-frame-same rounds cabinets path d = object-same Event is-event (Table.frame_shape rounds cabinets) path d (whole-same 1 rounds, (whole-same 1 cabinets, (word-same Table.stream_words, (hex-same 1472, tt)))) tt
+frame-same rounds cabinets path d = object-same Event is-event (Table.frame_shape rounds cabinets) refl path d (whole-same 1 rounds, (whole-same 1 cabinets, (word-same Table.stream_words, (hex-same 1472, tt)))) tt
 
 pub fault-same : (rounds cabinets : ℕ) → KeepsItem Event (object_of (Table.fault_shape rounds cabinets))
-fault-same rounds cabinets path d = object-same Event is-event (Table.fault_shape rounds cabinets) path d
+fault-same rounds cabinets path d = object-same Event is-event (Table.fault_shape rounds cabinets) refl path d
     (whole-same 1 rounds, (whole-same 1 cabinets, (word-same Table.stream_words, (word-same Table.way_words, (whole-same 0 65535, (word-same Table.fault_kind_words, (whole-same 0 86400, (whole-same 1 255, tt)))))))) tt
 
 -- ---- what happens in no round or at no cabinet is at fault

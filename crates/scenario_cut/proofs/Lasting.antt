@@ -4,12 +4,12 @@ use Rattle.std.proofs.lemmas.Cmp.{nat_list_cmp_total, tied_itself}
 use Rattle.std.proofs.lemmas.Slice.Eq.{bytes_eq-Decides}
 use Rattle.std.specs.Cmp.Lexicographic.{slice_cmp}
 use Rattle.std.specs.Ordering.{match_ordering}
-use Rattle.serde_json.specs.Data.{Data, null, object, Members, no_members, member, put}
+use Rattle.serde_json.specs.Data.{Data, null, Members, no_members, member, put}
 use Rattle.scenario_read.specs.Sorted.{Below, MembersSorted}
 use Rattle.scenario_cut.specs.Cutting.{Whole, cut_members}
 use Rattle.scenario_cut.specs.Last.{large_names, place_in, hidden, filled, Enters}
 use Rattle.scenario_cut.proofs.Members.{equal-names}
-use Rattle.scenario_cut.proofs.Shapes.{sorted-kept}
+use Rattle.scenario_cut.proofs.Shapes.{members-kept}
 
 -- names at one place are one
 pub place-apart : (names : List (List ℕ)) (a b : List ℕ) → place_in names a ≡ place_in names b → place_in names a < length names → bytes_eq b a ≡ true
@@ -60,7 +60,7 @@ not-less o a b = cc
 not-greater : (o : Ordering) → o ≡ Greater → o ≡ Equal → ⊥
 not-greater o a b = cc
 
-below-chain : (low name : List ℕ) (ms : Members) → slice_cmp nat_cmp low name ≡ Less → Below name ms → Below low ms
+pub below-chain : (low name : List ℕ) (ms : Members) → slice_cmp nat_cmp low name ≡ Less → Below name ms → Below low ms
 below-chain low name no_members less below = tt
 below-chain low name (member other d ms) less below = (nat_list_cmp_total.trans low name other less below.0, below-chain low name ms less below.1)
 
@@ -91,4 +91,4 @@ module _ (l : List ℕ) (old now : List ℕ → Data → Data) (d standing : Dat
           ap (λ v. member name v (put l d (filled old ms))) first ∙ ap (member name (now name e)) rest
 
 pub kept-sorted : (ms : Members) → MembersSorted ms → MembersSorted (cut_members Whole ms)
-kept-sorted ms sorted = sorted-kept Whole (object ms) sorted
+kept-sorted ms sorted = members-kept Whole ms sorted

@@ -1,5 +1,6 @@
 pub mod Same
 pub mod Known
+pub mod Few
 pub mod Members
 pub mod Items
 pub mod Bare

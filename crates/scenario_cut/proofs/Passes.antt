@@ -182,4 +182,4 @@ of-some (Some d) v e = cc
 
 -- what is kept of the scenario stands in what is kept of the object
 pub kept-inside : (d frame v : Data) → frame ≡ cut Outer d → get (codes "scenario") frame ≡ Some v → v ≡ cut Setup (scenario_in Object d)
-kept-inside d frame v is stands = of-some (get (codes "scenario") d) v (sym (get-cut Outer is-outer (codes "scenario") d) ∙ ap (get (codes "scenario")) (sym is) ∙ stands)
+kept-inside d frame v is stands = of-some (get (codes "scenario") d) v (sym (get-cut Outer is-outer (codes "scenario") refl d) ∙ ap (get (codes "scenario")) (sym is) ∙ stands)

@@ -15,7 +15,7 @@ use Rattle.scenario_read.specs.Fields.{either, held, faults_of, field_faults, ob
 use Rattle.scenario_read.specs.Table.{cabinet, cabinets, input_shape, inputs, load, load_cabinet, loads, priority_item, priority, frame_shape, frames, fault_shape, link_faults}
 use Rattle.scenario_read.specs.Readers.{Refuses}
 use Rattle.scenario_read.proofs.Refusing.{refuses_more}
-use Rattle.scenario_cut.specs.Judging.{name_of, list_path, list_field, item_kind, items_faults, Stays, Tells, TellsUpTo, Counted, IsJudged, may_have, IsNoList, StaysIn, TellsOf, TellsIn}
+use Rattle.scenario_cut.specs.Judging.{name_of, list_path, list_field, item_kind, items_faults, Stays, Tells, TellsUpTo, Counted, IsJudged, most_judged, may_have, IsNoList, StaysIn, TellsOf, TellsIn}
 use Rattle.scenario_cut.specs.declared.judge.Extent.{Extent}
 use Rattle.scenario_cut.specs.declared.judge.Found.{Found}
 use Rattle.scenario_cut.specs.declared.judge.Listing.{Listing}
@@ -56,30 +56,30 @@ past least most n over = at (nat_le least n) (nat_le n most) refl
     at true false is = refl
     at false false is = refl
 
-both-past : (least most count len : ℕ) → most ≤ 1000000 → 1000000 < count → 1000000 < len → (nat_le least count && nat_le count most) ≡ (nat_le least len && nat_le len most)
-both-past least most count len low p q = past least most count (omega (arith, low, p)) ∙ sym (past least most len (omega (arith, low, q)))
+both-past : (least most many count len : ℕ) → most ≤ many → many < count → many < len → (nat_le least count && nat_le count most) ≡ (nat_le least len && nat_le len most)
+both-past least most many count len low p q = past least most count (omega (arith, low, p)) ∙ sym (past least most len (omega (arith, low, q)))
 
-many-same : (l : Listing) (count len : ℕ) → 1000000 < count → 1000000 < len → may_have l count ≡ may_have l len
-many-same Cabinets count len p q = both-past 1 64 count len (omega arith) p q
-many-same Inputs count len p q = both-past 0 1000000 count len (omega arith) p q
+many-same : (l : Listing) (count len : ℕ) → most_judged l < count → most_judged l < len → may_have l count ≡ may_have l len
+many-same Cabinets count len p q = both-past 1 64 64 count len (omega arith) p q
+many-same Inputs count len p q = both-past 0 1000000 1000000 count len (omega arith) p q
 many-same Loads count len p q = refl
-many-same Priority count len p q = both-past 0 100000 count len (omega arith) p q
-many-same Frames count len p q = both-past 0 100000 count len (omega arith) p q
-many-same Faults count len p q = both-past 0 100000 count len (omega arith) p q
+many-same Priority count len p q = both-past 0 100000 1000000 count len (omega arith) p q
+many-same Frames count len p q = both-past 0 100000 1000000 count len (omega arith) p q
+many-same Faults count len p q = both-past 0 100000 1000000 count len (omega arith) p q
 
 -- what was counted tells whether there may be so many
-pub may-same : (l : Listing) (count len : ℕ) → Counted count len → may_have l count ≡ may_have l len
-may-same l count len c = at (nat_le count 1000000) refl
+pub may-same : (l : Listing) (count len : ℕ) → Counted (most_judged l) count len → may_have l count ≡ may_have l len
+may-same l count len c = at (nat_le count (most_judged l)) refl
   where
-    at : (b : Bool) → nat_le count 1000000 ≡ b → may_have l count ≡ may_have l len
-    at true is = ap (may_have l) (c.exact (leb-true count 1000000 is))
-    at false is = let over = leb-false count 1000000 is in many-same l count len over (c.many over)
+    at : (b : Bool) → nat_le count (most_judged l) ≡ b → may_have l count ≡ may_have l len
+    at true is = ap (may_have l) (c.exact (leb-true count (most_judged l) is))
+    at false is = let over = leb-false count (most_judged l) is in many-same l count len over (c.many over)
 
-list-is : (l : Listing) (e : Extent) (count : ℕ) (ds : Items) (b : Bool) → may_have l count ≡ b → Counted count (items_len ds)
+list-is : (l : Listing) (e : Extent) (count : ℕ) (ds : Items) (b : Bool) → may_have l count ≡ b → Counted (most_judged l) count (items_len ds)
     → (list_field l e).kind (list_path l) (array ds) ≡ fault_at (list_path l) (if b then Fits else Beyond) ++ items_faults l e ds
 list-is l e count ds b is c = list-kind l e ds ∙ ap (λ a. fault_at (list_path l) (if a then Fits else Beyond) ++ items_faults l e ds) (sym (may-same l count (items_len ds) c) ∙ is)
 
-pub beyond-told : (l : Listing) (e : Extent) (count : ℕ) (ds : Items) (fail : ReadFail) → may_have l count ≡ false → Counted count (items_len ds) → Refuses fail (fault_at (list_path l) Beyond)
+pub beyond-told : (l : Listing) (e : Extent) (count : ℕ) (ds : Items) (fail : ReadFail) → may_have l count ≡ false → Counted (most_judged l) count (items_len ds) → Refuses fail (fault_at (list_path l) Beyond)
     → Refuses fail ((list_field l e).kind (list_path l) (array ds))
 beyond-told l e count ds fail is c h = subst (Refuses fail) (sym (list-is l e count ds false is c)) (refuses_more fail (fault_at (list_path l) Beyond) (items_faults l e ds) h)
 
@@ -91,14 +91,14 @@ stays-in Priority e found ds h = tt
 stays-in Frames e found ds h = tt
 stays-in Faults e found ds h = tt
 
-pub items-told : (l : Listing) (e : Extent) (judged : Judged) (ds : Items) → may_have l judged.count ≡ true → (is_some judged.refusal ≡ false → judged.count ≤ 1000000) → IsJudged l e judged ds
+pub items-told : (l : Listing) (e : Extent) (judged : Judged) (ds : Items) → may_have l judged.count ≡ true → (is_some judged.refusal ≡ false → judged.count ≤ most_judged l) → IsJudged l e judged ds
     → TellsOf l e (record { refusal = judged.refusal; found = judged.found }) (array ds)
 items-told l e judged ds is low j = at judged.refusal low j.told
   where
     here : (list_field l e).kind (list_path l) (array ds) ≡ items_faults l e ds
     here = list-is l e judged.count ds true is j.counted
 
-    at : (o : Option ReadFail) → (is_some o ≡ false → judged.count ≤ 1000000) → TellsUpTo o judged.count (items_faults l e ds) (Stays l e judged.found ds)
+    at : (o : Option ReadFail) → (is_some o ≡ false → judged.count ≤ most_judged l) → TellsUpTo (most_judged l) o judged.count (items_faults l e ds) (Stays l e judged.found ds)
         → Tells o ((list_field l e).kind (list_path l) (array ds)) (StaysIn l e judged.found (array ds))
     at None few h = let clean = h (few refl) in (here ∙ clean.0, stays-in l e judged.found ds clean.1)
     at (Some fail) few h = subst (Refuses fail) (sym here) h
@@ -107,12 +107,12 @@ items-told l e judged ds is low j = at judged.refusal low j.told
 pub refused-told : (l : Listing) (e : Extent) (judged : Judged) (ds : Items) (fail : ReadFail) → may_have l judged.count ≡ true → judged.refusal ≡ Some fail → IsJudged l e judged ds
     → Refuses fail ((list_field l e).kind (list_path l) (array ds))
 refused-told l e judged ds fail is some j =
-    let told : Refuses fail (items_faults l e ds) = subst (λ o. TellsUpTo o judged.count (items_faults l e ds) (Stays l e judged.found ds)) some j.told in
+    let told : Refuses fail (items_faults l e ds) = subst (λ o. TellsUpTo (most_judged l) o judged.count (items_faults l e ds) (Stays l e judged.found ds)) some j.told in
     subst (Refuses fail) (sym (list-is l e judged.count ds true is j.counted)) told
 
 -- ---- what is no list
 
-list-wrong : (least most : ℕ) (kind : Kind) (path : List Step) (d : Data) → IsNoList d → list_of least most kind path d ≡ fault_at path Wrong
+pub list-wrong : (least most : ℕ) (kind : Kind) (path : List Step) (d : Data) → IsNoList d → list_of least most kind path d ≡ fault_at path Wrong
 list-wrong least most kind path null bare = refl
 list-wrong least most kind path (boolean b) bare = refl
 list-wrong least most kind path (number n) bare = refl

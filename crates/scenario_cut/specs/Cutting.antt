@@ -1,11 +1,15 @@
 -- What is kept of a scenario's value whose first fault is asked, and of an object around a scenario. null stands for an array or an object
--- where only a number, a text or a word may stand, since it is at fault there whatever it holds, and in Setup and Outer for a list, of which
--- nothing is asked; for an item behind one that is at fault; and for a cabinet past the most. Of some other lists only so many are kept.
-use Rattle.std.specs.Prelude.{ℕ, zero, suc, ◌&&◌, ◌||◌, Bool, true, false, if◌then◌else◌, List, codes, bytes_eq, is_some}
+-- where only a number, a text or a word may stand, since it is at fault there whatever it holds, and in Setup and Outer for a list of which
+-- nothing is asked: all but the master's schedule, the bank, and the rules by which patterns follow traffic; and for what happens, and for
+-- pulses, behind one that lacks a name which each must have. Of cabinets, entries, sections, steps, cells and their parts only so many are
+-- kept.
+-- Of the names that no object there may have only the first is kept, with null: it is at fault before all that stands in the object.
+use Rattle.std.specs.Prelude.{ℕ, zero, suc, ◌&&◌, ◌||◌, Bool, true, false, if◌then◌else◌, List, [], ◌∷◌, ◌++◌, codes, bytes_eq, is_some}
 use Rattle.serde_json.specs.Data.{Data, null, boolean, number, string, array, object, Items, no_items, item, Members, no_members, member}
 use Rattle.serde_json.specs.Find.{get}
+use Rattle.scenario_read.specs.Kinds.{is_among}
 pub use Rattle.scenario_cut.specs.declared.form.Form.{Form}
-pub use Rattle.scenario_cut.specs.declared.form.Form.TheVariants.{Street, Field, Outer, Whole, Setup, Cabinets, Cabinet, Events, Event, Pulses, Pulse, Master, Entries, Entry, Respond, Sections, Section, Rows, Row, Part, Times, Bare}
+pub use Rattle.scenario_cut.specs.declared.form.Form.TheVariants.{Street, Field, Outer, Whole, Setup, Cabinets, Cabinet, Events, Event, Pulses, Pulse, Master, Entries, Entry, Respond, Sections, Section, Steps, Step, Rows, Row, Part, Times, Bare}
 
 -- an array may stand there
 abbrev pub opens_array : Form → Bool
@@ -14,6 +18,7 @@ opens_array Events = true
 opens_array Pulses = true
 opens_array Entries = true
 opens_array Sections = true
+opens_array Steps = true
 opens_array Rows = true
 opens_array Row = true
 opens_array Times = true
@@ -33,6 +38,7 @@ opens_object Master = true
 opens_object Entry = true
 opens_object Respond = true
 opens_object Section = true
+opens_object Step = true
 opens_object _ = false
 
 -- the place of each item
@@ -42,6 +48,7 @@ item_form Events = Event
 item_form Pulses = Pulse
 item_form Entries = Entry
 item_form Sections = Section
+item_form Steps = Step
 item_form Rows = Row
 item_form Row = Part
 item_form _ = Bare
@@ -60,7 +67,10 @@ member_form Field name =
     if bytes_eq name (codes "bank") then Entries else
     if bytes_eq name (codes "pulses") then Pulses else
     if bytes_eq name (codes "respond") then Respond else Bare
-member_form Outer name = if bytes_eq name (codes "scenario") then Setup else Bare
+member_form Outer name =
+    if bytes_eq name (codes "scenario") then Setup else
+    if bytes_eq name (codes "bank") then Entries else
+    if bytes_eq name (codes "respond") then Respond else Bare
 member_form Whole name =
     if bytes_eq name (codes "cabinets") then Cabinets else
     if bytes_eq name (codes "master") then Master else
@@ -70,8 +80,56 @@ member_form Cabinet name = if bytes_eq name (codes "cells") then Rows else Bare
 member_form Event name = if bytes_eq name (codes "cells") then Rows else Bare
 member_form Master name = if bytes_eq name (codes "schedule") then Entries else Bare
 member_form Respond name = if bytes_eq name (codes "sections") then Sections else Bare
-member_form Section name = if bytes_eq name (codes "steps") then Entries else Bare
+member_form Section name = if bytes_eq name (codes "steps") then Steps else Bare
 member_form _ name = Bare
+
+-- the names of a scenario
+abbrev pub scenario_names : List (List ℕ)
+scenario_names =
+    codes "version" ∷ codes "rounds" ∷ codes "ticks" ∷ codes "community" ∷ codes "cabinets" ∷ codes "master" ∷ codes "inputs" ∷ codes "loads" ∷ codes "priority" ∷ codes "frames" ∷ codes "faults" ∷ []
+
+-- the names of all that happens: of an input or a load, and the further ones of a request or its cancel, and of a frame or a fault of the
+-- link
+abbrev pub input_names : List (List ℕ)
+input_names = codes "round" ∷ codes "cabinet" ∷ codes "veh" ∷ codes "on" ∷ codes "ped" ∷ codes "preempt" ∷ codes "cells" ∷ []
+
+abbrev pub request_names : List (List ℕ)
+request_names = codes "cancel" ∷ codes "number" ∷ codes "class" ∷ codes "level" ∷ codes "phase" ∷ codes "arrival" ∷ codes "departure" ∷ []
+
+abbrev pub link_names : List (List ℕ)
+link_names = codes "stream" ∷ codes "hex" ∷ codes "way" ∷ codes "index" ∷ codes "kind" ∷ codes "by" ∷ codes "octet" ∷ []
+
+-- the names of an entry of the schedule and of a detector of the bank
+abbrev pub entry_names : List (List ℕ)
+entry_names =
+    codes "second" ∷ codes "section" ∷ codes "pattern" ∷ codes "cabinet" ∷ codes "detector" ∷ codes "phase" ∷ codes "delay" ∷ codes "extend" ∷ codes "no_activity" ∷ codes "max_presence" ∷ codes "erratic" ∷ []
+
+-- the names that an object there may have, whichever of the objects that may stand there it is
+abbrev pub names_at : Form → List (List ℕ)
+names_at Street = codes "scenario" ∷ codes "section" ∷ codes "pattern" ∷ codes "travel" ∷ []
+names_at Field = codes "scenario" ∷ codes "bank" ∷ codes "pulses" ∷ codes "respond" ∷ []
+names_at Outer = codes "scenario" ∷ codes "section" ∷ codes "pattern" ∷ codes "travel" ∷ codes "bank" ∷ codes "pulses" ∷ codes "respond" ∷ []
+names_at Whole = scenario_names
+names_at Setup = scenario_names
+names_at Cabinet = codes "base" ∷ codes "cells" ∷ codes "pattern" ∷ codes "clock" ∷ codes "section" ∷ codes "gain" ∷ codes "lose" ∷ []
+names_at Event = input_names ++ (request_names ++ link_names)
+names_at Pulse = codes "round" ∷ codes "cabinet" ∷ codes "detector" ∷ codes "on" ∷ []
+names_at Master = codes "clock" ∷ codes "poll_every" ∷ codes "clock_every" ∷ codes "pattern_every" ∷ codes "retries" ∷ codes "schedule" ∷ []
+names_at Entry = entry_names
+names_at Respond = codes "period" ∷ codes "sections" ∷ []
+names_at Section = codes "section" ∷ codes "base" ∷ codes "steps" ∷ []
+names_at Step = codes "up" ∷ codes "down" ∷ codes "pattern" ∷ []
+names_at _ = []
+
+-- the members of these names
+abbrev pub only : List (List ℕ) → Members → Members
+only known no_members = no_members
+only known (member name d ms) = if is_among known name then member name d (only known ms) else only known ms
+
+-- these, and the first of the others, with null
+abbrev pub few : List (List ℕ) → Members → Members
+few known no_members = no_members
+few known (member name d ms) = if is_among known name then member name d (few known ms) else member name null (only known ms)
 
 -- what happens is of a round and a cabinet, or is at fault
 abbrev pub is_of_a_round : Data → Bool
@@ -83,9 +141,10 @@ is_a_pulse d = is_of_a_round d && (is_some (get (codes "detector") d) && is_some
 
 -- how many items of this kind may still be kept: at the beginning, and behind an item; 1 stands for any number
 abbrev pub room : Form → ℕ
-room Cabinet = 64
+room Cabinet = 65
 room Entry = 1001
 room Section = 9
+room Step = 9
 room Row = 4097
 room Part = 6
 room _ = 1
@@ -94,6 +153,7 @@ abbrev pub room_behind : Form → ℕ → Data → ℕ
 room_behind Cabinet n d = n
 room_behind Entry n d = n
 room_behind Section n d = n
+room_behind Step n d = n
 room_behind Row n d = n
 room_behind Part n d = n
 room_behind Event n d = if is_of_a_round d then suc n else 0
@@ -102,8 +162,10 @@ room_behind _ n d = suc n
 
 -- items for which there is no room are dropped: so many are kept that their list is at fault for its number of items
 abbrev pub drops : Form → Bool
+drops Cabinet = true
 drops Entry = true
 drops Section = true
+drops Step = true
 drops Row = true
 drops Part = true
 drops _ = false
@@ -115,7 +177,7 @@ abbrev mutual
   cut f (number n) = number n
   cut f (string s) = string s
   cut f (array ds) = if opens_array f then array (cut_items (item_form f) (room (item_form f)) ds) else null
-  cut f (object ms) = if opens_object f then object (cut_members f ms) else null
+  cut f (object ms) = if opens_object f then object (few (names_at f) (cut_members f ms)) else null
 
   pub cut_items : Form → ℕ → Items → Items
   cut_items f n no_items = no_items

@@ -1,6 +1,6 @@
 -- The lists at the top of a scenario, judged item by item where the version and the numbers of rounds and cabinets are known: what
 -- the first fault of a list is, and what stays of its items.
-use Rattle.std.specs.Prelude.{ℕ, ◌≡◌, ◌≤◌, ◌<◌, ◌&&◌, nat_le, Bool, true, List, [], ◌∷◌, Option, Some, None, codes, map}
+use Rattle.std.specs.Prelude.{ℕ, ◌≡◌, ◌≤◌, ◌<◌, ◌+◌, ◌&&◌, nat_le, Bool, true, List, [], ◌∷◌, Option, Some, None, codes, map}
 use Rattle.serde_json.specs.Data.{Data, array, Items}
 use Rattle.serde_json.specs.Events.{items_len}
 use Rattle.scenario_data.specs.declared.refusal.ReadFail.{ReadFail}
@@ -77,21 +77,30 @@ abbrev pub Tells : Option ReadFail → List Cause → Type 0 → Type 0
 Tells None causes P = (causes ≡ []) × P
 Tells (Some fail) causes P = Refuses fail causes
 
--- the items were counted, up to one more than a million
-pub record Counted (count len : ℕ) : Type 0 where
-  pub few : count ≤ 1000001
-  pub exact : count ≤ 1000000 → count ≡ len
-  pub many : 1000000 < count → 1000000 < len
+-- up to so many items what was judged tells of the whole list: of cabinets as many as may stand there
+abbrev pub most_judged : Listing → ℕ
+most_judged Cabinets = 64
+most_judged Inputs = 1000000
+most_judged Loads = 1000000
+most_judged Priority = 1000000
+most_judged Frames = 1000000
+most_judged Faults = 1000000
 
--- the same of items that were counted: that they have no faults is known of a million at the most
-abbrev pub TellsUpTo : Option ReadFail → ℕ → List Cause → Type 0 → Type 0
-TellsUpTo None count causes P = count ≤ 1000000 → (causes ≡ []) × P
-TellsUpTo (Some fail) count causes P = Refuses fail causes
+-- items were counted, up to one more than this many
+pub record Counted (most count len : ℕ) : Type 0 where
+  pub few : count ≤ most + 1
+  pub exact : count ≤ most → count ≡ len
+  pub many : most < count → most < len
+
+-- the same of items that were counted: that they have no faults is known where all were judged
+abbrev pub TellsUpTo : ℕ → Option ReadFail → ℕ → List Cause → Type 0 → Type 0
+TellsUpTo most None count causes P = count ≤ most → (causes ≡ []) × P
+TellsUpTo most (Some fail) count causes P = Refuses fail causes
 
 -- the items were judged
 pub record IsJudged (l : Listing) (e : Extent) (judged : Judged) (ds : Items) : Type 0 where
-  pub counted : Counted judged.count (items_len ds)
-  pub told : TellsUpTo judged.refusal judged.count (items_faults l e ds) (Stays l e judged.found ds)
+  pub counted : Counted (most_judged l) judged.count (items_len ds)
+  pub told : TellsUpTo (most_judged l) judged.refusal judged.count (items_faults l e ds) (Stays l e judged.found ds)
 
 -- so many items may stand in the list; of loads any number, since each is counted with those of its cabinet
 abbrev pub may_have : Listing → ℕ → Bool

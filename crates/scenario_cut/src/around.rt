@@ -26,7 +26,6 @@ fn judge_scenario(
     reader: &mut Reader<'_>,
     depth: usize,
     search: Search,
-    file: &[u8],
 ) -> Option<Known>
     ensures ok { IfSome result (λ known. (d : Data) × (converted of_json (value depth reader.old) ≡ Some (d, reader.new)) × Knows search known d) }
     ensures shorter { IfSome result (λ _. length reader.new < length reader.old) }
@@ -38,7 +37,7 @@ fn judge_scenario(
     if depth == 0 {
         return None;
     }
-    match judge_members(alloc, reader, depth - 1, search, file) {
+    match judge_members(alloc, reader, depth - 1, search) {
         Some(known) => Some(known),
         None => None,
     }
@@ -52,14 +51,13 @@ fn judge_inner(
     name: &str,
     search: Search,
     known: &mut Known,
-    file: &[u8],
 ) -> Option<()>
     ensures ok { IfSome result (λ _. (d : Data) × (converted of_json (value depth reader.old) ≡ Some (d, reader.new))
         × ((ms : Members) → Knows search known.old (scenario_in Object (object ms)) → Knows search known.new (scenario_in Object (object (put name.now d ms))))) }
     ensures shorter { IfSome result (λ _. length reader.new < length reader.old) }
 {
     if name == "scenario" {
-        let now = judge_scenario(alloc, reader, depth, search, file)?;
+        let now = judge_scenario(alloc, reader, depth, search)?;
         *known = now;
         Some(())
     } else if pass(reader, depth) {
@@ -76,7 +74,6 @@ fn judge_outer(
     reader: &mut Reader<'_>,
     depth: usize,
     search: Search,
-    file: &[u8],
 ) -> Option<Known>
     ensures ok { IfSome result (λ known. (ms : Members) × (converted (λ js. of_members js no_members) (members (value depth) (length reader.old) reader.old) ≡ Some (ms, reader.new))
         × Knows search known (scenario_in Object (object ms))) }
@@ -88,7 +85,7 @@ fn judge_outer(
             Ok(None) => return Some(known),
             Err(_) => return None,
         };
-        judge_inner(alloc, reader, depth, name, search, &mut known, file)?;
+        judge_inner(alloc, reader, depth, name, search, &mut known)?;
     }
 }
 
@@ -98,7 +95,6 @@ fn judge_object(
     reader: &mut Reader<'_>,
     depth: usize,
     search: Search,
-    file: &[u8],
 ) -> Option<Known>
     ensures { IfSome result (λ known. (d : Data) × (converted of_json (value depth reader.old) ≡ Some (d, reader.new)) × Knows search known (scenario_in Object d)) }
 {
@@ -109,7 +105,7 @@ fn judge_object(
     if depth == 0 {
         return None;
     }
-    match judge_outer(alloc, reader, depth - 1, search, file) {
+    match judge_outer(alloc, reader, depth - 1, search) {
         Some(known) => Some(known),
         None => None,
     }
@@ -122,16 +118,15 @@ fn judge_value(
     depth: usize,
     around: Around,
     search: Search,
-    file: &[u8],
 ) -> Option<Known>
     ensures { IfSome result (λ known. (d : Data) × (converted of_json (value depth reader.old) ≡ Some (d, reader.new)) × Knows search known (scenario_in around d)) }
 {
     match around {
-        Around::Nothing => match judge_scenario(alloc, reader, depth, search, file) {
+        Around::Nothing => match judge_scenario(alloc, reader, depth, search) {
             Some(known) => Some(known),
             None => None,
         },
-        Around::Object => match judge_object(alloc, reader, depth, search, file) {
+        Around::Object => match judge_object(alloc, reader, depth, search) {
             Some(known) => Some(known),
             None => None,
         },
@@ -149,7 +144,7 @@ pub(crate) fn known_of(alloc: Global, bytes: &[u8], around: Around, search: Sear
     let Ok(mut reader) = Reader::new(text, &mut scratch) else {
         return None;
     };
-    let known = judge_value(alloc, &mut reader, 127, around, search, bytes)?;
+    let known = judge_value(alloc, &mut reader, 127, around, search)?;
     match reader.next() {
         Some(_) => None,
         None => Some(known),

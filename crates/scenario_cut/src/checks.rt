@@ -8,7 +8,7 @@ ghost use Rattle.scenario_read.specs.Answers.{IsFirstFault, OnRefusal, Reads};
 ghost use Rattle.scenario_read.specs.Faults.{product_faults, faults};
 ghost use Rattle.scenario_read.specs.Readers.{Answers, Refuses};
 ghost use Rattle.scenario_cut.specs.Around.{Object, scenario_in};
-ghost use Rattle.scenario_cut.specs.Checks.{head_of, head_faults, behind_faults};
+ghost use Rattle.scenario_cut.specs.Checks.{head_of, head_faults, extent_of, extent_at, behind_faults, IsClean};
 ghost use Rattle.scenario_cut.specs.Cutting.{Outer, Setup, cut};
 
 use crate::around::Around;
@@ -82,18 +82,19 @@ fn within_ticks(alloc: Global, cabinets: usize, head: Head) -> Result<(), ReadFa
     }
 }
 
-/// The checks behind the numbers, of a text of whose scenario this is kept beside its lists.
+/// The checks behind the numbers, of a text of whose scenario this is kept beside its lists: the extent of the scenario, or its first
+/// fault.
 fn judge_behind(
     alloc: Global,
     bytes: &[u8],
     around: Around,
     setup: &Value,
     head: Head,
-) -> Result<(), ReadFail>
+) -> Result<Extent, ReadFail>
     requires rounds { head.rounds ≤ 86400 }
     requires ticks { head.ticks ≤ 600 }
     ensures { (d : Data) → Reads bytes.now d → view setup.now ≡ cut Setup (scenario_in around d)
-        → Answers result (behind_faults head (scenario_in around d) (view setup.now)) (λ _. Unit {0}) }
+        → Answers result (behind_faults head (scenario_in around d) (view setup.now)) (λ e. e ≡ extent_at head (scenario_in around d)) }
 {
     let extent = Extent {
         version: head.version,
@@ -123,22 +124,23 @@ fn judge_behind(
         Err(fail) => return Err(fail),
     }
     match all_judged(&found.cabinets) {
-        Ok(()) => Ok(()),
+        Ok(()) => Ok(extent),
         Err(fail) => Err(fail),
     }
 }
 
-/// The first fault of the scenario of a text, of which this is kept beside its lists. Want of memory stands also for what this way does
-/// not tell.
-fn fault_of(alloc: Global, bytes: &[u8], around: Around, setup: &Value) -> Result<(), ReadFail>
-    ensures { IfErr result (λ fail. (d : Data) → Reads bytes.now d → view setup.now ≡ cut Setup (scenario_in around d) → Refuses fail (faults (scenario_in around d))) }
+/// The extent of the scenario of a text, of which this is kept beside its lists, or its first fault. Want of memory stands also for what
+/// this way does not tell.
+fn fault_of(alloc: Global, bytes: &[u8], around: Around, setup: &Value) -> Result<Extent, ReadFail>
+    ensures { (d : Data) → Reads bytes.now d → view setup.now ≡ cut Setup (scenario_in around d)
+        → Answers result (faults (scenario_in around d)) (λ e. e ≡ extent_of (scenario_in around d)) }
 {
     let head = match head_in(alloc, setup) {
         Ok(head) => head,
         Err(fail) => return Err(fail),
     };
     match judge_behind(alloc, bytes, around, setup, head) {
-        Ok(()) => Ok(()),
+        Ok(extent) => Ok(extent),
         Err(fail) => Err(fail),
     }
 }
@@ -152,16 +154,17 @@ pub(crate) fn first_fault(alloc: Global, bytes: &[u8]) -> Result<(), ReadFail>
         Err(fail) => return Err(fail),
     };
     match fault_of(alloc, bytes, Around::Nothing, &setup) {
-        Ok(()) => Ok(()),
+        Ok(_) => Ok(()),
         Err(fail) => Err(fail),
     }
 }
 
-/// The first fault of the scenario that stands at `scenario` in the object that the bytes are, found in little memory, list by list.
-/// `frame` is what is kept of the object as `Form::Outer`. Want of memory stands also for what this way does not tell, as of an object
-/// in which no object stands there.
-pub fn inner_fault(alloc: Global, bytes: &[u8], frame: &Value) -> Result<(), ReadFail>
-    ensures { IfErr result (λ fail. (d : Data) → Reads bytes.now d → view frame.now ≡ cut Outer d → Refuses fail (faults (scenario_in Object d))) }
+/// The first fault of the scenario that stands at `scenario` in the object that the bytes are, found in little memory, list by list; where
+/// it has none, its extent. `frame` is what is kept of the object as `Form::Outer`. Want of memory stands also for what this way does not
+/// tell, as where nothing stands there, or no object does.
+pub fn inner_fault(alloc: Global, bytes: &[u8], frame: &Value) -> Result<Extent, ReadFail>
+    ensures fault { IfErr result (λ fail. (d : Data) → Reads bytes.now d → view frame.now ≡ cut Outer d → Refuses fail (faults (scenario_in Object d))) }
+    ensures none { IfOk result (λ e. (d : Data) → Reads bytes.now d → view frame.now ≡ cut Outer d → IsClean e (scenario_in Object d)) }
 {
     let Some(setup) = frame.get("scenario") else {
         return Err(ReadFail::NoMemory);
@@ -170,7 +173,7 @@ pub fn inner_fault(alloc: Global, bytes: &[u8], frame: &Value) -> Result<(), Rea
         return Err(ReadFail::NoMemory);
     }
     match fault_of(alloc, bytes, Around::Object, setup) {
-        Ok(()) => Ok(()),
+        Ok(extent) => Ok(extent),
         Err(fail) => Err(fail),
     }
 }

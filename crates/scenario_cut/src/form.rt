@@ -7,10 +7,11 @@ ghost use Rattle.scenario_cut.specs.Cutting.{opens_array, opens_object, item_for
 
 use serde_json::Value;
 
-/// A place: an object that asks of bands, and a field file; either of them with its scenario but for its lists, and beside it with
-/// numbers, texts and words alone; a whole scenario; a scenario but for its lists of cabinets and of what happens; these lists, with their items; pulses of
-/// detectors; the master with its entries; the rules by which patterns follow traffic, with their sections; cells, one of them, and a
-/// part of it; travel times; and any other place, where only a number, a text or a word may stand.
+/// A place: an object that asks of bands, and a field file; either of them with its scenario but for its lists, with its bank and the
+/// rules by which patterns follow traffic, and at any other name with a number, a text or a word alone; a whole scenario; a scenario but
+/// for its lists of cabinets and of what happens; these lists, with their items; pulses of detectors; the master; entries, of its
+/// schedule, of a bank or of a rule; those rules, with their sections; cells, one of them, and a part of it; travel times; and any other
+/// place, where only a number, a text or a word may stand.
 #[derive(Clone, Copy)]
 pub enum Form {
     Street,
@@ -30,6 +31,8 @@ pub enum Form {
     Respond,
     Sections,
     Section,
+    Steps,
+    Step,
     Rows,
     Row,
     Part,
@@ -48,6 +51,7 @@ pub(crate) fn opens_array(form: Form) -> bool
             | Form::Pulses
             | Form::Entries
             | Form::Sections
+            | Form::Steps
             | Form::Rows
             | Form::Row
             | Form::Times
@@ -72,6 +76,7 @@ pub(crate) fn opens_object(form: Form) -> bool
             | Form::Entry
             | Form::Respond
             | Form::Section
+            | Form::Step
     )
 }
 
@@ -85,6 +90,7 @@ pub(crate) fn item_form(form: Form) -> Form
         Form::Pulses => Form::Pulse,
         Form::Entries => Form::Entry,
         Form::Sections => Form::Section,
+        Form::Steps => Form::Step,
         Form::Rows => Form::Row,
         Form::Row => Form::Part,
         _ => Form::Bare,
@@ -127,6 +133,10 @@ pub(crate) fn member_form(form: Form, name: &str) -> Form
         },
         Form::Outer => if name == "scenario" {
             Form::Setup
+        } else if name == "bank" {
+            Form::Entries
+        } else if name == "respond" {
+            Form::Respond
         } else {
             Form::Bare
         },
@@ -160,7 +170,7 @@ pub(crate) fn member_form(form: Form, name: &str) -> Form
             Form::Bare
         },
         Form::Section => if name == "steps" {
-            Form::Entries
+            Form::Steps
         } else {
             Form::Bare
         },
@@ -182,15 +192,15 @@ fn is_a_pulse(object: &Value) -> bool
     is_of_a_round(object) && (object.get("detector").is_some() && object.get("on").is_some())
 }
 
-/// How many items of this kind are kept at the most, more than any right list has but for cabinets; 1 stands for any number.
+/// How many items of this kind are kept at the most, more than any right list has; 1 stands for any number.
 pub(crate) fn room(form: Form) -> usize
     ensures room { result ≡ room form }
     ensures few { result ≤ 4097 }
 {
     match form {
-        Form::Cabinet => 64,
+        Form::Cabinet => 65,
         Form::Entry => 1001,
-        Form::Section => 9,
+        Form::Section | Form::Step => 9,
         Form::Row => 4097,
         Form::Part => 6,
         _ => 1,
@@ -204,7 +214,7 @@ pub(crate) fn room_behind(form: Form, more: usize, item: &Value) -> usize
     ensures few { result ≤ more + 1 }
 {
     match form {
-        Form::Cabinet | Form::Entry | Form::Section | Form::Row | Form::Part => more,
+        Form::Cabinet | Form::Entry | Form::Section | Form::Step | Form::Row | Form::Part => more,
         Form::Event => if is_of_a_round(item) { more + 1 } else { 0 },
         Form::Pulse => if is_a_pulse(item) { more + 1 } else { 0 },
         _ => more + 1,
@@ -215,5 +225,8 @@ pub(crate) fn room_behind(form: Form, more: usize, item: &Value) -> usize
 pub(crate) fn drops(form: Form) -> bool
     ensures { result ≡ drops form }
 {
-    matches!(form, Form::Entry | Form::Section | Form::Row | Form::Part)
+    matches!(
+        form,
+        Form::Cabinet | Form::Entry | Form::Section | Form::Step | Form::Row | Form::Part
+    )
 }

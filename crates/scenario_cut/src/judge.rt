@@ -16,8 +16,6 @@ ghost use Rattle.scenario_cut.specs.Judging.{form_of, name_of, list_path, item_k
 
 use crate::form::Form;
 use crate::keeping::keep;
-use crate::look::large_object;
-use crate::others::{is_named, judge_named};
 use json::Reader;
 use scenario_data::{Cabinet, LoadItem, ReadFail};
 use scenario_read::{cabinet_in, fault_in, frame_in, input_in, load_in, priority_in};
@@ -35,9 +33,9 @@ pub(crate) enum Listing {
     Faults,
 }
 
-/// The version of a scenario, and its numbers of rounds and of cabinets.
+/// The version of a scenario, 1 or 2, and how many rounds and how many cabinets it has: what the items of its lists are judged by.
 #[derive(Clone, Copy)]
-pub(crate) struct Extent {
+pub struct Extent {
     pub version: u32,
     pub rounds: u32,
     pub cabinets: u32,
@@ -150,7 +148,7 @@ fn judge_event(
 }
 
 /// Judges the item at a place, counted from 0, behind those of which this stays.
-pub(crate) fn judge_item(
+fn judge_item(
     alloc: Global,
     object: &Value,
     list: Listing,
@@ -169,7 +167,7 @@ pub(crate) fn judge_item(
 }
 
 /// Judges the next item of the reader, nested at most so deep, by what is kept of it.
-fn judge_kept(
+pub(crate) fn judge_next(
     alloc: Global,
     reader: &mut Reader<'_>,
     depth: usize,
@@ -186,43 +184,5 @@ fn judge_kept(
     match keep(alloc, reader, depth, form_of(list)) {
         Some(object) => Some(judge_item(alloc, &object, list, place, extent, found)),
         None => None,
-    }
-}
-
-/// Whether the item at this place of a file has many names, and is at fault by one that no item of the list may have.
-fn looks_named(
-    alloc: Global,
-    file: &[u8],
-    at: usize,
-    depth: usize,
-    list: Listing,
-    extent: Extent,
-) -> bool {
-    match large_object(file, at) {
-        Some(bytes) => is_named(alloc, bytes, depth, list, extent),
-        None => false,
-    }
-}
-
-/// Judges the next item of the reader, nested at most so deep, in this file.
-pub(crate) fn judge_next(
-    alloc: Global,
-    reader: &mut Reader<'_>,
-    depth: usize,
-    list: Listing,
-    place: usize,
-    extent: Extent,
-    found: &mut Found,
-    file: &[u8],
-) -> Option<Result<(), ReadFail>>
-    ensures ok { IfSome result (λ answer. (d : Data) × (converted of_json (value depth reader.old) ≡ Some (d, reader.new))
-        × ((ds : Items) → Stays list extent found.old ds → Answers answer (item_kind list extent (cabinets_of extent ds) (then_item (list_path list) place) d)
-        (λ _. Stays list extent found.new (both ds (item d no_items))))) }
-    ensures shorter { IfSome result (λ _. length reader.new < length reader.old) }
-{
-    if looks_named(alloc, file, reader.offset(), depth, list, extent) {
-        judge_named(alloc, reader, depth, list, place, extent, found)
-    } else {
-        judge_kept(alloc, reader, depth, list, place, extent, found)
     }
 }

@@ -1,13 +1,15 @@
 //! A value of the text, of which that is kept on which its first fault may hang.
 
-ghost use Rattle.std.specs.Prelude.{◌≡◌, ◌<◌, ◌≤◌, length, Some, IfSome, string_bytes};
+ghost use Rattle.std.specs.Prelude.{◌≡◌, ◌<◌, ◌≤◌, length, Some, IfSome, option_map, string_bytes};
 ghost use Rattle.json.specs.Json.{value, items, members};
 ghost use Rattle.serde_json.specs.Data.{Data, Items, item, Members, no_members, put};
 ghost use Rattle.serde_json.specs.Read.{of_json, of_items, of_members, converted};
 ghost use Rattle.serde_json.specs.View.{view, items_view, members_view};
-ghost use Rattle.scenario_cut.specs.Cutting.{room, cut, cut_items, cut_members};
+ghost use Rattle.scenario_cut.specs.Cutting.{names_at, few, room, cut, cut_items, cut_members};
 ghost use Rattle.scenario_cut.specs.Growing.{both};
+ghost use Rattle.scenario_cut.specs.Others.{with_other};
 
+use crate::allowed::{allows, hold};
 use crate::form::{
     Form, drops, item_form, member_form, opens_array, opens_object, room, room_behind,
 };
@@ -27,6 +29,23 @@ pub(crate) fn put_member(members: &mut Map<String, Value>, name: String, value: 
             Some(())
         }
         Err(_) => None,
+    }
+}
+
+/// Puts the least of the other names, if there is one, among the members that are kept. Null stands for its value.
+pub(crate) fn put_other(
+    members: Map<String, Value>,
+    other: Option<String>,
+) -> Option<Map<String, Value>>
+    ensures { IfSome result (λ all. members_view all.entries ≡ with_other (option_map string_bytes other) (members_view members.entries)) }
+{
+    let mut all = members;
+    match other {
+        Some(name) => match put_member(&mut all, name, Value::Null) {
+            Some(()) => Some(all),
+            None => None,
+        },
+        None => Some(all),
     }
 }
 
@@ -63,14 +82,10 @@ fn pass_item(
     }
 }
 
-/// What is kept of the next value of the reader, at a place of this form, with arrays and objects nested at most so deep.
+/// What is kept of the next value of the reader, at a place of this form, with arrays and objects nested at most so deep; none, where
+/// memory is wanting or the value has no reading.
 #[cycle(keep)]
-pub(crate) fn keep(
-    alloc: Global,
-    reader: &mut Reader<'_>,
-    depth: usize,
-    form: Form,
-) -> Option<Value>
+pub fn keep(alloc: Global, reader: &mut Reader<'_>, depth: usize, form: Form) -> Option<Value>
     ensures ok { IfSome result (λ v. (d : Data) × (converted of_json (value depth reader.old) ≡ Some (d, reader.new)) × (view v ≡ cut form d)) }
     ensures shorter { IfSome result (λ _. length reader.new < length reader.old) }
 {
@@ -170,7 +185,8 @@ fn keep_items(
     Some(found)
 }
 
-/// What is kept of the members up to the brace that closes an object. Of equal names the last counts.
+/// What is kept of the members up to the brace that closes an object. Of equal names the last counts, and of the names that no object
+/// there may have the least.
 #[cycle(keep)]
 fn keep_members(
     alloc: Global,
@@ -179,21 +195,33 @@ fn keep_members(
     form: Form,
 ) -> Option<Map<String, Value>>
     ensures ok { IfSome result (λ kept. (ms : Members) × (converted (λ js. of_members js no_members) (members (value depth) (length reader.old) reader.old) ≡ Some (ms, reader.new))
-        × (members_view kept.entries ≡ cut_members form ms)) }
+        × (members_view kept.entries ≡ few (names_at form) (cut_members form ms))) }
     ensures shorter { IfSome result (λ _. length reader.new < length reader.old) }
 {
     let mut found = Map::new(alloc);
+    let mut other = None;
     'members: loop {
         let name = match reader.next_key() {
             Ok(Some(name)) => name,
-            Ok(None) => return Some(found),
+            Ok(None) => break,
             Err(_) => return None,
         };
-        let key = match String::from_str(alloc, name) {
-            Ok(key) => key,
-            Err(_) => return None,
-        };
-        let member = keep(alloc, reader, depth, member_form(form, name))?;
-        put_member(&mut found, key, member)?;
+        if allows(form, name) {
+            let key = match String::from_str(alloc, name) {
+                Ok(key) => key,
+                Err(_) => return None,
+            };
+            let member = keep(alloc, reader, depth, member_form(form, name))?;
+            put_member(&mut found, key, member)?;
+        } else {
+            hold(alloc, &mut other, name)?;
+            if !pass(reader, depth) {
+                return None;
+            }
+        }
+    }
+    match put_other(found, other) {
+        Some(all) => Some(all),
+        None => None,
     }
 }

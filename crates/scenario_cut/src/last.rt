@@ -7,11 +7,12 @@ ghost use Rattle.serde_json.specs.Data.{Data, Members, no_members};
 ghost use Rattle.serde_json.specs.Read.{of_json, of_members, converted};
 ghost use Rattle.serde_json.specs.View.{view, members_view};
 ghost use Rattle.scenario_read.specs.Answers.{Reads};
-ghost use Rattle.scenario_cut.specs.Cutting.{Whole, cut, cut_members, member_form};
+ghost use Rattle.scenario_cut.specs.Cutting.{Whole, names_at, few, cut, cut_members, member_form};
 ghost use Rattle.scenario_cut.specs.Last.{Enters, hidden, large_names, place_in};
 
+use crate::allowed::{allows, hold};
 use crate::form::{Form, member_form};
-use crate::keeping::{keep, put_member};
+use crate::keeping::{keep, put_member, put_other};
 use crate::passing::pass;
 use json::{Reader, Scratch, Token};
 use serde_json::{Map, Value};
@@ -133,7 +134,8 @@ fn keep_or_pass(
     }
 }
 
-/// What is kept of the members up to the brace that closes the whole object, where each name comes at the most so often.
+/// What is kept of the members up to the brace that closes the whole object, where each name comes at the most so often. Of the names
+/// that no scenario may have it is the least.
 fn keep_last(
     alloc: Global,
     reader: &mut Reader<'_>,
@@ -141,24 +143,38 @@ fn keep_last(
     counts: [u32; 7],
 ) -> Option<Map<String, Value>>
     ensures ok { IfSome result (λ kept. (ms : Members) × (converted (λ js. of_members js no_members) (members (value depth) (length reader.old) reader.old) ≡ Some (ms, reader.new))
-        × (members_view kept.entries ≡ cut_members Whole ms)) }
+        × (members_view kept.entries ≡ few (names_at Whole) (cut_members Whole ms))) }
 {
     let mut found = Map::new(alloc);
     let mut left = counts;
+    let mut other = None;
     'members: loop {
         let name = match reader.next_key() {
             Ok(Some(name)) => name,
             Ok(None) => break,
             Err(_) => return None,
         };
-        let key = match String::from_str(alloc, name) {
-            Ok(key) => key,
-            Err(_) => return None,
-        };
-        let member = keep_or_pass(alloc, reader, depth, name, &mut left)?;
-        put_member(&mut found, key, member)?;
+        if allows(Form::Whole, name) {
+            let key = match String::from_str(alloc, name) {
+                Ok(key) => key,
+                Err(_) => return None,
+            };
+            let member = keep_or_pass(alloc, reader, depth, name, &mut left)?;
+            put_member(&mut found, key, member)?;
+        } else {
+            hold(alloc, &mut other, name)?;
+            if !pass(reader, depth) {
+                return None;
+            }
+        }
     }
-    if none_left(&left) { Some(found) } else { None }
+    if !none_left(&left) {
+        return None;
+    }
+    match put_other(found, other) {
+        Some(all) => Some(all),
+        None => None,
+    }
 }
 
 /// What is kept of the value of the bytes as a whole scenario; none, where memory is wanting or they are no such text.

@@ -1,7 +1,9 @@
 //! What is kept of a scenario's value of which the first fault is asked: less than the value, with the same first fault, and the value
-//! itself where it has none.
+//! itself where it has none. Its first fault is looked for without that where it can be, list by list. Readers of objects around a
+//! scenario take from here how a value is kept or passed over.
 #![tactic(auto)]
 
+mod allowed;
 mod around;
 mod checks;
 mod form;
@@ -10,10 +12,8 @@ mod judge;
 mod keeping;
 mod last;
 mod listing;
-mod look;
 mod named;
 mod numbers;
-mod others;
 mod passing;
 mod reading;
 mod texts;
@@ -27,6 +27,11 @@ ghost use Rattle.scenario_cut.specs.Cutting.{Whole, cut};
 pub use around::Around;
 pub use checks::inner_fault;
 pub use form::Form;
+pub use judge::Extent;
+pub use keeping::keep;
+pub use listing::pass_other;
+pub use numbers::number_of;
+pub use passing::{pass, pass_items, pass_members};
 pub use reading::read;
 pub use texts::{kept_of, kept_of_few};
 

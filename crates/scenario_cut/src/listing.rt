@@ -1,5 +1,5 @@
-//! A list at the top of a scenario, judged item by item. Behind its first fault, and past a million items, the items are passed over;
-//! so that no list takes more than one item's memory, beside what stays of the items.
+//! A list at the top of a scenario, judged item by item. Behind its first fault, and past the most that are judged, the items are passed
+//! over; so that no list takes more than one item's memory, beside what stays of the items.
 
 ghost use Rattle.std.specs.Prelude.{◌≡◌, ◌<◌, ◌≤◌, [], ◌∷◌, true, length, Some, IfSome};
 ghost use Rattle.json.specs.Json.{value, items};
@@ -7,7 +7,7 @@ ghost use Rattle.json.specs.Reads.{token_of};
 ghost use Rattle.serde_json.specs.Data.{Data, Items, array, item, no_items};
 ghost use Rattle.serde_json.specs.Read.{of_json, of_items, converted};
 ghost use Rattle.scenario_cut.specs.Growing.{both};
-ghost use Rattle.scenario_cut.specs.Judging.{IsJudged, IsNoList, TellsOf, may_have};
+ghost use Rattle.scenario_cut.specs.Judging.{IsJudged, IsNoList, TellsOf, may_have, most_judged};
 ghost use Rattle.scenario_cut.specs.declared.judge.Extent.{Extent};
 
 use crate::judge::{Extent, Found, Listing, judge_next, name_of};
@@ -18,7 +18,7 @@ use scenario_data::ReadFail;
 use scenario_read::{Place, Unfit, refuse_member};
 use std::alloc::Global;
 
-/// Items that were judged: how many, up to one more than a million, the refusal of the first at fault, and what stays of them.
+/// Items that were judged: how many, up to one more than are judged at the most, the refusal of the first at fault, and what stays of them.
 #[derive(Drop)]
 pub(crate) struct Judged {
     pub count: usize,
@@ -44,6 +44,17 @@ pub(crate) fn nothing(alloc: Global) -> Found
     }
 }
 
+/// Up to how many items what was judged tells of the whole list: of cabinets as many as may stand there. One more is judged.
+fn most_judged(list: Listing) -> usize
+    ensures most { result ≡ most_judged list }
+    ensures few { result ≤ 1000000 }
+{
+    match list {
+        Listing::Cabinets => 64,
+        _ => 1_000_000,
+    }
+}
+
 /// Judges one more item, nested at most so deep, or passes it over.
 fn more(
     alloc: Global,
@@ -52,14 +63,14 @@ fn more(
     list: Listing,
     extent: Extent,
     judged: &mut Judged,
-    file: &[u8],
 ) -> Option<()>
     ensures ok { IfSome result (λ _. (d : Data) × (converted of_json (value depth reader.old) ≡ Some (d, reader.new))
         × ((ds : Items) → IsJudged list extent judged.old ds → IsJudged list extent judged.new (both ds (item d no_items)))) }
     ensures shorter { IfSome result (λ _. length reader.new < length reader.old) }
 {
     let count = judged.count;
-    if count > 1_000_000 {
+    let most = most_judged(list);
+    if count > most {
         if !pass(reader, depth) {
             return None;
         }
@@ -72,16 +83,7 @@ fn more(
         judged.count = count + 1;
         return Some(());
     }
-    match judge_next(
-        alloc,
-        reader,
-        depth,
-        list,
-        count,
-        extent,
-        &mut judged.found,
-        file,
-    ) {
+    match judge_next(alloc, reader, depth, list, count, extent, &mut judged.found) {
         Some(answer) => {
             judged.count = count + 1;
             judged.refusal = answer.err();
@@ -98,7 +100,6 @@ fn judge_items(
     depth: usize,
     list: Listing,
     extent: Extent,
-    file: &[u8],
 ) -> Option<Judged>
     ensures ok { IfSome result (λ judged. (ds : Items) × (converted of_items (items (value depth) (length reader.old) reader.old) ≡ Some (ds, reader.new))
         × IsJudged list extent judged ds) }
@@ -110,7 +111,7 @@ fn judge_items(
         found: nothing(alloc),
     };
     'items: while !reader.take_end_array() {
-        more(alloc, reader, depth, list, extent, &mut judged, file)?;
+        more(alloc, reader, depth, list, extent, &mut judged)?;
     }
     Some(judged)
 }
@@ -127,7 +128,7 @@ fn may_have(list: Listing, count: usize) -> bool
     }
 }
 
-/// What is known of a list with these items; nothing, where they are more than were judged.
+/// What is known of a list with these items; nothing, where they are more than were judged and none of those was at fault.
 fn verdict(alloc: Global, list: Listing, judged: Judged) -> Option<Told>
     ensures { IfSome result (λ told. (e : Extent) → (ds : Items) → IsJudged list e judged ds → TellsOf list e told (array ds)) }
 {
@@ -143,7 +144,8 @@ fn verdict(alloc: Global, list: Listing, judged: Judged) -> Option<Told>
             found,
         });
     }
-    if count > 1_000_000 {
+    let most = most_judged(list);
+    if count > most {
         return match refusal {
             Some(fail) => Some(Told {
                 refusal: Some(fail),
@@ -155,8 +157,9 @@ fn verdict(alloc: Global, list: Listing, judged: Judged) -> Option<Told>
     Some(Told { refusal, found })
 }
 
-/// Passes over the rest of a value that begins with this token, where it is no list.
-fn pass_other(reader: &mut Reader<'_>, depth: usize, token: Token<'_>) -> bool
+/// Passes over the rest of a value that begins with this token and is nested at most so deep, where it is no list; false, where it is one
+/// or has no reading.
+pub fn pass_other(reader: &mut Reader<'_>, depth: usize, token: Token<'_>) -> bool
     ensures passed { result ≡ true → (d : Data) × (converted of_json (value depth (token_of token.entry ∷ reader.old)) ≡ Some (d, reader.new)) × IsNoList d }
     ensures shorter { result ≡ true → length reader.new ≤ length reader.old }
 {
@@ -188,14 +191,13 @@ fn no_list(alloc: Global, list: Listing) -> Told
     }
 }
 
-/// What is known of the reader's next value as a list, nested at most so deep, in this file.
+/// What is known of the reader's next value as a list, nested at most so deep.
 pub(crate) fn judge_list(
     alloc: Global,
     reader: &mut Reader<'_>,
     depth: usize,
     list: Listing,
     extent: Extent,
-    file: &[u8],
 ) -> Option<Told>
     ensures ok { IfSome result (λ told. (d : Data) × (converted of_json (value depth reader.old) ≡ Some (d, reader.new)) × TellsOf list extent told d) }
     ensures shorter { IfSome result (λ _. length reader.new < length reader.old) }
@@ -206,7 +208,7 @@ pub(crate) fn judge_list(
             if depth == 0 {
                 return None;
             }
-            let judged = judge_items(alloc, reader, depth - 1, list, extent, file)?;
+            let judged = judge_items(alloc, reader, depth - 1, list, extent)?;
             match verdict(alloc, list, judged) {
                 Some(told) => Some(told),
                 None => None,

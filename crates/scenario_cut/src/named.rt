@@ -126,7 +126,6 @@ fn judge_member(
     name: &str,
     search: Search,
     known: &mut Known,
-    file: &[u8],
 ) -> Option<()>
     ensures ok { IfSome result (λ _. (d : Data) × (converted of_json (value depth reader.old) ≡ Some (d, reader.new))
         × ((ms : Members) → Knows search known.old (object ms) → Knows search known.new (object (put name.now d ms)))) }
@@ -134,7 +133,7 @@ fn judge_member(
 {
     match list_named(search.group, name) {
         Some(list) => {
-            let told = judge_list(alloc, reader, depth, list, search.extent, file)?;
+            let told = judge_list(alloc, reader, depth, list, search.extent)?;
             put_told(known, list, told);
             Some(())
         }
@@ -148,7 +147,6 @@ pub(crate) fn judge_members(
     reader: &mut Reader<'_>,
     depth: usize,
     search: Search,
-    file: &[u8],
 ) -> Option<Known>
     ensures ok { IfSome result (λ known. (ms : Members) × (converted (λ js. of_members js no_members) (members (value depth) (length reader.old) reader.old) ≡ Some (ms, reader.new))
         × Knows search known (object ms)) }
@@ -161,6 +159,6 @@ pub(crate) fn judge_members(
             Ok(None) => return Some(known),
             Err(_) => return None,
         };
-        judge_member(alloc, reader, depth, name, search, &mut known, file)?;
+        judge_member(alloc, reader, depth, name, search, &mut known)?;
     }
 }

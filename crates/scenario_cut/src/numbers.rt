@@ -45,8 +45,8 @@ fn has_minus(bytes: &[u8]) -> bool
     !bytes.is_empty() && bytes[0] == b'-'
 }
 
-/// The number of a token; none, where it is out of range.
-pub(crate) fn number_of(text: &str) -> Option<Number>
+/// The number that a token of JSON writes; none, where it is out of range.
+pub fn number_of(text: &str) -> Option<Number>
     ensures { option_map number_view result ≡ number_of text.now }
 {
     let bytes = text.as_bytes();

@@ -1,4 +1,5 @@
-//! Passing over a value, of which nothing is kept: whether it has a reading.
+//! Passing over a value, of which nothing is kept: whether it has a reading. Whoever reads a text value by value passes so over those
+//! of which nothing is asked.
 
 ghost use Rattle.std.specs.Prelude.{◌≡◌, ◌<◌, true, false, length, None, Some};
 ghost use Rattle.json.specs.Json.{value, items, members};
@@ -8,9 +9,11 @@ ghost use Rattle.serde_json.specs.Read.{of_json, of_items, of_members, converted
 use crate::numbers::number_of;
 use json::{Reader, Token};
 
-/// Passes over the next value, with arrays and objects nested at most so deep; false, where none has a reading.
+/// Passes over the reader's next value, in which arrays and objects nest at most `depth` levels deep, and keeps nothing of it. True,
+/// where the value has a reading: the reader stands behind it then. False, where it has none, as what is no JSON here, a number out of
+/// range, and what nests deeper; where the reader stands then isn't said.
 #[cycle(pass)]
-pub(crate) fn pass(reader: &mut Reader<'_>, depth: usize) -> bool
+pub fn pass(reader: &mut Reader<'_>, depth: usize) -> bool
     ensures passed { result ≡ true → (d : Data) × (converted of_json (value depth reader.old) ≡ Some (d, reader.new)) }
     ensures refused { result ≡ false → converted of_json (value depth reader.old) ≡ None }
     ensures shorter { result ≡ true → length reader.new < length reader.old }
@@ -42,9 +45,10 @@ pub(crate) fn pass(reader: &mut Reader<'_>, depth: usize) -> bool
     }
 }
 
-/// Passes over the items up to the bracket that closes an array.
+/// Passes over the items up to the bracket that closes an array, in each of which arrays and objects nest at most `depth` levels deep.
+/// True, where they have a reading: the reader stands behind the bracket then. False, where they have none; where it stands then isn't said.
 #[cycle(pass)]
-pub(crate) fn pass_items(reader: &mut Reader<'_>, depth: usize) -> bool
+pub fn pass_items(reader: &mut Reader<'_>, depth: usize) -> bool
     ensures passed { result ≡ true → (ds : Items) × (converted of_items (items (value depth) (length reader.old) reader.old) ≡ Some (ds, reader.new)) }
     ensures refused { result ≡ false → converted of_items (items (value depth) (length reader.old) reader.old) ≡ None }
     ensures shorter { result ≡ true → length reader.new < length reader.old }
@@ -57,9 +61,10 @@ pub(crate) fn pass_items(reader: &mut Reader<'_>, depth: usize) -> bool
     true
 }
 
-/// Passes over the members up to the brace that closes an object.
+/// Passes over the members up to the brace that closes an object, in each of which arrays and objects nest at most `depth` levels deep.
+/// True, where they have a reading: the reader stands behind the brace then. False, where they have none; where it stands then isn't said.
 #[cycle(pass)]
-pub(crate) fn pass_members(reader: &mut Reader<'_>, depth: usize) -> bool
+pub fn pass_members(reader: &mut Reader<'_>, depth: usize) -> bool
     ensures passed { result ≡ true → (ms : Members) × (converted (λ js. of_members js no_members) (members (value depth) (length reader.old) reader.old) ≡ Some (ms, reader.new)) }
     ensures refused { result ≡ false → converted (λ js. of_members js no_members) (members (value depth) (length reader.old) reader.old) ≡ None }
     ensures shorter { result ≡ true → length reader.new < length reader.old }

@@ -52,8 +52,8 @@ fn read_kept(alloc: Global, bytes: &[u8]) -> Result<Scenario, ReadFail>
     }
 }
 
-/// Reads a scenario. A fault is looked for with its lists judged item by item; only of a text in which none was found so is a value kept,
-/// whole. The refusal is the first fault in the order of the checks. The compact text reads as the same scenario.
+/// Reads a scenario. A fault is looked for with its lists judged item by item; only of a text in which none was found so is a value kept:
+/// all of a right one. The refusal is the first fault in the order of the checks. The compact text reads as the same scenario.
 pub fn read(alloc: Global, bytes: &[u8]) -> Result<Scenario, ReadFail>
     ensures scenario { IfOk result (λ s. IsScenario bytes.now (scenario_content s)) }
     ensures refused { IfErr result (λ fail. OnRefusal fail (IsFirstFault bytes.now)) }

@@ -68,7 +68,8 @@ pub fn kept_of(alloc: Global, bytes: &[u8], form: Form) -> Result<Value, ReadFai
     }
 }
 
-/// The same where little is kept at the most: only of what could not be kept it is asked whether it is JSON.
+/// The same for forms of which little is kept at the most: it is kept at once, and where that fails it is asked whether the bytes are
+/// JSON. Want of memory is told where they are.
 pub fn kept_of_few(alloc: Global, bytes: &[u8], form: Form) -> Result<Value, ReadFail>
     ensures kept { IfOk result (λ kept. (d : Data) × Reads bytes.now d × (view kept ≡ cut form d)) }
     ensures none { IfErr result (λ fail. OnRefusal fail (IsNoText bytes.now)) }

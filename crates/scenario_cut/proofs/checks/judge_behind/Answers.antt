@@ -1,4 +1,4 @@
-use Rattle.std.proofs.Common.{◌≡◌, ◌*◌, List, [], length, rules, sym, ap, ◌∙◌, subst}
+use Rattle.std.proofs.Common.{◌≡◌, ℕ, ◌*◌, List, [], length, rules, sym, ap, ◌∙◌, subst}
 use Rattle.std.proofs.lemmas.List.{length-map}
 use Rattle.scenario_data.specs.Content.{CabinetContent, cabinet_content}
 use Rattle.scenario_read.specs.Faults.{product_faults, all_table_faults}
@@ -7,6 +7,7 @@ use Rattle.scenario_read.specs.Readers.{Refuses}
 use Rattle.scenario_read.specs.Table.{event_fields}
 use Rattle.scenario_cut.specs.Around.{scenario_in}
 use Rattle.scenario_cut.specs.Checks.{cabinets_at}
+use Rattle.scenario_cut.specs.declared.judge.Extent.{Extent}
 use Rattle.scenario_cut.proofs.Checking.{third, fourth, fifth, none-of-five}
 use Rattle.scenario_cut.proofs.checks.judge_behind.Goals as goal
 
@@ -44,7 +45,8 @@ returns-in-Ok-all_judged c = λ d reads kept.
     let events = subst (λ n. fields_faults [] sd (event_fields h.rounds n) ≡ []) count (c.in-Ok-judge_events.ensures d reads kept).0 in
     let product = subst (λ n. product_faults (n * h.rounds * h.ticks) ≡ []) count c.in-Ok-within_ticks.ensures.0 in
     let tables = subst (λ (cs : List CabinetContent). all_table_faults 1 cs ≡ []) cab.1 c.in-Ok-all_judged.ensures.0 in
-    (none-of-five _ _ _ _ _ cab.0 c.in-Ok.ensures.0 events product tables, tt)
+    let of_count : ℕ → Extent = λ n. record { version = h.version; rounds = h.rounds; cabinets = n } in
+    (none-of-five _ _ _ _ _ cab.0 c.in-Ok.ensures.0 events product tables, ap of_count count)
 
 pub returns : goal.returns
 returns c = λ d reads kept.

@@ -1,4 +1,4 @@
-use Rattle.std.proofs.Common.{◌≡◌, ◌-◌, ◌<◌, suc, ◌∷◌, length, true, false, Some, None, string_bytes, refl, sym, ap, ◌∙◌, subst, arith, rules}
+use Rattle.std.proofs.Common.{◌≡◌, ◌-◌, ◌<◌, suc, ◌∷◌, length, true, false, Some, None, string_bytes, refl, sym, ap, ap₂, ◌∙◌, subst, arith, rules}
 use Rattle.json.specs.Token.{Token}
 use Rattle.json.specs.Json.{parse_map, after_end_array, read_key, items, members, value}
 use Rattle.json.specs.Reads.{token_of}
@@ -8,10 +8,14 @@ use Rattle.serde_json.specs.Read.{of_json, of_items, converted}
 use Rattle.serde_json.specs.View.{view, number_view, items_view, members_view}
 use Rattle.serde_json.specs.declared.value.Value.{String, Number, Bool, Null, the_lemmas}
 use Rattle.serde_json.proofs.Views.{view-Array, view-Object}
-use Rattle.scenario_cut.specs.Cutting.{opens_array, opens_object, item_form, member_form, room, cut, cut_items}
+use Rattle.scenario_read.specs.Kinds.{is_among}
+use Rattle.scenario_read.proofs.Rising.{tree-sorted, sorted-put}
+use Rattle.scenario_cut.specs.Cutting.{opens_array, opens_object, item_form, member_form, names_at, room, cut, cut_items}
 use Rattle.scenario_cut.specs.Growing.{both}
-use Rattle.scenario_cut.proofs.Turns.{converted-array, converted-object, item_read, items_over, member_read, members_over, both-end, one_more, none_before}
-use Rattle.scenario_cut.proofs.Growth.{item-first, kept-more, put-kept, kept-array, no-array, kept-object, no-object}
+use Rattle.scenario_cut.specs.Others.{lesser, with_other}
+use Rattle.scenario_cut.proofs.Turns.{converted_some, converted-array, converted-object, item_read, items_over, member_read, members_over, both-end, one_more, none_before}
+use Rattle.scenario_cut.proofs.Growth.{item-first, kept-more, kept-array, no-array, kept-object, no-object}
+use Rattle.scenario_cut.proofs.Naming.{first-known, first-lesser, member-put, member-passed, kept-few}
 use Rattle.scenario_cut.proofs.keeping.+keep.Goals as goal
 
 pub keep-returns-in-Ok-clause-ok : goal.keep-returns-in-Ok-clause-ok
@@ -137,14 +141,15 @@ keep_items-returns-clause-ok t c =
     )
 
 pub keep_members-members-init : goal.keep_members-members-init
-keep_members-members-init t c = (length c.args.reader.now, no_members, omega arith, refl, omega arith, ap members_view c.new-found.ensures.empty)
+keep_members-members-init t c = (length c.args.reader.now, no_members, omega arith, refl, omega arith, ap members_view c.new-found.ensures.empty, refl, tt)
 
-pub keep_members-members-preserved : goal.keep_members-members-preserved
-keep_members-members-preserved t c =
+pub keep_members-members-preserved-in-Continue-branch-2 : goal.keep_members-members-preserved-in-Continue-branch-2
+keep_members-members-preserved-in-Continue-branch-2 t c =
     let p = value c.args.depth in
     let l = c.members in
     let n = l.invariant.0 in
     let ms = l.invariant.1 in
+    let sorted = l.invariant.7 in
     let f = c.args.form in
     let k = c.in-Ok-Some.name.now in
     let s = c.next_key.new.self in
@@ -154,22 +159,59 @@ keep_members-members-preserved t c =
     let v = c.in_ok-member.member in
     let r = c.keep.new.reader in
     let less = read_key-shorter l.reader (Some k) s named in
-    let lesser = done.shorter in
+    let shorter = done.shorter in
+    let tree = converted_some of_json (p s) d r done.ok.1 in
     let copied : string_bytes c.in-Ok.key ≡ k = search rules in
-    let kept : view v ≡ cut (member_form f k) d = subst (λ g. view v ≡ cut g d) c.member_form.ensures done.ok.2 in (
+    let kept : view v ≡ cut (member_form f k) d = subst (λ g. view v ≡ cut g d) c.member_form.ensures done.ok.2 in
+    let has : is_among (names_at f) k ≡ true = sym c.allows.ensures ∙ c.if-allows.true in (
       n - 1,
       put k d ms,
       omega (arith, l.invariant.2),
       l.invariant.3 ∙ member_read p ms n k l.reader s r d (omega (arith, l.invariant.2)) named done.ok.1,
       omega (arith, l.invariant.4),
       c.in_ok-put_member.ensures ∙ ap (λ name. put name (view v) (members_view l.found.entries)) copied ∙ ap (λ w. put k w (members_view l.found.entries)) kept
-          ∙ ap (put k (cut (member_form f k) d)) l.invariant.5 ∙ sym (put-kept f k d ms),
+          ∙ ap (put k (cut (member_form f k) d)) l.invariant.5 ∙ member-put f k d ms sorted has,
+      first-known (names_at f) k d has ms ∙ l.invariant.6,
+      sorted-put k d ms (tree-sorted tree.0 d tree.2) sorted,
     )
 
-pub keep_members-returns-in-Ok-None-clause-ok : goal.keep_members-returns-in-Ok-None-clause-ok
-keep_members-returns-in-Ok-None-clause-ok t c =
+pub keep_members-members-preserved : goal.keep_members-members-preserved
+keep_members-members-preserved t c =
     let p = value c.args.depth in
     let l = c.members in
     let n = l.invariant.0 in
     let ms = l.invariant.1 in
-    (ms, l.invariant.3 ∙ members_over p ms n l.reader c.next_key.new.self l.invariant.2 (grind arith), l.invariant.5)
+    let sorted = l.invariant.7 in
+    let f = c.args.form in
+    let k = c.in-Ok-Some.name.now in
+    let s = c.next_key.new.self in
+    let named : read_key l.reader ≡ Some (Some k, s) = grind arith in
+    let yes : c.pass.result ≡ true = grind arith in
+    let done = c.pass.ensures.passed yes in
+    let d = done.0 in
+    let r = c.pass.new.reader in
+    let less = read_key-shorter l.reader (Some k) s named in
+    let shorter = c.pass.ensures.shorter yes in
+    let tree = converted_some of_json (p s) d r done.1 in
+    let none : is_among (names_at f) k ≡ false = sym c.allows.ensures ∙ c.if-allows.false in (
+      n - 1,
+      put k d ms,
+      omega (arith, l.invariant.2),
+      l.invariant.3 ∙ member_read p ms n k l.reader s r d (omega (arith, l.invariant.2)) named done.1,
+      omega (arith, l.invariant.4),
+      l.invariant.5 ∙ member-passed f k d ms sorted none,
+      first-lesser (names_at f) k d none ms sorted ∙ ap (lesser k) l.invariant.6 ∙ sym c.in_ok-hold.ensures,
+      sorted-put k d ms (tree-sorted tree.0 d tree.2) sorted,
+    )
+
+pub keep_members-returns-in-Some-clause-ok : goal.keep_members-returns-in-Some-clause-ok
+keep_members-returns-in-Some-clause-ok t c =
+    let p = value c.args.depth in
+    let l = c.members in
+    let n = l.invariant.0 in
+    let ms = l.invariant.1 in
+    let f = c.args.form in (
+      ms,
+      l.invariant.3 ∙ members_over p ms n l.reader c.next_key.new.self l.invariant.2 (grind arith),
+      c.in-Some.ensures ∙ ap₂ with_other (sym l.invariant.6) l.invariant.5 ∙ kept-few (names_at f) f ms l.invariant.7,
+    )

@@ -7,4 +7,4 @@ pub returns : goal.returns
 returns c = λ e ds j.
     let said : c.may_have.result ≡ true = grind arith in
     let yes : may_have c.args.list c.args.judged.count ≡ true = sym c.may_have.ensures ∙ said in
-    items-told c.args.list e c.args.judged ds yes (λ clean. omega (arith, c.if-count-gt1000000.false)) j
+    items-told c.args.list e c.args.judged ds yes (λ clean. omega (arith, c.most_judged-most.ensures.most, c.if-count-most.false)) j

@@ -4,7 +4,7 @@ use Rattle.scenario_read.specs.Paths.{then_item}
 use Rattle.scenario_cut.specs.Cutting.{cut}
 use Rattle.scenario_cut.specs.Judging.{form_of, list_path}
 use Rattle.scenario_cut.proofs.Judging.{next-told}
-use Rattle.scenario_cut.proofs.judge.judge_kept.Goals as goal
+use Rattle.scenario_cut.proofs.judge.judge_next.Goals as goal
 
 pub returns-in-Some-clause-ok : goal.returns-in-Some-clause-ok
 returns-in-Some-clause-ok c =
