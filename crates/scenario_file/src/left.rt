@@ -10,11 +10,11 @@ use std::alloc::Global;
 /// Names are counted up to here.
 const MOST: u32 = 1_000_000_000;
 
-/// Names, of which the first eight are counted, and how often each is still to come.
+/// Names, of which the first eleven are counted, and how often each is still to come.
 #[derive(Drop)]
 pub struct Left {
     names: Vec<String>,
-    counts: [u32; 8],
+    counts: [u32; 11],
 }
 
 /// The place of a name among these.
@@ -30,13 +30,13 @@ fn place_of(names: &Vec<String>, name: &str) -> Option<usize>
 }
 
 /// Counts the name at a place down, and says whether it comes for the last time.
-fn is_last_at(left: &mut [u32; 8], place: usize) -> bool
+fn is_last_at(left: &mut [u32; 11], place: usize) -> bool
     ensures last { result ≡ true → get_or left.new place 0 ≡ 0 }
     ensures more { result ≡ false → nat_lt 0 (get_or left.new place 0) ≡ true }
     ensures was { result ≡ false → nat_lt 0 (get_or left.old place 0) ≡ true }
     ensures others { (other : ℕ) → (other ≡ place → ⊥) → get_or left.old other 0 ≡ get_or left.new other 0 }
 {
-    if place >= 8 {
+    if place >= 11 {
         return true;
     }
     if left[place] <= 1 {
@@ -48,10 +48,10 @@ fn is_last_at(left: &mut [u32; 8], place: usize) -> bool
 }
 
 /// Whether nothing is to come any more.
-fn all_none(left: &[u32; 8]) -> bool
+fn all_none(left: &[u32; 11]) -> bool
     ensures { result ≡ true → (place : ℕ) → get_or left.now place 0 ≡ 0 }
 {
-    for place in 0..8 {
+    for place in 0..11 {
         if left[place] != 0 {
             return false;
         }
@@ -83,7 +83,7 @@ fn count_member(reader: &mut Reader<'_>, is_asked: bool, left: &mut Left) -> boo
     if !is_asked {
         return reader.skip_value(126).is_ok();
     }
-    left.counts = [0; 8];
+    left.counts = [0; 11];
     match reader.next() {
         Some(Token::BeginObject) => count_members(reader, left),
         _ => false,
@@ -128,7 +128,7 @@ impl Left {
     pub fn none(alloc: Global) -> Left {
         Left {
             names: Vec::new(alloc),
-            counts: [0; 8],
+            counts: [0; 11],
         }
     }
 
@@ -146,7 +146,7 @@ impl Left {
         }
         Some(Left {
             names: copied,
-            counts: [0; 8],
+            counts: [0; 11],
         })
     }
 
@@ -174,7 +174,7 @@ impl Left {
     /// Counts a name.
     fn count(&mut self, name: &str) {
         if let Some(place) = place_of(&self.names, name) {
-            if place < 8 && self.counts[place] < MOST {
+            if place < 11 && self.counts[place] < MOST {
                 self.counts[place] += 1;
             }
         }
@@ -182,7 +182,7 @@ impl Left {
 
     /// Whether some name comes more than once.
     pub fn has_again(&self) -> bool {
-        for place in 0..8 {
+        for place in 0..11 {
             if self.counts[place] > 1 {
                 return true;
             }

@@ -4,7 +4,6 @@
 //! which takes further inputs and another schedule.
 #![tactic(auto)]
 
-mod any_number;
 mod compact;
 mod entries;
 mod found;
@@ -14,7 +13,6 @@ mod lists;
 mod look;
 mod master;
 mod members;
-mod passing;
 mod pieces;
 mod plain;
 mod reading;
@@ -25,7 +23,6 @@ mod written;
 
 pub use left::Left;
 pub use members::{put_in_master, put_named};
-pub use passing::pass;
 pub use reading::{read, scenario_of};
-pub use source::{LARGE_NAMES, ScenarioText, Source, last_scenario_at, scenario_at};
+pub use source::{SCENARIO_NAMES, ScenarioText, Source, scenario_at};
 pub use trees::{Level, tree};

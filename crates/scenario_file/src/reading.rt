@@ -1,12 +1,12 @@
 //! The scenario file: bytes in, a scenario or the first fault out. A right scenario is read with little memory, also where what
-//! stood earlier at one of its large names is at fault. Of any other text the first fault is told by `scenario_cut`.
+//! stood earlier at one of its names is at fault. Of any other text the first fault is told by `scenario_cut`.
 
 ghost use Rattle.std.specs.Prelude.{IfOk, IfErr, IfSome};
 ghost use Rattle.scenario_data.specs.Content.{scenario_content};
 ghost use Rattle.scenario_read.specs.Answers.{IsScenario, IsFirstFault, OnRefusal};
 
 use crate::left::Left;
-use crate::source::{LARGE_NAMES, Source, source_of};
+use crate::source::{SCENARIO_NAMES, Source, source_of};
 use crate::top::whole_of;
 use scenario_data::{ReadFail, Scenario};
 use std::alloc::Global;
@@ -23,9 +23,9 @@ fn listed(alloc: Global, bytes: &[u8], left: Left) -> Option<Scenario>
     Some(scenario)
 }
 
-/// How often the large names come in a text that is one object, where one of them comes again.
+/// How often the names come in a text that is one object, where one of them comes again.
 fn again(alloc: Global, bytes: &[u8]) -> Option<Left> {
-    let left = Left::of(alloc, bytes, &LARGE_NAMES)?;
+    let left = Left::of(alloc, bytes, &SCENARIO_NAMES)?;
     if left.has_again() { Some(left) } else { None }
 }
 

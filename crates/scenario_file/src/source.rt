@@ -29,9 +29,19 @@ use scenario_read::{Parts, Setup, all_judged, checked_parts, scenario_from};
 use serde_json::{Map, Value};
 use std::alloc::Global;
 
-/// The names of a scenario that may have much behind them.
-pub const LARGE_NAMES: [&str; 7] = [
-    "cabinets", "master", "inputs", "loads", "priority", "frames", "faults",
+/// The names of a scenario.
+pub const SCENARIO_NAMES: [&str; 11] = [
+    "version",
+    "rounds",
+    "ticks",
+    "community",
+    "cabinets",
+    "master",
+    "inputs",
+    "loads",
+    "priority",
+    "frames",
+    "faults",
 ];
 
 /// A scenario's text in parts: its members but for the lists, the text of each list between its brackets, and whether there is an
@@ -120,10 +130,10 @@ pub(crate) fn source_of<'a>(alloc: Global, whole: Whole<'a>, room: usize) -> Opt
     })
 }
 
-/// Reads the scenario that is the reader's next value, in this file, nested at most 126 deep, and of its members of equal names the
-/// last alone, where so many come. Nothing, where it is not right, where an earlier one that is read holds what none may hold, or where
-/// there is no memory.
-pub fn last_scenario_at<'a>(
+/// Reads the scenario that is the reader's next value, in this file, nested at most 126 deep. Of equal names that `left` has counted
+/// the last alone is read. Nothing, where the scenario is not right, where an earlier of equal names that is read holds what none may
+/// hold, where more were counted of a name than come, or where there is no memory.
+pub fn scenario_at<'a>(
     alloc: Global,
     reader: &mut Reader<'_>,
     left: Left,
@@ -144,18 +154,6 @@ pub fn last_scenario_at<'a>(
         Some(source) => Some(source),
         None => None,
     }
-}
-
-/// Reads the scenario that is the reader's next value, in this file, nested at most 126 deep. Nothing, where it is not right, where an
-/// earlier of equal names holds what none may hold, or where there is no memory.
-pub fn scenario_at<'a>(alloc: Global, reader: &mut Reader<'_>, file: &'a [u8]) -> Option<Source<'a>>
-    ensures ok { IfSome result (λ s. (d : Data) × (converted of_json (value 126 reader.old) ≡ Some (d, reader.new)) × (faults d ≡ [])
-        × (scenario_content s.scenario ≡ scenario_of d) × Writes s.text d) }
-    ensures shorter { IfSome result (λ _. length reader.new < length reader.old) }
-    ensures few { IfSome result (λ s. length s.scenario.cabinets.items ≤ 64) }
-    ensures reads_back { IfSome result (λ s. IsScenario s.scenario.compact.items (scenario_content s.scenario)) }
-{
-    last_scenario_at(alloc, reader, Left::none(alloc), file)
 }
 
 /// The text of entries between the brackets of their list.

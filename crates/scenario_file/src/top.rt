@@ -16,9 +16,9 @@ use crate::left::Left;
 use crate::listed::list_at;
 use crate::lists::{Lists, no_lists, put_list};
 use crate::master::{Master, master_at};
-use crate::passing::pass;
 use crate::trees::{is_full, put_member, tree};
 use json::{Reader, Scratch, Token};
+use scenario_cut::pass;
 use serde_json::{Map, Value};
 use std::alloc::Global;
 

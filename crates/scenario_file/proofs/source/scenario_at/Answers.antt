@@ -2,7 +2,7 @@ use Rattle.std.proofs.Common.{◌≡◌, ◌∷◌, ap, ◌∙◌}
 use Rattle.json.specs.Token.{Token}
 use Rattle.json.specs.Reads.{token_of}
 use Rattle.scenario_file.proofs.Right.{read-here}
-use Rattle.scenario_file.proofs.source.last_scenario_at.Goals as goal
+use Rattle.scenario_file.proofs.source.scenario_at.Goals as goal
 
 pub source_of-requires : goal.source_of-requires
 source_of-requires c =
