@@ -1,5 +1,5 @@
 -- A fault of a name of an object, or of its scenario, is the first fault of the object.
-use Rattle.std.proofs.Common.{◌≡◌, List, [], map, Option, Some, None, unwrap_or, codes, refl, sym, ◌∙◌, subst}
+use Rattle.std.proofs.Common.{◌≡◌, List, [], map, Option, Some, None, unwrap_or, codes, refl, sym, ap, ◌∙◌, subst}
 use Rattle.serde_json.specs.Data.{Data, null, boolean, number, string, array, object}
 use Rattle.serde_json.specs.Find.{get}
 use Rattle.scenario_data.specs.declared.refusal.ReadFail.{ReadFail}
@@ -7,13 +7,14 @@ use Rattle.scenario_data.specs.Causes.{Cause}
 use Rattle.scenario_read.specs.Paths.{then_named}
 use Rattle.scenario_read.specs.Kinds.{Wrong, fault_at}
 use Rattle.scenario_read.specs.Fields.{either, faults_of, field_faults, held, names}
-use Rattle.scenario_read.specs.Faults.{faults}
+use Rattle.scenario_read.specs.Faults.{faults, first_cause}
 use Rattle.scenario_read.specs.Readers.{Refuses, names_faults}
 use Rattle.scenario_read.proofs.Objects.{known-object}
 use Rattle.scenario_read.proofs.Refusing.{refuses_more}
 use Rattle.scenario_cut.specs.declared.form.Form.TheVariants.{Outer}
 use Rattle.scenario_cut.specs.Cutting.{cut}
-use Rattle.scenario_cut.proofs.Judging.{refuses-same}
+use Rattle.scenario_cut.proofs.Same.{Same}
+use Rattle.scenario_cut.proofs.Judging.{no-first, refuses-same}
 use Rattle.scenario_cut.proofs.Members.{IsObject, unknown-same}
 use Rattle.scenario_checked.specs.Inside.{inner_cause, inner_scenario, scenario}
 use Rattle.band_report.specs.Asked.{asked_shape, band_faults}
@@ -21,17 +22,17 @@ use Rattle.band_report.specs.Asked.{asked_shape, band_faults}
 is-outer : IsObject Outer
 is-outer = record { opens = refl; closed = refl }
 
--- what is kept has the names of the object
-names-kept : (d : Data) → names_faults (names asked_shape.fields) [] (cut Outer d) ≡ names_faults (names asked_shape.fields) [] d
+-- what is kept has the first fault of the object's names
+names-kept : (d : Data) → Same (names_faults (names asked_shape.fields) [] (cut Outer d)) (names_faults (names asked_shape.fields) [] d)
 names-kept null = refl
 names-kept (boolean b) = refl
 names-kept (number n) = refl
 names-kept (string s) = refl
 names-kept (array ds) = refl
-names-kept (object ms) = unknown-same Outer is-outer (names asked_shape.fields) [] ms
+names-kept (object ms) = unknown-same Outer is-outer asked_shape.fields refl [] ms
 
-pub names-in : (d v : Data) → v ≡ cut Outer d → names_faults (names asked_shape.fields) [] v ≡ names_faults (names asked_shape.fields) [] d
-names-in d v is = subst (λ (w : Data). names_faults (names asked_shape.fields) [] w ≡ names_faults (names asked_shape.fields) [] d) (sym is) (names-kept d)
+names-in : (d v : Data) → v ≡ cut Outer d → Same (names_faults (names asked_shape.fields) [] v) (names_faults (names asked_shape.fields) [] d)
+names-in d v is = ap (λ (w : Data). first_cause (names_faults (names asked_shape.fields) [] w)) is ∙ names-kept d
 
 name-first : (fail : ReadFail) (d : Data) → Refuses fail (names_faults (names asked_shape.fields) [] d) → Refuses fail (band_faults d)
 name-first fail null h = refuses_more fail _ _ h
@@ -42,7 +43,7 @@ name-first fail (array ds) h = refuses_more fail _ _ h
 name-first fail (object ms) h = refuses_more fail _ _ (refuses_more fail _ _ h)
 
 pub name-refused : (fail : ReadFail) (d v : Data) → v ≡ cut Outer d → Refuses fail (names_faults (names asked_shape.fields) [] v) → Refuses fail (band_faults d)
-name-refused fail d v is h = name-first fail d (subst (λ (causes : List Cause). Refuses fail causes) (names-in d v is) h)
+name-refused fail d v is h = name-first fail d (refuses-same fail (names_faults (names asked_shape.fields) [] v) (names_faults (names asked_shape.fields) [] d) (names-in d v is) h)
 
 -- null in place of a scenario has the fault of a scenario that doesn't stand
 at-scenario : (fail : ReadFail) (o : Option Data) → Refuses fail (map inner_cause (faults (unwrap_or (either o None) null)))
@@ -55,5 +56,5 @@ pub scenario-first : (fail : ReadFail) (d v : Data) → v ≡ cut Outer d → na
     → Refuses fail (band_faults d)
 scenario-first fail d v is known h =
     let here : Refuses fail (field_faults [] d scenario) = at-scenario fail (get (codes "scenario") d) h in
-    let all = known-object asked_shape [] d (sym (names-in d v is) ∙ known) in
+    let all = known-object asked_shape [] d (no-first (names_faults (names asked_shape.fields) [] d) (sym (names-in d v is) ∙ ap first_cause known)) in
     refuses_more fail _ _ (subst (λ (causes : List Cause). Refuses fail causes) (sym all) (refuses_more fail _ [] (refuses_more fail (field_faults [] d scenario) _ here)))

@@ -65,10 +65,10 @@ abbrev against : Data → List Cause
 against d = misfit_causes (misfit_of (cabinets_asked d) (number_at section d) (number_at pattern d) (length (travel_asked d)))
 
 names-same : (d : Data) → Same (names (cut Street d)) (names d)
-names-same d = object-same Street is-street asked_shape [] d (scenario-same, (whole-same 1 8, (whole-same 1 48, (travel-same, tt)))) tt
+names-same d = object-same Street is-street asked_shape refl [] d (scenario-same, (whole-same 1 8, (whole-same 1 48, (travel-same, tt)))) tt
 
 names-entire : (d : Data) → Sorted d → names d ≡ [] → cut Street d ≡ d
-names-entire d sorted e = object-entire Street is-street asked_shape (scenario-entire, (whole-entire 1 8, (whole-entire 1 48, (travel-entire, tt)))) tt [] d sorted e
+names-entire d sorted e = object-entire Street is-street asked_shape refl (scenario-entire, (whole-entire 1 8, (whole-entire 1 48, (travel-entire, tt)))) tt [] d sorted e
 
 street-same : (d : Data) → Sorted d → Same (band_faults (cut Street d)) (band_faults d)
 street-same d sorted = same-more names against (cut Street d) d (names-same d) (names-entire d sorted)

@@ -7,6 +7,8 @@ pub mod Windows
 pub mod OneAnswer
 pub mod LimitNames
 pub mod Kept
-pub mod Beside
+pub mod Alone
+pub mod Times
+pub mod PutIn
 pub mod ByParts
 pub mod FirstFaults

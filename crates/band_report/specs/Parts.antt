@@ -1,49 +1,84 @@
--- The parts of an object that asks of bands: the scenario that was read at its name, and what stands beside it, each a small value.
-use Rattle.std.specs.Prelude.{ℕ, ◌≡◌, List, [], ◌∷◌, codes, bytes_eq, if◌then◌else◌, Option, Some, None}
-use Rattle.serde_json.specs.Data.{Data, null, Members}
-use Rattle.serde_json.specs.Find.{get_member}
-use Rattle.serde_json.specs.View.{members_view}
+-- The parts of an object that asks of bands: what was read of the value at each of its names, and of the items of its travel times.
+use Rattle.std.specs.Prelude.{ℕ, ◌≡◌, ◌≤◌, List, [], ◌∷◌, length, Result, codes}
+use Rattle.std.specs.Borrow.{Bor}
+use Rattle.json.specs.declared.token.Token.{Token}
+use Rattle.json.specs.declared.token.Token.TheVariants.{BeginArray, BeginObject, Number}
+use Rattle.serde_json.specs.Data.{Data, null, boolean, number, string, array, object, Items, Members, put}
+use Rattle.scenario_data.specs.declared.refusal.ReadFail.{ReadFail}
 use Rattle.scenario_data.specs.declared.scenario.Scenario.{Scenario}
 use Rattle.scenario_data.specs.Content.{scenario_content}
-use Rattle.scenario_read.specs.Content.{number_at, scenario_of}
-use Rattle.scenario_read.specs.Faults.{faults}
-use Rattle.scenario_read.specs.Fields.{Field}
-use Rattle.scenario_read.specs.Sorted.{MembersSorted}
-use Rattle.scenario_cut.specs.Last.{filled}
+use Rattle.scenario_read.specs.Paths.{then_named}
+use Rattle.scenario_read.specs.Kinds.{Wrong, array_fits, each, whole}
+use Rattle.scenario_read.specs.Content.{cabinets_of, each_of, list_in, number_at, whole_of}
+use Rattle.scenario_read.specs.Fields.{Field, held, field_faults, names, unknown_faults}
+use Rattle.scenario_read.specs.Readers.{Answers}
+use Rattle.scenario_checked.specs.Inside.{scenario}
+use Rattle.scenario_cut.specs.Judging.{Tells}
 use Rattle.scenario_file.specs.Left.{is_left, without}
 use Rattle.band_report.specs.declared.asked.Beside.{Beside}
+use Rattle.band_report.specs.declared.legs.Legs.{Legs}
 use Rattle.band_report.specs.declared.parts.Parts.{Parts}
 use Rattle.band_report.specs.declared.parts.Reading.{Reading}
-use Rattle.band_report.specs.Asked.{section, pattern, travel, travel_asked}
+use Rattle.band_report.specs.Asked.{section, pattern, travel, travel_asked, asked_shape}
 
--- what stands at a name: the scenario at its own, and at any other this
-abbrev pub around : Data → List ℕ → Data → Data
-around scenario name d = if bytes_eq name (codes "scenario") then scenario else d
+-- ---- values
 
--- this is the scenario that a value says, which is without fault
-pub record SaysScenario (s : Scenario) (d : Data) : Type 0 where
-  pub clean : faults d ≡ []
-  pub said : scenario_content s ≡ scenario_of d
+-- what is kept where only a number may stand: null stands for anything else
+abbrev pub number_alone : Data → Data
+number_alone null = null
+number_alone (boolean b) = null
+number_alone (number n) = number n
+number_alone (string s) = null
+number_alone (array ds) = null
+number_alone (object ms) = null
 
--- a scenario was read, and null stands at its name among the other members; or none was, and nothing stands there
-abbrev pub ScenarioStands : Option Scenario → Data → Members → Type 0
-ScenarioStands None d beside = get_member (codes "scenario") beside ≡ None
-ScenarioStands (Some s) d beside = (get_member (codes "scenario") beside ≡ Some null) × SaysScenario s d
+-- a value is no object
+abbrev pub IsNoObject : Data → Type 0
+IsNoObject (object ms) = ⊥
+IsNoObject _ = Unit {0}
 
--- the object of these members is this scenario and what stands beside it
-pub record Stand (scenario : Option Scenario) (beside ms : Members) : Type 0 where
-  pub value : Data
-  pub is : ms ≡ filled (around value) beside
-  pub sorted : MembersSorted beside
-  pub stands : ScenarioStands scenario value beside
+-- what the token that a value begins with tells of it
+pub record BeginsWith (token : Token) (d : Data) : Type 0 where
+  pub no_number : ((text : Bor (List ℕ)) → token ≡ Number text → ⊥) → number_alone d ≡ null
+  pub no_list : (token ≡ BeginArray → ⊥) → array_fits d ≡ Wrong
+  pub no_object : (token ≡ BeginObject → ⊥) → IsNoObject d
 
--- these are the parts of the object of these members
-abbrev pub PartsStand : Parts → Members → Type 0
-PartsStand parts ms = Stand parts.scenario (members_view parts.beside.entries) ms
+-- the items were read as travel times: the refusal names their first fault, or they have none, and these are the times
+abbrev pub AreLegs : Legs → Items → Type 0
+AreLegs legs ds =
+    Tells legs.refusal (each (whole 0 864000) (then_named [] (codes "travel")) 0 ds) (legs.found.items ≡ each_of whole_of ds)
+
+-- ---- the four names
+
+-- the answer to what stands at a name of the object of these members
+abbrev pub AnswersAt : {A : Type 0} → Field → Result A ReadFail → (A → Data → Type 0) → Members → Type 0
+AnswersAt field answer Says ms = Answers answer (field_faults [] (object ms) field) (λ a. Says a (held field (object ms)))
+
+-- a scenario has the cabinets that a value says, and no more than it may have
+abbrev pub SaysCabinets : Scenario → Data → Type 0
+SaysCabinets s d = ((scenario_content s).cabinets ≡ cabinets_of d) × (length s.cabinets.items ≤ 64)
+
+-- a value is this number
+abbrev pub SaysNumber : ℕ → Data → Type 0
+SaysNumber n d = n ≡ whole_of d
+
+-- the parts are the answers to the names of the object of these members, all of which are known
+pub record PartsStand (parts : Parts) (ms : Members) : Type 0 where
+  pub known : unknown_faults (names asked_shape.fields) [] ms ≡ []
+  pub scenario : AnswersAt scenario parts.scenario SaysCabinets ms
+  pub section : AnswersAt section parts.section SaysNumber ms
+  pub pattern : AnswersAt pattern parts.pattern SaysNumber ms
+  pub travel : AnswersAt travel parts.travel (λ found d. found.items ≡ list_in whole_of d) ms
+
+-- a value was put at a name: the parts became those of the object with it
+abbrev pub Puts : Parts → Parts → List ℕ → Data → Type 0
+Puts old new name d = (ms : Members) → PartsStand old ms → PartsStand new (put name d ms)
 
 -- these members were read, and the parts are those of the ones of which no more is to come
 abbrev pub ReadSoFar : Reading → Members → Type 0
 ReadSoFar reading ms = PartsStand reading.parts (without (is_left reading.coming.own) ms)
+
+-- ---- an object that is kept
 
 -- the names beside the scenario's
 abbrev pub beside_fields : List Field

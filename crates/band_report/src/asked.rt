@@ -69,7 +69,7 @@ fn refuse_leg(alloc: Global, leg: usize, unfit: Unfit) -> ReadFail
 }
 
 /// A travel time of 0 to 864,000 ticks.
-fn leg_in(alloc: Global, value: &Value, leg: usize) -> Result<u32, ReadFail>
+pub(crate) fn leg_in(alloc: Global, value: &Value, leg: usize) -> Result<u32, ReadFail>
     ensures { Answers result (whole 0 864000 (then_item (then_named (steps_of Place.Top) (codes "travel")) leg) (view value.now)) (λ ticks. ticks ≡ whole_of (view value.now)) }
 {
     match whole_of(value, 0, 864_000) {

@@ -11,44 +11,46 @@ ghost use Rattle.band_report.specs.Asked.{asked_shape, band_faults};
 ghost use Rattle.band_report.specs.Parts.{PartsStand};
 ghost use Rattle.band_report.specs.Told.{IsFirstBandFault, Says};
 
-use crate::asked::{Asked, Beside, beside_in, fitting, names_known};
-use crate::parts::{Parts, parts_of};
+use crate::asked::{Asked, fitting};
+use crate::coming::Coming;
+use crate::parts::{Parts, parts_with};
 use scenario_data::ReadFail;
-use scenario_read::{Place, Unfit, refuse_member};
-use serde_json::Value;
 use std::alloc::Global;
 
-/// What the names of an object of these parts say, refused at the first fault of a name or a value.
-fn named_in_parts(alloc: Global, parts: Parts) -> Result<Asked, ReadFail>
+/// What the names of an object of these parts say, refused at the first fault of a value.
+fn named_in_parts(parts: Parts) -> Result<Asked, ReadFail>
     requires stand { (ms : Members) × PartsStand parts ms }
     ensures read { (ms : Members) → PartsStand parts ms → Answers result (object_of asked_shape [] (object ms)) (λ a. Says a (object ms)) }
     ensures few { IfOk result (λ a. length a.scenario.cabinets.items ≤ 64) }
 {
-    let Parts { scenario, beside } = parts;
-    let beside = Value::Object(beside);
-    match names_known(alloc, &beside) {
-        Ok(()) => {}
-        Err(fail) => return Err(fail),
-    }
+    let Parts {
+        scenario,
+        section,
+        pattern,
+        travel,
+    } = parts;
     let scenario = match scenario {
-        Some(scenario) => scenario,
-        None => return Err(refuse_member(alloc, Place::Top, "scenario", Unfit::Wrong)),
+        Ok(scenario) => scenario,
+        Err(fail) => return Err(fail),
     };
-    match beside_in(alloc, &beside) {
-        Ok(
-            Beside {
-                section,
-                pattern,
-                travel,
-            },
-        ) => Ok(Asked {
-            scenario,
-            section,
-            pattern,
-            travel,
-        }),
-        Err(fail) => Err(fail),
-    }
+    let section = match section {
+        Ok(section) => section,
+        Err(fail) => return Err(fail),
+    };
+    let pattern = match pattern {
+        Ok(pattern) => pattern,
+        Err(fail) => return Err(fail),
+    };
+    let travel = match travel {
+        Ok(travel) => travel,
+        Err(fail) => return Err(fail),
+    };
+    Ok(Asked {
+        scenario,
+        section,
+        pattern,
+        travel,
+    })
 }
 
 /// What an object of these parts asks, refused at its first fault.
@@ -59,19 +61,20 @@ fn asked_in_parts(alloc: Global, parts: Parts) -> Result<Asked, ReadFail>
     ensures few { IfOk result (λ a. length a.scenario.cabinets.items ≤ 64) }
     ensures fits { IfOk result (λ a. misfit_of (scenario_content a.scenario).cabinets a.section a.pattern (length a.travel.items) ≡ None) }
 {
-    let asked = named_in_parts(alloc, parts)?;
+    let asked = named_in_parts(parts)?;
     fitting(alloc, &asked)?;
     Ok(asked)
 }
 
-/// What the bytes ask, or their first fault, in little memory. Want of memory stands also for what this way does not tell.
-pub(crate) fn asked_by_parts(alloc: Global, bytes: &[u8]) -> Result<Asked, ReadFail>
+/// What the bytes ask, or their first fault, in little memory, where so many of their names come. Want of memory stands also for what
+/// this way does not tell.
+pub(crate) fn asked_by_parts(alloc: Global, bytes: &[u8], coming: Coming) -> Result<Asked, ReadFail>
     ensures read { IfOk result (λ a. (d : Data) × Reads bytes.now d × (band_faults d ≡ []) × Says a d) }
     ensures refused { IfErr result (λ fail. OnRefusal fail (IsFirstBandFault bytes.now)) }
     ensures few { IfOk result (λ a. length a.scenario.cabinets.items ≤ 64) }
     ensures fits { IfOk result (λ a. misfit_of (scenario_content a.scenario).cabinets a.section a.pattern (length a.travel.items) ≡ None) }
 {
-    let Some(parts) = parts_of(alloc, bytes) else {
+    let Some(parts) = parts_with(alloc, bytes, coming) else {
         return Err(ReadFail::NoMemory);
     };
     match asked_in_parts(alloc, parts) {

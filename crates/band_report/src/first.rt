@@ -24,7 +24,7 @@ pub(crate) fn first_fault(alloc: Global, bytes: &[u8]) -> Result<(), ReadFail>
         Err(fail) => return Err(fail),
     }
     match inner_fault(alloc, bytes, &frame) {
-        Ok(()) => Ok(()),
+        Ok(_) => Ok(()),
         Err(fail) => Err(inner_fail(alloc, fail)),
     }
 }

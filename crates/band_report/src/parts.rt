@@ -1,28 +1,36 @@
-//! The parts of an object that asks of bands, read from its text one after the other: the scenario list by list, and of what stands
-//! beside it a small tree. No tree of the whole is made. Of equal names the last counts; where an earlier one is at fault or large, the
-//! last alone is read.
+//! The parts of an object that asks of bands, read from its text one after the other: the scenario list by list, the section and the
+//! pattern, and the travel times one by one. No tree of the whole is made. Of equal names the last counts; where they were counted
+//! beforehand, the last alone is read.
 
-ghost use Rattle.std.specs.Prelude.{◌≡◌, ◌<◌, false, codes, bytes_eq, length, Some, IfSome, IsUtf8};
+ghost use Rattle.std.specs.Prelude.{◌≡◌, ◌<◌, codes, length, Some, IfSome, IsUtf8};
 ghost use Rattle.json.specs.Json.{value, members};
 ghost use Rattle.serde_json.specs.Data.{Data, Members, no_members, object, put};
 ghost use Rattle.serde_json.specs.Read.{of_json, of_members, converted, read};
-ghost use Rattle.serde_json.specs.View.{view, members_view};
+ghost use Rattle.scenario_read.specs.Paths.{then_named};
+ghost use Rattle.scenario_read.specs.Kinds.{whole};
+ghost use Rattle.scenario_read.specs.Content.{whole_of};
+ghost use Rattle.scenario_read.specs.Readers.{Answers, steps_of};
 ghost use Rattle.scenario_read.specs.Sorted.{MembersSorted};
-ghost use Rattle.band_report.specs.Parts.{PartsStand, ReadSoFar};
+ghost use Rattle.band_report.specs.Parts.{PartsStand, Puts, ReadSoFar};
 
 use crate::coming::Coming;
+use crate::legs::travel_times;
+use crate::numbers::{number_alone, pass_rest};
 use json::{Reader, Scratch, Token};
-use scenario_data::Scenario;
-use scenario_file::{Left, Level, Source, last_scenario_at, pass, put_named, tree};
-use serde_json::{Map, Value};
+use scenario_cut::pass;
+use scenario_data::{ReadFail, Scenario};
+use scenario_file::{Left, Source, scenario_at};
+use scenario_read::{Place, Unfit, refuse_member, whole_of};
 use std::alloc::Global;
 use std::mem::replace;
 
-/// The scenario, where one was read, and the other members, with null at the scenario's name.
+/// What the value at each of the four names says, or its first fault; the fault of a name that must stand, where none stands there.
 #[derive(Drop)]
 pub(crate) struct Parts {
-    pub scenario: Option<Scenario>,
-    pub beside: Map<String, Value>,
+    pub scenario: Result<Scenario, ReadFail>,
+    pub section: Result<u8, ReadFail>,
+    pub pattern: Result<u8, ReadFail>,
+    pub travel: Result<Vec<u32>, ReadFail>,
 }
 
 /// The parts so far, and how often names are still to come.
@@ -32,20 +40,49 @@ pub(crate) struct Reading {
     pub coming: Coming,
 }
 
-/// Puts a value at a name, in place of what stood there.
-fn put_value(alloc: Global, beside: &mut Map<String, Value>, name: &str, value: Value) -> Option<()>
-    ensures { IfSome result (λ _. members_view beside.new.entries ≡ put name.now (view value) (members_view beside.old.entries)) }
+/// Reads the scenario, of whose large names so many come: gives up at one that is not right. The parts of its text are left out.
+fn right_scenario(
+    alloc: Global,
+    reader: &mut Reader<'_>,
+    parts: &mut Parts,
+    inner: &mut Left,
+    file: &[u8],
+) -> Option<()>
+    ensures ok { IfSome result (λ _. (d : Data) × (converted of_json (value 126 reader.old) ≡ Some (d, reader.new)) × Puts parts.old parts.new (codes "scenario") d) }
+    ensures shorter { IfSome result (λ _. length reader.new < length reader.old) }
 {
-    match put_named(alloc, beside, name, value) {
-        Ok(held) => {
-            drop(held);
+    let left = replace(inner, Left::none(alloc));
+    let source = scenario_at(alloc, reader, left, file)?;
+    let Source { scenario, .. } = source;
+    parts.scenario = Ok(scenario);
+    Some(())
+}
+
+/// Reads what stands as a scenario and is no object, which is its fault: gives up at an object.
+fn no_scenario(alloc: Global, reader: &mut Reader<'_>, parts: &mut Parts) -> Option<()>
+    ensures ok { IfSome result (λ _. (d : Data) × (converted of_json (value 126 reader.old) ≡ Some (d, reader.new)) × Puts parts.old parts.new (codes "scenario") d) }
+    ensures shorter { IfSome result (λ _. length reader.new < length reader.old) }
+{
+    let token = reader.next()?;
+    match token {
+        Token::BeginObject => None,
+        other => {
+            if !pass_rest(reader, 126, other) {
+                return None;
+            }
+            let fail = refuse_member(alloc, Place::Top, "scenario", Unfit::Wrong);
+            parts.scenario = Err(fail);
             Some(())
         }
-        Err(_) => None,
     }
 }
 
-/// Reads the scenario, of whose large names so many come. The parts of its text are left out.
+/// Whether an object seems to begin at this place of a file. This only chooses how it is read.
+fn begins_object(file: &[u8], place: usize) -> bool {
+    place < file.len() && file[place] == b'{'
+}
+
+/// Reads what stands as the scenario, of whose large names so many come: gives up at an object that is not right.
 fn scenario_member(
     alloc: Global,
     reader: &mut Reader<'_>,
@@ -53,37 +90,66 @@ fn scenario_member(
     inner: &mut Left,
     file: &[u8],
 ) -> Option<()>
-    ensures ok { IfSome result (λ _. (d : Data) × (converted of_json (value 126 reader.old) ≡ Some (d, reader.new))
-        × ((ms : Members) → PartsStand parts.old ms → PartsStand parts.new (put (codes "scenario") d ms))) }
+    ensures ok { IfSome result (λ _. (d : Data) × (converted of_json (value 126 reader.old) ≡ Some (d, reader.new)) × Puts parts.old parts.new (codes "scenario") d) }
     ensures shorter { IfSome result (λ _. length reader.new < length reader.old) }
 {
-    let left = replace(inner, Left::none(alloc));
-    let source = last_scenario_at(alloc, reader, left, file)?;
-    let Source { scenario, .. } = source;
-    put_value(alloc, &mut parts.beside, "scenario", Value::Null)?;
-    parts.scenario = Some(scenario);
-    Some(())
+    if begins_object(file, reader.offset()) {
+        right_scenario(alloc, reader, parts, inner, file)
+    } else {
+        no_scenario(alloc, reader, parts)
+    }
 }
 
-/// Reads what stands at another name.
-fn other_member(
+/// Reads the number that stands at a name, from 1 to a most.
+fn number_at(
     alloc: Global,
     reader: &mut Reader<'_>,
     name: &str,
-    parts: &mut Parts,
-    levels: &[Level],
-) -> Option<()>
-    requires { bytes_eq name.now (codes "scenario") ≡ false }
-    ensures ok { IfSome result (λ _. (d : Data) × (converted of_json (value 126 reader.old) ≡ Some (d, reader.new))
-        × ((ms : Members) → PartsStand parts.old ms → PartsStand parts.new (put name.now d ms))) }
+    most: u32,
+) -> Option<Result<u8, ReadFail>>
+    requires { most < 256 }
+    ensures ok { IfSome result (λ answer. (d : Data) × (converted of_json (value 126 reader.old) ≡ Some (d, reader.new))
+        × Answers answer (whole 1 most (then_named (steps_of Place.Top) name.now) d) (λ n. n ≡ whole_of d)) }
     ensures shorter { IfSome result (λ _. length reader.new < length reader.old) }
 {
-    let value = tree(alloc, reader, 126, levels)?;
-    put_value(alloc, &mut parts.beside, name, value)?;
+    let value = number_alone(reader, 126)?;
+    match whole_of(&value, 1, most) {
+        Ok(number) => Some(Ok(number as u8)),
+        Err(unfit) => Some(Err(refuse_member(alloc, Place::Top, name, unfit))),
+    }
+}
+
+/// Reads the section.
+fn section_member(alloc: Global, reader: &mut Reader<'_>, parts: &mut Parts) -> Option<()>
+    ensures ok { IfSome result (λ _. (d : Data) × (converted of_json (value 126 reader.old) ≡ Some (d, reader.new)) × Puts parts.old parts.new (codes "section") d) }
+    ensures shorter { IfSome result (λ _. length reader.new < length reader.old) }
+{
+    let answer = number_at(alloc, reader, "section", 8)?;
+    parts.section = answer;
     Some(())
 }
 
-/// Reads what stands at the next name: gives up at one that is not known, and at more than 64 travel times.
+/// Reads the pattern.
+fn pattern_member(alloc: Global, reader: &mut Reader<'_>, parts: &mut Parts) -> Option<()>
+    ensures ok { IfSome result (λ _. (d : Data) × (converted of_json (value 126 reader.old) ≡ Some (d, reader.new)) × Puts parts.old parts.new (codes "pattern") d) }
+    ensures shorter { IfSome result (λ _. length reader.new < length reader.old) }
+{
+    let answer = number_at(alloc, reader, "pattern", 48)?;
+    parts.pattern = answer;
+    Some(())
+}
+
+/// Reads the travel times.
+fn travel_member(alloc: Global, reader: &mut Reader<'_>, parts: &mut Parts) -> Option<()>
+    ensures ok { IfSome result (λ _. (d : Data) × (converted of_json (value 126 reader.old) ≡ Some (d, reader.new)) × Puts parts.old parts.new (codes "travel") d) }
+    ensures shorter { IfSome result (λ _. length reader.new < length reader.old) }
+{
+    let answer = travel_times(alloc, reader, 126)?;
+    parts.travel = answer;
+    Some(())
+}
+
+/// Reads what stands at the next name: gives up at one that is not known.
 fn member_at(
     alloc: Global,
     reader: &mut Reader<'_>,
@@ -92,15 +158,14 @@ fn member_at(
     inner: &mut Left,
     file: &[u8],
 ) -> Option<()>
-    ensures ok { IfSome result (λ _. (d : Data) × (converted of_json (value 126 reader.old) ≡ Some (d, reader.new))
-        × ((ms : Members) → PartsStand parts.old ms → PartsStand parts.new (put name.now d ms))) }
+    ensures ok { IfSome result (λ _. (d : Data) × (converted of_json (value 126 reader.old) ≡ Some (d, reader.new)) × Puts parts.old parts.new name.now d) }
     ensures shorter { IfSome result (λ _. length reader.new < length reader.old) }
 {
     match name {
         "scenario" => scenario_member(alloc, reader, parts, inner, file),
-        "section" => other_member(alloc, reader, name, parts, &[]),
-        "pattern" => other_member(alloc, reader, name, parts, &[]),
-        "travel" => other_member(alloc, reader, name, parts, &[Level::Items(64)]),
+        "section" => section_member(alloc, reader, parts),
+        "pattern" => pattern_member(alloc, reader, parts),
+        "travel" => travel_member(alloc, reader, parts),
         _ => None,
     }
 }
@@ -134,13 +199,15 @@ fn next_member(
     }
 }
 
-/// Nothing read.
+/// Nothing read: each name must stand.
 fn no_parts(alloc: Global) -> Parts
     ensures { PartsStand result no_members }
 {
     Parts {
-        scenario: None,
-        beside: Map::new(alloc),
+        scenario: Err(refuse_member(alloc, Place::Top, "scenario", Unfit::Wrong)),
+        section: Err(refuse_member(alloc, Place::Top, "section", Unfit::Wrong)),
+        pattern: Err(refuse_member(alloc, Place::Top, "pattern", Unfit::Wrong)),
+        travel: Err(refuse_member(alloc, Place::Top, "travel", Unfit::Wrong)),
     }
 }
 
@@ -177,8 +244,9 @@ fn members_of(alloc: Global, reader: &mut Reader<'_>, coming: Coming, file: &[u8
     }
 }
 
-/// The parts of a text that is one object, of whose names so many come.
-fn parts_with(alloc: Global, bytes: &[u8], coming: Coming) -> Option<Parts>
+/// The parts of a text that is one object, of whose names so many come. None, where the text is no JSON, no object or has another name,
+/// where the scenario is not right, and where memory is wanting.
+pub(crate) fn parts_with(alloc: Global, bytes: &[u8], coming: Coming) -> Option<Parts>
     ensures utf8 { IfSome result (λ _. IsUtf8 bytes.now) }
     ensures ok { IfSome result (λ parts. (ms : Members) × (read bytes.now ≡ Some (object ms)) × PartsStand parts ms) }
 {
@@ -197,20 +265,5 @@ fn parts_with(alloc: Global, bytes: &[u8], coming: Coming) -> Option<Parts>
     match reader.next() {
         Some(_) => None,
         None => Some(parts),
-    }
-}
-
-/// The parts of a text that is one object: first all of it is read, and where that gives none, of equal names the last alone. None,
-/// where the text is no JSON, no object or has another name, where the scenario is not right, where what stands beside it is not small, and where memory is wanting.
-pub(crate) fn parts_of(alloc: Global, bytes: &[u8]) -> Option<Parts>
-    ensures utf8 { IfSome result (λ _. IsUtf8 bytes.now) }
-    ensures ok { IfSome result (λ parts. (ms : Members) × (read bytes.now ≡ Some (object ms)) × PartsStand parts ms) }
-{
-    match parts_with(alloc, bytes, Coming::none(alloc)) {
-        Some(parts) => Some(parts),
-        None => {
-            let coming = Coming::again(alloc, bytes)?;
-            parts_with(alloc, bytes, coming)
-        }
     }
 }

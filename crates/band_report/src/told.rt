@@ -12,6 +12,7 @@ ghost use Rattle.band_report.specs.Told.{band_text, two_lines, Says, TellsOf, Te
 
 use crate::asked::{Asked, asked_in};
 use crate::by_parts::asked_by_parts;
+use crate::coming::Coming;
 use crate::first::first_fault;
 use crate::{Band, greatest};
 use scenario_cut::{Form, kept_of};
@@ -81,19 +82,30 @@ fn lines_of(alloc: Global, asked: &Asked) -> Result<Vec<u8>, NoMemory>
     }
 }
 
-/// The answer to bytes whose parts are read in little memory: the two lines, or their first fault. Want of memory stands also for what
-/// this way does not tell.
-fn report_by_parts(alloc: Global, bytes: &[u8]) -> Result<Vec<u8>, ReadFail>
+/// The answer to bytes whose parts are read in little memory, where so many of their names come: the two lines, or their first fault.
+/// Want of memory stands also for what this way does not tell.
+fn report_by_parts(alloc: Global, bytes: &[u8], coming: Coming) -> Result<Vec<u8>, ReadFail>
     ensures told { IfOk result (λ text. TellsBands bytes.now text.items) }
     ensures refused { IfErr result (λ fail. OnRefusal fail (IsFirstBandFault bytes.now)) }
 {
-    let asked = match asked_by_parts(alloc, bytes) {
+    let asked = match asked_by_parts(alloc, bytes, coming) {
         Ok(asked) => asked,
         Err(fail) => return Err(fail),
     };
     match lines_of(alloc, &asked) {
         Ok(text) => Ok(text),
         Err(NoMemory) => Err(ReadFail::NoMemory),
+    }
+}
+
+/// The same where names come again: of equal names the last alone is read.
+fn report_by_last(alloc: Global, bytes: &[u8]) -> Result<Vec<u8>, ReadFail>
+    ensures told { IfOk result (λ text. TellsBands bytes.now text.items) }
+    ensures refused { IfErr result (λ fail. OnRefusal fail (IsFirstBandFault bytes.now)) }
+{
+    match Coming::again(alloc, bytes) {
+        Some(coming) => report_by_parts(alloc, bytes, coming),
+        None => Err(ReadFail::NoMemory),
     }
 }
 
@@ -127,17 +139,23 @@ fn report_by_kept(alloc: Global, bytes: &[u8]) -> Result<Vec<u8>, ReadFail>
 /// and `inbound START WIDTH A B`, or `none` behind the word where no time is open. The refusal is the first fault in the
 /// order of the checks: the JSON reading, the four names and what stands there, those of the scenario with their paths behind
 /// `scenario.`, and then what stands against any band. Where the scenario is right, little is kept of the object; else a fault of it
-/// is looked for with its lists judged item by item, and only where none was found so that is kept on which a fault may hang.
+/// is looked for with its lists judged item by item. Where none was found so, the object is read again without what stands at the
+/// earlier of equal names, and only where that tells nothing that is kept on which a fault may hang.
 pub fn report(alloc: Global, bytes: &[u8]) -> Result<Vec<u8>, ReadFail>
     ensures told { IfOk result (λ text. TellsBands bytes.now text.items) }
     ensures refused { IfErr result (λ fail. OnRefusal fail (IsFirstBandFault bytes.now)) }
 {
-    match report_by_parts(alloc, bytes) {
+    match report_by_parts(alloc, bytes, Coming::none(alloc)) {
         Err(ReadFail::NoMemory) => {}
         told => return told,
     }
     match first_fault(alloc, bytes) {
-        Err(ReadFail::Refused(refusal)) => Err(ReadFail::Refused(refusal)),
-        _ => report_by_kept(alloc, bytes),
+        Err(ReadFail::Refused(refusal)) => return Err(ReadFail::Refused(refusal)),
+        _ => {}
     }
+    match report_by_last(alloc, bytes) {
+        Err(ReadFail::NoMemory) => {}
+        told => return told,
+    }
+    report_by_kept(alloc, bytes)
 }

@@ -19,6 +19,6 @@ pub returns : goal.returns
 returns c =
     let kept = c.in-Ok.ensures.kept in
     let d = kept.0 in
-    let inner = c.in-Err-inner_fault.ensures d kept.1 kept.2 in
+    let inner = c.in-Err-inner_fault.ensures.fault d kept.1 kept.2 in
     refused-first c.args.bytes.now d c.inner_fail.result kept.1
     (scenario-first c.inner_fail.result d (view c.in-Ok.frame) kept.2 c.in-Ok-names_known.ensures.0 (c.inner_fail.ensures (faults (held scenario d)) inner))
