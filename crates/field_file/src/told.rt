@@ -1,7 +1,7 @@
-//! What is told of a field file: the text of its result, refused at its first fault. A field file that is right is read in parts, with
-//! little memory, and the value of any other decides.
+//! What is told of a field file: the text of its result, refused at its first fault. A field file that is right is read in parts, and
+//! the first fault of most others is found, both with little memory; the value of any other decides.
 
-ghost use Rattle.std.specs.Prelude.{◌≡◌, ◌≤◌, ℕ, List, codes, option_map, Some, IfOk, IfErr};
+ghost use Rattle.std.specs.Prelude.{◌≡◌, ◌≤◌, ℕ, List, [], codes, option_map, Some, IfOk, IfErr};
 ghost use Rattle.serde_json.specs.Data.{Data, depth};
 ghost use Rattle.serde_json.specs.Find.{get};
 ghost use Rattle.serde_json.specs.Read.{max_depth};
@@ -12,7 +12,9 @@ ghost use Rattle.scenario_read.specs.Answers.{Reads, OnRefusal};
 ghost use Rattle.scenario_read.specs.Readers.{Answers};
 ghost use Rattle.scenario_checked.specs.Inside.{scenario};
 ghost use Rattle.scenario_file.specs.Source.{Writes};
-ghost use Rattle.field_read.specs.Content.{field_content};
+ghost use Rattle.field_read.specs.Content.{field_content, field_of};
+ghost use Rattle.field_read.specs.Checks.{file_faults};
+ghost use Rattle.field_read.specs.Answers.{IsFirstFieldFault};
 ghost use Rattle.field_file.specs.Written.{with_traffic};
 ghost use Rattle.field_file.specs.Told.{bytes_faults, result_faults, WasRead, TellsOf, TellsResult, IsFirstResultFault};
 ghost use Rattle.field_file.specs.Texts.{IsTextOf};
@@ -21,7 +23,7 @@ use crate::parts::text_in_parts;
 use crate::traffic::{Traffic, at_most, traffic_of};
 use crate::written::result_in;
 use detector_bank::Call;
-use field_read::{Field, Listed, Source, listed, read_source};
+use field_read::{Field, Listed, Source, first_fault, listed, listed_again, read_source};
 use scenario_data::{Entry, ReadFail};
 use scenario_file::ScenarioText;
 use serde_json::Value;
@@ -141,6 +143,24 @@ fn told_whole(alloc: Global, bytes: &[u8]) -> Result<Vec<u8>, ReadFail>
     }
 }
 
+/// What a right field file says, read in parts, or the first fault of another, both in little memory. A try that reads all of a file
+/// finds a fault across its lists. Any other is looked for before the second try: where one is found, no names are counted. Want of
+/// memory stands also for what none of these ways tells.
+fn read_in_parts<'a>(alloc: Global, bytes: &'a [u8]) -> Result<Listed<'a>, ReadFail>
+    ensures ok { IfOk result (λ l. (d : Data) × Reads bytes.now d × (file_faults d ≡ []) × (field_content l.field ≡ field_of d) × Writes l.text (held scenario d)) }
+    ensures refused { IfErr result (λ fail. OnRefusal fail (IsFirstFieldFault bytes.now)) }
+{
+    match listed(alloc, bytes) {
+        Ok(read) => return Ok(read),
+        Err(ReadFail::Refused(refusal)) => return Err(ReadFail::Refused(refusal)),
+        Err(ReadFail::NoMemory) => {}
+    }
+    if let Err(ReadFail::Refused(refusal)) = first_fault(alloc, bytes) {
+        return Err(ReadFail::Refused(refusal));
+    }
+    listed_again(alloc, bytes)
+}
+
 /// The result of a field file as a scenario's compact text and a newline: the calls of its bank behind the inputs and, where patterns
 /// follow the traffic, the schedule that counted traffic gives. The refusal is the first fault in the order of the checks: those of
 /// the file, then more than 1,000,000 inputs, more than 1,000 entries, and more than 16,777,216 bytes of the result.
@@ -148,11 +168,12 @@ pub fn respond(alloc: Global, bytes: &[u8]) -> Result<Vec<u8>, ReadFail>
     ensures told { IfOk result (λ text. TellsResult bytes.now text.items) }
     ensures refused { IfErr result (λ fail. OnRefusal fail (IsFirstResultFault bytes.now)) }
 {
-    match listed(alloc, bytes) {
-        Some(Listed { field, text }) => match told_in_parts(alloc, field, text) {
+    match read_in_parts(alloc, bytes) {
+        Ok(Listed { field, text }) => match told_in_parts(alloc, field, text) {
             Ok(text) => Ok(text),
             Err(fail) => Err(fail),
         },
-        None => told_whole(alloc, bytes),
+        Err(ReadFail::Refused(refusal)) => Err(ReadFail::Refused(refusal)),
+        Err(ReadFail::NoMemory) => told_whole(alloc, bytes),
     }
 }

@@ -1,5 +1,6 @@
 -- What is kept of a field file's value has its first fault; where it has none, that is the value.
-use Rattle.std.proofs.Common.{◌≡◌, ◌≤◌, ℕ, ◌&&◌, Bool, true, false, List, [], ◌∷◌, ◌++◌, codes, Option, Some, None, is_some, refl, sym, ap, ◌∙◌, subst, arith}
+use Rattle.std.proofs.Common.{◌≡◌, ◌≤◌, ◌<◌, ℕ, ◌&&◌, nat_le, Bool, true, false, List, [], ◌∷◌, map, codes, Option, Some, None, option_map, is_some, unwrap_or, refl, sym, ap, ◌∙◌, subst, arith}
+use Rattle.std.proofs.lemmas.Bool.{leb-false}
 use Rattle.serde_json.specs.Data.{Data, null, boolean, number, string, array, object, depth}
 use Rattle.serde_json.specs.Events.{items_len}
 use Rattle.serde_json.specs.Find.{get}
@@ -13,26 +14,26 @@ use Rattle.scenario_data.specs.Causes.{Cause, Names}
 use Rattle.scenario_read.specs.Answers.{Reads, OnRefusal}
 use Rattle.scenario_read.specs.Content.{round_count, cabinet_count}
 use Rattle.scenario_read.specs.Faults.{faults, first_cause}
-use Rattle.scenario_read.specs.Fields.{either, faults_of, field_faults, fields_faults, names, known_fields, unknown_faults, object_of}
+use Rattle.scenario_read.specs.Fields.{either, held, faults_of, field_faults, fields_faults, names, known_fields, unknown_faults, object_of}
 use Rattle.scenario_read.specs.Kinds.{list_of}
 use Rattle.scenario_read.specs.Paths.{Step, then_named}
 use Rattle.scenario_read.specs.Readers.{Refuses}
 use Rattle.scenario_read.specs.Sorted.{Sorted}
 use Rattle.scenario_read.specs.Table.{round, cabinet_number, on}
 use Rattle.scenario_read.proofs.Rising.{read-sorted}
-use Rattle.scenario_cut.specs.declared.form.Form.TheVariants.{Field, Whole, Pulse, Entries, Entry, Respond, Sections, Section}
+use Rattle.scenario_cut.specs.declared.form.Form.TheVariants.{Field, Whole, Pulse, Entries, Entry, Respond, Sections, Section, Steps, Step as StepForm}
 use Rattle.scenario_cut.specs.Cutting.{is_of_a_round, cut}
 use Rattle.scenario_cut.specs.Texts.{IsNoText}
-use Rattle.scenario_cut.proofs.Same.{Same, Faulty, faulty-first, faulty-later, same-map, map-none, same-more, kept-right}
-use Rattle.scenario_cut.proofs.Known.{none-left, AllGive}
-use Rattle.scenario_cut.proofs.Members.{IsObject, AllKeep, object-same, held-cut}
+use Rattle.scenario_cut.proofs.Same.{Same, Faulty, same-both, same-ended, faulty-first, faulty-later, same-map, map-none, same-more, kept-right}
+use Rattle.scenario_cut.proofs.Known.{none-left}
+use Rattle.scenario_cut.proofs.Members.{IsObject, object-same, held-cut, get-cut}
 use Rattle.scenario_cut.proofs.Items.{KeepsItem, PulseStops, few-same, pulses-same}
 use Rattle.scenario_cut.proofs.Kept.{whole-same, flag-same, le-of, entries-same, object-stops}
-use Rattle.scenario_cut.proofs.Scenario.{first-kept, rounds-same, count-same}
-use Rattle.scenario_cut.proofs.Entire.{Entire, KeptAt, whole-entire, flag-entire, list-entire, counted-entire, entries-entire, pulses-entire, object-entire, faultless-entire}
+use Rattle.scenario_cut.proofs.Scenario.{first-kept, rounds-same, cabinets_in, count-same, count-fault}
+use Rattle.scenario_cut.proofs.Entire.{Entire, whole-entire, flag-entire, list-entire, counted-entire, entries-entire, pulses-entire, object-entire, faultless-entire}
 use Rattle.scenario_cut.proofs.Shapes.{sorted-kept, depth-kept}
 use Rattle.scenario_checked.specs.Inside.{inner_cause, inner_scenario, scenario}
-use Rattle.field_read.specs.Table.{detector, detector_shape, pulse_shape, step_shape, section_shape, respond_shape, field_shape}
+use Rattle.field_read.specs.Table.{detector, detector_shape, pulse_shape, step_shape, section_shape, respond_shape, traffic_fields, field_shape}
 use Rattle.field_read.specs.Content.{field_of, rounds_run, cabinets_run}
 use Rattle.field_read.specs.Checks.{named_faults, across_faults, file_faults}
 use Rattle.field_read.specs.Answers.{IsFirstFieldFault}
@@ -52,24 +53,27 @@ is-entry = record { opens = refl; closed = refl }
 
 detector-same : (cabinets : ℕ) → KeepsItem Entry (object_of (detector_shape cabinets))
 detector-same cabinets path d =
-    object-same Entry is-entry (detector_shape cabinets) path d
+    object-same Entry is-entry (detector_shape cabinets) refl path d
     (whole-same 1 cabinets, (whole-same 1 64, (whole-same 1 16, (whole-same 0 255, (whole-same 0 255, (whole-same 0 65535, (whole-same 0 65535, (whole-same 0 255, tt)))))))) tt
+
+pub bank-same : (cabinets : ℕ) → KeepsItem Entries (list_of 0 512 (object_of (detector_shape cabinets)))
+bank-same cabinets = entries-same 512 (omega arith) (object_of (detector_shape cabinets)) (detector-same cabinets)
 
 detector-entire : (cabinets : ℕ) → Entire Entry (object_of (detector_shape cabinets))
 detector-entire cabinets =
-    object-entire Entry is-entry (detector_shape cabinets)
+    object-entire Entry is-entry (detector_shape cabinets) refl
     (whole-entire 1 cabinets, (whole-entire 1 64, (whole-entire 1 16, (whole-entire 0 255, (whole-entire 0 255, (whole-entire 0 65535, (whole-entire 0 65535, (whole-entire 0 255, tt)))))))) tt
 
 is-pulse : IsObject Pulse
 is-pulse = record { opens = refl; closed = refl }
 
-pulse-same : (rounds cabinets : ℕ) → KeepsItem Pulse (object_of (pulse_shape rounds cabinets))
+pub pulse-same : (rounds cabinets : ℕ) → KeepsItem Pulse (object_of (pulse_shape rounds cabinets))
 pulse-same rounds cabinets path d =
-    object-same Pulse is-pulse (pulse_shape rounds cabinets) path d (whole-same 1 rounds, (whole-same 1 cabinets, (whole-same 1 64, (flag-same, tt)))) tt
+    object-same Pulse is-pulse (pulse_shape rounds cabinets) refl path d (whole-same 1 rounds, (whole-same 1 cabinets, (whole-same 1 64, (flag-same, tt)))) tt
 
 pulse-entire : (rounds cabinets : ℕ) → Entire Pulse (object_of (pulse_shape rounds cabinets))
 pulse-entire rounds cabinets =
-    object-entire Pulse is-pulse (pulse_shape rounds cabinets) (whole-entire 1 rounds, (whole-entire 1 cabinets, (whole-entire 1 64, (flag-entire, tt)))) tt
+    object-entire Pulse is-pulse (pulse_shape rounds cabinets) refl (whole-entire 1 rounds, (whole-entire 1 cabinets, (whole-entire 1 64, (flag-entire, tt)))) tt
 
 -- a pulse of a round and a cabinet that has no detector, or is neither on nor off
 undetected : (rounds cabinets : ℕ) (path : List Step) (d : Data) → (is_some (get (codes "detector") d) && is_some (get (codes "on") d)) ≡ false → Faulty (fields_faults path d (pulse_shape rounds cabinets).fields)
@@ -99,21 +103,32 @@ pulse-stops rounds cabinets path (object ms) none = at (is_of_a_round (object ms
 
 -- ---- the rules of the sections
 
-step-same : KeepsItem Entry (object_of step_shape)
-step-same path d = object-same Entry is-entry step_shape path d (whole-same 1 1000000, (whole-same 1 1000000, (whole-same 0 255, tt))) tt
+is-step : IsObject StepForm
+is-step = record { opens = refl; closed = refl }
 
-step-entire : Entire Entry (object_of step_shape)
-step-entire = object-entire Entry is-entry step_shape (whole-entire 1 1000000, (whole-entire 1 1000000, (whole-entire 0 255, tt))) tt
+step-same : KeepsItem StepForm (object_of step_shape)
+step-same path d = object-same StepForm is-step step_shape refl path d (whole-same 1 1000000, (whole-same 1 1000000, (whole-same 0 255, tt))) tt
+
+step-entire : Entire StepForm (object_of step_shape)
+step-entire = object-entire StepForm is-step step_shape refl (whole-entire 1 1000000, (whole-entire 1 1000000, (whole-entire 0 255, tt))) tt
+
+steps-same : KeepsItem Steps (list_of 0 8 (object_of step_shape))
+steps-same path d = few-same Steps (record { opens = refl; closed = refl }) (λ n d. refl) 0 8 (omega arith) (object_of step_shape) step-same path d
+
+steps-entire : Entire Steps (list_of 0 8 (object_of step_shape))
+steps-entire =
+    list-entire Steps (record { opens = refl; closed = refl }) 0 8 (object_of step_shape)
+    (λ path ds sorted few e. let low = le-of (items_len ds) 8 few in counted-entire StepForm (object_of step_shape) step-entire (λ n d. refl) path 9 0 ds sorted (omega (arith, low)) e)
 
 is-section : IsObject Section
 is-section = record { opens = refl; closed = refl }
 
 section-same : KeepsItem Section (object_of section_shape)
 section-same path d =
-    object-same Section is-section section_shape path d (whole-same 1 8, (whole-same 0 255, (entries-same 8 (omega arith) (object_of step_shape) step-same, tt))) tt
+    object-same Section is-section section_shape refl path d (whole-same 1 8, (whole-same 0 255, (steps-same, tt))) tt
 
 section-entire : Entire Section (object_of section_shape)
-section-entire = object-entire Section is-section section_shape (whole-entire 1 8, (whole-entire 0 255, (entries-entire 8 (omega arith) (object_of step_shape) step-entire, tt))) tt
+section-entire = object-entire Section is-section section_shape refl (whole-entire 1 8, (whole-entire 0 255, (steps-entire, tt))) tt
 
 sections-same : KeepsItem Sections (list_of 1 8 (object_of section_shape))
 sections-same path d =
@@ -127,11 +142,11 @@ sections-entire =
 is-respond : IsObject Respond
 is-respond = record { opens = refl; closed = refl }
 
-respond-same : KeepsItem Respond (object_of respond_shape)
-respond-same path d = object-same Respond is-respond respond_shape path d (whole-same 1 3600, (sections-same, tt)) tt
+pub respond-same : KeepsItem Respond (object_of respond_shape)
+respond-same path d = object-same Respond is-respond respond_shape refl path d (whole-same 1 3600, (sections-same, tt)) tt
 
 respond-entire : Entire Respond (object_of respond_shape)
-respond-entire = object-entire Respond is-respond respond_shape (whole-entire 1 3600, (sections-entire, tt)) tt
+respond-entire = object-entire Respond is-respond respond_shape refl (whole-entire 1 3600, (sections-entire, tt)) tt
 
 -- ---- the whole
 
@@ -139,25 +154,61 @@ is-field : IsObject Field
 is-field = record { opens = refl; closed = refl }
 
 rounds-kept : (d : Data) → rounds_run (cut Field d) ≡ rounds_run d
-rounds-kept = held-cut Field is-field scenario round_count rounds-same
+rounds-kept = held-cut Field is-field scenario refl round_count rounds-same
 
-cabinets-kept : (d : Data) → cabinets_run (cut Field d) ≡ cabinets_run d
-cabinets-kept = held-cut Field is-field scenario cabinet_count count-same
+-- the cabinets in the scenario that stands there
+abbrev inner_cabinets : Data → ℕ
+inner_cabinets d = cabinets_in (held scenario d)
+
+cabinets-kept : (d : Data) → inner_cabinets d ≤ 64 → cabinets_run (cut Field d) ≡ cabinets_run d
+cabinets-kept d few = ap (λ o. cabinet_count (unwrap_or (either o None) null)) (get-cut Field is-field (codes "scenario") refl d) ∙ at (get (codes "scenario") d) few
+  where
+    at : (o : Option Data) → cabinets_in (unwrap_or (either o None) null) ≤ 64 → cabinet_count (unwrap_or (either (option_map (cut Whole) o) None) null) ≡ cabinet_count (unwrap_or (either o None) null)
+    at None low = refl
+    at (Some v) low = count-same v low
+
+-- more cabinets than a scenario may have are a fault of the scenario, before all that hangs on their number
+map-faulty : (f : Cause → Cause) (xs : List Cause) → Faulty xs → Faulty (map f xs)
+map-faulty f [] some = absurd some
+map-faulty f (x ∷ xs) some = tt
+
+many-cabinets : (d : Data) → 64 < inner_cabinets d → Faulty (field_faults [] d scenario)
+many-cabinets d many = at (get (codes "scenario") d) many
+  where
+    at : (o : Option Data) → 64 < cabinets_in (unwrap_or (either o None) null) → Faulty (faults_of inner_scenario (then_named [] (codes "scenario")) (either o None))
+    at None low = tt
+    at (Some v) low = map-faulty inner_cause (faults v) (count-fault v low)
+
+counts-same : (rounds n k : ℕ) (d : Data) → Faulty (field_faults [] d scenario) → Same (object_of (field_shape rounds n) [] d) (object_of (field_shape rounds k) [] d)
+counts-same rounds n k null some = refl
+counts-same rounds n k (boolean b) some = refl
+counts-same rounds n k (number m) some = refl
+counts-same rounds n k (string s) some = refl
+counts-same rounds n k (array ds) some = refl
+counts-same rounds n k (object ms) some =
+    let d = object ms in
+    let unknown = unknown_faults (names (known_fields (field_shape rounds n) d)) [] ms in
+    same-both unknown unknown _ _ refl
+    (same-both (fields_faults [] d (field_shape rounds n).fields) (fields_faults [] d (field_shape rounds k).fields) [] []
+    (same-ended (field_faults [] d scenario) (field_faults [] d scenario) (fields_faults [] d (traffic_fields rounds n)) (fields_faults [] d (traffic_fields rounds k)) refl some) refl)
 
 shape-same : (rounds cabinets : ℕ) (d : Data) → Same (object_of (field_shape rounds cabinets) [] (cut Field d)) (object_of (field_shape rounds cabinets) [] d)
 shape-same rounds cabinets d =
-    object-same Field is-field (field_shape rounds cabinets) [] d
-    (scenario-same, (entries-same 512 (omega arith) (object_of (detector_shape cabinets)) (detector-same cabinets), (pulses-same 1000000 (object_of (pulse_shape rounds cabinets)) (pulse-same rounds cabinets) (pulse-stops rounds cabinets), (respond-same, tt)))) tt
+    object-same Field is-field (field_shape rounds cabinets) refl [] d
+    (scenario-same, (bank-same cabinets, (pulses-same 1000000 (object_of (pulse_shape rounds cabinets)) (pulse-same rounds cabinets) (pulse-stops rounds cabinets), (respond-same, tt)))) tt
 
 names-same : (d : Data) → Same (named_faults (cut Field d)) (named_faults d)
 names-same d =
     ap (λ r. first_cause (object_of (field_shape r (cabinets_run (cut Field d))) [] (cut Field d))) (rounds-kept d)
-    ∙ ap (λ c. first_cause (object_of (field_shape (rounds_run d) c) [] (cut Field d))) (cabinets-kept d)
-    ∙ shape-same (rounds_run d) (cabinets_run d) d
+    ∙ shape-same (rounds_run d) (cabinets_run (cut Field d)) d ∙ at (nat_le (inner_cabinets d) 64) refl
+  where
+    at : (b : Bool) → nat_le (inner_cabinets d) 64 ≡ b → Same (object_of (field_shape (rounds_run d) (cabinets_run (cut Field d))) [] d) (object_of (field_shape (rounds_run d) (cabinets_run d)) [] d)
+    at true few = ap (λ c. first_cause (object_of (field_shape (rounds_run d) c) [] d)) (cabinets-kept d (le-of (inner_cabinets d) 64 few))
+    at false many = counts-same (rounds_run d) (cabinets_run (cut Field d)) (cabinets_run d) d (many-cabinets d (leb-false (inner_cabinets d) 64 many))
 
 shape-entire : (rounds cabinets : ℕ) → Entire Field (object_of (field_shape rounds cabinets))
 shape-entire rounds cabinets =
-    object-entire Field is-field (field_shape rounds cabinets)
+    object-entire Field is-field (field_shape rounds cabinets) refl
     (scenario-entire, (entries-entire 512 (omega arith) (object_of (detector_shape cabinets)) (detector-entire cabinets), (pulses-entire 1000000 (object_of (pulse_shape rounds cabinets)) (pulse-entire rounds cabinets) (pulse-stops rounds cabinets), (respond-entire, tt)))) tt
 
 names-entire : (d : Data) → Sorted d → named_faults d ≡ [] → cut Field d ≡ d

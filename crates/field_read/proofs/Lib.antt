@@ -13,3 +13,4 @@ pub mod Narrow
 pub mod Saying
 pub mod Kept
 pub mod FirstFaults
+pub mod Judging

@@ -1,5 +1,5 @@
 -- No limit of a field file is that of the whole: each has the name of what is beyond it.
-use Rattle.std.proofs.Common.{◌≡◌, ◌+◌, ◌*◌, ℕ, zero, suc, List, [], ◌∷◌, ◌++◌, length, Option, Some, None, codes, String, string_bytes, arith}
+use Rattle.std.proofs.Common.{◌≡◌, ◌*◌, ℕ, zero, suc, List, [], ◌∷◌, ◌++◌, length, Option, Some, None, codes, String, string_bytes, arith}
 use Rattle.std.specs.declared.alloc.Global.{Global}
 use Rattle.serde_json.specs.Data.{Data}
 use Rattle.scenario_data.specs.declared.refusal.Refusal.TheVariants.{Limit as LimitRefusal}

@@ -12,7 +12,7 @@ use Rattle.field_read.specs.declared.parts.Parts.{Parts}
 use Rattle.field_read.specs.Lists.{Holds, name_of}
 use Rattle.field_read.specs.Parts.{IsAt, IsList, ListStands, PartsStand}
 
-apart : (k l : List ℕ) → bytes_eq k l ≡ false → k ≡ l → ⊥
+pub apart : (k l : List ℕ) → bytes_eq k l ≡ false → k ≡ l → ⊥
 apart k l other same =
     let both : bytes_eq k l ≡ true = (bytes_eq-Decides k l).1 same in
     let clash : true ≡ false = sym both ∙ other in

@@ -6,3 +6,4 @@ pub mod Answers
 pub mod Lists
 pub mod Parts
 pub mod Right
+pub mod Judging

@@ -1,21 +1,21 @@
 //! Names that come again in a field file, and in its scenario. All but the last of each can so be passed over unread.
 
-use scenario_file::{LARGE_NAMES, Left};
+use scenario_file::{Left, SCENARIO_NAMES};
 use std::alloc::Global;
 
 /// The names of a field file.
 const NAMES: [&str; 4] = ["scenario", "bank", "pulses", "respond"];
 
-/// How often names are still to come: the whole object's own, and the large ones of the last scenario in it.
+/// How often names are still to come: the whole object's own, and those of the last scenario in it.
 #[derive(Drop)]
 pub(crate) struct Coming {
     pub own: Left,
     pub inner: Left,
 }
 
-/// The large names of the last scenario; none are counted where a scenario is no object.
+/// The names of the last scenario; none are counted where a scenario is no object.
 fn inner_of(alloc: Global, bytes: &[u8]) -> Left {
-    match Left::of_inner(alloc, bytes, "scenario", &LARGE_NAMES) {
+    match Left::of_inner(alloc, bytes, "scenario", &SCENARIO_NAMES) {
         Some(inner) => inner,
         None => Left::none(alloc),
     }

@@ -1,6 +1,7 @@
 //! The field file (RFC 8259): a scenario, the vehicle detectors of its cabinets with their pulses, and how patterns follow the
 //! traffic, as one JSON object with the names `scenario`, `bank`, `pulses` and `respond`. Read whole, it is refused at its first
-//! fault. Read item by item, a right file takes little memory, and of any other nothing is said.
+//! fault. Read item by item, a right file takes little memory, and so does one whose first fault lies across its lists, which is refused
+//! at it; of any other nothing is said.
 #![tactic(auto)]
 
 mod across;
@@ -9,6 +10,7 @@ mod coming;
 mod first;
 mod found;
 mod inner;
+mod judged;
 mod list_reading;
 mod lists;
 mod marks;
@@ -32,7 +34,8 @@ ghost use Rattle.field_read.specs.Answers.{IsField, IsFirstFieldFault};
 
 pub use across::lists_fit;
 pub use bank::detector_in;
-pub use list_reading::listed;
+pub use first::first_fault;
+pub use list_reading::{listed, listed_again};
 pub use named::Field;
 pub use pulses::pulse_in;
 pub use reading::{Source, read_source};

@@ -1,28 +1,70 @@
-//! The field file: bytes in, and what it says out where it is right.
+//! The field file: bytes in, and what it says out where it is right, or its first fault where that lies across its lists. It is read at
+//! once, and in a second try of names that come again the last alone. Each try says nothing of a file at which it gives up.
 
-ghost use Rattle.std.specs.Prelude.{◌≡◌, [], IfSome};
+ghost use Rattle.std.specs.Prelude.{◌≡◌, [], IfSome, IfOk, IfErr};
 ghost use Rattle.serde_json.specs.Data.{Data};
 ghost use Rattle.scenario_read.specs.Fields.{held};
-ghost use Rattle.scenario_read.specs.Answers.{Reads};
+ghost use Rattle.scenario_read.specs.Answers.{Reads, OnRefusal};
 ghost use Rattle.scenario_checked.specs.Inside.{scenario};
 ghost use Rattle.scenario_file.specs.Source.{Writes};
+ghost use Rattle.field_read.specs.Answers.{IsFirstFieldFault};
 ghost use Rattle.field_read.specs.Content.{field_content, field_of};
 ghost use Rattle.field_read.specs.Checks.{file_faults};
+ghost use Rattle.field_read.specs.Right.{SaysNames};
 
+use crate::coming::Coming;
 use crate::lists_fit;
-use crate::top::parts_of;
+use crate::top::parts_with;
 use crate::whole::{Listed, whole_of};
+use scenario_data::ReadFail;
 use std::alloc::Global;
 
-/// Reads a field file that is right, in time that grows with its bytes and in the memory of what it says: nothing, where it
-/// isn't right, where an earlier of equal names isn't (but for its own and the scenario's large ones), or where memory is wanting.
-pub fn listed<'a>(alloc: Global, bytes: &'a [u8]) -> Option<Listed<'a>>
-    ensures ok { IfSome result (λ l. (d : Data) × Reads bytes.now d × (file_faults d ≡ []) × (field_content l.field ≡ field_of d) × Writes l.text (held scenario d)) }
+/// What the names of a field file say, of whose names so many come, where all of it is read and no name is at fault.
+fn names_with<'a>(alloc: Global, bytes: &'a [u8], coming: Coming) -> Option<Listed<'a>>
+    ensures { IfSome result (λ l. (d : Data) × Reads bytes.now d × SaysNames l d) }
 {
-    let parts = parts_of(alloc, bytes)?;
+    let parts = parts_with(alloc, bytes, coming)?;
     let listed = whole_of(parts)?;
+    Some(listed)
+}
+
+/// Reads a field file that is right, of whose names so many come, or finds its first fault where that lies across its lists.
+fn listed_with<'a>(alloc: Global, bytes: &'a [u8], coming: Coming) -> Result<Listed<'a>, ReadFail>
+    ensures ok { IfOk result (λ l. (d : Data) × Reads bytes.now d × (file_faults d ≡ []) × (field_content l.field ≡ field_of d) × Writes l.text (held scenario d)) }
+    ensures refused { IfErr result (λ fail. OnRefusal fail (IsFirstFieldFault bytes.now)) }
+{
+    let Some(listed) = names_with(alloc, bytes, coming) else {
+        return Err(ReadFail::NoMemory);
+    };
     match lists_fit(alloc, &listed.field) {
-        Ok(()) => Some(listed),
-        Err(_) => None,
+        Ok(()) => Ok(listed),
+        Err(fail) => Err(fail),
+    }
+}
+
+/// Reads a field file that is right, in time that grows with its bytes and in the memory of what it says. It is the first try, and the
+/// only one that most right files need: no name is counted beforehand. The refusal is the first fault of the file, found where that lies
+/// across its lists and all of them were read. Want of memory stands also for what this way does not tell: where a name or what stands
+/// there is at fault, or an earlier of equal names, or a detector or a pulse is of a round or a cabinet that there isn't.
+pub fn listed<'a>(alloc: Global, bytes: &'a [u8]) -> Result<Listed<'a>, ReadFail>
+    ensures ok { IfOk result (λ l. (d : Data) × Reads bytes.now d × (file_faults d ≡ []) × (field_content l.field ≡ field_of d) × Writes l.text (held scenario d)) }
+    ensures refused { IfErr result (λ fail. OnRefusal fail (IsFirstFieldFault bytes.now)) }
+{
+    listed_with(alloc, bytes, Coming::none(alloc))
+}
+
+/// Reads a field file that is right and in which a name comes again, its own or one of the scenario's: of each such name the
+/// last alone, as what stands at an earlier one may be at fault or large. It takes time and memory as `listed` does, and first the time
+/// of two passes that count the names. It is the second try, for files in which `first_fault` finds none. The refusal is the first fault
+/// of the file, as that of `listed` is. Want of memory stands also for what this way does not tell: where no such name comes again, where
+/// a name or what stands there last is at fault, or an earlier of other equal names, or a detector or a pulse is of a round or a cabinet
+/// that there isn't.
+pub fn listed_again<'a>(alloc: Global, bytes: &'a [u8]) -> Result<Listed<'a>, ReadFail>
+    ensures ok { IfOk result (λ l. (d : Data) × Reads bytes.now d × (file_faults d ≡ []) × (field_content l.field ≡ field_of d) × Writes l.text (held scenario d)) }
+    ensures refused { IfErr result (λ fail. OnRefusal fail (IsFirstFieldFault bytes.now)) }
+{
+    match Coming::again(alloc, bytes) {
+        Some(coming) => listed_with(alloc, bytes, coming),
+        None => Err(ReadFail::NoMemory),
     }
 }

@@ -1,5 +1,5 @@
-//! The field file: bytes in, what it says with its value, or the first fault out. There is no reader without the value: who reads
-//! a field file makes the scenario that comes of it from this.
+//! The field file: bytes in, what it says with its value, or the first fault out. This way answers for any file, since it keeps a
+//! value: who asks it makes the scenario that comes of the file from that.
 
 ghost use Rattle.std.specs.Prelude.{◌≡◌, ◌≤◌, [], IfOk, IfErr};
 ghost use Rattle.serde_json.specs.Data.{depth};
@@ -14,7 +14,6 @@ ghost use Rattle.field_read.specs.Checks.{file_faults};
 ghost use Rattle.field_read.specs.Answers.{IsFirstFieldFault};
 
 use crate::across::lists_fit;
-use crate::first::first_fault;
 use crate::named::{Field, named_in};
 use scenario_cut::{Form, kept_of};
 use scenario_data::ReadFail;
@@ -45,8 +44,12 @@ pub struct Source {
     pub value: Value,
 }
 
-/// Reads a field file with what is kept of its value: all of a right one, and of any other that on which its first fault may hang.
-fn read_kept(alloc: Global, bytes: &[u8]) -> Result<Source, ReadFail>
+/// Reads a field file with its value, in time and memory that grow with its bytes. The refusal is the first fault in the order
+/// of the checks: the JSON reading, the names and values in the order of their table, those of the scenario with their paths
+/// behind `scenario.`, and then what lies across the lists. The compact text of its scenario reads as that scenario. A value is kept: all
+/// of a right one, and of any other that on which its first fault may hang. So it takes the most memory, and is the last way, for files
+/// of which `listed`, `first_fault` and `listed_again` tell nothing.
+pub fn read_source(alloc: Global, bytes: &[u8]) -> Result<Source, ReadFail>
     ensures value { IfOk result (λ s. Reads bytes.now (view s.value)) }
     ensures nests { IfOk result (λ s. depth (view s.value) ≤ max_depth) }
     ensures clean { IfOk result (λ s. file_faults (view s.value) ≡ []) }
@@ -61,23 +64,5 @@ fn read_kept(alloc: Global, bytes: &[u8]) -> Result<Source, ReadFail>
     match field_in(alloc, &value) {
         Ok(field) => Ok(Source { field, value }),
         Err(fail) => Err(fail),
-    }
-}
-
-/// Reads a field file with its value, in time and memory that grow with its bytes. The refusal is the first fault in the order
-/// of the checks: the JSON reading, the names and values in the order of their table, those of the scenario with their paths
-/// behind `scenario.`, and then what lies across the lists. The compact text of its scenario reads as that scenario. A fault of the
-/// scenario is looked for with its lists judged item by item; only where none was found so is a value kept.
-pub fn read_source(alloc: Global, bytes: &[u8]) -> Result<Source, ReadFail>
-    ensures value { IfOk result (λ s. Reads bytes.now (view s.value)) }
-    ensures nests { IfOk result (λ s. depth (view s.value) ≤ max_depth) }
-    ensures clean { IfOk result (λ s. file_faults (view s.value) ≡ []) }
-    ensures told { IfOk result (λ s. field_content s.field ≡ field_of (view s.value)) }
-    ensures refused { IfErr result (λ fail. OnRefusal fail (IsFirstFieldFault bytes.now)) }
-    ensures scenario { IfOk result (λ s. IsScenario s.field.scenario.compact.items (scenario_content s.field.scenario)) }
-{
-    match first_fault(alloc, bytes) {
-        Err(ReadFail::Refused(refusal)) => Err(ReadFail::Refused(refusal)),
-        _ => read_kept(alloc, bytes),
     }
 }

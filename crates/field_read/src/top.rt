@@ -1,5 +1,5 @@
 //! The whole text of a field file: an object with none but the four names, whose lists are read item by item. Of equal names the last
-//! counts; where an earlier one is at fault or large, the last alone is read.
+//! counts; where they were counted beforehand, the last alone is read.
 
 ghost use Rattle.std.specs.Prelude.{◌≡◌, ◌<◌, length, Some, IfSome, IsUtf8, codes};
 ghost use Rattle.json.specs.Json.{value, members};
@@ -15,7 +15,8 @@ use crate::lists::list_at;
 use crate::parts::{Parts, no_parts, put_list, put_respond, put_scenario};
 use crate::respond_in;
 use json::{Reader, Scratch, Token};
-use scenario_file::{Left, Level, last_scenario_at, pass, tree};
+use scenario_cut::pass;
+use scenario_file::{Left, Level, scenario_at, tree};
 use std::alloc::Global;
 use std::mem::replace;
 
@@ -35,7 +36,7 @@ pub(crate) struct Reading<'a> {
     pub coming: Coming,
 }
 
-/// Reads the scenario, of whose large names so many come.
+/// Reads the scenario, of whose names so many come.
 fn scenario_member<'a>(
     alloc: Global,
     reader: &mut Reader<'_>,
@@ -47,7 +48,7 @@ fn scenario_member<'a>(
     ensures shorter { IfSome result (λ _. length reader.new < length reader.old) }
 {
     let left = replace(inner, Left::none(alloc));
-    let source = last_scenario_at(alloc, reader, left, file)?;
+    let source = scenario_at(alloc, reader, left, file)?;
     put_scenario(parts, source);
     Some(())
 }
@@ -169,8 +170,8 @@ fn members_of<'a>(
     }
 }
 
-/// The parts of a text that is one object, of whose names so many come.
-fn parts_with<'a>(alloc: Global, bytes: &'a [u8], coming: Coming) -> Option<Parts<'a>>
+/// The parts of a text that is one object, of whose names so many come: of a name that was counted the last alone is read.
+pub(crate) fn parts_with<'a>(alloc: Global, bytes: &'a [u8], coming: Coming) -> Option<Parts<'a>>
     ensures utf8 { IfSome result (λ _. IsUtf8 bytes.now) }
     ensures ok { IfSome result (λ parts. (ms : Members) × (read bytes.now ≡ Some (object ms)) × PartsStand parts ms) }
 {
@@ -189,19 +190,5 @@ fn parts_with<'a>(alloc: Global, bytes: &'a [u8], coming: Coming) -> Option<Part
     match reader.next() {
         Some(_) => None,
         None => Some(parts),
-    }
-}
-
-/// The parts of a text that is one object: first all of it is read, and where that gives none, of equal names the last alone.
-pub(crate) fn parts_of<'a>(alloc: Global, bytes: &'a [u8]) -> Option<Parts<'a>>
-    ensures utf8 { IfSome result (λ _. IsUtf8 bytes.now) }
-    ensures ok { IfSome result (λ parts. (ms : Members) × (read bytes.now ≡ Some (object ms)) × PartsStand parts ms) }
-{
-    match parts_with(alloc, bytes, Coming::none(alloc)) {
-        Some(parts) => Some(parts),
-        None => {
-            let coming = Coming::again(alloc, bytes)?;
-            parts_with(alloc, bytes, coming)
-        }
     }
 }

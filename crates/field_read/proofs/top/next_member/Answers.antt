@@ -1,5 +1,5 @@
 use Rattle.std.proofs.Common.{sym, subst}
-use Rattle.serde_json.specs.Data.{Members, put}
+use Rattle.serde_json.specs.Data.{Members}
 use Rattle.scenario_file.specs.Left.{is_left, without}
 use Rattle.scenario_file.proofs.Leaving.{passed-over, read-last}
 use Rattle.field_read.specs.Parts.{PartsStand}

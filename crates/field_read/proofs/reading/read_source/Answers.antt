@@ -2,7 +2,7 @@ use Rattle.std.proofs.Common.{◌≡◌, sym, subst}
 use Rattle.serde_json.specs.View.{view}
 use Rattle.scenario_read.specs.Answers.{Reads}
 use Rattle.field_read.proofs.Kept.{kept-sorted, kept-low, field-right, field-refused, no-field}
-use Rattle.field_read.proofs.reading.read_kept.Goals as goal
+use Rattle.field_read.proofs.reading.read_source.Goals as goal
 
 pub field_in-requires : goal.field_in-requires
 field_in-requires c =

@@ -1,0 +1,23 @@
+use Rattle.std.proofs.Common.{◌≡◌, ◌∷◌, length, ap, ◌∙◌, arith}
+use Rattle.json.specs.Json.{value, items, parse_map}
+use Rattle.json.specs.Reads.{token_of}
+use Rattle.json.proofs.Grammar.{value-begin_array}
+use Rattle.serde_json.specs.Data.{array}
+use Rattle.serde_json.specs.Read.{of_json, converted}
+use Rattle.scenario_cut.proofs.Turns.{converted-array}
+use Rattle.field_read.proofs.judged.judge_list.Goals as goal
+
+pub returns-in_ok-judged-in-BeginArray-clause-ok : goal.returns-in_ok-judged-in-BeginArray-clause-ok
+returns-in_ok-judged-in-BeginArray-clause-ok c =
+    let rest = c.next.new.self in
+    let first : c.args.reader.now ≡ token_of c.in_ok-token.token ∷ rest = grind arith in
+    let opened = ap (converted of_json) (ap (value 126) (first ∙ ap (λ k. token_of k ∷ rest) c.in-BeginArray.is) ∙ value-begin_array 126 rest (omega arith)) ∙ converted-array (items (value 125) (length rest) rest) in
+    let found = c.in_ok-judged-in-BeginArray.ensures.ok in
+    (array found.0, opened ∙ ap (parse_map array) found.1, c.verdict.ensures c.args.extent found.0 found.2)
+
+pub returns-then-pass_other-clause-ok : goal.returns-then-pass_other-clause-ok
+returns-then-pass_other-clause-ok c =
+    let rest = c.next.new.self in
+    let first : c.args.reader.now ≡ token_of c.in_ok-token.token ∷ rest = grind arith in
+    let done = c.pass_other.ensures.passed c.if-pass_other.true in
+    (done.0, ap (λ ts. converted of_json (value 126 ts)) first ∙ done.1, c.no_list.ensures c.args.extent done.0 done.2)
