@@ -75,6 +75,8 @@ SHAPES = (
     listed("objects of a round with more", b"{" + ROUND + b',"a":0,"b":0,"c":0}'),
     listed("objects of a round with lists", b"{" + ROUND + b',"cells":[[1],[1],[1],[1],[1],[1],[1],[1]]}'),
     listed("inputs", b"{" + ROUND + b',"veh":1,"on":true}'),
+    listed("pulses", b"{" + ROUND + b',"detector":1,"on":true}'),
+    listed("sections of steps", b'{"steps":[' + b",".join([b'{"up":1}'] * 100) + b"]}"),
     listed("cells", b'["phase",2,2,5]'),
     listed("deep lists", nested(b"[", b"", b"]", DEEP)),
     listed("deep objects", nested(b'{"a":', b"1", b"}", DEEP)),
@@ -173,7 +175,11 @@ IN_FIELD = {
     ),
 }
 
-OF_SCENARIO = tuple(places_in(SCENARIO, IN_SCENARIO))
+BEHIND = members({name: value for name, value in SCENARIO.items() if name != "inputs"})
+OF_SCENARIO = (
+    *places_in(SCENARIO, IN_SCENARIO),
+    Place("inputs: it, behind rounds at fault", b'{"rounds":[1.5],"inputs":', b"," + BEHIND + b"}", False),
+)
 
 
 def around(values, inner):
