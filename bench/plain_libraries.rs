@@ -782,6 +782,10 @@ pub mod serde_json {
             std::str::from_utf8(text).ok().and_then(Value::parsed).ok_or(Error)
         }
 
+        pub fn is_null(&self) -> bool {
+            matches!(self, Value::Null)
+        }
+
         fn parsed(text: &str) -> Option<Value> {
             let mut scratch = Scratch::new(Global);
             let mut reader = Reader::new(text, &mut scratch).ok()?;

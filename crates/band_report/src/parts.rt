@@ -244,8 +244,9 @@ fn members_of(alloc: Global, reader: &mut Reader<'_>, coming: Coming, file: &[u8
     }
 }
 
-/// The parts of a text that is one object, of whose names so many come. None, where the text is no JSON, no object or has another name,
-/// where the scenario is not right, and where memory is wanting.
+/// The parts of a text that is one object, of whose names so many come: of a name that was counted the last alone is read, and so of
+/// those of the scenario's master, where those of the scenario were counted. None, where the text is no JSON, no object or has another
+/// name, where the scenario is not right, and where memory is wanting.
 pub(crate) fn parts_with(alloc: Global, bytes: &[u8], coming: Coming) -> Option<Parts>
     ensures utf8 { IfSome result (λ _. IsUtf8 bytes.now) }
     ensures ok { IfSome result (λ parts. (ms : Members) × (read bytes.now ≡ Some (object ms)) × PartsStand parts ms) }

@@ -98,12 +98,12 @@ fn report_by_parts(alloc: Global, bytes: &[u8], coming: Coming) -> Result<Vec<u8
     }
 }
 
-/// The same where names come again: of equal names the last alone is read.
+/// The same for bytes in which no fault was found: of equal names the last alone is read, also of the scenario's and of its master's.
 fn report_by_last(alloc: Global, bytes: &[u8]) -> Result<Vec<u8>, ReadFail>
     ensures told { IfOk result (λ text. TellsBands bytes.now text.items) }
     ensures refused { IfErr result (λ fail. OnRefusal fail (IsFirstBandFault bytes.now)) }
 {
-    match Coming::again(alloc, bytes) {
+    match Coming::counted(alloc, bytes) {
         Some(coming) => report_by_parts(alloc, bytes, coming),
         None => Err(ReadFail::NoMemory),
     }
@@ -139,8 +139,9 @@ fn report_by_kept(alloc: Global, bytes: &[u8]) -> Result<Vec<u8>, ReadFail>
 /// and `inbound START WIDTH A B`, or `none` behind the word where no time is open. The refusal is the first fault in the
 /// order of the checks: the JSON reading, the four names and what stands there, those of the scenario with their paths behind
 /// `scenario.`, and then what stands against any band. Where the scenario is right, little is kept of the object; else a fault of it
-/// is looked for with its lists judged item by item. Where none was found so, the object is read again without what stands at the
-/// earlier of equal names, and only where that tells nothing that is kept on which a fault may hang.
+/// is looked for with its lists judged item by item. Where none was found so and memory was enough, a right object has names that come
+/// again: then the object is read again without what stands at the earlier of equal names, and only where that tells nothing that is
+/// kept on which a fault may hang.
 pub fn report(alloc: Global, bytes: &[u8]) -> Result<Vec<u8>, ReadFail>
     ensures told { IfOk result (λ text. TellsBands bytes.now text.items) }
     ensures refused { IfErr result (λ fail. OnRefusal fail (IsFirstBandFault bytes.now)) }

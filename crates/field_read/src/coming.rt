@@ -13,7 +13,7 @@ pub(crate) struct Coming {
     pub inner: Left,
 }
 
-/// The names of the last scenario; none are counted where a scenario is no object.
+/// The names of the last scenario; no names, where they can't be counted.
 fn inner_of(alloc: Global, bytes: &[u8]) -> Left {
     match Left::of_inner(alloc, bytes, "scenario", &SCENARIO_NAMES) {
         Some(inner) => inner,
@@ -30,14 +30,11 @@ impl Coming {
         }
     }
 
-    /// The names in a text that is one object, where one of them comes again.
-    pub fn again(alloc: Global, bytes: &[u8]) -> Option<Coming> {
+    /// The names in a text that is one object. Nothing, where the text is none, and where memory is wanting. Whether a name comes again
+    /// isn't asked: where the names of both objects come once each, one of the scenario's master may come again, which isn't counted here.
+    pub fn counted(alloc: Global, bytes: &[u8]) -> Option<Coming> {
         let own = Left::of(alloc, bytes, &NAMES)?;
         let inner = inner_of(alloc, bytes);
-        if own.has_again() || inner.has_again() {
-            Some(Coming { own, inner })
-        } else {
-            None
-        }
+        Some(Coming { own, inner })
     }
 }

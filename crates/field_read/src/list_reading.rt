@@ -53,17 +53,17 @@ pub fn listed<'a>(alloc: Global, bytes: &'a [u8]) -> Result<Listed<'a>, ReadFail
     listed_with(alloc, bytes, Coming::none(alloc))
 }
 
-/// Reads a field file that is right and in which a name comes again, its own or one of the scenario's: of each such name the
-/// last alone, as what stands at an earlier one may be at fault or large. It takes time and memory as `listed` does, and first the time
-/// of two passes that count the names. It is the second try, for files in which `first_fault` finds none. The refusal is the first fault
-/// of the file, as that of `listed` is. Want of memory stands also for what this way does not tell: where no such name comes again, where
-/// a name or what stands there last is at fault, or an earlier of other equal names, or a detector or a pulse is of a round or a cabinet
-/// that there isn't.
+/// Reads a field file that is right: of equal names, its own, the scenario's and those of the scenario's master, the last alone, as what
+/// stands at an earlier one may be at fault or large. It takes time and memory as `listed` does, the time of passes that count the names,
+/// and room to count those of the master. It is the second try, for files at which `listed` gave up and in which `first_fault` finds
+/// none: where memory was enough for these, a right file has names that come again. The refusal is the first fault of the file, as that
+/// of `listed` is. Want of memory stands also for what this way does not tell: where a name or what stands there last is at fault, or an
+/// earlier of other equal names, or a detector or a pulse is of a round or a cabinet that there isn't.
 pub fn listed_again<'a>(alloc: Global, bytes: &'a [u8]) -> Result<Listed<'a>, ReadFail>
     ensures ok { IfOk result (λ l. (d : Data) × Reads bytes.now d × (file_faults d ≡ []) × (field_content l.field ≡ field_of d) × Writes l.text (held scenario d)) }
     ensures refused { IfErr result (λ fail. OnRefusal fail (IsFirstFieldFault bytes.now)) }
 {
-    match Coming::again(alloc, bytes) {
+    match Coming::counted(alloc, bytes) {
         Some(coming) => listed_with(alloc, bytes, coming),
         None => Err(ReadFail::NoMemory),
     }

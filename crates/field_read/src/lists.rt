@@ -19,7 +19,7 @@ fn next_item(alloc: Global, reader: &mut Reader<'_>, found: &mut Found) -> Optio
     ensures list { name_of found.new ≡ name_of found.old }
     ensures shorter { IfSome result (λ _. length reader.new < length reader.old) }
 {
-    let object = tree(alloc, reader, 125, &[Level::Members])?;
+    let object = tree(alloc, reader, 125, &[Level::Plain])?;
     add_item(alloc, &object, found)?;
     Some(())
 }

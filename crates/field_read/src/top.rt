@@ -22,11 +22,11 @@ use std::mem::replace;
 
 /// An object with a list of sections, each with a list of steps.
 const RULES: [Level; 5] = [
-    Level::Members,
+    Level::Members("sections"),
     Level::Items(8),
-    Level::Members,
+    Level::Members("steps"),
     Level::Items(8),
-    Level::Members,
+    Level::Plain,
 ];
 
 /// The parts so far, and how often names are still to come.
@@ -170,7 +170,8 @@ fn members_of<'a>(
     }
 }
 
-/// The parts of a text that is one object, of whose names so many come: of a name that was counted the last alone is read.
+/// The parts of a text that is one object, of whose names so many come: of a name that was counted the last alone is read, and so of
+/// those of the scenario's master, where those of the scenario were counted.
 pub(crate) fn parts_with<'a>(alloc: Global, bytes: &'a [u8], coming: Coming) -> Option<Parts<'a>>
     ensures utf8 { IfSome result (λ _. IsUtf8 bytes.now) }
     ensures ok { IfSome result (λ parts. (ms : Members) × (read bytes.now ≡ Some (object ms)) × PartsStand parts ms) }

@@ -18,3 +18,5 @@ pub mod Depths
 pub mod Putting
 pub mod Parts
 pub mod Right
+pub mod Restarts
+pub mod Keeping

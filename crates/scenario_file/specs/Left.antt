@@ -3,8 +3,10 @@ use Rattle.std.specs.Prelude.{ℕ, zero, suc, ◌≡◌, nat_lt, Bool, List, [],
 use Rattle.serde_json.specs.Data.{Data, Items, Members, no_members, member, put}
 use Rattle.serde_json.specs.View.{members_view}
 use Rattle.scenario_read.specs.Sorted.{MembersSorted}
-use Rattle.scenario_file.specs.Framing.{with_lists, AllStand}
+use Rattle.scenario_file.specs.Framing.{with_lists, filled, scheduled, AllStand, MasterStands}
 use Rattle.scenario_file.specs.declared.left.Left.{Left}
+use Rattle.scenario_file.specs.declared.master.Master.{Master}
+use Rattle.scenario_file.specs.declared.master.MasterReading.{MasterReading}
 use Rattle.scenario_file.specs.declared.top.Whole.{Whole}
 use Rattle.scenario_file.specs.declared.top.Reading.{Reading}
 
@@ -40,3 +42,17 @@ Grows old new name d =
     (rows : List ℕ → Items) → AllStand old.lists (members_view old.frame.entries) rows → MembersSorted (members_view old.frame.entries)
     → (now : List ℕ → Items) × (put name d (with_lists rows (members_view old.frame.entries)) ≡ with_lists now (members_view new.frame.entries))
     × AllStand new.lists (members_view new.frame.entries) now × MembersSorted (members_view new.frame.entries)
+
+-- these members of a master were read, and the ones of which no more is to come are those that are kept, with these entries as the schedule
+pub record MasterReadSoFar (reading : MasterReading) (ms : Members) : Type 0 where
+  pub entries : Items
+  pub is : without (is_left reading.left) ms ≡ filled (scheduled entries) (members_view reading.master.members.entries)
+  pub stands : MasterStands reading.master.schedule (members_view reading.master.members.entries) entries
+  pub sorted : MembersSorted (members_view reading.master.members.entries)
+
+-- a value was read at a name of a master, and what stands for it was put into the members
+abbrev pub MasterGrows : Master → Master → List ℕ → Data → Type 0
+MasterGrows old new name d =
+    (entries : Items) → MasterStands old.schedule (members_view old.members.entries) entries → MembersSorted (members_view old.members.entries)
+    → (now : Items) × (put name d (filled (scheduled entries) (members_view old.members.entries)) ≡ filled (scheduled now) (members_view new.members.entries))
+    × MasterStands new.schedule (members_view new.members.entries) now × MembersSorted (members_view new.members.entries)

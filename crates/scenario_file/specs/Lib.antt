@@ -4,3 +4,4 @@ pub mod Listing
 pub mod Framing
 pub mod Left
 pub mod Source
+pub mod Trees

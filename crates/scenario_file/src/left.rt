@@ -5,6 +5,7 @@ ghost use Rattle.std.specs.Prelude.{◌≡◌, ◌<◌, ℕ, List, true, false, 
 ghost use Rattle.scenario_file.specs.Left.{place_from, is_left};
 
 use json::{Reader, Scratch, Token};
+use scenario_cut::pass_items;
 use std::alloc::Global;
 
 /// Names are counted up to here.
@@ -76,7 +77,8 @@ fn count_members(reader: &mut Reader<'_>, left: &mut Left) -> bool
     }
 }
 
-/// Counts the names of a member that is an object, if it has this name. What was counted of one before is forgotten.
+/// Counts the names of a member that is an object, if it has this name; of another value none. What was counted of one before is
+/// forgotten.
 fn count_member(reader: &mut Reader<'_>, is_asked: bool, left: &mut Left) -> bool
     ensures { result ≡ true → length reader.new < length reader.old }
 {
@@ -86,11 +88,13 @@ fn count_member(reader: &mut Reader<'_>, is_asked: bool, left: &mut Left) -> boo
     left.counts = [0; 11];
     match reader.next() {
         Some(Token::BeginObject) => count_members(reader, left),
+        Some(Token::BeginArray) => pass_items(reader, 126),
+        Some(Token::String(_) | Token::Number(_) | Token::Bool(_) | Token::Null) => true,
         _ => false,
     }
 }
 
-/// Counts the names of the last member of this name, which is an object, up to the brace that closes the object around it.
+/// Counts the names of the last member of this name up to the brace that closes the object around it.
 fn count_inner(reader: &mut Reader<'_>, outer: &str, left: &mut Left) -> bool {
     'members: loop {
         let name = match reader.next_key() {
@@ -161,7 +165,7 @@ impl Left {
     }
 
     /// How often each of these names comes in the object that stands at a name in the object that the bytes are; of such the last
-    /// counts. None also where something else than an object stands there.
+    /// counts, and where that is no object, none comes.
     pub fn of_inner(alloc: Global, bytes: &[u8], outer: &str, names: &[&str]) -> Option<Left> {
         let mut left = Left::of_names(alloc, names)?;
         if counted(alloc, bytes, Some(outer), &mut left) {
@@ -180,8 +184,13 @@ impl Left {
         }
     }
 
+    /// Whether there are names, which is so where they were counted.
+    pub(crate) fn has_names(&self) -> bool {
+        !self.names.is_empty()
+    }
+
     /// Whether some name comes more than once.
-    pub fn has_again(&self) -> bool {
+    pub(crate) fn has_again(&self) -> bool {
         for place in 0..11 {
             if self.counts[place] > 1 {
                 return true;

@@ -8,10 +8,13 @@ fn behind_blanks(mut text: &[u8]) -> &[u8] {
     text
 }
 
-/// The bytes behind digits.
+/// The bytes behind digits, of which at most 19 are passed: each number of so many has 64 bits.
 fn behind_digits(mut text: &[u8]) -> &[u8] {
-    'digits: while let [b'0'..=b'9', rest @ ..] = text {
-        text = rest;
+    for _ in 0..19 {
+        match text {
+            [b'0'..=b'9', rest @ ..] => text = rest,
+            _ => return text,
+        }
     }
     text
 }

@@ -1,5 +1,5 @@
 //! The master of a scenario: its schedule is read entry by entry, and what stands beside it becomes a tree, with an empty list
-//! where the schedule stands.
+//! where the schedule stands. Of equal names the last counts; where they were counted beforehand, the last alone is read.
 
 ghost use Rattle.std.specs.Prelude.{◌≡◌, ◌<◌, ◌≤◌, ◌-◌, length, Some, IfSome, codes};
 ghost use Rattle.json.specs.Json.{value, members};
@@ -8,20 +8,40 @@ ghost use Rattle.serde_json.specs.Read.{of_json, of_members, converted};
 ghost use Rattle.serde_json.specs.View.{view, members_view};
 ghost use Rattle.scenario_read.specs.Sorted.{Sorted, MembersSorted};
 ghost use Rattle.scenario_file.specs.Framing.{filled, scheduled, Enters, MasterStands};
+ghost use Rattle.scenario_file.specs.Left.{MasterGrows, MasterReadSoFar};
 
 use crate::found::{Found, Reach};
+use crate::left::Left;
 use crate::listed::{Listed, list_at};
 use crate::trees::{is_full, put_member, tree};
 use crate::written::Written;
 use json::{Reader, Token};
+use scenario_cut::pass;
 use serde_json::{Map, Value};
 use std::alloc::Global;
+
+/// The names of a master.
+pub(crate) const MASTER_NAMES: [&str; 6] = [
+    "clock",
+    "poll_every",
+    "clock_every",
+    "pattern_every",
+    "retries",
+    "schedule",
+];
 
 /// A master but for its schedule, and this.
 #[derive(Drop)]
 pub(crate) struct Master<'a> {
     pub members: Map<String, Value>,
     pub schedule: Listed<'a>,
+}
+
+/// A master so far, and how often its names are still to come.
+#[derive(Drop)]
+pub(crate) struct MasterReading<'a> {
+    pub master: Master<'a>,
+    pub left: Left,
 }
 
 /// A schedule without entries.
@@ -71,11 +91,74 @@ fn member_at<'a>(
     }
 }
 
-/// The members up to the brace that closes the master, each nested at most so deep. Of equal names the last counts.
+/// Reads what stands at the next name of the master, nested at most so deep, and puts what stands for it into the members.
+fn put_next<'a>(
+    alloc: Global,
+    reader: &mut Reader<'_>,
+    depth: usize,
+    name: &str,
+    master: &mut Master<'a>,
+    file: &'a [u8],
+) -> Option<()>
+    requires deep { 1 ≤ depth }
+    ensures ok { IfSome result (λ _. (d : Data) × (converted of_json (value depth reader.old) ≡ Some (d, reader.new)) × MasterGrows master.old master.new name.now d) }
+    ensures shorter { IfSome result (λ _. length reader.new < length reader.old) }
+{
+    let Ok(key) = String::from_str(alloc, name) else {
+        return None;
+    };
+    if is_full(&master.members) {
+        return None;
+    }
+    let value = member_at(alloc, reader, depth, name, &mut master.schedule, file)?;
+    put_member(&mut master.members, key, value)?;
+    Some(())
+}
+
+/// Reads what stands at the next name of the master, nested at most so deep, where the name comes for the last time, or else passes
+/// over it.
+fn next_member<'a>(
+    alloc: Global,
+    reader: &mut Reader<'_>,
+    depth: usize,
+    name: &str,
+    reading: &mut MasterReading<'a>,
+    file: &'a [u8],
+) -> Option<()>
+    requires deep { 1 ≤ depth }
+    ensures ok { IfSome result (λ _. (d : Data) × (converted of_json (value depth reader.old) ≡ Some (d, reader.new))
+        × ((ms : Members) → MembersSorted ms → MasterReadSoFar reading.old ms → MasterReadSoFar reading.new (put name.now d ms))) }
+    ensures shorter { IfSome result (λ _. length reader.new < length reader.old) }
+{
+    if reading.left.is_last(name) {
+        put_next(alloc, reader, depth, name, &mut reading.master, file)?;
+        Some(())
+    } else if pass(reader, depth) {
+        Some(())
+    } else {
+        None
+    }
+}
+
+/// Nothing of a master was read yet.
+fn nothing_read<'a>(alloc: Global, left: Left) -> MasterReading<'a>
+    ensures { MasterReadSoFar result no_members }
+{
+    let members = Map::new(alloc);
+    let schedule = no_schedule(alloc);
+    MasterReading {
+        master: Master { members, schedule },
+        left,
+    }
+}
+
+/// The members up to the brace that closes the master, each nested at most so deep. Of equal names the last counts; of those
+/// of which more is to come none is read. Nothing also where fewer come than were counted.
 fn members_of<'a>(
     alloc: Global,
     reader: &mut Reader<'_>,
     depth: usize,
+    left: Left,
     file: &'a [u8],
 ) -> Option<Master<'a>>
     requires deep { 1 ≤ depth }
@@ -85,31 +168,30 @@ fn members_of<'a>(
     ensures sorted { IfSome result (λ master. MembersSorted (members_view master.members.entries)) }
     ensures shorter { IfSome result (λ _. length reader.new < length reader.old) }
 {
-    let mut members = Map::new(alloc);
-    let mut schedule = no_schedule(alloc);
+    let mut reading = nothing_read(alloc, left);
     'members: loop {
         let name = match reader.next_key() {
             Ok(Some(name)) => name,
-            Ok(None) => return Some(Master { members, schedule }),
+            Ok(None) => break,
             Err(_) => return None,
         };
-        let key = match String::from_str(alloc, name) {
-            Ok(key) => key,
-            Err(_) => return None,
-        };
-        if is_full(&members) {
-            return None;
-        }
-        let value = member_at(alloc, reader, depth, name, &mut schedule, file)?;
-        put_member(&mut members, key, value)?;
+        next_member(alloc, reader, depth, name, &mut reading, file)?;
+    }
+    if reading.left.none_left() {
+        let MasterReading { master, .. } = reading;
+        Some(master)
+    } else {
+        None
     }
 }
 
-/// The master, where an object is the reader's next value, nested at most so deep.
+/// The master, where an object is the reader's next value, nested at most so deep, of whose names so many come. Nothing also where
+/// fewer come.
 pub(crate) fn master_at<'a>(
     alloc: Global,
     reader: &mut Reader<'_>,
     depth: usize,
+    left: Left,
     file: &'a [u8],
 ) -> Option<Master<'a>>
     requires deep { 2 ≤ depth }
@@ -120,7 +202,7 @@ pub(crate) fn master_at<'a>(
     ensures shorter { IfSome result (λ _. length reader.new < length reader.old) }
 {
     match reader.next() {
-        Some(Token::BeginObject) => match members_of(alloc, reader, depth - 1, file) {
+        Some(Token::BeginObject) => match members_of(alloc, reader, depth - 1, left, file) {
             Some(master) => Some(master),
             None => None,
         },

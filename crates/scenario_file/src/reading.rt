@@ -6,14 +6,15 @@ ghost use Rattle.scenario_data.specs.Content.{scenario_content};
 ghost use Rattle.scenario_read.specs.Answers.{IsScenario, IsFirstFault, OnRefusal};
 
 use crate::left::Left;
+use crate::master::MASTER_NAMES;
 use crate::source::{SCENARIO_NAMES, Source, source_of};
 use crate::top::whole_of;
 use scenario_data::{ReadFail, Scenario};
 use std::alloc::Global;
 
-/// Reads a scenario that is right, list by list, without a tree of the whole, and of its members of equal names the last alone, where
-/// so many come. None where the text isn't right, where an earlier one that is read holds what none may hold, and where memory is
-/// wanting.
+/// Reads a scenario that is right, list by list, without a tree of the whole, and of its members of equal names the last alone, where so
+/// many come; so also of those of its master, where names were counted. None where the text isn't right, where an earlier one that is
+/// read holds what none may hold, and where memory is wanting.
 fn listed(alloc: Global, bytes: &[u8], left: Left) -> Option<Scenario>
     ensures scenario { IfSome result (λ s. IsScenario bytes.now (scenario_content s)) }
     ensures reads_back { IfSome result (λ s. IsScenario s.compact.items (scenario_content s)) }
@@ -23,14 +24,28 @@ fn listed(alloc: Global, bytes: &[u8], left: Left) -> Option<Scenario>
     Some(scenario)
 }
 
-/// How often the names come in a text that is one object, where one of them comes again.
-fn again(alloc: Global, bytes: &[u8]) -> Option<Left> {
-    let left = Left::of(alloc, bytes, &SCENARIO_NAMES)?;
-    if left.has_again() { Some(left) } else { None }
+/// Whether a name of the last master comes again. False also where that is no object, and where memory is wanting.
+fn master_has_again(alloc: Global, bytes: &[u8]) -> bool {
+    match Left::of_inner(alloc, bytes, "master", &MASTER_NAMES) {
+        Some(left) => left.has_again(),
+        None => false,
+    }
 }
 
-/// Reads a scenario that is right without a tree of the whole: first all of it, and where that gives none, of equal names the last
-/// alone. None where the text isn't right and where memory is wanting, mostly: which of these it is, `read` tells.
+/// How often the names come in a text that is one object, where one of them comes again, or one of its last master; else nothing. Nothing
+/// also where memory is wanting.
+fn again(alloc: Global, bytes: &[u8]) -> Option<Left> {
+    let left = Left::of(alloc, bytes, &SCENARIO_NAMES)?;
+    if left.has_again() || master_has_again(alloc, bytes) {
+        Some(left)
+    } else {
+        None
+    }
+}
+
+/// Reads a scenario that is right without a tree of the whole: first all of it, and where that gives none, of equal names, its own and
+/// those of its master, the last alone. None where the text isn't right and where memory is wanting, mostly: which of these it is, `read`
+/// tells.
 pub fn scenario_of(alloc: Global, bytes: &[u8]) -> Option<Scenario>
     ensures scenario { IfSome result (λ s. IsScenario bytes.now (scenario_content s)) }
     ensures reads_back { IfSome result (λ s. IsScenario s.compact.items (scenario_content s)) }

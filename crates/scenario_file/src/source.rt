@@ -130,9 +130,10 @@ pub(crate) fn source_of<'a>(alloc: Global, whole: Whole<'a>, room: usize) -> Opt
     })
 }
 
-/// Reads the scenario that is the reader's next value, in this file, nested at most 126 deep. Of equal names that `left` has counted
-/// the last alone is read. Nothing, where the scenario is not right, where an earlier of equal names that is read holds what none may
-/// hold, where more were counted of a name than come, or where there is no memory.
+/// Reads the scenario that is the reader's next value, in this file, nested at most 126 deep. Of equal names that `left` has counted the
+/// last alone is read, and so of equal names of the master, where `left` has names. Nothing, where the scenario is not right, where an
+/// earlier of equal names that is read holds what none may hold, where more were counted of a name than come, or where there is no
+/// memory.
 pub fn scenario_at<'a>(
     alloc: Global,
     reader: &mut Reader<'_>,

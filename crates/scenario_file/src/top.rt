@@ -15,7 +15,7 @@ use crate::found::{Found, list_named, stand_in};
 use crate::left::Left;
 use crate::listed::list_at;
 use crate::lists::{Lists, no_lists, put_list};
-use crate::master::{Master, master_at};
+use crate::master::{MASTER_NAMES, Master, master_at};
 use crate::trees::{is_full, put_member, tree};
 use json::{Reader, Scratch, Token};
 use scenario_cut::pass;
@@ -34,6 +34,31 @@ pub(crate) struct Whole<'a> {
 pub(crate) struct Reading<'a> {
     pub whole: Whole<'a>,
     pub left: Left,
+}
+
+/// The bytes of a file, and whether the names of its master are to be counted.
+#[derive(Clone, Copy)]
+struct File<'a> {
+    bytes: &'a [u8],
+    counts: bool,
+}
+
+/// How often the names come in the object that begins at this place of the bytes. None, where that can't be told.
+fn master_left(alloc: Global, bytes: &[u8], place: usize) -> Option<Left> {
+    let rest = bytes.get(place..)?;
+    Left::of(alloc, rest, &MASTER_NAMES)
+}
+
+/// How often the names come in the master that begins at this place of the file. No names, where they are not to be counted, and
+/// where that can't be told.
+fn left_at(alloc: Global, file: File<'_>, place: usize) -> Left {
+    if !file.counts {
+        return Left::none(alloc);
+    }
+    match master_left(alloc, file.bytes, place) {
+        Some(left) => left,
+        None => Left::none(alloc),
+    }
 }
 
 /// Reads a list that is nested at most so deep, and gives what stands for it.
@@ -64,14 +89,15 @@ fn master_member<'a>(
     reader: &mut Reader<'_>,
     depth: usize,
     lists: &mut Lists<'a>,
-    file: &'a [u8],
+    file: File<'a>,
 ) -> Option<Value>
     requires deep { 2 ≤ depth }
     ensures ok { IfSome result (λ v. (d : Data) × (converted of_json (value depth reader.old) ≡ Some (d, reader.new)) × Puts lists.old lists.new (codes "master") d (view v)) }
     ensures sorted { IfSome result (λ v. Sorted (view v)) }
     ensures shorter { IfSome result (λ _. length reader.new < length reader.old) }
 {
-    let master = master_at(alloc, reader, depth, file)?;
+    let left = left_at(alloc, file, reader.offset());
+    let master = master_at(alloc, reader, depth, left, file.bytes)?;
     let Master { members, schedule } = master;
     put_list(lists, schedule);
     Some(Value::Object(members))
@@ -84,7 +110,7 @@ fn member_at<'a>(
     depth: usize,
     name: &str,
     lists: &mut Lists<'a>,
-    file: &'a [u8],
+    file: File<'a>,
 ) -> Option<Value>
     requires deep { 2 ≤ depth }
     ensures ok { IfSome result (λ v. (d : Data) × (converted of_json (value depth reader.old) ≡ Some (d, reader.new)) × Puts lists.old lists.new name.now d (view v)) }
@@ -92,7 +118,7 @@ fn member_at<'a>(
     ensures shorter { IfSome result (λ _. length reader.new < length reader.old) }
 {
     match list_named(alloc, name) {
-        Some(found) => list_member(alloc, reader, depth, found, lists, file),
+        Some(found) => list_member(alloc, reader, depth, found, lists, file.bytes),
         None => {
             if name == "master" {
                 master_member(alloc, reader, depth, lists, file)
@@ -113,7 +139,7 @@ fn put_next<'a>(
     depth: usize,
     name: &str,
     whole: &mut Whole<'a>,
-    file: &'a [u8],
+    file: File<'a>,
 ) -> Option<()>
     requires deep { 2 ≤ depth }
     ensures ok { IfSome result (λ _. (d : Data) × (converted of_json (value depth reader.old) ≡ Some (d, reader.new)) × Grows whole.old whole.new name.now d) }
@@ -137,7 +163,7 @@ fn next_member<'a>(
     depth: usize,
     name: &str,
     reading: &mut Reading<'a>,
-    file: &'a [u8],
+    file: File<'a>,
 ) -> Option<()>
     requires deep { 2 ≤ depth }
     ensures ok { IfSome result (λ _. (d : Data) × (converted of_json (value depth reader.old) ≡ Some (d, reader.new))
@@ -167,7 +193,7 @@ fn nothing_read<'a>(alloc: Global, left: Left) -> Reading<'a>
 }
 
 /// The members up to the brace that closes the whole object, each nested at most so deep. Of equal names the last counts; of those
-/// of which more is to come none is read.
+/// of which more is to come none is read. Where names were counted, those of the master are counted too.
 pub(crate) fn members_of<'a>(
     alloc: Global,
     reader: &mut Reader<'_>,
@@ -182,6 +208,10 @@ pub(crate) fn members_of<'a>(
     ensures sorted { IfSome result (λ whole. MembersSorted (members_view whole.frame.entries)) }
     ensures shorter { IfSome result (λ _. length reader.new < length reader.old) }
 {
+    let file = File {
+        bytes: file,
+        counts: left.has_names(),
+    };
     let mut reading = nothing_read(alloc, left);
     'members: loop {
         let name = match reader.next_key() {
