@@ -17,7 +17,7 @@ ghost use Rattle.cab_book.specs.Rounds.{ArePlaced, AreShort, AreTallied, HasRoom
 ghost use Rattle.cab_book.specs.Happened.{HasRoom};
 ghost use Rattle.cab_book.specs.Shares.{read_journal, ticks_left, shares};
 
-use crate::cabinet::{Cabinet, Told};
+use crate::cabinet::{Cabinet, Received};
 use crate::happened::{Answered, Happened};
 use crate::sharing::shares_of;
 use cabinet_history::Reply;
@@ -398,7 +398,7 @@ impl Book {
         let pass = pass_of(way);
         let frames = frames_of(&self.streams, way);
         let octets = next_of(frames, self.left[pass as usize]);
-        let Told { text, load } = self.cabinet.receive(octets);
+        let Received { text, load } = self.cabinet.receive(octets);
         self.happened.add_reply(Reply { pass, text, load });
         self.left[pass as usize] -= 1;
     }

@@ -37,7 +37,7 @@ pub struct Cabinet {
 
 /// What a cabinet tells of a frame: the answer, or silence, and the end of a load where the frame brought one.
 #[derive(Drop)]
-pub struct Told {
+pub struct Received {
     pub text: Option<Octets>,
     pub load: Option<Load>,
 }
@@ -155,7 +155,7 @@ impl Cabinet {
 
     /// A frame comes to it. One that asks nothing of it, as it is no message, of another community, or a Response, is met with silence
     /// and changes nothing.
-    pub fn receive(&mut self, octets: &[u8]) -> Told
+    pub fn receive(&mut self, octets: &[u8]) -> Received
         requires some { ∥ ((cabinet_history : CabinetHistory) × CabinetStands self.old cabinet_history) ∥₁ }
         ensures text { (cabinet_history : CabinetHistory) → CabinetStands self.old cabinet_history → result.text ≡ in_frame (reply_to cabinet_history octets.now) }
         ensures load { (cabinet_history : CabinetHistory) → CabinetStands self.old cabinet_history → result.load ≡ load_end cabinet_history octets.now }
@@ -174,7 +174,7 @@ impl Cabinet {
             }
             None => {
                 clear(&mut self.ask);
-                Told {
+                Received {
                     text: None,
                     load: None,
                 }
@@ -183,7 +183,7 @@ impl Cabinet {
     }
 
     /// What is asked is answered, by what was before, and carried out.
-    fn heed(&mut self) -> Told
+    fn heed(&mut self) -> Received
         requires some { ∥ ((has : Coming) × CabinetKeeps self.old has) ∥₁ }
         requires asked { IsAsked self.old.ask }
         requires can { CanBeCarriedOut self.old.ask.wish }
@@ -207,7 +207,7 @@ impl Cabinet {
         );
         let load = end_of(shown.version, &self.ask.wish, outcome);
         carry_out(&mut self.control, &self.stage, &self.ask.wish, outcome);
-        Told {
+        Received {
             text: Some(text),
             load,
         }

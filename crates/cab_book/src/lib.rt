@@ -14,7 +14,7 @@ mod logged;
 mod sharing;
 
 pub use book::Book;
-pub use cabinet::{Cabinet, Told};
+pub use cabinet::{Cabinet, Received};
 pub use control::{Control, Engine};
 pub use happened::Answered;
 pub use journal::Journal;

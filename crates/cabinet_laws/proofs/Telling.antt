@@ -7,7 +7,7 @@ use Rattle.sig_tables.specs.declared.tables.Tables.{Tables}
 use Rattle.sig_tables.specs.Past.{Tick, History, first_frame}
 use Rattle.sig_tables.specs.Decide.{with_one, decide, frames, last_frame_of, past_at, opening}
 use Rattle.safety_laws.specs.Written.{shown_by}
-use Rattle.safety_laws.specs.Told.{Told, Shows, history_told}
+use Rattle.safety_laws.specs.Told.{CabinetTold, Shows, history_told}
 use Rattle.agent.specs.declared.ask.Order.{Order}
 use Rattle.agent.specs.declared.ask.Order.TheVariants.{Pattern as PatternOrder, Clock as ClockOrder, Request as RequestOrder, Cancel as CancelOrder}
 use Rattle.agent.specs.declared.ask.Wish.{Wish}
@@ -27,10 +27,10 @@ use Rattle.cabinet_laws.specs.Openings.{IsOpening}
 use Rattle.cabinet_laws.specs.Telling.{load_told, frames_told, item_told, items_told, cabinet_history_told, acts_told}
 
 -- what is to be told of a history
-abbrev due : History → List Told
+abbrev due : History → List CabinetTold
 due h = history_told has_line h
 
-nothing-more : (xs ys : List Told) → ys ≡ xs → ys ≡ xs ++ []
+nothing-more : (xs ys : List CabinetTold) → ys ≡ xs → ys ≡ xs ++ []
 nothing-more xs ys e = e ∙ sym (append-nil xs)
 
 order-tells : (h : History) (o : Order) → due (with_one h (order_event o)) ≡ due h
@@ -72,7 +72,7 @@ wish-tells c (Begin id) = nothing-more (due c.history) (due c.history) refl
 wish-tells c (Part id number puts) = nothing-more (due c.history) (due c.history) refl
 wish-tells c (Verify id total) =
     nothing-more (due c.history) (due c.history) refl
-    ∙ ap (λ (x : List Told). due c.history ++ x) (sym (verify-tells id (answer_in c (VerifyCall id total (in_force c) (is_flashing (past_of c))))))
+    ∙ ap (λ (x : List CabinetTold). due c.history ++ x) (sym (verify-tells id (answer_in c (VerifyCall id total (in_force c) (is_flashing (past_of c))))))
 wish-tells c (Finish id) =
     finish-tells c.history (staged (answered c.calls)) id (answer_in c (FinishCall id (in_force c) (is_flashing (past_of c))))
 wish-tells c Get = nothing-more (due c.history) (due c.history) refl
@@ -104,7 +104,7 @@ items-tell : (community : List ℕ) (opening : History) → due opening ≡ Show
     → items_told community opening items ≡ due (coming_from community opening items).history
 items-tell community opening e [] = sym e
 items-tell community opening e (item ∷ items) =
-    ap (λ (x : List Told). x ++ item_told (record { community = community; opening = opening; items = items }) item)
+    ap (λ (x : List CabinetTold). x ++ item_told (record { community = community; opening = opening; items = items }) item)
     (items-tell community opening e items)
     ∙ sym (item-tells community opening items item)
 

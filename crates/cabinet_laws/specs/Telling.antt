@@ -5,7 +5,7 @@ use Rattle.sig_types.specs.declared.notes.Broken.{Broken}
 use Rattle.sig_types.specs.declared.frame.Frame.{Frame}
 use Rattle.sig_tables.specs.Past.{History, first_frame}
 use Rattle.safety_laws.specs.Written.{shown_by}
-use Rattle.safety_laws.specs.Told.{Told, Shows, Loads}
+use Rattle.safety_laws.specs.Told.{CabinetTold, Shows, Loads}
 use Rattle.sig_types.specs.Items.{Item, Told as Input, Came, Ticked}
 use Rattle.cabinet_history.specs.declared.Load.{Load}
 use Rattle.cabinet_history.specs.CabinetHistory.{CabinetHistory, with_item}
@@ -13,37 +13,37 @@ use Rattle.cabinet_history.specs.Journals.{Act}
 use Rattle.cabinet_history.specs.Told.{load_end, item_written}
 
 -- a version that was made
-abbrev pub version_told : Result ℕ Broken → List Told
+abbrev pub version_told : Result ℕ Broken → List CabinetTold
 version_told (Ok version) = Loads version ∷ []
 version_told (Err broken) = []
 
 -- the end of a load tells the version that it made
-abbrev pub load_told : Option Load → List Told
+abbrev pub load_told : Option Load → List CabinetTold
 load_told None = []
 load_told (Some load) = version_told load.result
 
 -- frames with their numbers tell what they show
-abbrev pub frames_told : List (ℕ × Frame) → List Told
+abbrev pub frames_told : List (ℕ × Frame) → List CabinetTold
 frames_told [] = []
 frames_told (f ∷ frames) = Shows f.0 (shown_by f.1) ∷ frames_told frames
 
 -- what an item tells after a cabinet history
-abbrev pub item_told : CabinetHistory → Item → List Told
+abbrev pub item_told : CabinetHistory → Item → List CabinetTold
 item_told cabinet_history (Input field) = []
 item_told cabinet_history (Came octets) = load_told (load_end cabinet_history octets)
 item_told cabinet_history Ticked = frames_told (item_written cabinet_history Ticked)
 
 -- what items tell, of which the newest stands first, in the order in which they came
-abbrev pub items_told : List ℕ → History → List Item → List Told
+abbrev pub items_told : List ℕ → History → List Item → List CabinetTold
 items_told community opening [] = Shows 0 (shown_by first_frame) ∷ []
 items_told community opening (item ∷ items) =
     items_told community opening items ++ item_told (record { community = community; opening = opening; items = items }) item
 
 -- what a cabinet history tells
-abbrev pub cabinet_history_told : CabinetHistory → List Told
+abbrev pub cabinet_history_told : CabinetHistory → List CabinetTold
 cabinet_history_told cabinet_history = items_told cabinet_history.community cabinet_history.opening cabinet_history.items
 
 -- what these acts tell after a cabinet history, in order
-abbrev pub acts_told : CabinetHistory → List Act → List Told
+abbrev pub acts_told : CabinetHistory → List Act → List CabinetTold
 acts_told cabinet_history [] = []
 acts_told cabinet_history (act ∷ acts) = item_told cabinet_history act.item ++ acts_told (with_item cabinet_history act.item) acts

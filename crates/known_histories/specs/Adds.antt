@@ -8,7 +8,7 @@ use Rattle.sig_tables.specs.Putting.{with_cells}
 use Rattle.sig_tables.specs.Past.{History}
 use Rattle.sig_tables.specs.Standard.{std8}
 use Rattle.known_histories.specs.Timeline.{Step, ticks, told_in_order}
-use Rattle.known_histories.specs.Told.{Told, line}
+use Rattle.known_histories.specs.Told.{HistoryTold, line}
 
 -- the tables that the cabinet opens with
 abbrev pub adds_tables : Tables
@@ -27,7 +27,7 @@ abbrev pub adds_history : History
 adds_history = record { tables = adds_tables; command = 1; clock = 390; events = ticks 1100 (told_in_order adds_timeline []) }
 
 -- what an independent program says of it, the newest line first
-abbrev pub adds_told : Told
+abbrev pub adds_told : HistoryTold
 adds_told = record {
   command = 1;
   clock = 1490;

@@ -5,7 +5,7 @@ use Rattle.sig_tables.specs.declared.tables.Tables.{Tables}
 use Rattle.sig_tables.specs.Past.{History}
 use Rattle.sig_tables.specs.Standard.{std8}
 use Rattle.known_histories.specs.Timeline.{Step, ticks, told_in_order}
-use Rattle.known_histories.specs.Told.{Told, line}
+use Rattle.known_histories.specs.Told.{HistoryTold, line}
 
 -- the tables that the cabinet opens with
 abbrev pub dwells_tables : Tables
@@ -21,7 +21,7 @@ abbrev pub dwells_history : History
 dwells_history = record { tables = dwells_tables; command = 1; clock = 841; events = ticks 1100 (told_in_order dwells_timeline []) }
 
 -- what an independent program says of it, the newest line first
-abbrev pub dwells_told : Told
+abbrev pub dwells_told : HistoryTold
 dwells_told = record {
   command = 1;
   clock = 1941;

@@ -6,7 +6,7 @@ use Rattle.sig_tables.specs.declared.tables.Tables.{Tables}
 use Rattle.sig_tables.specs.Past.{Input, History}
 use Rattle.sig_tables.specs.Standard.{std8}
 use Rattle.known_histories.specs.Timeline.{Step, ticks, told_in_order, after}
-use Rattle.known_histories.specs.Told.{Told, line}
+use Rattle.known_histories.specs.Told.{HistoryTold, line}
 
 -- the tables that the cabinet opens with
 abbrev pub fixed_force_tables : Tables
@@ -22,7 +22,7 @@ abbrev pub fixed_force_history : History
 fixed_force_history = record { tables = fixed_force_tables; command = 1; clock = 840; events = ticks 631 (told_in_order fixed_force_timeline []) }
 
 -- what an independent program says of it, the newest line first
-abbrev pub fixed_force_told : Told
+abbrev pub fixed_force_told : HistoryTold
 fixed_force_told = record {
   command = 1;
   clock = 1670;

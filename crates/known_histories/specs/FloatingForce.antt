@@ -9,7 +9,7 @@ use Rattle.sig_tables.specs.Putting.{with_cells}
 use Rattle.sig_tables.specs.Past.{Input, History}
 use Rattle.sig_tables.specs.Standard.{std8}
 use Rattle.known_histories.specs.Timeline.{Step, ticks, told_in_order, after}
-use Rattle.known_histories.specs.Told.{Told, line}
+use Rattle.known_histories.specs.Told.{HistoryTold, line}
 
 -- the tables that the cabinet opens with
 abbrev pub floating_force_tables : Tables
@@ -28,7 +28,7 @@ abbrev pub floating_force_history : History
 floating_force_history = record { tables = floating_force_tables; command = 1; clock = 840; events = ticks 501 (told_in_order floating_force_timeline []) }
 
 -- what an independent program says of it, the newest line first
-abbrev pub floating_force_told : Told
+abbrev pub floating_force_told : HistoryTold
 floating_force_told = record {
   command = 1;
   clock = 1540;

@@ -6,7 +6,7 @@ use Rattle.sig_tables.specs.declared.tables.Tables.{Tables}
 use Rattle.sig_tables.specs.Past.{Input, History}
 use Rattle.sig_tables.specs.Standard.{std8}
 use Rattle.known_histories.specs.Timeline.{Step, ticks, told_in_order, after}
-use Rattle.known_histories.specs.Told.{Told, line}
+use Rattle.known_histories.specs.Told.{HistoryTold, line}
 
 -- the tables that the cabinet opens with
 abbrev pub forced_off_tables : Tables
@@ -22,7 +22,7 @@ abbrev pub forced_off_history : History
 forced_off_history = record { tables = forced_off_tables; command = 1; clock = 840; events = ticks 800 (told_in_order forced_off_timeline []) }
 
 -- what an independent program says of it, the newest line first
-abbrev pub forced_off_told : Told
+abbrev pub forced_off_told : HistoryTold
 forced_off_told = record {
   command = 1;
   clock = 1840;

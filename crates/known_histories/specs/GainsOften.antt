@@ -9,7 +9,7 @@ use Rattle.sig_tables.specs.Putting.{with_cells}
 use Rattle.sig_tables.specs.Past.{Input, SetDrift, History}
 use Rattle.sig_tables.specs.Standard.{std8}
 use Rattle.known_histories.specs.Timeline.{Step, ticks, told_in_order, after}
-use Rattle.known_histories.specs.Told.{Told, line}
+use Rattle.known_histories.specs.Told.{HistoryTold, line}
 
 -- the tables that the cabinet opens with
 abbrev pub gains_often_tables : Tables
@@ -28,7 +28,7 @@ abbrev pub gains_often_history : History
 gains_often_history = record { tables = gains_often_tables; command = 1; clock = 863700; events = ticks 301 (told_in_order gains_often_timeline []) }
 
 -- what an independent program says of it, the newest line first
-abbrev pub gains_often_told : Told
+abbrev pub gains_often_told : HistoryTold
 gains_often_told = record {
   command = 1;
   clock = 271;

@@ -6,7 +6,7 @@ use Rattle.sig_tables.specs.declared.tables.Tables.{Tables}
 use Rattle.sig_tables.specs.Past.{Input, Ask, History}
 use Rattle.sig_tables.specs.Standard.{std8}
 use Rattle.known_histories.specs.Timeline.{Step, ticks, told_in_order, after, request}
-use Rattle.known_histories.specs.Told.{Told, line}
+use Rattle.known_histories.specs.Told.{HistoryTold, line}
 
 -- the tables that the cabinet opens with
 abbrev pub held_by_request_tables : Tables
@@ -22,7 +22,7 @@ abbrev pub held_by_request_history : History
 held_by_request_history = record { tables = held_by_request_tables; command = 1; clock = 840; events = ticks 1220 (told_in_order held_by_request_timeline []) }
 
 -- what an independent program says of it, the newest line first
-abbrev pub held_by_request_told : Told
+abbrev pub held_by_request_told : HistoryTold
 held_by_request_told = record {
   command = 1;
   clock = 2260;

@@ -5,7 +5,7 @@ use Rattle.sig_tables.specs.declared.tables.Tables.{Tables}
 use Rattle.sig_tables.specs.Past.{SetDrift, History}
 use Rattle.sig_tables.specs.Standard.{std8}
 use Rattle.known_histories.specs.Timeline.{Step, ticks, told_in_order, after}
-use Rattle.known_histories.specs.Told.{Told, line}
+use Rattle.known_histories.specs.Told.{HistoryTold, line}
 
 -- the tables that the cabinet opens with
 abbrev pub loses_tables : Tables
@@ -21,7 +21,7 @@ abbrev pub loses_history : History
 loses_history = record { tables = loses_tables; command = 1; clock = 840; events = ticks 1100 (told_in_order loses_timeline []) }
 
 -- what an independent program says of it, the newest line first
-abbrev pub loses_told : Told
+abbrev pub loses_told : HistoryTold
 loses_told = record {
   command = 1;
   clock = 1938;

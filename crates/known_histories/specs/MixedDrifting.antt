@@ -9,7 +9,7 @@ use Rattle.sig_tables.specs.Putting.{with_cells}
 use Rattle.sig_tables.specs.Past.{Input, Install, SetPattern, Ask, Cancel, SetDrift, History}
 use Rattle.sig_tables.specs.Standard.{std8}
 use Rattle.known_histories.specs.Timeline.{Step, ticks, told_in_order, after, request}
-use Rattle.known_histories.specs.Told.{Told, line}
+use Rattle.known_histories.specs.Told.{HistoryTold, line}
 
 -- the tables that the cabinet opens with
 abbrev pub mixed_drifting_tables : Tables
@@ -104,7 +104,7 @@ abbrev pub mixed_drifting_history : History
 mixed_drifting_history = record { tables = mixed_drifting_tables; command = 1; clock = 863710; events = ticks 9 (told_in_order mixed_drifting_timeline []) }
 
 -- what an independent program says of it, the newest line first
-abbrev pub mixed_drifting_told : Told
+abbrev pub mixed_drifting_told : HistoryTold
 mixed_drifting_told = record {
   command = 1;
   clock = 49;

@@ -9,7 +9,7 @@ use Rattle.sig_tables.specs.Putting.{with_cells}
 use Rattle.sig_tables.specs.Past.{Input, Install, History}
 use Rattle.sig_tables.specs.Standard.{std8}
 use Rattle.known_histories.specs.Timeline.{Step, ticks, told_in_order, after}
-use Rattle.known_histories.specs.Told.{Told, line}
+use Rattle.known_histories.specs.Told.{HistoryTold, line}
 
 -- the tables that the cabinet opens with
 abbrev pub mixed_fifth_tables : Tables
@@ -81,7 +81,7 @@ abbrev pub mixed_fifth_history : History
 mixed_fifth_history = record { tables = mixed_fifth_tables; command = 1; clock = 2298; events = ticks 6 (told_in_order mixed_fifth_timeline []) }
 
 -- what an independent program says of it, the newest line first
-abbrev pub mixed_fifth_told : Told
+abbrev pub mixed_fifth_told : HistoryTold
 mixed_fifth_told = record {
   command = 1;
   clock = 2718;

@@ -9,7 +9,7 @@ use Rattle.sig_tables.specs.Putting.{with_cells}
 use Rattle.sig_tables.specs.Past.{Input, Install, SetPattern, History}
 use Rattle.sig_tables.specs.Standard.{std8}
 use Rattle.known_histories.specs.Timeline.{Step, ticks, told_in_order, after}
-use Rattle.known_histories.specs.Told.{Told, line}
+use Rattle.known_histories.specs.Told.{HistoryTold, line}
 
 -- the tables that the cabinet opens with
 abbrev pub mixed_first_tables : Tables
@@ -121,7 +121,7 @@ abbrev pub mixed_first_history : History
 mixed_first_history = record { tables = mixed_first_tables; command = 6; clock = 863949; events = ticks 1 (told_in_order mixed_first_timeline []) }
 
 -- what an independent program says of it, the newest line first
-abbrev pub mixed_first_told : Told
+abbrev pub mixed_first_told : HistoryTold
 mixed_first_told = record {
   command = 44;
   clock = 369;

@@ -9,7 +9,7 @@ use Rattle.sig_tables.specs.Putting.{with_cells}
 use Rattle.sig_tables.specs.Past.{Input, SetPattern, History}
 use Rattle.sig_tables.specs.Standard.{std8}
 use Rattle.known_histories.specs.Timeline.{Step, ticks, told_in_order, after}
-use Rattle.known_histories.specs.Told.{Told, line}
+use Rattle.known_histories.specs.Told.{HistoryTold, line}
 
 -- the tables that the cabinet opens with
 abbrev pub mixed_fourth_tables : Tables
@@ -65,7 +65,7 @@ abbrev pub mixed_fourth_history : History
 mixed_fourth_history = record { tables = mixed_fourth_tables; command = 36; clock = 863641; events = ticks 7 (told_in_order mixed_fourth_timeline []) }
 
 -- what an independent program says of it, the newest line first
-abbrev pub mixed_fourth_told : Told
+abbrev pub mixed_fourth_told : HistoryTold
 mixed_fourth_told = record {
   command = 36;
   clock = 61;

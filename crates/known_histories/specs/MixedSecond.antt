@@ -9,7 +9,7 @@ use Rattle.sig_tables.specs.Putting.{with_cells}
 use Rattle.sig_tables.specs.Past.{Input, Install, SetPattern, SetClock, Ask, Cancel, History}
 use Rattle.sig_tables.specs.Standard.{std8}
 use Rattle.known_histories.specs.Timeline.{Step, ticks, told_in_order, after, request}
-use Rattle.known_histories.specs.Told.{Told, line}
+use Rattle.known_histories.specs.Told.{HistoryTold, line}
 
 -- the tables that the cabinet opens with
 abbrev pub mixed_second_tables : Tables
@@ -97,7 +97,7 @@ abbrev pub mixed_second_history : History
 mixed_second_history = record { tables = mixed_second_tables; command = 255; clock = 424994; events = ticks 26 (told_in_order mixed_second_timeline []) }
 
 -- what an independent program says of it, the newest line first
-abbrev pub mixed_second_told : Told
+abbrev pub mixed_second_told : HistoryTold
 mixed_second_told = record {
   command = 0;
   clock = 425487;

@@ -9,7 +9,7 @@ use Rattle.sig_tables.specs.Putting.{with_cells}
 use Rattle.sig_tables.specs.Past.{Input, Install, SetPattern, SetClock, Ask, Cancel, History}
 use Rattle.sig_tables.specs.Standard.{std8}
 use Rattle.known_histories.specs.Timeline.{Step, ticks, told_in_order, after, request}
-use Rattle.known_histories.specs.Told.{Told, line}
+use Rattle.known_histories.specs.Told.{HistoryTold, line}
 
 -- the tables that the cabinet opens with
 abbrev pub mixed_sixth_tables : Tables
@@ -103,7 +103,7 @@ abbrev pub mixed_sixth_history : History
 mixed_sixth_history = record { tables = mixed_sixth_tables; command = 39; clock = 1193; events = ticks 6 (told_in_order mixed_sixth_timeline []) }
 
 -- what an independent program says of it, the newest line first
-abbrev pub mixed_sixth_told : Told
+abbrev pub mixed_sixth_told : HistoryTold
 mixed_sixth_told = record {
   command = 37;
   clock = 1767;

@@ -9,7 +9,7 @@ use Rattle.sig_tables.specs.Putting.{with_cells}
 use Rattle.sig_tables.specs.Past.{Input, Install, SetPattern, Ask, History}
 use Rattle.sig_tables.specs.Standard.{std8}
 use Rattle.known_histories.specs.Timeline.{Step, ticks, told_in_order, after, request}
-use Rattle.known_histories.specs.Told.{Told, line}
+use Rattle.known_histories.specs.Told.{HistoryTold, line}
 
 -- the tables that the cabinet opens with
 abbrev pub mixed_third_tables : Tables
@@ -90,7 +90,7 @@ abbrev pub mixed_third_history : History
 mixed_third_history = record { tables = mixed_third_tables; command = 1; clock = 863607; events = ticks 46 (told_in_order mixed_third_timeline []) }
 
 -- what an independent program says of it, the newest line first
-abbrev pub mixed_third_told : Told
+abbrev pub mixed_third_told : HistoryTold
 mixed_third_told = record {
   command = 0;
   clock = 27;

@@ -8,7 +8,7 @@ use Rattle.sig_tables.specs.Putting.{with_cells}
 use Rattle.sig_tables.specs.Past.{History}
 use Rattle.sig_tables.specs.Standard.{std8}
 use Rattle.known_histories.specs.Timeline.{Step, ticks, told_in_order}
-use Rattle.known_histories.specs.Told.{Told, line}
+use Rattle.known_histories.specs.Told.{HistoryTold, line}
 
 -- the tables that the cabinet opens with
 abbrev pub past_midnight_tables : Tables
@@ -31,7 +31,7 @@ abbrev pub past_midnight_history : History
 past_midnight_history = record { tables = past_midnight_tables; command = 1; clock = 863740; events = ticks 770 (told_in_order past_midnight_timeline []) }
 
 -- what an independent program says of it, the newest line first
-abbrev pub past_midnight_told : Told
+abbrev pub past_midnight_told : HistoryTold
 past_midnight_told = record {
   command = 1;
   clock = 510;

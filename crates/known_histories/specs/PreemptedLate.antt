@@ -9,7 +9,7 @@ use Rattle.sig_tables.specs.Putting.{with_cells}
 use Rattle.sig_tables.specs.Past.{Input, History}
 use Rattle.sig_tables.specs.Standard.{std8}
 use Rattle.known_histories.specs.Timeline.{Step, ticks, told_in_order, after}
-use Rattle.known_histories.specs.Told.{Told, line}
+use Rattle.known_histories.specs.Told.{HistoryTold, line}
 
 -- the tables that the cabinet opens with
 abbrev pub preempted_late_tables : Tables
@@ -30,7 +30,7 @@ abbrev pub preempted_late_history : History
 preempted_late_history = record { tables = preempted_late_tables; command = 0; clock = 0; events = ticks 201 (told_in_order preempted_late_timeline []) }
 
 -- what an independent program says of it, the newest line first
-abbrev pub preempted_late_told : Told
+abbrev pub preempted_late_told : HistoryTold
 preempted_late_told = record {
   command = 0;
   clock = 600;

@@ -9,7 +9,7 @@ use Rattle.sig_tables.specs.Putting.{with_cells}
 use Rattle.sig_tables.specs.Past.{Input, Install, History}
 use Rattle.sig_tables.specs.Standard.{std8}
 use Rattle.known_histories.specs.Timeline.{Step, ticks, told_in_order, after}
-use Rattle.known_histories.specs.Told.{Told, line}
+use Rattle.known_histories.specs.Told.{HistoryTold, line}
 
 -- the tables that the cabinet opens with
 abbrev pub sets_emptied_tables : Tables
@@ -125,7 +125,7 @@ abbrev pub sets_emptied_history : History
 sets_emptied_history = record { tables = sets_emptied_tables; command = 0; clock = 391802; events = ticks 1 (told_in_order sets_emptied_timeline []) }
 
 -- what an independent program says of it, the newest line first
-abbrev pub sets_emptied_told : Told
+abbrev pub sets_emptied_told : HistoryTold
 sets_emptied_told = record {
   command = 0;
   clock = 392222;

@@ -9,7 +9,7 @@ use Rattle.sig_tables.specs.Putting.{with_cells}
 use Rattle.sig_tables.specs.Past.{Input, SetClock, History}
 use Rattle.sig_tables.specs.Standard.{std8}
 use Rattle.known_histories.specs.Timeline.{Step, ticks, told_in_order, after}
-use Rattle.known_histories.specs.Told.{Told, line}
+use Rattle.known_histories.specs.Told.{HistoryTold, line}
 
 -- the tables that the cabinet opens with
 abbrev pub stands_and_skips_tables : Tables
@@ -66,7 +66,7 @@ abbrev pub stands_and_skips_history : History
 stands_and_skips_history = record { tables = stands_and_skips_tables; command = 44; clock = 863708; events = ticks 2 (told_in_order stands_and_skips_timeline []) }
 
 -- what an independent program says of it, the newest line first
-abbrev pub stands_and_skips_told : Told
+abbrev pub stands_and_skips_told : HistoryTold
 stands_and_skips_told = record {
   command = 44;
   clock = 71874;

@@ -9,7 +9,7 @@ use Rattle.sig_tables.specs.Putting.{with_cells}
 use Rattle.sig_tables.specs.Past.{Input, Install, History}
 use Rattle.sig_tables.specs.Standard.{std8}
 use Rattle.known_histories.specs.Timeline.{Step, ticks, told_in_order, after}
-use Rattle.known_histories.specs.Told.{Told, line}
+use Rattle.known_histories.specs.Told.{HistoryTold, line}
 
 -- the tables that the cabinet opens with
 abbrev pub switched_tables : Tables
@@ -54,7 +54,7 @@ abbrev pub switched_history : History
 switched_history = record { tables = switched_tables; command = 1; clock = 840; events = ticks 51 (told_in_order switched_timeline []) }
 
 -- what an independent program says of it, the newest line first
-abbrev pub switched_told : Told
+abbrev pub switched_told : HistoryTold
 switched_told = record {
   command = 1;
   clock = 1740;

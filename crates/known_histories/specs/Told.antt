@@ -98,7 +98,7 @@ sums_of past = record {
 
 -- all of it: at the end the pattern in command, the clock, the version, the states of the ten requests and the locked calls;
 -- the sums; and the lines
-pub record Told : Type 0 where
+pub record HistoryTold : Type 0 where
   pub command : ℕ
   pub clock : ℕ
   pub version : ℕ
@@ -108,7 +108,7 @@ pub record Told : Type 0 where
   pub sums : Sums
   pub lines : List Line
 
-abbrev pub told : Past → Told
+abbrev pub told : Past → HistoryTold
 told past = record {
   command = command_shown past;
   clock = clock_shown past;
@@ -120,5 +120,5 @@ told past = record {
   lines = lines_of past.moments;
 }
 
-abbrev pub told_of : History → Told
+abbrev pub told_of : History → HistoryTold
 told_of h = told (past_at h)

@@ -6,7 +6,7 @@ use Rattle.sig_tables.specs.declared.tables.Tables.{Tables}
 use Rattle.sig_tables.specs.Past.{Input, History}
 use Rattle.sig_tables.specs.Standard.{std8}
 use Rattle.known_histories.specs.Timeline.{Step, ticks, told_in_order, after}
-use Rattle.known_histories.specs.Told.{Told, line}
+use Rattle.known_histories.specs.Told.{HistoryTold, line}
 
 -- the tables that the cabinet opens with
 abbrev pub whole_walk_tables : Tables
@@ -22,7 +22,7 @@ abbrev pub whole_walk_history : History
 whole_walk_history = record { tables = whole_walk_tables; command = 1; clock = 840; events = ticks 1100 (told_in_order whole_walk_timeline []) }
 
 -- what an independent program says of it, the newest line first
-abbrev pub whole_walk_told : Told
+abbrev pub whole_walk_told : HistoryTold
 whole_walk_told = record {
   command = 1;
   clock = 2040;

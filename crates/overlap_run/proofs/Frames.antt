@@ -10,7 +10,7 @@ use Rattle.trace_text.specs.declared.lines.Line.TheVariants.{S, F, R, M, J, L, A
 use Rattle.safety_laws.specs.Safe.{Indications}
 use Rattle.safety_laws.specs.Whole.{downloads}
 use Rattle.safety_laws.specs.Written.{shown_by, written}
-use Rattle.safety_laws.specs.Told.{Told, Shows, Loads, told_in, frame_told, told_of, history_told}
+use Rattle.safety_laws.specs.Told.{CabinetTold, Shows, Loads, told_in, frame_told, told_of, history_told}
 use Rattle.overlap_run.specs.Parents.{Rise, AreFrames}
 use Rattle.overlap_run.specs.Trace.{frames_told, frames_written}
 
@@ -65,21 +65,21 @@ pub history-frames : (h : History) (has_line : Frame → Frame → Bool) (ticks 
 history-frames h has_line ticks e = any-frames has_line (frames h) ticks e
 
 -- the downloads that are told of
-abbrev loads_in : List Told → ℕ
+abbrev loads_in : List CabinetTold → ℕ
 loads_in [] = 0
 loads_in (Shows tick shown ∷ told) = loads_in told
 loads_in (Loads version ∷ told) = loads_in told + 1
 
-loads-append : (xs ys : List Told) → loads_in (xs ++ ys) ≡ loads_in xs + loads_in ys
+loads-append : (xs ys : List CabinetTold) → loads_in (xs ++ ys) ≡ loads_in xs + loads_in ys
 loads-append [] ys = omega arith
 loads-append (Shows tick shown ∷ xs) ys = loads-append xs ys
 loads-append (Loads version ∷ xs) ys = let h : loads_in (xs ++ ys) ≡ loads_in xs + loads_in ys = loads-append xs ys in omega (arith, h)
 
-either-shows : (b : Bool) (tick : ℕ) (shown : Indications) (told : List Told) → loads_in (if b then Shows tick shown ∷ told else told) ≡ loads_in told
+either-shows : (b : Bool) (tick : ℕ) (shown : Indications) (told : List CabinetTold) → loads_in (if b then Shows tick shown ∷ told else told) ≡ loads_in told
 either-shows true tick shown told = refl
 either-shows false tick shown told = refl
 
-either-loads : (b : Bool) (version : ℕ) (told : List Told) → loads_in (if b then Loads version ∷ told else told) ≡ (if b then loads_in told + 1 else loads_in told)
+either-loads : (b : Bool) (version : ℕ) (told : List CabinetTold) → loads_in (if b then Loads version ∷ told else told) ≡ (if b then loads_in told + 1 else loads_in told)
 either-loads true version told = refl
 either-loads false version told = refl
 
@@ -100,10 +100,10 @@ frame-loads : (b : Bool) (n : ℕ) (shown : Indications) → loads_in (if b then
 frame-loads true n shown = refl
 frame-loads false n shown = refl
 
-none-more : (xs ys : List Told) (n : ℕ) → loads_in xs ≡ n → loads_in ys ≡ 0 → loads_in (xs ++ ys) ≡ n
+none-more : (xs ys : List CabinetTold) (n : ℕ) → loads_in xs ≡ n → loads_in ys ≡ 0 → loads_in (xs ++ ys) ≡ n
 none-more xs ys n a b = let h : loads_in (xs ++ ys) ≡ loads_in xs + loads_in ys = loads-append xs ys in omega (arith, h, a, b)
 
-one-more : (xs : List Told) (version n : ℕ) → loads_in xs ≡ n → loads_in (xs ++ Loads version ∷ []) ≡ n + 1
+one-more : (xs : List CabinetTold) (version n : ℕ) → loads_in xs ≡ n → loads_in (xs ++ Loads version ∷ []) ≡ n + 1
 one-more xs version n a = let h : loads_in (xs ++ Loads version ∷ []) ≡ loads_in xs + 1 = loads-append xs (Loads version ∷ []) in omega (arith, h, a)
 
 events-load : (has_line : Frame → Frame → Bool) (opening : Tables) (events : List Event) → loads_in (told_of has_line opening events) ≡ (past_of opening events).version

@@ -9,7 +9,7 @@ use Rattle.trace_text.specs.declared.lines.Line.{Line}
 use Rattle.trace_text.specs.declared.lines.Line.TheVariants.{Z}
 use Rattle.plan_facts.specs.Disturbances.{Drift}
 use Rattle.safety_laws.specs.Written.{shown_by}
-use Rattle.safety_laws.specs.Told.{Told, Shows, told_in}
+use Rattle.safety_laws.specs.Told.{CabinetTold, Shows, told_in}
 use Rattle.scenario_data.specs.declared.scenario.Base.{Base}
 use Rattle.scenario_data.specs.declared.scenario.Base.TheVariants.{Std8, Max8}
 use Rattle.scenario_data.specs.Content.{CabinetContent, ScenarioContent}
@@ -41,9 +41,9 @@ tells-on : (cab : ℕ) (lines more : List Line) (t u v : CabinetState) → Tells
 tells-on cab lines more t u v a b = record {
   own = b.own ∙ a.own;
   opening = b.opening ∙ a.opening;
-  told = b.told ∙ ap (λ (x : List Told). x ++ told_in cab more) a.told
+  told = b.told ∙ ap (λ (x : List CabinetTold). x ++ told_in cab more) a.told
       ∙ append_assoc (cabinet_history_told t.cabinet_history) (told_in cab lines) (told_in cab more)
-      ∙ ap (λ (x : List Told). cabinet_history_told t.cabinet_history ++ x) (sym (told-append cab lines more));
+      ∙ ap (λ (x : List CabinetTold). cabinet_history_told t.cabinet_history ++ x) (sym (told-append cab lines more));
 }
 
 -- lines that tell the same of a cabinet
@@ -51,7 +51,7 @@ tells-same : (cab : ℕ) (lines others : List Line) (t u : CabinetState) → tol
 tells-same cab lines others t u e a = record {
   own = a.own;
   opening = a.opening;
-  told = a.told ∙ ap (λ (x : List Told). cabinet_history_told t.cabinet_history ++ x) (sym e);
+  told = a.told ∙ ap (λ (x : List CabinetTold). cabinet_history_told t.cabinet_history ++ x) (sym e);
 }
 
 come-late : (cab first : ℕ) (t : CabinetState) (ts : List CabinetState) → HasComeTo cab t first ts → first ≤ cab
@@ -79,7 +79,7 @@ own-round s first t ts j js =
       own = refl;
       opening = after-opening t.cabinet_history (items_in acts);
       told = acts-tell t.cabinet_history acts
-          ∙ ap (λ (x : List Told). cabinet_history_told t.cabinet_history ++ x)
+          ∙ ap (λ (x : List CabinetTold). cabinet_history_told t.cabinet_history ++ x)
           (sym (told-before first (acts_lines first t.cabinet_history acts) (each_lines s (first + 1) ts js) (each-late s first (first + 1) ts js (omega arith)) ∙ acts-lines-tell first t.cabinet_history acts));
     }
 
@@ -131,7 +131,7 @@ opening-own : (s : ScenarioContent) (first : ℕ) (c : CabinetContent) (cabinets
     → told_in first (opening_lines first (opened_cabinet_states s (c ∷ cabinets))) ≡ Shows 0 (shown_by first_frame) ∷ []
 opening-own s first c cabinets =
     let e : (first == first) ≡ true = eq-eqb first first refl in
-    rw e (ap (λ (x : List Told). Shows 0 (shown_by first_frame) ∷ x) (opening-late s first (first + 1) cabinets (omega arith)))
+    rw e (ap (λ (x : List CabinetTold). Shows 0 (shown_by first_frame) ∷ x) (opening-late s first (first + 1) cabinets (omega arith)))
 
 abbrev Opened : ScenarioContent → ℕ → CabinetContent → ℕ → List CabinetContent → Type 0
 Opened s cab c first cabinets =
@@ -176,7 +176,7 @@ run-ended s journals cab c are is =
       opens = subst (λ (h : History). IsOpening (opening_tables c) (drift_in c) h) (sym tells.opening) (c.pattern, c.clock, inr refl);
       told = told-before cab (front_lines s journals) (Z s.rounds ∷ []) refl
           ∙ told-append cab start rounds
-          ∙ ap (λ (x : List Told). x ++ told_in cab rounds) shown
+          ∙ ap (λ (x : List CabinetTold). x ++ told_in cab rounds) shown
           ∙ sym tells.told;
     }
 

@@ -7,7 +7,7 @@ use Rattle.sig_types.specs.declared.notes.MasterNote.{MasterNote}
 use Rattle.trace_text.specs.declared.lines.Line.{Line}
 use Rattle.trace_text.specs.declared.lines.Line.TheVariants.{S, F, R, M, J, L, A, Z}
 use Rattle.safety_laws.specs.Written.{shown_by}
-use Rattle.safety_laws.specs.Told.{Told, Shows, Loads, told_in}
+use Rattle.safety_laws.specs.Told.{CabinetTold, Shows, Loads, told_in}
 use Rattle.sig_types.specs.Items.{Item, Told as Input, Came, Ticked}
 use Rattle.cabinet_history.specs.declared.Load.{Load}
 use Rattle.cabinet_history.specs.CabinetHistory.{CabinetHistory, with_item}
@@ -20,20 +20,20 @@ pub told-append : (cab : ℕ) (lines more : List Line) → told_in cab (lines ++
 told-append cab [] more = refl
 told-append cab (F c tick veh ped mode counter target version ∷ lines) more = split (c == cab) (told-append cab lines more)
   where
-    said : Told
+    said : CabinetTold
     said = Shows tick (record { colours = veh; signals = ped; mode = mode; version = version })
 
     split : (b : Bool) → told_in cab (lines ++ more) ≡ told_in cab lines ++ told_in cab more
         → (if b then said ∷ told_in cab (lines ++ more) else told_in cab (lines ++ more))
         ≡ (if b then said ∷ told_in cab lines else told_in cab lines) ++ told_in cab more
-    split true e = ap (λ (x : List Told). said ∷ x) e
+    split true e = ap (λ (x : List CabinetTold). said ∷ x) e
     split false e = e
 told-append cab (L c id (Ok version) ∷ lines) more = split (c == cab) (told-append cab lines more)
   where
     split : (b : Bool) → told_in cab (lines ++ more) ≡ told_in cab lines ++ told_in cab more
         → (if b then Loads version ∷ told_in cab (lines ++ more) else told_in cab (lines ++ more))
         ≡ (if b then Loads version ∷ told_in cab lines else told_in cab lines) ++ told_in cab more
-    split true e = ap (λ (x : List Told). Loads version ∷ x) e
+    split true e = ap (λ (x : List CabinetTold). Loads version ∷ x) e
     split false e = e
 told-append cab (L c id (Err broken) ∷ lines) more = told-append cab lines more
 told-append cab (S json ∷ lines) more = told-append cab lines more
@@ -45,11 +45,11 @@ told-append cab (Z rounds ∷ lines) more = told-append cab lines more
 
 -- lines that tell nothing of a cabinet, before others and behind them
 pub told-behind : (cab : ℕ) (lines more : List Line) → told_in cab lines ≡ [] → told_in cab (lines ++ more) ≡ told_in cab more
-told-behind cab lines more e = told-append cab lines more ∙ ap (λ (x : List Told). x ++ told_in cab more) e
+told-behind cab lines more e = told-append cab lines more ∙ ap (λ (x : List CabinetTold). x ++ told_in cab more) e
 
 pub told-before : (cab : ℕ) (lines more : List Line) → told_in cab more ≡ [] → told_in cab (lines ++ more) ≡ told_in cab lines
 told-before cab lines more e =
-    told-append cab lines more ∙ ap (λ (x : List Told). told_in cab lines ++ x) e ∙ append-nil (told_in cab lines)
+    told-append cab lines more ∙ ap (λ (x : List CabinetTold). told_in cab lines ++ x) e ∙ append-nil (told_in cab lines)
 
 -- ---- a cabinet's own lines
 
@@ -57,7 +57,7 @@ frames-tell : (cab : ℕ) (frames : List (ℕ × Frame)) → told_in cab (frame_
 frames-tell cab [] = refl
 frames-tell cab (f ∷ frames) =
     let e : (cab == cab) ≡ true = eq-eqb cab cab refl in
-    rw e (ap (λ (x : List Told). Shows f.0 (shown_by f.1) ∷ x) (frames-tell cab frames))
+    rw e (ap (λ (x : List CabinetTold). Shows f.0 (shown_by f.1) ∷ x) (frames-tell cab frames))
 
 result-tells : (cab id : ℕ) (result : Result ℕ Broken) (more : List Line) → told_in cab (L cab id result ∷ more) ≡ version_told result ++ told_in cab more
 result-tells cab id (Ok version) more = let e : (cab == cab) ≡ true = eq-eqb cab cab refl in rw e refl
@@ -79,8 +79,8 @@ acts-lines-tell cab cabinet_history [] = refl
 acts-lines-tell cab cabinet_history (act ∷ acts) =
     let later : List Line = acts_lines cab (with_item cabinet_history act.item) acts in
     told-append cab (item_lines cab cabinet_history act.pass act.item) later
-    ∙ ap (λ (x : List Told). x ++ told_in cab later) (item-tells cab cabinet_history act.pass act.item)
-    ∙ ap (λ (x : List Told). item_told cabinet_history act.item ++ x) (acts-lines-tell cab (with_item cabinet_history act.item) acts)
+    ∙ ap (λ (x : List CabinetTold). x ++ told_in cab later) (item-tells cab cabinet_history act.pass act.item)
+    ∙ ap (λ (x : List CabinetTold). item_told cabinet_history act.item ++ x) (acts-lines-tell cab (with_item cabinet_history act.item) acts)
 
 -- ---- the lines of another cabinet, and notes
 

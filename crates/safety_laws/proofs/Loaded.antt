@@ -13,46 +13,46 @@ use Rattle.trace_text.specs.declared.lines.Line.{Line}
 use Rattle.trace_text.specs.declared.lines.Line.TheVariants.{S, F, R, M, J, L, A, Z}
 use Rattle.safety_laws.specs.Whole.{downloads, Whole}
 use Rattle.safety_laws.specs.Written.{shown_by}
-use Rattle.safety_laws.specs.Told.{Told, Shows, Loads, told_in, frame_told, told_of, history_told}
+use Rattle.safety_laws.specs.Told.{CabinetTold, Shows, Loads, told_in, frame_told, told_of, history_told}
 
 -- the downloads alone, counted
-abbrev loads : List Told → ℕ
+abbrev loads : List CabinetTold → ℕ
 loads [] = 0
 loads (Shows tick shown ∷ rest) = loads rest
 loads (Loads version ∷ rest) = loads rest + 1
 
 -- after so many downloads each frame has the number of those before it, and each download its own
-abbrev Counts : ℕ → List Told → Type 0
+abbrev Counts : ℕ → List CabinetTold → Type 0
 Counts n [] = Unit {0}
 Counts n (Shows tick shown ∷ rest) = (shown.version ≡ n) × Counts n rest
 Counts n (Loads version ∷ rest) = (version ≡ n + 1) × Counts (n + 1) rest
 
-loads-append : (xs ys : List Told) → loads (xs ++ ys) ≡ loads xs + loads ys
+loads-append : (xs ys : List CabinetTold) → loads (xs ++ ys) ≡ loads xs + loads ys
 loads-append [] ys = sym (omega arith)
 loads-append (Shows tick shown ∷ rest) ys = loads-append rest ys
 loads-append (Loads version ∷ rest) ys = let e : loads (rest ++ ys) ≡ loads rest + loads ys = loads-append rest ys in omega (arith, e)
 
-counts-from : (m n : ℕ) (xs : List Told) → m ≡ n → Counts m xs → Counts n xs
+counts-from : (m n : ℕ) (xs : List CabinetTold) → m ≡ n → Counts m xs → Counts n xs
 counts-from m n xs e h = subst (λ (k : ℕ). Counts k xs) e h
 
-counts-append : (n : ℕ) (xs ys : List Told) → Counts n xs → Counts (n + loads xs) ys → Counts n (xs ++ ys)
+counts-append : (n : ℕ) (xs ys : List CabinetTold) → Counts n xs → Counts (n + loads xs) ys → Counts n (xs ++ ys)
 counts-append n [] ys h k = counts-from (n + 0) n ys (omega arith) k
 counts-append n (Shows tick shown ∷ rest) ys h k = (h.0, counts-append n rest ys h.1 k)
 counts-append n (Loads version ∷ rest) ys h k =
     (h.0, counts-append (n + 1) rest ys h.1 (counts-from (n + (loads rest + 1)) (n + 1 + loads rest) ys (omega arith) k))
 
-counts-after : (n : ℕ) (xs ys : List Told) → Counts n (xs ++ ys) → Counts (n + loads xs) ys
+counts-after : (n : ℕ) (xs ys : List CabinetTold) → Counts n (xs ++ ys) → Counts (n + loads xs) ys
 counts-after n [] ys h = counts-from n (n + 0) ys (omega arith) h
 counts-after n (Shows tick shown ∷ rest) ys h = counts-after n rest ys h.1
 counts-after n (Loads version ∷ rest) ys h =
     counts-from (n + 1 + loads rest) (n + (loads rest + 1)) ys (omega arith) (counts-after (n + 1) rest ys h.1)
 
 -- so with the events of a history, whose downloads are as many as its version says
-record Counted (version : ℕ) (xs : List Told) : Type 0 where
+record Counted (version : ℕ) (xs : List CabinetTold) : Type 0 where
   counts : Counts 0 xs
   number : loads xs ≡ version
 
-one-frame : (has_line : Frame → Frame → Bool) (past : Past) (xs : List Told) → Counted past.version xs → Counted past.version (xs ++ frame_told has_line past)
+one-frame : (has_line : Frame → Frame → Bool) (past : Past) (xs : List CabinetTold) → Counted past.version xs → Counted past.version (xs ++ frame_told has_line past)
 one-frame has_line past xs c = split (has_line (last_frame past.moments) (next_moment past).frame)
   where
     split : (b : Bool) → Counted past.version (xs ++ (if b then Shows (length (frames_in past.moments)) (shown_by (next_moment past).frame) ∷ [] else []))
@@ -71,7 +71,7 @@ one-frame has_line past xs c = split (has_line (last_frame past.moments) (next_m
           omega (arith, e, a);
     }
 
-one-load : (version : ℕ) (xs : List Told) → Counted version xs → Counted (version + 1) (xs ++ Loads (version + 1) ∷ [])
+one-load : (version : ℕ) (xs : List CabinetTold) → Counted version xs → Counted (version + 1) (xs ++ Loads (version + 1) ∷ [])
 one-load version xs c = record {
   counts = counts-append 0 xs (Loads (version + 1) ∷ []) c.counts (let e : loads xs ≡ version = c.number in omega arith, tt);
   number = loads-append xs (Loads (version + 1) ∷ []) ∙ ap (λ (n : ℕ). n + 1) c.number;
@@ -90,20 +90,20 @@ told-append : (cab : ℕ) (lines more : List Line) → told_in cab (lines ++ mor
 told-append cab [] more = refl
 told-append cab (F c tick veh ped mode counter target version ∷ lines) more = split (c == cab) (told-append cab lines more)
   where
-    said : Told
+    said : CabinetTold
     said = Shows tick (record { colours = veh; signals = ped; mode = mode; version = version })
 
     split : (b : Bool) → told_in cab (lines ++ more) ≡ told_in cab lines ++ told_in cab more
         → (if b then said ∷ told_in cab (lines ++ more) else told_in cab (lines ++ more))
         ≡ (if b then said ∷ told_in cab lines else told_in cab lines) ++ told_in cab more
-    split true e = ap (λ (x : List Told). said ∷ x) e
+    split true e = ap (λ (x : List CabinetTold). said ∷ x) e
     split false e = e
 told-append cab (L c id (Ok version) ∷ lines) more = split (c == cab) (told-append cab lines more)
   where
     split : (b : Bool) → told_in cab (lines ++ more) ≡ told_in cab lines ++ told_in cab more
         → (if b then Loads version ∷ told_in cab (lines ++ more) else told_in cab (lines ++ more))
         ≡ (if b then Loads version ∷ told_in cab lines else told_in cab lines) ++ told_in cab more
-    split true e = ap (λ (x : List Told). Loads version ∷ x) e
+    split true e = ap (λ (x : List CabinetTold). Loads version ∷ x) e
     split false e = e
 told-append cab (L c id (Err broken) ∷ lines) more = told-append cab lines more
 told-append cab (S json ∷ lines) more = told-append cab lines more
@@ -142,7 +142,7 @@ from-line cab lines before rest h e =
     counts-from (0 + loads (told_in cab before)) (downloads cab before) (told_in cab rest)
     (let e : loads (told_in cab before) ≡ downloads cab before = lines-loads cab before in omega arith)
     (counts-after 0 (told_in cab before) (told_in cab rest)
-    (subst (λ (x : List Told). Counts 0 x) (told-append cab before rest) (subst (λ (x : List Line). Counts 0 (told_in cab x)) e h)))
+    (subst (λ (x : List CabinetTold). Counts 0 x) (told-append cab before rest) (subst (λ (x : List Line). Counts 0 (told_in cab x)) e h)))
 
 frame-first : (cab tick : ℕ) (veh : List Colour) (ped : List Ped) (mode : Mode) (counter target version : ℕ) (after : List Line)
     → told_in cab (F cab tick veh ped mode counter target version ∷ after)
@@ -155,10 +155,10 @@ load-first cab id version after = let e : (cab == cab) ≡ true = eq-eqb cab cab
 counted-whole : (cab : ℕ) (lines : List Line) → Counts 0 (told_in cab lines) → Whole cab lines
 counted-whole cab lines h = record {
   frames = λ before after tick veh ped mode counter target version e.
-      (subst (λ (x : List Told). Counts (downloads cab before) x) (frame-first cab tick veh ped mode counter target version after)
+      (subst (λ (x : List CabinetTold). Counts (downloads cab before) x) (frame-first cab tick veh ped mode counter target version after)
       (from-line cab lines before (F cab tick veh ped mode counter target version ∷ after) h e)).0;
   loads = λ before after id version e.
-      (subst (λ (x : List Told). Counts (downloads cab before) x) (load-first cab id version after)
+      (subst (λ (x : List CabinetTold). Counts (downloads cab before) x) (load-first cab id version after)
       (from-line cab lines before (L cab id (Ok version) ∷ after) h e)).0;
 }
 
@@ -166,4 +166,4 @@ counted-whole cab lines h = record {
 pub history-whole : (h : History) (has_line : Frame → Frame → Bool) (cab : ℕ) (lines : List Line) → told_in cab lines
     ≡ history_told has_line h → Whole cab lines
 history-whole h has_line cab lines e =
-    counted-whole cab lines (subst (λ (x : List Told). Counts 0 x) (sym e) (events-counted has_line h.tables (since_opening h)).counts)
+    counted-whole cab lines (subst (λ (x : List CabinetTold). Counts 0 x) (sym e) (events-counted has_line h.tables (since_opening h)).counts)

@@ -13,15 +13,15 @@ use Rattle.safety_laws.specs.Safe.{Indications, Safe, told, intersection_of}
 use Rattle.safety_laws.specs.Written.{TellsChanges, shown_by, written, tables_of}
 use Rattle.safety_laws.proofs.Versions.{versions}
 use Rattle.safety_laws.proofs.History.{history-safe}
-use Rattle.safety_laws.specs.Told.{Told, Shows, Loads, told_in, frame_told, told_of, history_told}
+use Rattle.safety_laws.specs.Told.{CabinetTold, Shows, Loads, told_in, frame_told, told_of, history_told}
 
 -- the frames alone
-abbrev shown_in : List Told → List (ℕ × Indications)
+abbrev shown_in : List CabinetTold → List (ℕ × Indications)
 shown_in [] = []
 shown_in (Shows tick shown ∷ rest) = (tick, shown) ∷ shown_in rest
 shown_in (Loads version ∷ rest) = shown_in rest
 
-shown-append : (xs ys : List Told) → shown_in (xs ++ ys) ≡ shown_in xs ++ shown_in ys
+shown-append : (xs ys : List CabinetTold) → shown_in (xs ++ ys) ≡ shown_in xs ++ shown_in ys
 shown-append [] ys = refl
 shown-append (Shows tick shown ∷ rest) ys = ap (λ (x : List (ℕ × Indications)). (tick, shown) ∷ x) (shown-append rest ys)
 shown-append (Loads version ∷ rest) ys = shown-append rest ys

@@ -12,12 +12,12 @@ use Rattle.safety_laws.specs.Safe.{Indications}
 use Rattle.safety_laws.specs.Written.{shown_by}
 
 -- what is shown from a tick on, or a download that was accepted and the number of its tables
-pub data Told : Type 0 where
-  Shows : (tick : ℕ) (shown : Indications) → Told
-  Loads : (version : ℕ) → Told
+pub data CabinetTold : Type 0 where
+  Shows : (tick : ℕ) (shown : Indications) → CabinetTold
+  Loads : (version : ℕ) → CabinetTold
 
 -- what the lines of a cabinet tell, in the order written; a refused download tells nothing, nor do lines of other kinds
-abbrev pub told_in : ℕ → List Line → List Told
+abbrev pub told_in : ℕ → List Line → List CabinetTold
 told_in cab [] = []
 told_in cab (F c tick veh ped mode counter target version ∷ lines) =
     if c == cab then Shows tick (record { colours = veh; signals = ped; mode = mode; version = version }) ∷ told_in cab lines
@@ -26,13 +26,13 @@ told_in cab (L c id (Ok version) ∷ lines) = if c == cab then Loads version ∷
 told_in cab (_ ∷ lines) = told_in cab lines
 
 -- the frame of the tick that comes now, where it has a line; its tick is the number of frames before it
-abbrev pub frame_told : (Frame → Frame → Bool) → Past → List Told
+abbrev pub frame_told : (Frame → Frame → Bool) → Past → List CabinetTold
 frame_told has_line past =
     if has_line (last_frame past.moments) (next_moment past).frame
     then Shows (length (frames_in past.moments)) (shown_by (next_moment past).frame) ∷ [] else []
 
 -- what is to be told of these events, by a rule for which frames have a line
-abbrev pub told_of : (Frame → Frame → Bool) → Tables → List Event → List Told
+abbrev pub told_of : (Frame → Frame → Bool) → Tables → List Event → List CabinetTold
 told_of has_line opening [] = Shows 0 (shown_by first_frame) ∷ []
 told_of has_line opening (Tick ∷ events) = told_of has_line opening events ++ frame_told has_line (past_of opening events)
 told_of has_line opening (Install t ∷ events) =
@@ -40,5 +40,5 @@ told_of has_line opening (Install t ∷ events) =
 told_of has_line opening (_ ∷ events) = told_of has_line opening events
 
 -- what is to be told of a history
-abbrev pub history_told : (Frame → Frame → Bool) → History → List Told
+abbrev pub history_told : (Frame → Frame → Bool) → History → List CabinetTold
 history_told has_line h = told_of has_line h.tables (since_opening h)

@@ -19,7 +19,7 @@ use Rattle.scenario_cut.specs.declared.checks.Head.{Head}
 use Rattle.scenario_cut.specs.declared.judge.Extent.{Extent}
 use Rattle.scenario_cut.specs.declared.judge.Listing.{Listing}
 use Rattle.scenario_cut.specs.declared.judge.Listing.TheVariants.{Cabinets, Inputs, Loads, Priority, Frames, Faults}
-use Rattle.scenario_cut.specs.declared.listing.Told.{Told}
+use Rattle.scenario_cut.specs.declared.listing.ListVerdict.{ListVerdict}
 use Rattle.scenario_cut.proofs.Same.{Same, same-both}
 use Rattle.scenario_cut.proofs.Members.{IsObject, AllKeep, kept_members, unknown-same, field-same, fields-same, held-cut, some-cut}
 use Rattle.scenario_cut.proofs.Kept.{whole-same, text-same, bare-number, master-same}
@@ -146,7 +146,7 @@ listed Frames = refl
 listed Faults = refl
 
 -- what is known of no members is known of a scenario in which the list doesn't stand
-pub absent-in : (l : Listing) (e : Extent) (told : Told) (d v : Data) → v ≡ cut Setup d → is_some (get (name_of l) v) ≡ false → TellsIn l e told (object no_members) → TellsIn l e told d
+pub absent-in : (l : Listing) (e : Extent) (told : ListVerdict) (d v : Data) → v ≡ cut Setup d → is_some (get (name_of l) v) ≡ false → TellsIn l e told (object no_members) → TellsIn l e told d
 absent-in l e told d v is absent h =
     let none : get (name_of l) d ≡ None = no-some (get (name_of l) d) (sym (some-cut Setup is-setup (name_of l) (listed l) d) ∙ ap (λ w. is_some (get (name_of l) w)) (sym is) ∙ absent) in
     tells-same l e told (object no_members) d (sym none) h

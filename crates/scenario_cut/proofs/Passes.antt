@@ -12,7 +12,7 @@ use Rattle.scenario_cut.specs.Known.{is_in, stands, any_stands, if_named, list_n
 use Rattle.scenario_cut.specs.declared.judge.Extent.{Extent}
 use Rattle.scenario_cut.specs.declared.judge.Listing.{Listing}
 use Rattle.scenario_cut.specs.declared.judge.Listing.TheVariants.{Cabinets, Inputs, Loads, Priority, Frames, Faults}
-use Rattle.scenario_cut.specs.declared.listing.Told.{Told}
+use Rattle.scenario_cut.specs.declared.listing.ListVerdict.{ListVerdict}
 use Rattle.scenario_cut.specs.declared.named.Group.{Group}
 use Rattle.scenario_cut.specs.declared.named.Group.TheVariants.{Cabinets as OfCabinets, Events as OfEvents}
 use Rattle.scenario_cut.specs.declared.named.Known.{Known}
@@ -112,7 +112,7 @@ one-list l m same = sym (list-of-name l) ∙ ap list-of ((bytes_eq-Decides (name
 
 -- ---- a member
 
-told-with : (l m : Listing) (told : Told) (known : Known) → told_of l (with_told m told known) ≡ (if bytes_eq (name_of m) (name_of l) then told else told_of l known)
+told-with : (l m : Listing) (told : ListVerdict) (known : Known) → told_of l (with_told m told known) ≡ (if bytes_eq (name_of m) (name_of l) then told else told_of l known)
 told-with Cabinets m told known = refl
 told-with Inputs m told known = refl
 told-with Loads m told known = refl
@@ -121,7 +121,7 @@ told-with Frames m told known = refl
 told-with Faults m told known = refl
 
 -- one of the lists comes
-pub judged-member : (s : Search) (m : Listing) (told : Told) (known : Known) (name : List ℕ) (d : Data) (ms : Members) → list_named s.group name ≡ Some m → TellsOf m s.extent told d
+pub judged-member : (s : Search) (m : Listing) (told : ListVerdict) (known : Known) (name : List ℕ) (d : Data) (ms : Members) → list_named s.group name ≡ Some m → TellsOf m s.extent told d
     → Knows s known (object ms) → Knows s (with_told m told known) (object (put name d ms))
 judged-member s m told known name d ms is h knows =
     λ l looked. subst (λ t. TellsIn l s.extent t now) (sym (told-with l m told known)) (at l looked (bytes_eq (name_of m) (name_of l)) refl)

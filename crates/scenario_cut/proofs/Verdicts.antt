@@ -21,7 +21,7 @@ use Rattle.scenario_cut.specs.declared.judge.Found.{Found}
 use Rattle.scenario_cut.specs.declared.judge.Listing.{Listing}
 use Rattle.scenario_cut.specs.declared.judge.Listing.TheVariants.{Cabinets, Inputs, Loads, Priority, Frames, Faults}
 use Rattle.scenario_cut.specs.declared.listing.Judged.{Judged}
-use Rattle.scenario_cut.specs.declared.listing.Told.{Told}
+use Rattle.scenario_cut.specs.declared.listing.ListVerdict.{ListVerdict}
 
 -- ---- the faults of a list
 
@@ -146,7 +146,7 @@ abbrev TellsAt : Option ReadFail → Kind → List Step → Option Data → (Dat
 TellsAt refusal kind path default P o = Tells refusal (faults_of kind path (either o default)) (P (unwrap_or (either o default) null))
 
 -- with another value that has the same there
-pub tells-same : (l : Listing) (e : Extent) (told : Told) (d v : Data) → get (name_of l) d ≡ get (name_of l) v → TellsIn l e told d → TellsIn l e told v
+pub tells-same : (l : Listing) (e : Extent) (told : ListVerdict) (d v : Data) → get (name_of l) d ≡ get (name_of l) v → TellsIn l e told d → TellsIn l e told v
 tells-same Cabinets e told d v is h = subst (TellsAt told.refusal (cabinets e.version).kind (list_path Cabinets) None (StaysIn Cabinets e told.found)) is h
 tells-same Inputs e told d v is h = subst (TellsAt told.refusal (inputs e.rounds e.cabinets).kind (list_path Inputs) (Some (array no_items)) (StaysIn Inputs e told.found)) is h
 tells-same Loads e told d v is h = subst (TellsAt told.refusal (loads e.rounds e.cabinets).kind (list_path Loads) (Some (array no_items)) (StaysIn Loads e told.found)) is h
@@ -155,7 +155,7 @@ tells-same Frames e told d v is h = subst (TellsAt told.refusal (frames e.rounds
 tells-same Faults e told d v is h = subst (TellsAt told.refusal (link_faults e.rounds e.cabinets).kind (list_path Faults) (Some (array no_items)) (StaysIn Faults e told.found)) is h
 
 -- with the value that stands there
-tells-here : (l : Listing) (e : Extent) (told : Told) (d v : Data) → Some d ≡ get (name_of l) v → TellsOf l e told d → TellsIn l e told v
+tells-here : (l : Listing) (e : Extent) (told : ListVerdict) (d v : Data) → Some d ≡ get (name_of l) v → TellsOf l e told d → TellsIn l e told v
 tells-here Cabinets e told d v is h = subst (TellsAt told.refusal (cabinets e.version).kind (list_path Cabinets) None (StaysIn Cabinets e told.found)) is h
 tells-here Inputs e told d v is h = subst (TellsAt told.refusal (inputs e.rounds e.cabinets).kind (list_path Inputs) (Some (array no_items)) (StaysIn Inputs e told.found)) is h
 tells-here Loads e told d v is h = subst (TellsAt told.refusal (loads e.rounds e.cabinets).kind (list_path Loads) (Some (array no_items)) (StaysIn Loads e told.found)) is h
@@ -163,12 +163,12 @@ tells-here Priority e told d v is h = subst (TellsAt told.refusal (priority e.ro
 tells-here Frames e told d v is h = subst (TellsAt told.refusal (frames e.rounds e.cabinets).kind (list_path Frames) (Some (array no_items)) (StaysIn Frames e told.found)) is h
 tells-here Faults e told d v is h = subst (TellsAt told.refusal (link_faults e.rounds e.cabinets).kind (list_path Faults) (Some (array no_items)) (StaysIn Faults e told.found)) is h
 
-pub put-here : (l : Listing) (e : Extent) (told : Told) (name : List ℕ) (d : Data) (ms : Members) → bytes_eq name (name_of l) ≡ true → TellsOf l e told d → TellsIn l e told (object (put name d ms))
+pub put-here : (l : Listing) (e : Extent) (told : ListVerdict) (name : List ℕ) (d : Data) (ms : Members) → bytes_eq name (name_of l) ≡ true → TellsOf l e told d → TellsIn l e told (object (put name d ms))
 put-here l e told name d ms is h =
     let same : name_of l ≡ name = sym ((bytes_eq-Decides name (name_of l)).0 is) in
     tells-here l e told d (object (put name d ms)) (sym (ap (λ n. get n (object (put name d ms))) same ∙ get_member-put name d ms)) h
 
-pub put-other : (l : Listing) (e : Extent) (told : Told) (name : List ℕ) (d : Data) (ms : Members) → bytes_eq name (name_of l) ≡ false → TellsIn l e told (object ms) → TellsIn l e told (object (put name d ms))
+pub put-other : (l : Listing) (e : Extent) (told : ListVerdict) (name : List ℕ) (d : Data) (ms : Members) → bytes_eq name (name_of l) ≡ false → TellsIn l e told (object ms) → TellsIn l e told (object (put name d ms))
 put-other l e told name d ms is h =
     let apart = λ (same : name_of l ≡ name). let both : bytes_eq name (name_of l) ≡ true = (bytes_eq-Decides name (name_of l)).1 (sym same) in let clash : true ≡ false = sym both ∙ is in absurd (cc) in
     tells-same l e told (object ms) (object (put name d ms)) (sym (get_member-put_other (name_of l) name d ms apart)) h
@@ -190,8 +190,8 @@ one-value bytes d v a b = inside d v (sym a.1 ∙ b.1)
     inside d v e = cc
 
 -- what was told of the list, as an answer
-pub refused-named : (l : Listing) (e : Extent) (told : Told) (d : Data) (fail : ReadFail) → told.refusal ≡ Some fail → TellsIn l e told d → Refuses fail (field_faults [] d (list_field l e))
+pub refused-named : (l : Listing) (e : Extent) (told : ListVerdict) (d : Data) (fail : ReadFail) → told.refusal ≡ Some fail → TellsIn l e told d → Refuses fail (field_faults [] d (list_field l e))
 refused-named l e told d fail is h = subst (λ o. Tells o (field_faults [] d (list_field l e)) (StaysIn l e told.found (held (list_field l e) d))) is h
 
-pub found-named : (l : Listing) (e : Extent) (told : Told) (d : Data) → told.refusal ≡ None → TellsIn l e told d → (field_faults [] d (list_field l e) ≡ []) × StaysIn l e told.found (held (list_field l e) d)
+pub found-named : (l : Listing) (e : Extent) (told : ListVerdict) (d : Data) → told.refusal ≡ None → TellsIn l e told d → (field_faults [] d (list_field l e) ≡ []) × StaysIn l e told.found (held (list_field l e) d)
 found-named l e told d is h = subst (λ o. Tells o (field_faults [] d (list_field l e)) (StaysIn l e told.found (held (list_field l e) d))) is h

@@ -18,7 +18,7 @@ use Rattle.scenario_cut.specs.declared.judge.Found.{Found}
 use Rattle.scenario_cut.specs.declared.judge.Listing.{Listing}
 use Rattle.scenario_cut.specs.declared.judge.Listing.TheVariants.{Cabinets, Inputs, Loads, Priority, Frames, Faults}
 use Rattle.scenario_cut.specs.declared.listing.Judged.{Judged}
-use Rattle.scenario_cut.specs.declared.listing.Told.{Told}
+use Rattle.scenario_cut.specs.declared.listing.ListVerdict.{ListVerdict}
 
 -- the name of a list, and where it stands
 abbrev pub name_of : Listing → List ℕ
@@ -126,9 +126,9 @@ StaysIn Frames e found d = Unit {0}
 StaysIn Faults e found d = Unit {0}
 
 -- a value that stands as the list was judged
-abbrev pub TellsOf : Listing → Extent → Told → Data → Type 0
+abbrev pub TellsOf : Listing → Extent → ListVerdict → Data → Type 0
 TellsOf l e told d = Tells told.refusal ((list_field l e).kind (list_path l) d) (StaysIn l e told.found d)
 
 -- the list of a scenario was judged
-abbrev pub TellsIn : Listing → Extent → Told → Data → Type 0
+abbrev pub TellsIn : Listing → Extent → ListVerdict → Data → Type 0
 TellsIn l e told d = Tells told.refusal (field_faults [] d (list_field l e)) (StaysIn l e told.found (held (list_field l e) d))

@@ -5,7 +5,7 @@ use Rattle.serde_json.specs.Find.{get}
 use Rattle.scenario_cut.specs.Judging.{name_of, TellsIn}
 use Rattle.scenario_cut.specs.declared.judge.Listing.{Listing}
 use Rattle.scenario_cut.specs.declared.judge.Listing.TheVariants.{Cabinets, Inputs, Loads, Priority, Frames, Faults}
-use Rattle.scenario_cut.specs.declared.listing.Told.{Told}
+use Rattle.scenario_cut.specs.declared.listing.ListVerdict.{ListVerdict}
 use Rattle.scenario_cut.specs.declared.named.Group.{Group}
 use Rattle.scenario_cut.specs.declared.named.Group.TheVariants.{Cabinets as OfCabinets, Events as OfEvents}
 use Rattle.scenario_cut.specs.declared.named.Known.{Known}
@@ -44,7 +44,7 @@ list_named OfCabinets name = if_named name Cabinets None
 list_named OfEvents name = if_named name Inputs (if_named name Loads (if_named name Priority (if_named name Frames (if_named name Faults None))))
 
 -- what is known of a list
-abbrev pub told_of : Listing → Known → Told
+abbrev pub told_of : Listing → Known → ListVerdict
 told_of Cabinets known = known.cabinets
 told_of Inputs known = known.inputs
 told_of Loads known = known.loads
@@ -53,7 +53,7 @@ told_of Frames known = known.frames
 told_of Faults known = known.faults
 
 -- the same, where this becomes known of one list
-abbrev pub with_told : Listing → Told → Known → Known
+abbrev pub with_told : Listing → ListVerdict → Known → Known
 with_told l told known = record {
   cabinets = if bytes_eq (name_of l) (name_of Cabinets) then told else known.cabinets;
   inputs = if bytes_eq (name_of l) (name_of Inputs) then told else known.inputs;

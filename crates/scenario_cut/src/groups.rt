@@ -19,7 +19,7 @@ ghost use Rattle.scenario_cut.specs.declared.named.Search.{Search};
 
 use crate::around::{Around, known_of};
 use crate::judge::{Extent, Found, Listing, name_of};
-use crate::listing::Told;
+use crate::listing::ListVerdict;
 use crate::named::{Group, Known, Search, all_absent};
 use scenario_data::ReadFail;
 use serde_json::Value;
@@ -33,11 +33,11 @@ fn stands(setup: &Value, list: Listing) -> bool
 }
 
 /// What is known of a list, as an answer.
-fn answer_of(told: Told) -> Result<Found, ReadFail>
+fn answer_of(told: ListVerdict) -> Result<Found, ReadFail>
     ensures { (l : Listing) → (e : Extent) → (d : Data) → TellsIn l e told d
         → Answers result (field_faults [] d (list_field l e)) (λ found. StaysIn l e found (held (list_field l e) d)) }
 {
-    let Told { refusal, found } = told;
+    let ListVerdict { refusal, found } = told;
     match refusal {
         Some(fail) => Err(fail),
         None => Ok(found),
@@ -102,7 +102,7 @@ pub(crate) fn judge_cabinets(
 }
 
 /// The first fault of a list, or else what is answered of those behind it.
-fn behind(told: Told, rest: Result<(), ReadFail>) -> Result<(), ReadFail>
+fn behind(told: ListVerdict, rest: Result<(), ReadFail>) -> Result<(), ReadFail>
     ensures { (l : Listing) → (e : Extent) → (d : Data) → (causes : List Cause) → TellsIn l e told d → Answers rest causes (λ _. Unit {0})
         → Answers result (field_faults [] d (list_field l e) ++ causes) (λ _. Unit {0}) }
 {

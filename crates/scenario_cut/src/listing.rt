@@ -28,7 +28,7 @@ pub(crate) struct Judged {
 
 /// What is known of a list: its refusal, and what stays of its items where there is none.
 #[derive(Drop)]
-pub(crate) struct Told {
+pub(crate) struct ListVerdict {
     pub refusal: Option<ReadFail>,
     pub found: Found,
 }
@@ -129,7 +129,7 @@ fn may_have(list: Listing, count: usize) -> bool
 }
 
 /// What is known of a list with these items; nothing, where they are more than were judged and none of those was at fault.
-fn verdict(alloc: Global, list: Listing, judged: Judged) -> Option<Told>
+fn verdict(alloc: Global, list: Listing, judged: Judged) -> Option<ListVerdict>
     ensures { IfSome result (λ told. (e : Extent) → (ds : Items) → IsJudged list e judged ds → TellsOf list e told (array ds)) }
 {
     let Judged {
@@ -139,7 +139,7 @@ fn verdict(alloc: Global, list: Listing, judged: Judged) -> Option<Told>
     } = judged;
     if !may_have(list, count) {
         let beyond = refuse_member(alloc, Place::Top, name_of(list), Unfit::Beyond);
-        return Some(Told {
+        return Some(ListVerdict {
             refusal: Some(beyond),
             found,
         });
@@ -147,14 +147,14 @@ fn verdict(alloc: Global, list: Listing, judged: Judged) -> Option<Told>
     let most = most_judged(list);
     if count > most {
         return match refusal {
-            Some(fail) => Some(Told {
+            Some(fail) => Some(ListVerdict {
                 refusal: Some(fail),
                 found,
             }),
             None => None,
         };
     }
-    Some(Told { refusal, found })
+    Some(ListVerdict { refusal, found })
 }
 
 /// Passes over the rest of a value that begins with this token and is nested at most so deep, where it is no list; false, where it is one
@@ -182,10 +182,10 @@ pub fn pass_other(reader: &mut Reader<'_>, depth: usize, token: Token<'_>) -> bo
 }
 
 /// The refusal of what stands as a list and is none.
-fn no_list(alloc: Global, list: Listing) -> Told
+fn no_list(alloc: Global, list: Listing) -> ListVerdict
     ensures { (e : Extent) → (d : Data) → IsNoList d → TellsOf list e result d }
 {
-    Told {
+    ListVerdict {
         refusal: Some(refuse_member(alloc, Place::Top, name_of(list), Unfit::Wrong)),
         found: nothing(alloc),
     }
@@ -198,7 +198,7 @@ pub(crate) fn judge_list(
     depth: usize,
     list: Listing,
     extent: Extent,
-) -> Option<Told>
+) -> Option<ListVerdict>
     ensures ok { IfSome result (λ told. (d : Data) × (converted of_json (value depth reader.old) ≡ Some (d, reader.new)) × TellsOf list extent told d) }
     ensures shorter { IfSome result (λ _. length reader.new < length reader.old) }
 {

@@ -11,7 +11,7 @@ ghost use Rattle.scenario_cut.specs.declared.judge.Extent.{Extent};
 ghost use Rattle.scenario_cut.specs.declared.judge.Listing.{Listing};
 
 use crate::judge::{Extent, Listing};
-use crate::listing::{Told, judge_list, nothing};
+use crate::listing::{ListVerdict, judge_list, nothing};
 use crate::passing::pass;
 use json::Reader;
 use scenario_read::{Place, Unfit, refuse_member};
@@ -34,24 +34,24 @@ pub(crate) struct Search {
 /// What is known of each list.
 #[derive(Drop)]
 pub(crate) struct Known {
-    pub cabinets: Told,
-    pub inputs: Told,
-    pub loads: Told,
-    pub priority: Told,
-    pub frames: Told,
-    pub faults: Told,
+    pub cabinets: ListVerdict,
+    pub inputs: ListVerdict,
+    pub loads: ListVerdict,
+    pub priority: ListVerdict,
+    pub frames: ListVerdict,
+    pub faults: ListVerdict,
 }
 
 /// What is known of a list that doesn't stand: the cabinets must, and any other has no items.
-fn absent(alloc: Global, list: Listing) -> Told
+fn absent(alloc: Global, list: Listing) -> ListVerdict
     ensures { (e : Extent) → TellsIn list e result (object no_members) }
 {
     match list {
-        Listing::Cabinets => Told {
+        Listing::Cabinets => ListVerdict {
             refusal: Some(refuse_member(alloc, Place::Top, "cabinets", Unfit::Wrong)),
             found: nothing(alloc),
         },
-        _ => Told {
+        _ => ListVerdict {
             refusal: None,
             found: nothing(alloc),
         },
@@ -105,7 +105,7 @@ fn list_named(group: Group, name: &str) -> Option<Listing>
 }
 
 /// Puts what is known of a list in place of what was known of it.
-fn put_told(known: &mut Known, list: Listing, told: Told)
+fn put_told(known: &mut Known, list: Listing, told: ListVerdict)
     ensures { known.new ≡ with_told list told known.old }
 {
     match list {

@@ -110,7 +110,7 @@ steps-made steps request (requests, made) =
     (requests ++ request ∷ [], ap (λ (x : List Step). x ++ step_of request ∷ []) made ∙ sym (map_push step_of requests request))
 
 -- a session that has gone on so far: its closed rounds are rounds, and in the round under way some ticks are left
-pub record GoesOn (s : ScenarioContent) (h : SessionHistory) : Type 0 where
+pub record SessionGoesOn (s : ScenarioContent) (h : SessionHistory) : Type 0 where
   pub closed : AreRounds s h.closed
   pub made : AreSteps h.steps
   pub some : ticks_in h.steps < s.ticks
@@ -121,8 +121,8 @@ request-ticks s h (Tick many) some fits = omega (arith, some, fits, ticks-more h
 request-ticks s h (Input cab field) some fits = omega (arith, some, ticks-more h.steps (step_of (Input cab field)))
 request-ticks s h (Frame cab way octets) some fits = omega (arith, some, ticks-more h.steps (step_of (Frame cab way octets)))
 
-step-goes : (last : Bool) (s : ScenarioContent) (h : SessionHistory) (request : Request) → is_last s h (step_of request) ≡ last → GoesOn s h → Fits (ticks_left s h) (Ok request)
-    → GoesOn s (if last then with_round h (steps_with h (step_of request)) else record { closed = h.closed; steps = steps_with h (step_of request) })
+step-goes : (last : Bool) (s : ScenarioContent) (h : SessionHistory) (request : Request) → is_last s h (step_of request) ≡ last → SessionGoesOn s h → Fits (ticks_left s h) (Ok request)
+    → SessionGoesOn s (if last then with_round h (steps_with h (step_of request)) else record { closed = h.closed; steps = steps_with h (step_of request) })
 step-goes true s h request is goes fits =
     let few : ticks_in (steps_with h (step_of request)) ≤ s.ticks = request-ticks s h request goes.some fits in
     let none : s.ticks - ticks_in (steps_with h (step_of request)) ≡ 0 = eqb-true _ 0 is in
@@ -143,13 +143,13 @@ step-goes false s h request is goes fits =
     below : (a b : ℕ) → (b - a ≡ 0 → ⊥) → a ≤ b → a < b
     below a b left few = omega (arith, left, few)
 
-next-goes : (s : ScenarioContent) (h : SessionHistory) (read : Result Request Untaken) → GoesOn s h → Fits (ticks_left s h) read → GoesOn s (next_by s h read)
+next-goes : (s : ScenarioContent) (h : SessionHistory) (read : Result Request Untaken) → SessionGoesOn s h → Fits (ticks_left s h) read → SessionGoesOn s (next_by s h read)
 next-goes s h (Ok request) goes fits = step-goes (is_last s h (step_of request)) s h request refl goes fits
 next-goes s h (Err untaken) goes fits = goes
 
 -- ---- all rounds
 
-end-rounds : (s : ScenarioContent) (h : SessionHistory) → GoesOn s h → AreRounds s (steps_to_end s h ∷ h.closed)
+end-rounds : (s : ScenarioContent) (h : SessionHistory) → SessionGoesOn s h → AreRounds s (steps_to_end s h ∷ h.closed)
 end-rounds s h goes =
     let left : ℕ = ticks_left s h in (
       record {
@@ -159,16 +159,16 @@ end-rounds s h goes =
       goes.closed,
     )
 
-either-rounds : (over : Bool) (s : ScenarioContent) (h : SessionHistory) (lines : List (List ℕ)) → GoesOn s h → AreRounds s (rounds_from s h lines)
+either-rounds : (over : Bool) (s : ScenarioContent) (h : SessionHistory) (lines : List (List ℕ)) → SessionGoesOn s h → AreRounds s (rounds_from s h lines)
     → AreRounds s (if over then h.closed else rounds_from s h lines)
 either-rounds true s h lines goes are = goes.closed
 either-rounds false s h lines goes are = are
 
-rounds-sound : (s : ScenarioContent) (lines : List (List ℕ)) (h : SessionHistory) → GoesOn s h → AreRounds s (rounds_from s h lines)
+rounds-sound : (s : ScenarioContent) (lines : List (List ℕ)) (h : SessionHistory) → SessionGoesOn s h → AreRounds s (rounds_from s h lines)
 rounds-sound s [] h goes = end-rounds s h goes
 rounds-sound s (line ∷ lines) h goes =
     let next : SessionHistory = next_by s h (taken s h line) in
-    let on : GoesOn s next = next-goes s h (taken s h line) goes (taken-fits s h line) in
+    let on : SessionGoesOn s next = next-goes s h (taken s h line) goes (taken-fits s h line) in
     either-rounds (is_over s next) s next lines on (rounds-sound s lines next on)
 
 pub session-rounds : (s : ScenarioContent) (lines : List (List ℕ)) → 1 ≤ s.ticks → AreRounds s (rounds_by s lines)

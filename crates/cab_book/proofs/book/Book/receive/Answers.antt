@@ -12,7 +12,7 @@ use Rattle.cabinet_history.specs.declared.Load.{Load}
 use Rattle.sig_types.specs.Items.{Came, texts_of}
 use Rattle.cabinet_history.specs.Coming.{ask_after}
 use Rattle.cab_book.specs.Happened.{answered_of, behind, written_of}
-use Rattle.cab_book.specs.declared.cabinet.Told.{Told}
+use Rattle.cab_book.specs.declared.cabinet.Received.{Received}
 use Rattle.sig_types.specs.Passes.{pass_of}
 use Rattle.cab_book.specs.declared.happened.Happened.{Happened}
 use Rattle.cab_book.specs.Happened.{HappenedGoesOn}
@@ -127,6 +127,6 @@ returns c =
             cabinet = quiet.0 ∙ same;
             written = goes.written ∙ append-nil (written_of b.happened);
             silence = goes.replies
-                ∙ ap (λ (told : Told). answered_of b.happened ++ behind (length (written_of b.happened)) (reply_of pass told.text told.load ∷ [])) quiet.1;
+                ∙ ap (λ (told : Received). answered_of b.happened ++ behind (length (written_of b.happened)) (reply_of pass told.text told.load ∷ [])) quiet.1;
           };
     }
