@@ -75,6 +75,7 @@ SHAPES = (
     listed("objects of a round with more", b"{" + ROUND + b',"a":0,"b":0,"c":0}'),
     listed("objects of a round with lists", b"{" + ROUND + b',"cells":[[1],[1],[1],[1],[1],[1],[1],[1]]}'),
     listed("inputs", b"{" + ROUND + b',"veh":1,"on":true}'),
+    listed("inputs with a name again", b'{"round":1.5,"veh":[],' + ROUND + b',"veh":1,"on":true}'),
     listed("pulses", b"{" + ROUND + b',"detector":1,"on":true}'),
     listed("sections of steps", b'{"steps":[' + b",".join([b'{"up":1}'] * 100) + b"]}"),
     listed("cells", b'["phase",2,2,5]'),
