@@ -23,7 +23,7 @@ STARTS_GREEN = (3, 4)
 
 
 @dataclass
-class Course:
+class TickState:
     """What a tick is about, before calls and colours are looked at."""
 
     number: int
@@ -40,7 +40,7 @@ class Course:
     request: int
 
 
-def course(past: Past, drift: Drift) -> Course:
+def tick_state(past: Past, drift: Drift) -> TickState:
     """Returns what the tick that comes is about."""
     last, number = past.last, past.last.number + 1
     command, commanded = orders.command_now(past)
@@ -56,10 +56,10 @@ def course(past: Past, drift: Drift) -> Course:
         counter, cycle = after_step(laid, last.frame.counter, by, last.cycle)
     held = frozenset() if bound is None else coordinated(past.tables, bound)
     places, request = priority.after_tick(past.told.places, number, held)
-    return Course(number, clock, command, commanded, preempts, mode, bound, target, counter, cycle, places, request)
+    return TickState(number, clock, command, commanded, preempts, mode, bound, target, counter, cycle, places, request)
 
 
-def sight(past: Past, now: Course) -> Rings:
+def rings_seen(past: Past, now: TickState) -> Rings:
     """Returns what the tick sees of calls and rings."""
     tables, frame, told = past.tables, past.last.frame, past.told.calls
     wanted = calls.demand(told, tables, frame, now.bound)
@@ -83,7 +83,7 @@ def start_up_phases(past: Past, mode: Mode) -> set[int]:
     return {p for p in enabled(past.tables) if rows(past.tables)[p].startup in STARTS_GREEN}
 
 
-def moves(past: Past, now: Course, rings: Rings, started: set[int]) -> tuple[set[int], set[int]]:
+def moves(past: Past, now: TickState, rings: Rings, started: set[int]) -> tuple[set[int], set[int]]:
     """Returns the phases that turn Yellow, and those that turn Green."""
     if started or now.mode in (START, FLASH):
         return set(), started
@@ -95,8 +95,8 @@ def moves(past: Past, now: Course, rings: Rings, started: set[int]) -> tuple[set
 
 def next_moment(past: Past, drift: Drift) -> Moment:
     """Returns the moment that a tick gives."""
-    last, now = past.last, course(past, drift)
-    rings = sight(past, now)
+    last, now = past.last, tick_state(past, drift)
+    rings = rings_seen(past, now)
     started = start_up_phases(past, now.mode)
     ended, begun = moves(past, now, rings, started)
     over = {p: colour for p in last.frame.lights.clearing if (colour := runs_out(past, p)) is not None}
@@ -111,7 +111,7 @@ def next_moment(past: Past, drift: Drift) -> Moment:
     return moment(past, now, rings, frame)
 
 
-def moment(past: Past, now: Course, rings: Rings, frame: Frame) -> Moment:
+def moment(past: Past, now: TickState, rings: Rings, frame: Frame) -> Moment:
     """Returns the moment of a tick by its frame and what it saw."""
     last, lights, signals = past.last, past.last.frame.lights, past.last.frame.signals
     ring_of = {p: rows(past.tables)[p].ring for p in frame.lights.on}

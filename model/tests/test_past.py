@@ -29,16 +29,16 @@ def lasting(moments, holds):
 def drawn_past(monkeypatch, seed):
     """Runs a drawn cabinet for some ticks with inputs and commands; returns its past, and what each tick saw of
     calls."""
-    draw, sights = random.Random(seed), []
-    seen = tick.sight
+    draw, seen_at = random.Random(seed), []
+    seen = tick.rings_seen
 
     def watched(past: Past, now):
         rings = seen(past, now)
         is_active = active(past.told.calls, past.tables, now.bound)
-        sights.append((past.last.frame.lights.green, is_active, rings.demand, incompatible(past.tables)))
+        seen_at.append((past.last.frame.lights.green, is_active, rings.demand, incompatible(past.tables)))
         return rings
 
-    monkeypatch.setattr(tick, "sight", watched)
+    monkeypatch.setattr(tick, "rings_seen", watched)
     drawn = cabinet(draw, 1)
     setup = cabinet_shape(1)(drawn.value, "cabinet")
     controller = Controller(setup.tables, setup.pattern, setup.clock, Drift())
@@ -52,7 +52,7 @@ def drawn_past(monkeypatch, seed):
         if draw.random() < 0.01:
             controller.command(draw.choice([0, 255, *drawn.patterns]))
         controller.tick()
-    return controller.past, sights
+    return controller.past, seen_at
 
 
 def since_start(moments):
@@ -101,9 +101,9 @@ def check_cycle(moments, last):
 
 @pytest.mark.parametrize("seed", range(6))
 def test_runs_that_moments_keep_are_those_that_a_walk_back_counts(monkeypatch, seed):
-    past, sights = drawn_past(monkeypatch, seed)
+    past, seen_at = drawn_past(monkeypatch, seed)
     for number in range(1, TICKS + 1, 7):
-        moments, last, saw = past.moments[: number + 1], past.moments[number], sights[:number]
+        moments, last, saw = past.moments[: number + 1], past.moments[number], seen_at[:number]
         check_runs(moments, last)
         check_rings(moments, last)
         check_cycle(moments, last)

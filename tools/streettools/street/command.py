@@ -107,14 +107,14 @@ def panel_hearers(given: argparse.Namespace) -> list[Hearer]:
     if given.panel is None:
         return []
     try:
-        from .panel.sight import Sight
+        from .panel.state import PanelState
         from .panel.web import Panel
     except ModuleNotFoundError as fault:
         raise NoPanel(
             f"the panel needs Python's package {fault.name}: apt-get install -y python3-aiohttp node-d3"
         ) from None
-    sight = Sight()
-    return [sight, Panel(sight, given.bind or ports.LOOPBACK)]
+    state = PanelState()
+    return [state, Panel(state, given.bind or ports.LOOPBACK)]
 
 
 async def served(given: argparse.Namespace, street: Street, requests: list[bytes], stack: contextlib.ExitStack) -> None:

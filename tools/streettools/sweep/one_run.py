@@ -14,7 +14,7 @@ from ..shared.course import Course
 from ..shared.fault import Fault
 from ..shared.lines import NotATrace
 from ..shared.status import Status
-from . import bands, queued, sights
+from . import bands, queued, trace_rows
 from .building import Builder, Built
 from .choice import Column
 from .counts import RunCounts, StreetCounts
@@ -232,10 +232,10 @@ class Runner:
     def follow(self, trace: BinaryIO, tallies: dict[int, CabinetTally]) -> None:
         """Lets the cabinets take what happened in a run."""
         shown = {b"%d" % number: it.shown for number, it in tallies.items()}
-        for it in sights.happenings(trace):
-            if isinstance(it, sights.Over):
+        for it in trace_rows.happenings(trace):
+            if isinstance(it, trace_rows.Over):
                 tallies[it.cabinet].over(it)
-            elif isinstance(it, sights.Said):
+            elif isinstance(it, trace_rows.Said):
                 tallies[it.cabinet].said(it)
             else:
                 shown[it[0]](it)

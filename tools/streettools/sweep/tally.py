@@ -14,7 +14,7 @@ from .bands import Greens
 from .counts import CabinetCounts, PhaseCounts
 from .needs import Needs
 from .sensed import Button, Detector, Sensed
-from .sights import Over, Row, Said, frame_of
+from .trace_rows import Over, Row, Said, frame_of
 
 NON_LOCK = 32
 CYCLING = ord("C")

@@ -6,7 +6,7 @@ import json
 import pytest
 from streettools.look import called, report
 from streettools.shared.course import Course
-from streettools.sweep import measures, sights
+from streettools.sweep import measures, trace_rows
 from streettools.sweep.bands import StreetTally
 from streettools.sweep.choice import Column, column_of
 from streettools.sweep.counts import RunCounts
@@ -137,7 +137,7 @@ def test_counts_do_not_depend_on_where_blocks_end(trace, monkeypatch):
     text = trace.read_text()
     whole = counted(text)
     for size in (1, 100, 1000):
-        monkeypatch.setattr(sights, "BLOCK", size)
+        monkeypatch.setattr(trace_rows, "BLOCK", size)
         assert counted(text) == whole
 
 

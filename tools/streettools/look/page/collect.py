@@ -39,7 +39,7 @@ def set_words(refused) -> str:
     return f"refused Set: {refused.object}{value}{download}, {refused.error}"
 
 
-class Story:
+class CabinetNumbers:
     """A cabinet's tables of numbers, filled as the trace is read. `rings` tells the ring of each phase from a tick on,
     `pairs` the coordinated phases of ring 1 and ring 2."""
 
@@ -148,11 +148,11 @@ class Story:
                 self.side = side
 
 
-def collect(course: Course) -> tuple[list[Story], Shared]:
+def collect(course: Course) -> tuple[list[CabinetNumbers], Shared]:
     """Reads the trace and returns what is kept of each cabinet, and the texts that they share."""
     shared = Shared(Words(), Words(), Words(), Words())
-    stories = [Story(course.scenario, number, shared) for number in range(1, course.cabinets + 1)]
+    cabinets = [CabinetNumbers(course.scenario, number, shared) for number in range(1, course.cabinets + 1)]
     for happening in course.happenings():
         if not isinstance(happening, RoundEnd):
-            stories[happening.cabinet - 1].take(happening)
-    return stories, shared
+            cabinets[happening.cabinet - 1].take(happening)
+    return cabinets, shared

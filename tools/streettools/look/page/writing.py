@@ -18,7 +18,7 @@ from ...shared.fault import Fault
 from ..called import Called
 from ..reading import Checked
 from . import colours
-from .collect import CALLS, KINDS, Shared, Story, collect
+from .collect import CALLS, KINDS, CabinetNumbers, Shared, collect
 from .tables import FIELDS, packed
 
 HERE = pathlib.Path(__file__).resolve().parent / "parts"
@@ -53,17 +53,17 @@ def library(path: pathlib.Path) -> str:
         raise Fault(f"the drawing library is missing ({path}): apt-get install node-d3", Status.FILE) from None
 
 
-def shown_pairs(story: Story, partners: frozenset[int]) -> list[list[int]]:
+def shown_pairs(numbers: CabinetNumbers, partners: frozenset[int]) -> list[list[int]]:
     """Returns the coordinated phases from tick to tick; for a partner stands the other one, which it is green with."""
     found = []
-    for tick, one, other in story.pairs:
+    for tick, one, other in numbers.pairs:
         found.append([tick, other if one in partners else one, one if other in partners else other])
     return found
 
 
-def cabinet_head(story: Story, names: Called) -> dict:
+def cabinet_head(numbers: CabinetNumbers, names: Called) -> dict:
     """Returns what a page says of a cabinet beside its numbers."""
-    number = story.cabinet.number
+    number = numbers.cabinet.number
     partners = names.partners(number)
     preempts = {it: names.preempt(number, it) for it in range(1, 17)} if names.is_given else {}
     return {
@@ -73,12 +73,12 @@ def cabinet_head(story: Story, names: Called) -> dict:
         "preempts": {it: words for it, words in preempts.items() if words != f"preempt {it}"},
         "partners": sorted(partners),
         "left_out": names.left_out(number),
-        "rings": story.rings,
-        "pairs": shown_pairs(story, partners),
+        "rings": numbers.rings,
+        "pairs": shown_pairs(numbers, partners),
     }
 
 
-def head(course: Checked, stories: list[Story], shared: Shared, names: Called, asked: Asked) -> dict:
+def head(course: Checked, cabinets: list[CabinetNumbers], shared: Shared, names: Called, asked: Asked) -> dict:
     """Returns all of a page that isn't a number of a table."""
     return {
         "title": names.title() or f"A run of {course.cabinets} cabinet{'s' * (course.cabinets > 1)}",
@@ -90,7 +90,7 @@ def head(course: Checked, stories: list[Story], shared: Shared, names: Called, a
         "texts": {field: words.texts() for field, words in shared._asdict().items()} | {"kinds": KINDS, "calls": CALLS},
         "colours": colours.ALL,
         "fields": FIELDS,
-        "cabinets": [cabinet_head(it, names) for it in stories],
+        "cabinets": [cabinet_head(it, names) for it in cabinets],
     }
 
 
@@ -116,9 +116,9 @@ def page(top: dict, data: str) -> Iterator[str]:
 
 def write(course: Checked, names: Called, asked: Asked, path: str) -> None:
     """Reads the trace and writes its page."""
-    stories, shared = collect(course)
+    cabinets, shared = collect(course)
     course.finish()
-    top = head(course, stories, shared, names, asked)
-    top["counts"], data = packed([story.tables for story in stories])
+    top = head(course, cabinets, shared, names, asked)
+    top["counts"], data = packed([it.tables for it in cabinets])
     with files.output(path) as out:
         out.writelines(page(top, data))

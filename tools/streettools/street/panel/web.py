@@ -14,7 +14,7 @@ from ..street import Hearer, Street
 from . import in_force, orders
 from .layout import facts
 from .names import numbers_of, values_of
-from .sight import Sight
+from .state import PanelState
 from .streams import STAYS, Streams
 
 PAGES = pathlib.Path(__file__).resolve().parent / "pages"
@@ -73,8 +73,8 @@ class Panel(Hearer):
 
     stride = 4
 
-    def __init__(self, sight: Sight, allowed: str) -> None:
-        self.sight = sight
+    def __init__(self, state: PanelState, allowed: str) -> None:
+        self.shown = state
         self.allowed = allowed
         self.street: Street
         self.pages: set[Page] = set()
@@ -85,16 +85,16 @@ class Panel(Hearer):
 
     def head(self) -> dict[str, Any]:
         """Returns what a page is told as it opens."""
-        return {"facts": self.sight.facts, "ticks": self.sight.scenario["ticks"], "all": True, **self.sight.news(0)}
+        return {"facts": self.shown.facts, "ticks": self.shown.scenario["ticks"], "all": True, **self.shown.news(0)}
 
     def state(self) -> dict[str, Any]:
         """Returns what every text tells: the speed, the switches, the streams, and how the street ended."""
         return {
             "speed": self.street.pace.speed,
             "step": self.street.after_message,
-            "inputs": [name for name, is_on in self.sight.inputs.items() if is_on],
+            "inputs": [name for name, is_on in self.shown.inputs.items() if is_on],
             "rates": self.streams.rates(),
-            "ending": self.sight.ending,
+            "ending": self.shown.ending,
         }
 
     def broadcast(self, told: dict[str, Any]) -> None:
@@ -116,11 +116,11 @@ class Panel(Hearer):
 
     def known(self) -> tuple[int, int]:
         """Returns up to what a page knows all that is told now: the session, and the last change."""
-        return self.sight.sessions, self.sight.change
+        return self.shown.sessions, self.shown.change
 
     def news_behind(self, known: tuple[int, int]) -> dict[str, Any]:
         """Returns what a page is told that knows so much; of another session all."""
-        return self.sight.news(known[1]) if known[0] == self.sight.sessions else self.head()
+        return self.shown.news(known[1]) if known[0] == self.shown.sessions else self.head()
 
     async def details(self) -> None:
         """Tells pages of the cabinets that they look at."""
@@ -141,17 +141,17 @@ class Panel(Hearer):
         """Returns a cabinet's reply to a Get of the panel's own; None where it is silent."""
         octets = message(GET, 1, [(name, None) for name in names], self.community())
         request = b"frame %d priority %b" % (cabinet, octets.hex().encode())
-        self.sight.own.add(request)
+        self.shown.own.add(request)
         try:
             return await self.street.message(cabinet, octets)
         finally:
-            self.sight.own.discard(request)
+            self.shown.own.discard(request)
 
     async def tables(self) -> None:
         """Lays cabinets out anew that have other tables in force, and tells pages."""
         while True:
             await asyncio.sleep(EVERY)
-            for cabinet in self.sight.outdated() if self.pages else ():
+            for cabinet in self.shown.outdated() if self.pages else ():
                 with contextlib.suppress(in_force.Changed):
                     await self.lay_out(cabinet)
 
@@ -162,22 +162,22 @@ class Panel(Hearer):
             reply = await self.got(cabinet, names)
             return values_of(reply) if reply else None
 
-        version, session = self.sight.cabinets[cabinet - 1].version, self.sight.sessions
+        version, session = self.shown.cabinets[cabinet - 1].version, self.shown.sessions
         tables = await in_force.read(asked, version)
-        if session == self.sight.sessions:
-            self.sight.facts[cabinet - 1] = facts(cabinet, tables, version)
-            self.broadcast({"laid": self.sight.facts[cabinet - 1]})
+        if session == self.shown.sessions:
+            self.shown.facts[cabinet - 1] = facts(cabinet, tables, version)
+            self.broadcast({"laid": self.shown.facts[cabinet - 1]})
 
     def community(self) -> bytes:
         """Returns the community of the street."""
-        return self.sight.scenario.get("community", "public").encode()
+        return self.shown.scenario.get("community", "public").encode()
 
     async def greens(self) -> None:
         """Tells pages the greens of the coordination diagram."""
         while True:
             await asyncio.sleep(GREENS_EVERY)
             if any(page.cabinet == 0 for page in self.pages):
-                text = json.dumps({"greens": self.sight.greens()}, separators=(",", ":"))
+                text = json.dumps({"greens": self.shown.greens()}, separators=(",", ":"))
                 for page in list(self.pages):
                     if page.cabinet == 0:
                         page.tell(text)
@@ -224,14 +224,14 @@ class Panel(Hearer):
         page = Page(socket)
         page.tell(json.dumps(self.head() | self.state()))
         page.known = self.known()
-        page.tell(json.dumps({"greens": self.sight.greens()}))
+        page.tell(json.dumps({"greens": self.shown.greens()}))
         self.pages.add(page)
         writer = asyncio.create_task(page.write())
         try:
             async for came in socket:
                 if came.type is WSMsgType.TEXT:
                     with contextlib.suppress(orders.Wrong):
-                        await self.obey(page, orders.order_of(came.data, len(self.sight.cabinets)))
+                        await self.obey(page, orders.order_of(came.data, len(self.shown.cabinets)))
         finally:
             self.pages.discard(page)
             writer.cancel()
@@ -270,7 +270,7 @@ class Panel(Hearer):
         """Tells pages that the street has ended, and ends."""
         for task in self.tasks:
             task.cancel()
-        self.sight.ending = self.sight.ending or ending
+        self.shown.ending = self.shown.ending or ending
         self.broadcast(self.state())
         await asyncio.sleep(EVERY)
         for page in list(self.pages):

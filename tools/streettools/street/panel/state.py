@@ -70,7 +70,7 @@ def note_text(line: str) -> str:
     return f"cabinet {cabinet} {NOTES[words[0]]}"
 
 
-class Sight(Hearer):
+class PanelState(Hearer):
     """All that pages show. What changes gets the next number, so that a page can be told what it doesn't know yet."""
 
     def __init__(self) -> None:
