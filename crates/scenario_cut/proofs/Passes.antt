@@ -5,7 +5,7 @@ use Rattle.serde_json.specs.Data.{Data, null, object, Members, no_members, put}
 use Rattle.serde_json.specs.Find.{get}
 use Rattle.serde_json.proofs.Views.{get_member-put, get_member-put_other}
 use Rattle.scenario_read.specs.Fields.{either}
-use Rattle.scenario_cut.specs.Around.{Object, scenario_in}
+use Rattle.scenario_cut.specs.Around.{Object, scenario_in, HasNoNames}
 use Rattle.scenario_cut.specs.Cutting.{Outer, Setup, cut}
 use Rattle.scenario_cut.specs.Judging.{name_of, TellsOf, TellsIn}
 use Rattle.scenario_cut.specs.Known.{is_in, stands, any_stands, if_named, list_named, told_of, with_told, Knows}
@@ -172,6 +172,13 @@ none-inside s known absent = λ l looked. tells-same l s.extent (told_of l known
   where
     nowhere : (l : Listing) → get (name_of l) (object no_members) ≡ get (name_of l) null
     nowhere l = refl
+
+-- in a value without names none of the lists stands
+pub none-named : (s : Search) (known : Known) (d : Data) → HasNoNames d → ((e : Extent) → (l : Listing) → TellsIn l e (told_of l known) (object no_members)) → Knows s known d
+none-named s known d none absent = λ l looked. tells-same l s.extent (told_of l known) (object no_members) d (nowhere l) (absent s.extent l)
+  where
+    nowhere : (l : Listing) → get (name_of l) (object no_members) ≡ get (name_of l) d
+    nowhere l = sym (none (name_of l))
 
 is-outer : IsObject Outer
 is-outer = record { opens = refl; closed = refl }
