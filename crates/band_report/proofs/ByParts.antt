@@ -6,13 +6,9 @@ use Rattle.scenario_data.specs.Causes.{Cause}
 use Rattle.scenario_read.specs.Fields.{field_faults, names, object_of, unknown_faults}
 use Rattle.scenario_read.specs.Readers.{Refuses}
 use Rattle.scenario_read.proofs.Objects.{known-object}
-use Rattle.scenario_read.proofs.Refusing.{refuses_more}
+use Rattle.scenario_read.proofs.Refusing.{refuses_more, refuses_behind}
 use Rattle.scenario_checked.specs.Inside.{scenario}
 use Rattle.band_report.specs.Asked.{section, pattern, travel, asked_shape}
-
--- the first fault behind what has none
-behind : (fail : ReadFail) (xs ys : List Cause) → xs ≡ [] → Refuses fail ys → Refuses fail (xs ++ ys)
-behind fail xs ys none h = rw none h
 
 module _ (ms : Members) (known : unknown_faults (names asked_shape.fields) [] ms ≡ []) where
   abbrev at-scenario : List Cause
@@ -38,17 +34,20 @@ module _ (ms : Members) (known : unknown_faults (names asked_shape.fields) [] ms
 
   module _ (first : at-scenario ≡ []) where
     pub section-refused : (fail : ReadFail) → Refuses fail at-section → Refuses fail (object_of asked_shape [] (object ms))
-    section-refused fail h = refused fail (behind fail at-scenario _ first (refuses_more fail at-section _ h))
+    section-refused fail h = refused fail (refuses_behind fail at-scenario _ first (refuses_more fail at-section _ h))
 
     module _ (second : at-section ≡ []) where
       pub pattern-refused : (fail : ReadFail) → Refuses fail at-pattern → Refuses fail (object_of asked_shape [] (object ms))
-      pattern-refused fail h = refused fail (behind fail at-scenario _ first (behind fail at-section _ second (refuses_more fail at-pattern _ h)))
+      pattern-refused fail h =
+          refused fail (refuses_behind fail at-scenario _ first
+          (refuses_behind fail at-section _ second (refuses_more fail at-pattern _ h)))
 
       module _ (third : at-pattern ≡ []) where
         pub travel-refused : (fail : ReadFail) → Refuses fail at-travel → Refuses fail (object_of asked_shape [] (object ms))
         travel-refused fail h =
             refused fail
-            (behind fail at-scenario _ first (behind fail at-section _ second (behind fail at-pattern _ third (refuses_more fail at-travel [] h))))
+            (refuses_behind fail at-scenario _ first (refuses_behind fail at-section _ second
+            (refuses_behind fail at-pattern _ third (refuses_more fail at-travel [] h))))
 
         pub none-found : at-travel ≡ [] → object_of asked_shape [] (object ms) ≡ []
         none-found fourth = all ∙ four-none at-scenario at-section at-pattern at-travel first second third fourth

@@ -13,12 +13,12 @@ use Rattle.scenario_read.specs.Fields.{object_of}
 use Rattle.scenario_read.specs.Kinds.{whole}
 use Rattle.scenario_read.specs.Readers.{Refuses}
 use Rattle.scenario_read.specs.Sorted.{Sorted}
+use Rattle.scenario_read.proofs.NoFaults.{none-left}
 use Rattle.scenario_read.proofs.Rising.{read-sorted}
 use Rattle.scenario_cut.specs.declared.form.Form.TheVariants.{Street, Whole, Times, Bare}
 use Rattle.scenario_cut.specs.Cutting.{cut}
 use Rattle.scenario_cut.specs.Texts.{IsNoText}
 use Rattle.scenario_cut.proofs.Same.{Same, same-map, map-none, same-more, kept-right}
-use Rattle.scenario_cut.proofs.Known.{none-left}
 use Rattle.scenario_cut.proofs.Members.{IsObject, object-same}
 use Rattle.scenario_cut.proofs.Items.{KeepsItem, each-kept}
 use Rattle.scenario_cut.proofs.Kept.{whole-same}
@@ -27,7 +27,7 @@ use Rattle.scenario_cut.proofs.Entire.{Entire, whole-entire, each-entire, object
 use Rattle.scenario_checked.specs.Inside.{inner_cause, inner_scenario}
 use Rattle.band_report.specs.Street.{misfit_of}
 use Rattle.band_report.specs.Asked.{list_of_any, section, pattern, cabinets_asked, travel_asked, asked_shape, misfit_causes, band_faults}
-use Rattle.band_report.specs.Told.{IsFirstBandFault}
+use Rattle.band_report.specs.BandAnswer.{IsFirstBandFault}
 
 -- ---- the scenario and the travel times
 

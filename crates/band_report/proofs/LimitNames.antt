@@ -12,7 +12,7 @@ use Rattle.band_report.specs.declared.misfit.Misfit.{Misfit}
 use Rattle.band_report.specs.declared.misfit.Misfit.TheVariants.{NoCabinet, Undefined, Cycles, Legs}
 use Rattle.band_report.specs.Street.{misfit_of}
 use Rattle.band_report.specs.Asked.{list_of_any, section, pattern, asked_shape, cabinets_asked, travel_asked, misfit_causes, band_faults}
-use Rattle.band_report.specs.Told.{IsFirstBandFault}
+use Rattle.band_report.specs.BandAnswer.{IsFirstBandFault}
 
 any-list-good : (kind : Kind) → Good kind → Good (list_of_any kind)
 any-list-good kind good path d h =

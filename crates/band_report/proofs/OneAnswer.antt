@@ -9,7 +9,7 @@ use Rattle.band_report.specs.declared.band.Band.{Band}
 use Rattle.band_report.specs.Street.{Passage}
 use Rattle.band_report.specs.Bands.{is_open, first_closed, IsBand, IsGreatest, IsReport}
 use Rattle.band_report.specs.Asked.{band_faults}
-use Rattle.band_report.specs.Told.{two_lines, TellsOf, AsksOfBands, TellsBands, IsFirstBandFault}
+use Rattle.band_report.specs.BandAnswer.{two_lines, TellsOf, AsksOfBands, TellsBands, IsFirstBandFault}
 
 same-band : (a b : Band) → a.start ≡ b.start → a.width ≡ b.width → a.before ≡ b.before → a.after ≡ b.after → a ≡ b
 same-band a b start width before after =

@@ -1,39 +1,34 @@
 -- The parts of an object, as a value is put at one of its names.
-use Rattle.std.proofs.Common.{◌≡◌, ◌≤◌, ℕ, List, [], ◌∷◌, length, map, Vec, Global, Bool, if◌then◌else◌, true, false, Option, Some, unwrap_or, Result, Ok, Ordering, Less, Equal, Greater, nat_cmp, codes, bytes_eq, refl, sym, ap, ◌∙◌, subst, Err}
-use Rattle.std.proofs.lemmas.Slice.Eq.{bytes_eq-Decides}
-use Rattle.std.specs.Cmp.Lexicographic.{slice_cmp}
-use Rattle.std.specs.Ordering.{match_ordering}
-use Rattle.serde_json.specs.Data.{Data, null, boolean, number, string, array, object, Members, no_members, member, put}
+use Rattle.std.proofs.Common.{◌≡◌, ◌≤◌, ℕ, List, [], ◌∷◌, length, map, Vec, Global, false, Option, Some, unwrap_or, Result, Ok, codes, bytes_eq, refl, sym, ap, subst, Err}
+use Rattle.serde_json.specs.Data.{Data, null, boolean, number, string, array, object, Members, put}
 use Rattle.serde_json.proofs.Views.{get_member-put, get_member-put_other}
 use Rattle.scenario_data.specs.declared.refusal.ReadFail.{ReadFail}
 use Rattle.scenario_data.specs.declared.scenario.Scenario.{Scenario}
-use Rattle.scenario_data.specs.Causes.{Field as FieldCause}
 use Rattle.scenario_data.specs.Content.{ScenarioContent, scenario_content}
-use Rattle.scenario_read.specs.Paths.{path_text, then_named}
-use Rattle.scenario_read.specs.Kinds.{Wrong, fault_at, is_among, whole}
+use Rattle.scenario_read.specs.Paths.{then_named}
+use Rattle.scenario_read.specs.Kinds.{Wrong, fault_at, whole}
 use Rattle.scenario_read.specs.Content.{list_in, scenario_of, whole_of}
 use Rattle.scenario_read.specs.Faults.{faults}
-use Rattle.scenario_read.specs.Fields.{Field, either, faults_of, names, unknown_faults, value_of}
+use Rattle.scenario_read.specs.Fields.{Field, either, faults_of, names, value_of}
 use Rattle.scenario_read.specs.Readers.{Answers, Refuses}
+use Rattle.scenario_read.proofs.KnownNames.{known-put}
+use Rattle.scenario_read.proofs.NameOrder.{apart}
+use Rattle.scenario_cut.specs.Beginning.{IsNoObject}
 use Rattle.scenario_cut.proofs.Judging.{refuses-same}
 use Rattle.scenario_checked.specs.Inside.{inner_cause, inner_scenario, scenario}
 use Rattle.band_report.specs.declared.parts.Parts.{Parts}
 use Rattle.band_report.specs.Asked.{section, pattern, travel, asked_shape}
-use Rattle.band_report.specs.Parts.{AnswersAt, IsNoObject, PartsStand, SaysCabinets, SaysNumber}
+use Rattle.band_report.specs.Parts.{AnswersAt, PartsStand, SaysCabinets, SaysNumber}
 
 -- ---- one name
-
-apart : (a b : List ℕ) → bytes_eq b a ≡ false → a ≡ b → ⊥
-apart a b differ same =
-    let both : bytes_eq b a ≡ true = (bytes_eq-Decides b a).1 (sym same) in
-    let clash : true ≡ false = sym both ∙ differ in
-    absurd (cc)
 
 own-value : (f : Field) (d : Data) (ms : Members) → value_of f (object (put f.name d ms)) ≡ Some d
 own-value f d ms = ap (λ (o : Option Data). either o f.default) (get_member-put f.name d ms)
 
 other-value : (f : Field) (name : List ℕ) (d : Data) (ms : Members) → bytes_eq name f.name ≡ false → value_of f (object (put name d ms)) ≡ value_of f (object ms)
-other-value f name d ms differ = ap (λ (o : Option Data). either o f.default) (get_member-put_other f.name name d ms (apart f.name name differ))
+other-value f name d ms differ =
+    ap (λ (o : Option Data). either o f.default)
+    (get_member-put_other f.name name d ms (λ (same : f.name ≡ name). apart name f.name differ (sym same)))
 
 -- what is put at a name is answered there
 answer-new : {A : Type 0} (f : Field) (answer : Result A ReadFail) (Says : A → Data → Type 0) (d : Data) (ms : Members)
@@ -46,30 +41,6 @@ answer-kept : {A : Type 0} (f : Field) (answer : Result A ReadFail) (Says : A �
     → bytes_eq name f.name ≡ false → AnswersAt f answer Says ms → AnswersAt f answer Says (put name d ms)
 answer-kept f answer Says name d ms differ h =
     subst (λ (o : Option Data). Answers answer (faults_of f.kind (then_named [] f.name) o) (λ a. Says a (unwrap_or o null))) (sym (other-value f name d ms differ)) h
-
--- ---- the names that are known
-
-among-more : (known : List (List ℕ)) (name : List ℕ) (d : Data) (ms : Members) → is_among known name ≡ true → unknown_faults known [] (member name d ms) ≡ unknown_faults known [] ms
-among-more known name d ms among = ap (λ (b : Bool). if b then unknown_faults known [] ms else (FieldCause (path_text (then_named [] name)) ∷ unknown_faults known [] ms)) among
-
-known-front : (known : List (List ℕ)) (name : List ℕ) (d : Data) (ms : Members) → unknown_faults known [] (member name d ms) ≡ [] → (is_among known name ≡ true) × (unknown_faults known [] ms ≡ [])
-known-front known name d ms none = at (is_among known name) refl none
-  where
-    at : (b : Bool) → is_among known name ≡ b → (if b then unknown_faults known [] ms else (FieldCause (path_text (then_named [] name)) ∷ unknown_faults known [] ms)) ≡ []
-        → (is_among known name ≡ true) × (unknown_faults known [] ms ≡ [])
-    at true is e = (is, e)
-    at false is e = absurd (cc)
-
-known-put : (known : List (List ℕ)) (name : List ℕ) (d : Data) (ms : Members) → is_among known name ≡ true → unknown_faults known [] ms ≡ [] → unknown_faults known [] (put name d ms) ≡ []
-known-put known name d no_members among none = among-more known name d no_members among
-known-put known name d (member other e ms) among none =
-    at (known-front known other e ms none) (slice_cmp nat_cmp name other) (known-put known name d ms among (known-front known other e ms none).1)
-  where
-    at : (is_among known other ≡ true) × (unknown_faults known [] ms ≡ []) → (o : Ordering) → unknown_faults known [] (put name d ms) ≡ []
-        → unknown_faults known [] (match_ordering o (member name d (member other e ms)) (member other d ms) (member other e (put name d ms))) ≡ []
-    at front Less rest = among-more known name d (member other e ms) among ∙ none
-    at front Equal rest = among-more known other d ms front.0 ∙ front.1
-    at front Greater rest = among-more known other e (put name d ms) front.0 ∙ rest
 
 -- ---- what stands as a scenario and is no object
 
@@ -87,7 +58,7 @@ module _ (old : Parts) (ms : Members) (d : Data) (stand : PartsStand old ms) whe
   pub scenario-put : (answer : Result Scenario ReadFail) → Answers answer (inner_scenario (then_named [] (codes "scenario")) d) (λ s. SaysCabinets s d)
       → PartsStand (record { scenario = answer; section = old.section; pattern = old.pattern; travel = old.travel }) (put (codes "scenario") d ms)
   scenario-put answer h = record {
-    known = known-put (names asked_shape.fields) (codes "scenario") d ms refl stand.known;
+    known = known-put (names asked_shape.fields) [] (codes "scenario") d ms refl stand.known;
     scenario = answer-new scenario answer SaysCabinets d ms h;
     section = answer-kept section old.section SaysNumber (codes "scenario") d ms refl stand.section;
     pattern = answer-kept pattern old.pattern SaysNumber (codes "scenario") d ms refl stand.pattern;
@@ -107,7 +78,7 @@ module _ (old : Parts) (ms : Members) (d : Data) (stand : PartsStand old ms) whe
   pub section-put : (answer : Result ℕ ReadFail) → Answers answer (whole 1 8 (then_named [] (codes "section")) d) (λ n. n ≡ whole_of d)
       → PartsStand (record { scenario = old.scenario; section = answer; pattern = old.pattern; travel = old.travel }) (put (codes "section") d ms)
   section-put answer h = record {
-    known = known-put (names asked_shape.fields) (codes "section") d ms refl stand.known;
+    known = known-put (names asked_shape.fields) [] (codes "section") d ms refl stand.known;
     scenario = answer-kept scenario old.scenario SaysCabinets (codes "section") d ms refl stand.scenario;
     section = answer-new section answer SaysNumber d ms h;
     pattern = answer-kept pattern old.pattern SaysNumber (codes "section") d ms refl stand.pattern;
@@ -117,7 +88,7 @@ module _ (old : Parts) (ms : Members) (d : Data) (stand : PartsStand old ms) whe
   pub pattern-put : (answer : Result ℕ ReadFail) → Answers answer (whole 1 48 (then_named [] (codes "pattern")) d) (λ n. n ≡ whole_of d)
       → PartsStand (record { scenario = old.scenario; section = old.section; pattern = answer; travel = old.travel }) (put (codes "pattern") d ms)
   pattern-put answer h = record {
-    known = known-put (names asked_shape.fields) (codes "pattern") d ms refl stand.known;
+    known = known-put (names asked_shape.fields) [] (codes "pattern") d ms refl stand.known;
     scenario = answer-kept scenario old.scenario SaysCabinets (codes "pattern") d ms refl stand.scenario;
     section = answer-kept section old.section SaysNumber (codes "pattern") d ms refl stand.section;
     pattern = answer-new pattern answer SaysNumber d ms h;
@@ -127,7 +98,7 @@ module _ (old : Parts) (ms : Members) (d : Data) (stand : PartsStand old ms) whe
   pub travel-put : (answer : Result (Vec ℕ Global) ReadFail) → Answers answer (travel.kind (then_named [] (codes "travel")) d) (λ found. found.items ≡ list_in whole_of d)
       → PartsStand (record { scenario = old.scenario; section = old.section; pattern = old.pattern; travel = answer }) (put (codes "travel") d ms)
   travel-put answer h = record {
-    known = known-put (names asked_shape.fields) (codes "travel") d ms refl stand.known;
+    known = known-put (names asked_shape.fields) [] (codes "travel") d ms refl stand.known;
     scenario = answer-kept scenario old.scenario SaysCabinets (codes "travel") d ms refl stand.scenario;
     section = answer-kept section old.section SaysNumber (codes "travel") d ms refl stand.section;
     pattern = answer-kept pattern old.pattern SaysNumber (codes "travel") d ms refl stand.pattern;

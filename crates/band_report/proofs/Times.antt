@@ -1,6 +1,6 @@
 -- Travel times that are read item by item.
-use Rattle.std.proofs.Common.{◌≡◌, ℕ, ◌+◌, List, [], ◌∷◌, ◌++◌, length, Option, Some, None, is_some, true, false, codes, refl, sym, ap, ◌∙◌, subst, arith, append_assoc, append-nil}
-use Rattle.serde_json.specs.Data.{Data, Items, no_items, item}
+use Rattle.std.proofs.Common.{◌≡◌, ℕ, ◌+◌, List, [], ◌∷◌, ◌++◌, length, Option, Some, None, is_some, true, false, codes, refl, sym, ap, ◌∙◌, subst, arith}
+use Rattle.serde_json.specs.Data.{Data, null, boolean, number, string, array, object, Items, no_items, item}
 use Rattle.serde_json.specs.Events.{items_len}
 use Rattle.scenario_data.specs.declared.refusal.ReadFail.{ReadFail}
 use Rattle.scenario_data.specs.Causes.{Cause}
@@ -9,24 +9,22 @@ use Rattle.scenario_read.specs.Kinds.{Kind, Wrong, array_fits, each, fault_at, i
 use Rattle.scenario_read.specs.Content.{each_of, whole_of}
 use Rattle.scenario_read.specs.Readers.{Refuses}
 use Rattle.scenario_read.proofs.Refusing.{refuses_more}
-use Rattle.scenario_checked.proofs.RangesParts.{each-length}
+use Rattle.scenario_read.proofs.Walks.{each_of-len}
 use Rattle.scenario_cut.specs.Growing.{both}
-use Rattle.scenario_cut.specs.Judging.{Tells}
-use Rattle.scenario_cut.proofs.Judging.{each-next}
+use Rattle.scenario_cut.specs.Judging.{IsNoList, Tells}
+use Rattle.scenario_cut.proofs.Judging.{each_of-next, each-more}
 use Rattle.band_report.specs.declared.legs.Legs.{Legs}
 use Rattle.band_report.specs.Asked.{list_of_any}
 use Rattle.band_report.specs.Parts.{AreLegs}
 
--- the faults of one item more
-each-more : (kind : Kind) (path : List Step) (d : Data) (at : ℕ) (ds : Items) (p : ℕ) → at ≡ p + items_len ds
-    → each kind path p (both ds (item d no_items)) ≡ each kind path p ds ++ kind (then_item path at) d
-each-more kind path d at no_items p is =
-    let place : p ≡ at = omega (arith, is) in
-    append-nil _ ∙ ap (λ n. kind (then_item path n) d) place
-each-more kind path d at (item first ds) p is =
-    let later : at ≡ (p + 1) + items_len ds = omega (arith, is) in
-    ap (λ causes. kind (then_item path p) first ++ causes) (each-more kind path d at ds (p + 1) later)
-    ∙ sym (append_assoc (kind (then_item path p) first) (each kind path (p + 1) ds) (kind (then_item path at) d))
+-- what is no list is of the wrong kind
+pub no-array : (d : Data) → IsNoList d → array_fits d ≡ Wrong
+no-array null none = refl
+no-array (boolean b) none = refl
+no-array (number n) none = refl
+no-array (string s) none = refl
+no-array (array ds) none = absurd none
+no-array (object ms) none = refl
 
 abbrev path : List Step
 path = then_named [] (codes "travel")
@@ -39,7 +37,7 @@ times-more ds d n is = each-more (whole 0 864000) path d n ds 0 (omega (arith, i
 
 -- the number of times that were read is that of the items
 as-many : (found : List ℕ) (ds : Items) → found ≡ each_of whole_of ds → length found ≡ items_len ds
-as-many found ds is = ap length is ∙ each-length whole_of ds
+as-many found ds is = ap length is ∙ each_of-len whole_of ds
 
 -- an item behind a fault
 pub behind-fault : (legs : Legs) (ds : Items) (d : Data) → is_some legs.refusal ≡ true → AreLegs legs ds → AreLegs legs (both ds (item d no_items))
@@ -69,7 +67,7 @@ module _ (old new : Legs) (ds : Items) (d : Data) (none : is_some old.refusal �
   time-read ticks same pushed fits says =
       let still : new.refusal ≡ None = same ∙ no-refusal old.refusal none in
       let content : new.found.items ≡ each_of whole_of (both ds (item d no_items)) =
-      pushed ∙ ap (λ xs. xs ++ ticks ∷ []) clean.1 ∙ ap (λ n. each_of whole_of ds ++ n ∷ []) says ∙ sym (each-next whole_of ds d) in
+      pushed ∙ ap (λ xs. xs ++ ticks ∷ []) clean.1 ∙ ap (λ n. each_of whole_of ds ++ n ∷ []) says ∙ sym (each_of-next whole_of ds d) in
       subst (λ (o : Option ReadFail). Tells o (times_faults (both ds (item d no_items))) (new.found.items ≡ each_of whole_of (both ds (item d no_items)))) (sym still)
       (all ∙ fits, content)
     where

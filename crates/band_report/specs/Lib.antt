@@ -3,4 +3,4 @@ pub mod Bands
 pub mod Arcs
 pub mod Asked
 pub mod Parts
-pub mod Told
+pub mod BandAnswer

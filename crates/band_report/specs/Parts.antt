@@ -1,24 +1,19 @@
 -- The parts of an object that asks of bands: what was read of the value at each of its names, and of the items of its travel times.
 use Rattle.std.specs.Prelude.{ℕ, ◌≡◌, ◌≤◌, List, [], ◌∷◌, length, Result, codes}
-use Rattle.std.specs.Borrow.{Bor}
-use Rattle.json.specs.declared.token.Token.{Token}
-use Rattle.json.specs.declared.token.Token.TheVariants.{BeginArray, BeginObject, Number}
 use Rattle.serde_json.specs.Data.{Data, null, boolean, number, string, array, object, Items, Members, put}
 use Rattle.scenario_data.specs.declared.refusal.ReadFail.{ReadFail}
 use Rattle.scenario_data.specs.declared.scenario.Scenario.{Scenario}
 use Rattle.scenario_data.specs.Content.{scenario_content}
 use Rattle.scenario_read.specs.Paths.{then_named}
-use Rattle.scenario_read.specs.Kinds.{Wrong, array_fits, each, whole}
+use Rattle.scenario_read.specs.Kinds.{each, whole}
 use Rattle.scenario_read.specs.Content.{cabinets_of, each_of, list_in, number_at, whole_of}
 use Rattle.scenario_read.specs.Fields.{Field, held, field_faults, names, unknown_faults}
 use Rattle.scenario_read.specs.Readers.{Answers}
 use Rattle.scenario_checked.specs.Inside.{scenario}
 use Rattle.scenario_cut.specs.Judging.{Tells}
-use Rattle.scenario_file.specs.Left.{is_left, without}
 use Rattle.band_report.specs.declared.asked.Beside.{Beside}
 use Rattle.band_report.specs.declared.legs.Legs.{Legs}
 use Rattle.band_report.specs.declared.parts.Parts.{Parts}
-use Rattle.band_report.specs.declared.parts.Reading.{Reading}
 use Rattle.band_report.specs.Asked.{section, pattern, travel, travel_asked, asked_shape}
 
 -- ---- values
@@ -31,17 +26,6 @@ number_alone (number n) = number n
 number_alone (string s) = null
 number_alone (array ds) = null
 number_alone (object ms) = null
-
--- a value is no object
-abbrev pub IsNoObject : Data → Type 0
-IsNoObject (object ms) = ⊥
-IsNoObject _ = Unit {0}
-
--- what the token that a value begins with tells of it
-pub record BeginsWith (token : Token) (d : Data) : Type 0 where
-  pub no_number : ((text : Bor (List ℕ)) → token ≡ Number text → ⊥) → number_alone d ≡ null
-  pub no_list : (token ≡ BeginArray → ⊥) → array_fits d ≡ Wrong
-  pub no_object : (token ≡ BeginObject → ⊥) → IsNoObject d
 
 -- the items were read as travel times: the refusal names their first fault, or they have none, and these are the times
 abbrev pub AreLegs : Legs → Items → Type 0
@@ -73,10 +57,6 @@ pub record PartsStand (parts : Parts) (ms : Members) : Type 0 where
 -- a value was put at a name: the parts became those of the object with it
 abbrev pub Puts : Parts → Parts → List ℕ → Data → Type 0
 Puts old new name d = (ms : Members) → PartsStand old ms → PartsStand new (put name d ms)
-
--- these members were read, and the parts are those of the ones of which no more is to come
-abbrev pub ReadSoFar : Reading → Members → Type 0
-ReadSoFar reading ms = PartsStand reading.parts (without (is_left reading.coming.own) ms)
 
 -- ---- an object that is kept
 

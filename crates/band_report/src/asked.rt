@@ -12,7 +12,7 @@ ghost use Rattle.scenario_checked.specs.Inside.{scenario};
 ghost use Rattle.band_report.specs.Street.{misfit_of};
 ghost use Rattle.band_report.specs.Asked.{travel, asked_shape, cabinets_asked, travel_asked, misfit_causes, band_faults};
 ghost use Rattle.band_report.specs.Parts.{beside_fields, SaysBeside};
-ghost use Rattle.band_report.specs.Told.{Says};
+ghost use Rattle.band_report.specs.BandAnswer.{Says};
 
 use crate::{Misfit, misfit_of};
 use scenario_checked::inner_fail;

@@ -9,12 +9,12 @@ ghost use Rattle.scenario_read.specs.Readers.{Answers};
 ghost use Rattle.band_report.specs.Street.{misfit_of};
 ghost use Rattle.band_report.specs.Asked.{asked_shape, band_faults};
 ghost use Rattle.band_report.specs.Parts.{PartsStand};
-ghost use Rattle.band_report.specs.Told.{IsFirstBandFault, Says};
+ghost use Rattle.band_report.specs.BandAnswer.{IsFirstBandFault, Says};
 
 use crate::asked::{Asked, fitting};
-use crate::coming::Coming;
-use crate::parts::{Parts, parts_with};
+use crate::parts::Parts;
 use scenario_data::ReadFail;
+use scenario_file::{FileLeft, parts_with};
 use std::alloc::Global;
 
 /// What the names of an object of these parts say, refused at the first fault of a value.
@@ -68,13 +68,13 @@ fn asked_in_parts(alloc: Global, parts: Parts) -> Result<Asked, ReadFail>
 
 /// What the bytes ask, or their first fault, in little memory, where so many of their names come. Want of memory stands also for what
 /// this way does not tell.
-pub(crate) fn asked_by_parts(alloc: Global, bytes: &[u8], coming: Coming) -> Result<Asked, ReadFail>
+pub(crate) fn asked_by_parts(alloc: Global, bytes: &[u8], left: FileLeft) -> Result<Asked, ReadFail>
     ensures read { IfOk result (λ a. (d : Data) × Reads bytes.now d × (band_faults d ≡ []) × Says a d) }
     ensures refused { IfErr result (λ fail. OnRefusal fail (IsFirstBandFault bytes.now)) }
     ensures few { IfOk result (λ a. length a.scenario.cabinets.items ≤ 64) }
     ensures fits { IfOk result (λ a. misfit_of (scenario_content a.scenario).cabinets a.section a.pattern (length a.travel.items) ≡ None) }
 {
-    let Some(parts) = parts_with(alloc, bytes, coming) else {
+    let Some(parts) = parts_with(alloc, bytes, left) else {
         return Err(ReadFail::NoMemory);
     };
     match asked_in_parts(alloc, parts) {

@@ -4,7 +4,7 @@ ghost use Rattle.std.specs.Prelude.{◌≡◌, ℕ, List, codes, String, string_
 ghost use Rattle.std.specs.declared.alloc.Global.{Global};
 ghost use Rattle.scenario_data.specs.declared.refusal.Refusal.{Refusal};
 ghost use Rattle.scenario_read.specs.Answers.{SameFault};
-ghost use Rattle.band_report.specs.Told.{AsksOfBands, TellsBands, IsFirstBandFault};
+ghost use Rattle.band_report.specs.BandAnswer.{AsksOfBands, TellsBands, IsFirstBandFault};
 
 /// A law: bytes that ask of bands are told of in one way, and others have one first fault, and no bytes do both.
 pub fn bytes_have_one_answer()

@@ -2,7 +2,7 @@
 
 ghost use Rattle.std.specs.Prelude.{IfErr};
 ghost use Rattle.scenario_read.specs.Answers.{OnRefusal};
-ghost use Rattle.band_report.specs.Told.{IsFirstBandFault};
+ghost use Rattle.band_report.specs.BandAnswer.{IsFirstBandFault};
 
 use crate::asked::names_known;
 use scenario_checked::inner_fail;

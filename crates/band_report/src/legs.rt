@@ -14,9 +14,9 @@ ghost use Rattle.band_report.specs.Asked.{travel};
 ghost use Rattle.band_report.specs.Parts.{AreLegs};
 
 use crate::asked::leg_in;
-use crate::numbers::{number_alone, pass_rest};
+use crate::numbers::number_alone;
 use json::{Reader, Token};
-use scenario_cut::pass;
+use scenario_cut::{pass, pass_rest};
 use scenario_data::ReadFail;
 use scenario_read::{Place, Unfit, refuse_member};
 use std::alloc::Global;

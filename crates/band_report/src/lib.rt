@@ -7,7 +7,6 @@ mod arcs;
 mod asked;
 mod band;
 mod by_parts;
-mod coming;
 mod file_laws;
 mod first;
 mod legs;

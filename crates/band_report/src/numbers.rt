@@ -1,34 +1,16 @@
-//! Values of the text where only a number may stand: the number, or null in place of anything else, which is passed over; and what is
-//! passed over behind the first token of a value. So no value takes more memory than a number, however much its text has.
+//! Values of the text where only a number may stand: the number, or null in place of anything else, which is passed over. So no value
+//! takes more memory than a number, however much its text has.
 
-ghost use Rattle.std.specs.Prelude.{◌≡◌, ◌<◌, ◌≤◌, ◌∷◌, true, length, Some, IfSome};
+ghost use Rattle.std.specs.Prelude.{◌≡◌, ◌<◌, length, Some, IfSome};
 ghost use Rattle.json.specs.Json.{value};
-ghost use Rattle.json.specs.Reads.{token_of};
 ghost use Rattle.serde_json.specs.Data.{Data};
 ghost use Rattle.serde_json.specs.Read.{of_json, converted};
 ghost use Rattle.serde_json.specs.View.{view};
-ghost use Rattle.band_report.specs.Parts.{BeginsWith, number_alone};
+ghost use Rattle.band_report.specs.Parts.{number_alone};
 
 use json::{Reader, Token};
-use scenario_cut::{number_of, pass_items, pass_other};
+use scenario_cut::{number_of, pass_rest};
 use serde_json::Value;
-
-/// Passes over the rest of a value that begins with this token, nested at most so deep; false, where it has no reading.
-pub(crate) fn pass_rest(reader: &mut Reader<'_>, depth: usize, token: Token<'_>) -> bool
-    ensures passed { result ≡ true → (d : Data) × (converted of_json (value depth (token_of token.entry ∷ reader.old)) ≡ Some (d, reader.new))
-        × BeginsWith token.entry d }
-    ensures shorter { result ≡ true → length reader.new ≤ length reader.old }
-{
-    match token {
-        Token::BeginArray => {
-            if depth == 0 {
-                return false;
-            }
-            pass_items(reader, depth - 1)
-        }
-        other => pass_other(reader, depth, other),
-    }
-}
 
 /// The next value of the reader, nested at most so deep, where only a number may stand.
 pub(crate) fn number_alone(reader: &mut Reader<'_>, depth: usize) -> Option<Value>

@@ -1,25 +1,22 @@
 //! The parts of an object that asks of bands, read from its text one after the other: the scenario list by list, the section and the
-//! pattern, and the travel times one by one. No tree of the whole is made. Of equal names the last counts; where they were counted
-//! beforehand, the last alone is read.
+//! pattern, and the travel times one by one. No tree of the whole is made. Of equal names the last counts.
 
-ghost use Rattle.std.specs.Prelude.{◌≡◌, ◌<◌, codes, length, Some, IfSome, IsUtf8};
-ghost use Rattle.json.specs.Json.{value, members};
-ghost use Rattle.serde_json.specs.Data.{Data, Members, no_members, object, put};
-ghost use Rattle.serde_json.specs.Read.{of_json, of_members, converted, read};
+ghost use Rattle.std.specs.Prelude.{◌≡◌, ◌<◌, codes, length, Some, IfSome};
+ghost use Rattle.json.specs.Json.{value};
+ghost use Rattle.serde_json.specs.Data.{Data};
+ghost use Rattle.serde_json.specs.Read.{of_json, converted};
 ghost use Rattle.scenario_read.specs.Paths.{then_named};
 ghost use Rattle.scenario_read.specs.Kinds.{whole};
 ghost use Rattle.scenario_read.specs.Content.{whole_of};
 ghost use Rattle.scenario_read.specs.Readers.{Answers, steps_of};
-ghost use Rattle.scenario_read.specs.Sorted.{MembersSorted};
-ghost use Rattle.band_report.specs.Parts.{PartsStand, Puts, ReadSoFar};
+ghost use Rattle.band_report.specs.Parts.{PartsStand, Puts};
 
-use crate::coming::Coming;
 use crate::legs::travel_times;
-use crate::numbers::{number_alone, pass_rest};
-use json::{Reader, Scratch, Token};
-use scenario_cut::pass;
+use crate::numbers::number_alone;
+use json::{Reader, Token};
+use scenario_cut::pass_rest;
 use scenario_data::{ReadFail, Scenario};
-use scenario_file::{Left, Source, scenario_at};
+use scenario_file::{Left, OuterParts, Source, scenario_at};
 use scenario_read::{Place, Unfit, refuse_member, whole_of};
 use std::alloc::Global;
 use std::mem::replace;
@@ -31,13 +28,6 @@ pub(crate) struct Parts {
     pub section: Result<u8, ReadFail>,
     pub pattern: Result<u8, ReadFail>,
     pub travel: Result<Vec<u32>, ReadFail>,
-}
-
-/// The parts so far, and how often names are still to come.
-#[derive(Drop)]
-pub(crate) struct Reading {
-    pub parts: Parts,
-    pub coming: Coming,
 }
 
 /// Reads the scenario, of whose large names so many come: gives up at one that is not right. The parts of its text are left out.
@@ -149,122 +139,34 @@ fn travel_member(alloc: Global, reader: &mut Reader<'_>, parts: &mut Parts) -> O
     Some(())
 }
 
-/// Reads what stands at the next name: gives up at one that is not known.
-fn member_at(
-    alloc: Global,
-    reader: &mut Reader<'_>,
-    name: &str,
-    parts: &mut Parts,
-    inner: &mut Left,
-    file: &[u8],
-) -> Option<()>
-    ensures ok { IfSome result (λ _. (d : Data) × (converted of_json (value 126 reader.old) ≡ Some (d, reader.new)) × Puts parts.old parts.new name.now d) }
-    ensures shorter { IfSome result (λ _. length reader.new < length reader.old) }
-{
-    match name {
-        "scenario" => scenario_member(alloc, reader, parts, inner, file),
-        "section" => section_member(alloc, reader, parts),
-        "pattern" => pattern_member(alloc, reader, parts),
-        "travel" => travel_member(alloc, reader, parts),
-        _ => None,
-    }
-}
+impl<'a> OuterParts<'a> for Parts {
+    ghost stand = { λ parts ms. PartsStand parts ms };
 
-/// Reads what stands at the next name, where the name comes for the last time, or else passes over it.
-fn next_member(
-    alloc: Global,
-    reader: &mut Reader<'_>,
-    name: &str,
-    reading: &mut Reading,
-    file: &[u8],
-) -> Option<()>
-    ensures ok { IfSome result (λ _. (d : Data) × (converted of_json (value 126 reader.old) ≡ Some (d, reader.new))
-        × ((ms : Members) → MembersSorted ms → ReadSoFar reading.old ms → ReadSoFar reading.new (put name.now d ms))) }
-    ensures shorter { IfSome result (λ _. length reader.new < length reader.old) }
-{
-    if reading.coming.own.is_last(name) {
-        member_at(
-            alloc,
-            reader,
-            name,
-            &mut reading.parts,
-            &mut reading.coming.inner,
-            file,
-        )?;
-        Some(())
-    } else if pass(reader, 126) {
-        Some(())
-    } else {
-        None
+    /// Nothing read: each name must stand.
+    fn none(alloc: Global) -> Parts {
+        Parts {
+            scenario: Err(refuse_member(alloc, Place::Top, "scenario", Unfit::Wrong)),
+            section: Err(refuse_member(alloc, Place::Top, "section", Unfit::Wrong)),
+            pattern: Err(refuse_member(alloc, Place::Top, "pattern", Unfit::Wrong)),
+            travel: Err(refuse_member(alloc, Place::Top, "travel", Unfit::Wrong)),
+        }
     }
-}
 
-/// Nothing read: each name must stand.
-fn no_parts(alloc: Global) -> Parts
-    ensures { PartsStand result no_members }
-{
-    Parts {
-        scenario: Err(refuse_member(alloc, Place::Top, "scenario", Unfit::Wrong)),
-        section: Err(refuse_member(alloc, Place::Top, "section", Unfit::Wrong)),
-        pattern: Err(refuse_member(alloc, Place::Top, "pattern", Unfit::Wrong)),
-        travel: Err(refuse_member(alloc, Place::Top, "travel", Unfit::Wrong)),
-    }
-}
-
-/// Nothing read yet of an object of whose names so many come.
-fn nothing_read(alloc: Global, coming: Coming) -> Reading
-    ensures { ReadSoFar result no_members }
-{
-    Reading {
-        parts: no_parts(alloc),
-        coming,
-    }
-}
-
-/// The members up to the brace that closes the whole object. Of equal names the last counts; of those of which more is to come none is
-/// read.
-fn members_of(alloc: Global, reader: &mut Reader<'_>, coming: Coming, file: &[u8]) -> Option<Parts>
-    ensures { IfSome result (λ parts. (ms : Members)
-        × (converted (λ es. of_members es no_members) (members (value 126) (length reader.old) reader.old) ≡ Some (ms, reader.new)) × PartsStand parts ms) }
-{
-    let mut reading = nothing_read(alloc, coming);
-    'members: loop {
-        let name = match reader.next_key() {
-            Ok(Some(name)) => name,
-            Ok(None) => break,
-            Err(_) => return None,
-        };
-        next_member(alloc, reader, name, &mut reading, file)?;
-    }
-    if reading.coming.own.none_left() {
-        let Reading { parts, .. } = reading;
-        Some(parts)
-    } else {
-        None
-    }
-}
-
-/// The parts of a text that is one object, of whose names so many come: of a name that was counted the last alone is read, and so of
-/// those of the scenario's master, where those of the scenario were counted. None, where the text is no JSON, no object or has another
-/// name, where the scenario is not right, and where memory is wanting.
-pub(crate) fn parts_with(alloc: Global, bytes: &[u8], coming: Coming) -> Option<Parts>
-    ensures utf8 { IfSome result (λ _. IsUtf8 bytes.now) }
-    ensures ok { IfSome result (λ parts. (ms : Members) × (read bytes.now ≡ Some (object ms)) × PartsStand parts ms) }
-{
-    let Ok(text) = std::str::from_utf8(bytes) else {
-        return None;
-    };
-    let mut scratch = Scratch::new(alloc);
-    let Ok(mut reader) = Reader::new(text, &mut scratch) else {
-        return None;
-    };
-    match reader.next() {
-        Some(Token::BeginObject) => {}
-        _ => return None,
-    }
-    let parts = members_of(alloc, &mut reader, coming, bytes)?;
-    match reader.next() {
-        Some(_) => None,
-        None => Some(parts),
+    /// Reads what stands at the next name: gives up at one that is not known.
+    fn put_next(
+        &mut self,
+        alloc: Global,
+        reader: &mut Reader<'_>,
+        name: &str,
+        inner: &mut Left,
+        file: &'a [u8],
+    ) -> Option<()> {
+        match name {
+            "scenario" => scenario_member(alloc, reader, self, inner, file),
+            "section" => section_member(alloc, reader, self),
+            "pattern" => pattern_member(alloc, reader, self),
+            "travel" => travel_member(alloc, reader, self),
+            _ => None,
+        }
     }
 }

@@ -8,18 +8,21 @@ ghost use Rattle.scenario_read.specs.Answers.{OnRefusal};
 ghost use Rattle.scenario_read.specs.Readers.{Answers};
 ghost use Rattle.band_report.specs.Street.{misfit_of};
 ghost use Rattle.band_report.specs.Asked.{band_faults};
-ghost use Rattle.band_report.specs.Told.{band_text, two_lines, Says, TellsOf, TellsBands, IsFirstBandFault};
+ghost use Rattle.band_report.specs.BandAnswer.{band_text, two_lines, Says, TellsOf, TellsBands, IsFirstBandFault};
 
 use crate::asked::{Asked, asked_in};
 use crate::by_parts::asked_by_parts;
-use crate::coming::Coming;
 use crate::first::first_fault;
 use crate::{Band, greatest};
 use scenario_cut::{Form, kept_of};
 use scenario_data::ReadFail;
+use scenario_file::FileLeft;
 use serde_json::Value;
 use sig_types::NoMemory;
 use std::alloc::{AllocError, Global};
+
+/// The names of an object that asks of bands.
+const NAMES: [&str; 4] = ["scenario", "section", "pattern", "travel"];
 
 /// A band as its four numbers: start and width in ticks, and the cabinets that stand in its way before and behind it.
 fn band_text(alloc: Global, report: Option<Band>) -> Result<String, AllocError>
@@ -84,11 +87,11 @@ fn lines_of(alloc: Global, asked: &Asked) -> Result<Vec<u8>, NoMemory>
 
 /// The answer to bytes whose parts are read in little memory, where so many of their names come: the two lines, or their first fault.
 /// Want of memory stands also for what this way does not tell.
-fn report_by_parts(alloc: Global, bytes: &[u8], coming: Coming) -> Result<Vec<u8>, ReadFail>
+fn report_by_parts(alloc: Global, bytes: &[u8], left: FileLeft) -> Result<Vec<u8>, ReadFail>
     ensures told { IfOk result (λ text. TellsBands bytes.now text.items) }
     ensures refused { IfErr result (λ fail. OnRefusal fail (IsFirstBandFault bytes.now)) }
 {
-    let asked = match asked_by_parts(alloc, bytes, coming) {
+    let asked = match asked_by_parts(alloc, bytes, left) {
         Ok(asked) => asked,
         Err(fail) => return Err(fail),
     };
@@ -103,8 +106,8 @@ fn report_by_last(alloc: Global, bytes: &[u8]) -> Result<Vec<u8>, ReadFail>
     ensures told { IfOk result (λ text. TellsBands bytes.now text.items) }
     ensures refused { IfErr result (λ fail. OnRefusal fail (IsFirstBandFault bytes.now)) }
 {
-    match Coming::counted(alloc, bytes) {
-        Some(coming) => report_by_parts(alloc, bytes, coming),
+    match FileLeft::counted(alloc, bytes, &NAMES) {
+        Some(left) => report_by_parts(alloc, bytes, left),
         None => Err(ReadFail::NoMemory),
     }
 }
@@ -146,7 +149,7 @@ pub fn report(alloc: Global, bytes: &[u8]) -> Result<Vec<u8>, ReadFail>
     ensures told { IfOk result (λ text. TellsBands bytes.now text.items) }
     ensures refused { IfErr result (λ fail. OnRefusal fail (IsFirstBandFault bytes.now)) }
 {
-    match report_by_parts(alloc, bytes, Coming::none(alloc)) {
+    match report_by_parts(alloc, bytes, FileLeft::none(alloc)) {
         Err(ReadFail::NoMemory) => {}
         told => return told,
     }

@@ -4,7 +4,7 @@ use Rattle.serde_json.specs.Data.{Data, Items, no_items, item}
 use Rattle.scenario_read.specs.Paths.{Step, then_item}
 use Rattle.scenario_read.specs.Kinds.{Kind, each}
 use Rattle.scenario_read.specs.Content.{each_of}
-use Rattle.scenario_checked.proofs.RangesParts.{none-left}
+use Rattle.scenario_read.proofs.NoFaults.{none-left}
 
 abbrev pub Every : {A : Type 0} (P : A → Type 0) → List A → Type 0
 Every P [] = Unit {0}

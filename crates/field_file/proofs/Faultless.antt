@@ -12,6 +12,7 @@ use Rattle.scenario_read.specs.Fields.{Field, held, names, object_of}
 use Rattle.scenario_read.specs.Table.{rounds, ticks, version, cabinets, master, inputs, input_shape, entry_shape, master_shape, setup_fields, event_fields, scenario_shape}
 use Rattle.scenario_read.specs.Content.{list_in, whole_of, cabinet_of, version_number, round_count, tick_count, cabinet_count, cabinets_of}
 use Rattle.scenario_read.specs.Faults.{named_faults, product_faults, all_table_faults, faults}
+use Rattle.scenario_read.proofs.NoFaults.{none-of-three}
 use Rattle.scenario_read.proofs.Whole.{faultless-parts}
 use Rattle.scenario_checked.proofs.RangesParts.{list-in, held-in, object-in, all-clean, AllClean}
 use Rattle.detector_bank.specs.declared.bank.Call.{Call}
@@ -45,9 +46,6 @@ same-cabinets k v ms apart =
 at-three : (P : ℕ → ℕ → ℕ → Type 0) (a b c x y z : ℕ) → a ≡ x → b ≡ y → c ≡ z → P x y z → P a b c
 at-three P a b c x y z p q r h =
     subst (λ (n : ℕ). P n b c) (sym p) (subst (λ (n : ℕ). P x n c) (sym q) (subst (λ (n : ℕ). P x y n) (sym r) h))
-
-none-of-three : (a b c : List Cause) → a ≡ [] → b ≡ [] → c ≡ [] → a ++ (b ++ c) ≡ []
-none-of-three a b c p q r = rw (p, q, r) refl
 
 -- the fields of a scenario's value
 abbrev pub fields_at : Data → List Field

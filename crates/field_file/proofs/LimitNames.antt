@@ -14,7 +14,7 @@ use Rattle.field_read.specs.Content.{field_of}
 use Rattle.field_read.specs.Checks.{file_faults}
 use Rattle.field_read.proofs.LimitNames.{limit-elsewhere}
 use Rattle.field_file.specs.Written.{calls_of, schedule_of, result_text}
-use Rattle.field_file.specs.Told.{entry_count, entries_faults, bytes_faults, size_faults, IsFirstResultFault}
+use Rattle.field_file.specs.FieldAnswer.{entry_count, entries_faults, bytes_faults, size_faults, IsFirstResultFault}
 
 not-dot : (name : List ℕ) → bytes_eq name (codes ".") ≡ false → name ≡ codes "." → ⊥
 not-dot name other e = false≢true (sym other ∙ (bytes_eq-Decides name (codes ".")).1 e)

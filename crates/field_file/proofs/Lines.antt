@@ -29,7 +29,7 @@ use Rattle.field_read.specs.Content.{FieldContent, field_of, cabinets_run, round
 use Rattle.field_read.proofs.Placed.{few-run}
 use Rattle.field_file.specs.Written.{call_value, entry_value, with_inputs, with_schedule, with_traffic, calls_of, schedule_of, result_of}
 use Rattle.field_file.specs.declared.traffic.Traffic.{Traffic}
-use Rattle.field_file.specs.Told.{entry_count, inputs_faults, entries_faults, bytes_faults, result_faults, WasRead, IsTraffic, TellsOf}
+use Rattle.field_file.specs.FieldAnswer.{entry_count, inputs_faults, entries_faults, bytes_faults, result_faults, WasRead, IsTraffic, TellsOf}
 use Rattle.field_file.specs.Texts.{IsTextOf, IsLineOf}
 use Rattle.field_file.proofs.Called.{calls-in}
 use Rattle.field_file.proofs.Every.{Every}

@@ -8,8 +8,8 @@ use Rattle.scenario_read.specs.Paths.{Step, then_item}
 use Rattle.scenario_read.specs.Kinds.{Kind, each, list_of}
 use Rattle.scenario_read.specs.Fields.{object_of}
 use Rattle.scenario_read.specs.Table.{input_shape, entry_shape}
+use Rattle.scenario_read.proofs.NoFaults.{none-left}
 use Rattle.scenario_read.proofs.Walks.{within-fits}
-use Rattle.scenario_checked.proofs.RangesParts.{none-left}
 use Rattle.detector_bank.specs.declared.bank.Call.{Call}
 use Rattle.scenario_cut.specs.Growing.{both}
 use Rattle.field_file.specs.Written.{call_value, entry_value}

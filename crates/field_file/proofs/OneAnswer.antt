@@ -5,7 +5,7 @@ use Rattle.scenario_data.specs.declared.refusal.Refusal.TheVariants.{Syntax, Fie
 use Rattle.scenario_read.specs.Answers.{SameFault}
 use Rattle.scenario_read.proofs.OneAnswer.{one-value, IsFirstOf, none-beside, one-first}
 use Rattle.field_file.specs.Written.{result_text}
-use Rattle.field_file.specs.Told.{result_faults, HasResult, TellsResult, IsFirstResultFault}
+use Rattle.field_file.specs.FieldAnswer.{result_faults, HasResult, TellsResult, IsFirstResultFault}
 
 pub one-result : (bytes a b : List ℕ) → TellsResult bytes a → TellsResult bytes b → a ≡ b
 one-result bytes a b (d, r, none, told) (e, s, clean, other) = told.whole ∙ ap result_text (one-value _ d e r.1 s.1) ∙ sym other.whole

@@ -1,24 +1,18 @@
 -- An object with a value put at a name: what stands at the names, and its faults.
-use Rattle.std.proofs.Common.{◌≡◌, ◌⊎◌, inl, inr, ℕ, Bool, true, false, if◌then◌else◌, List, [], ◌∷◌, ◌++◌, Option, unwrap_or, bytes_eq, Ordering, Less, Equal, Greater, nat_cmp, refl, sym, ap, ◌∙◌}
-use Rattle.std.specs.Cmp.Lexicographic.{slice_cmp}
-use Rattle.std.specs.Ordering.{match_ordering}
-use Rattle.std.proofs.lemmas.Bool.{false≢true}
-use Rattle.std.proofs.lemmas.Slice.Eq.{bytes_eq-Decides}
-use Rattle.serde_json.specs.Data.{Data, null, object, Members, no_members, member, put}
+use Rattle.std.proofs.Common.{◌≡◌, ◌⊎◌, inl, inr, ℕ, true, false, List, [], ◌∷◌, ◌++◌, Option, unwrap_or, bytes_eq, refl, ap, ◌∙◌}
+use Rattle.serde_json.specs.Data.{Data, null, object, Members, put}
 use Rattle.serde_json.specs.Find.{get_member}
 use Rattle.serde_json.proofs.Views.{get_member-put, get_member-put_other}
-use Rattle.scenario_data.specs.Causes.{Cause, Field as FieldCause}
-use Rattle.scenario_read.specs.Paths.{Step, path_text, then_named}
+use Rattle.scenario_read.specs.Paths.{Step, then_named}
 use Rattle.scenario_read.specs.Kinds.{is_among}
 use Rattle.scenario_read.specs.Fields.{Field, value_of, held, either, faults_of, field_faults, fields_faults, names, unknown_faults, object_of}
-use Rattle.scenario_checked.proofs.RangesParts.{none-left}
-
-differ : (a b : List ℕ) → bytes_eq a b ≡ false → a ≡ b → ⊥
-differ a b other e = false≢true (sym other ∙ (bytes_eq-Decides a b).1 e)
+use Rattle.scenario_read.proofs.KnownNames.{known-put}
+use Rattle.scenario_read.proofs.NameOrder.{apart}
+use Rattle.scenario_read.proofs.NoFaults.{none-left, none-both}
 
 -- at another name stands what stood there
 pub value-other : (f : Field) (k : List ℕ) (v : Data) (ms : Members) → bytes_eq f.name k ≡ false → value_of f (object (put k v ms)) ≡ value_of f (object ms)
-value-other f k v ms other = ap (λ (o : Option Data). either o f.default) (get_member-put_other f.name k v ms (differ f.name k other))
+value-other f k v ms other = ap (λ (o : Option Data). either o f.default) (get_member-put_other f.name k v ms (apart f.name k other))
 
 pub held-other : (f : Field) (k : List ℕ) (v : Data) (ms : Members) → bytes_eq f.name k ≡ false → held f (object (put k v ms)) ≡ held f (object ms)
 held-other f k v ms other = ap (λ (o : Option Data). unwrap_or o null) (value-other f k v ms other)
@@ -26,24 +20,6 @@ held-other f k v ms other = ap (λ (o : Option Data). unwrap_or o null) (value-o
 -- and at this one the value
 pub held-here : (f : Field) (v : Data) (ms : Members) → held f (object (put f.name v ms)) ≡ v
 held-here f v ms = ap (λ (o : Option Data). unwrap_or (either o f.default) null) (get_member-put f.name v ms)
-
--- a known name is none too many
-pub unknown-put : (known : List (List ℕ)) (path : List Step) (k : List ℕ) (v : Data) (ms : Members) → is_among known k ≡ true
-    → unknown_faults known path ms ≡ [] → unknown_faults known path (put k v ms) ≡ []
-unknown-put known path k v no_members h e = rw h refl
-unknown-put known path k v (member l d ms) h e = split (λ rest. unknown-put known path k v ms h rest) (slice_cmp nat_cmp k l)
-  where
-    further : (b : Bool) → (unknown_faults known path ms ≡ [] → unknown_faults known path (put k v ms) ≡ [])
-        → (if b then unknown_faults known path ms else FieldCause (path_text (then_named path l)) ∷ unknown_faults known path ms) ≡ []
-        → (if b then unknown_faults known path (put k v ms) else FieldCause (path_text (then_named path l)) ∷ unknown_faults known path (put k v ms)) ≡ []
-    further true rest clean = rest clean
-    further false rest clean = absurd (cc)
-
-    split : (unknown_faults known path ms ≡ [] → unknown_faults known path (put k v ms) ≡ [])
-        → (o : Ordering) → unknown_faults known path (match_ordering o (member k v (member l d ms)) (member l v ms) (member l d (put k v ms))) ≡ []
-    split rest Less = rw h e
-    split rest Equal = e
-    split rest Greater = further (is_among known l) rest e
 
 -- the field has another name, or the value has no fault as what stands at it
 abbrev pub FitsAt : List Step → List ℕ → Data → Field → Type 0
@@ -59,14 +35,11 @@ field-put path k v ms f e (inr (same, clean)) =
     ap (λ (l : List ℕ). faults_of f.kind (then_named path f.name) (either (get_member f.name (put l v ms)) f.default)) same
     ∙ ap (λ (o : Option Data). faults_of f.kind (then_named path f.name) (either o f.default)) (get_member-put f.name v ms) ∙ clean
 
-both-none : (a b : List Cause) → a ≡ [] → b ≡ [] → a ++ b ≡ []
-both-none a b p q = rw (p, q) refl
-
 fields-put : (path : List Step) (k : List ℕ) (v : Data) (ms : Members) (fields : List Field) → fields_faults path (object ms) fields ≡ [] → AllFit path k v fields → fields_faults path (object (put k v ms)) fields ≡ []
 fields-put path k v ms [] e fit = refl
 fields-put path k v ms (f ∷ fields) e fit =
     let parts = none-left (field_faults path (object ms) f) (fields_faults path (object ms) fields) e in
-    both-none (field_faults path (object (put k v ms)) f) (fields_faults path (object (put k v ms)) fields) (field-put path k v ms f parts.0 fit.0) (fields-put path k v ms fields parts.1 fit.1)
+    none-both (field_faults path (object (put k v ms)) f) (fields_faults path (object (put k v ms)) fields) (field-put path k v ms f parts.0 fit.0) (fields-put path k v ms fields parts.1 fit.1)
 
 -- an object without faults has none with such a value at a name of its own
 pub object-put : (fields : List Field) (path : List Step) (k : List ℕ) (v : Data) (ms : Members) → is_among (names (fields ++ [])) k ≡ true
@@ -75,5 +48,5 @@ pub object-put : (fields : List Field) (path : List Step) (k : List ℕ) (v : Da
 object-put fields path k v ms known e fit =
     let parts = none-left (unknown_faults (names (fields ++ [])) path ms) (fields_faults path (object ms) fields ++ []) e in
     let own = none-left (fields_faults path (object ms) fields) [] parts.1 in
-    both-none (unknown_faults (names (fields ++ [])) path (put k v ms)) (fields_faults path (object (put k v ms)) fields ++ []) (unknown-put (names (fields ++ [])) path k v ms known parts.0)
-    (both-none (fields_faults path (object (put k v ms)) fields) [] (fields-put path k v ms fields own.0 fit) refl)
+    none-both (unknown_faults (names (fields ++ [])) path (put k v ms)) (fields_faults path (object (put k v ms)) fields ++ []) (known-put (names (fields ++ [])) path k v ms known parts.0)
+    (none-both (fields_faults path (object (put k v ms)) fields) [] (fields-put path k v ms fields own.0 fit) refl)

@@ -1,36 +1,27 @@
 -- What a field file without faults at its names says is in range: its detectors, its pulses, its rules and the rounds of its scenario.
-use Rattle.std.proofs.Common.{◌≡◌, ◌≤◌, ◌<◌, ℕ, zero, suc, List, [], ◌∷◌, length, get_or, map, codes, Option, Some, None, unwrap_or, option_map, refl, sym, ap, subst, arith}
+use Rattle.std.proofs.Common.{◌≡◌, ◌≤◌, ◌<◌, ℕ, zero, suc, List, [], ◌∷◌, length, get_or, codes, Option, Some, None, unwrap_or, option_map, refl, sym, ap, subst, arith}
 use Rattle.serde_json.specs.Data.{Data, null}
 use Rattle.serde_json.specs.Find.{get}
 use Rattle.scenario_data.specs.Causes.{Cause}
 use Rattle.scenario_read.specs.Paths.{Step as PathStep, Named, then_named}
 use Rattle.scenario_read.specs.Kinds.{items_in}
-use Rattle.scenario_read.specs.Fields.{held, either, faults_of, field_faults, object_of}
-use Rattle.scenario_read.specs.Table.{needed_whole, number_at, scenario_shape}
+use Rattle.scenario_read.specs.Fields.{held, either, faults_of, object_of}
+use Rattle.scenario_read.specs.Table.{scenario_shape}
 use Rattle.scenario_read.specs.Content.{version_number, round_count, cabinet_count}
 use Rattle.scenario_read.specs.Faults.{faults}
+use Rattle.scenario_read.proofs.Walks.{each_of-len}
 use Rattle.scenario_read.proofs.Whole.{faultless-parts}
-use Rattle.scenario_checked.proofs.RangesParts.{whole-in, list-in, each-length, held-in, object-in, all-clean, AllClean}
-use Rattle.scenario_checked.specs.Inside.{inner_cause, inner_scenario, scenario}
+use Rattle.scenario_checked.proofs.RangesParts.{list-in, held-in, object-in, all-clean}
+use Rattle.scenario_checked.specs.Inside.{inner_scenario, scenario}
 use Rattle.responsive.specs.declared.Step.{Step}
 use Rattle.responsive.specs.Level.{step_to}
-use Rattle.field_read.specs.Table.{detector_shape, pulse_shape, step_shape, section_shape, respond_shape, steps, sections, bank, pulses, respond, field_shape}
+use Rattle.field_read.specs.Table.{detector_shape, pulse_shape, step_shape, section_shape, respond_shape, steps, sections, bank, pulses, respond}
 use Rattle.field_read.specs.Content.{RuleContent, RespondContent, detector_of, pulse_of, step_of, rule_of, respond_of, bank_of, pulses_of, respond_asked, rounds_run, cabinets_run}
 use Rattle.field_read.specs.Checks.{named_faults}
+use Rattle.field_read.proofs.Placed.{whole-held, none-mapped, named-clean}
 use Rattle.field_file.specs.Counting.{RulesStand}
 use Rattle.field_file.proofs.Every.{Every, every-at, every-read}
 use Rattle.field_file.proofs.Called.{IsPlaced}
-
-none-mapped : (causes : List Cause) → map inner_cause causes ≡ [] → causes ≡ []
-none-mapped [] e = refl
-none-mapped (c ∷ causes) e = absurd (cc)
-
-whole-held : (path : List PathStep) (d : Data) (name : List ℕ) (least most : ℕ) → field_faults path d (needed_whole name least most) ≡ []
-    → (least ≤ number_at (needed_whole name least most) d) × (number_at (needed_whole name least most) d ≤ most)
-whole-held path d name least most e = whole-in least most (then_named path name) (held (needed_whole name least most) d) (held-in path d (needed_whole name least most) e)
-
-named-clean : (d : Data) → named_faults d ≡ [] → AllClean [] d (field_shape (rounds_run d) (cabinets_run d)).fields
-named-clean d e = all-clean [] d (field_shape (rounds_run d) (cabinets_run d)).fields (object-in (field_shape (rounds_run d) (cabinets_run d)) [] d e).0
 
 -- ---- the scenario
 
@@ -71,7 +62,7 @@ pulses-few d e =
     let r = rounds_run d in
     let c = cabinets_run d in
     let clean = list-in 0 1000000 (object_of (pulse_shape r c)) (then_named [] (pulses r c).name) (held (pulses r c) d) (held-in [] d (pulses r c) (named-clean d e).1.1.0) in
-    subst (λ (n : ℕ). n ≤ 1000000) (sym (each-length (pulse_of r c) (items_in (held (pulses r c) d)))) clean.1
+    subst (λ (n : ℕ). n ≤ 1000000) (sym (each_of-len (pulse_of r c) (items_in (held (pulses r c) d)))) clean.1
 
 -- ---- the rules
 
@@ -107,7 +98,7 @@ rule-in path d e =
       some = number.0;
       few = number.1;
       base = (whole-held path d (codes "base") 0 255 own.1.0).1;
-      count = subst (λ (n : ℕ). n ≤ 8) (sym (each-length step_of (items_in (held steps d)))) listed.1;
+      count = subst (λ (n : ℕ). n ≤ 8) (sym (each_of-len step_of (items_in (held steps d)))) listed.1;
       steps = every-read (object_of step_shape) step_of StepInRange step-in (then_named path (codes "steps")) 0 (items_in (held steps d)) listed.2;
     }
 

@@ -1,9 +1,7 @@
 -- A result is sorted, and no deeper than its scenario may be.
-use Rattle.std.proofs.Common.{◌≡◌, ◌≤◌, ℕ, suc, max, List, [], ◌∷◌, map, codes, Option, Some, None, unwrap_or, Ordering, Less, Equal, Greater, nat_cmp, refl, sym, subst, arith}
-use Rattle.std.specs.Cmp.Lexicographic.{slice_cmp}
-use Rattle.std.specs.Ordering.{match_ordering}
-use Rattle.serde_json.specs.Data.{Data, null, boolean, number, string, array, object, Items, no_items, item, Members, no_members, member, put, depth, items_depth, members_depth}
-use Rattle.serde_json.specs.Find.{get, get_member}
+use Rattle.std.proofs.Common.{◌≡◌, ◌≤◌, ℕ, suc, List, [], ◌∷◌, map, codes, Option, Some, None, unwrap_or, refl, sym, subst, arith}
+use Rattle.serde_json.specs.Data.{Data, null, boolean, number, string, array, object, Items, no_items, item, no_members, depth, items_depth, members_depth}
+use Rattle.serde_json.specs.Find.{get}
 use Rattle.serde_json.specs.View.{items_of}
 use Rattle.scenario_data.specs.declared.scenario.Entry.{Entry}
 use Rattle.scenario_read.specs.Kinds.{items_in}
@@ -12,7 +10,7 @@ use Rattle.scenario_read.specs.Table.{master, inputs}
 use Rattle.scenario_read.specs.Content.{round_count, cabinet_count}
 use Rattle.scenario_read.specs.Sorted.{Sorted, ItemsSorted}
 use Rattle.detector_bank.specs.declared.bank.Call.{Call}
-use Rattle.field_read.proofs.Inside.{member-sorted}
+use Rattle.field_read.proofs.Inside.{member-sorted, of-members-nests}
 use Rattle.scenario_cut.specs.Growing.{both}
 use Rattle.scenario_file.specs.Source.{with_member, inputs_and, master_and}
 use Rattle.scenario_file.proofs.Depths.{low-put}
@@ -75,23 +73,13 @@ member-put-depth name v (array ds) most h k = k
 member-put-depth name v (object ms) most h k = let inner : members_depth ms ≤ most = omega (arith, k) in let low = low-put name v ms most h inner in omega (arith, low)
 
 -- what stands at a name is less deep than the object
-of-members : (name : List ℕ) (ms : Members) (v : Data) → Some v ≡ get_member name ms → depth v ≤ members_depth ms
-of-members name no_members v e = absurd (cc)
-of-members name (member l d ms) v e = split (λ h. of-members name ms v h) (slice_cmp nat_cmp name l) e
-  where
-    split : (Some v ≡ get_member name ms → depth v ≤ members_depth ms) → (o : Ordering) → Some v ≡ match_ordering o (get_member name ms) (Some d) (get_member name ms)
-        → depth v ≤ max (depth d) (members_depth ms)
-    split rest Less h = let low : depth v ≤ members_depth ms = rest h in omega (arith, low)
-    split rest Equal h = let same : d ≡ v = cc in subst (λ (x : Data). depth x ≤ max (depth d) (members_depth ms)) same (omega arith)
-    split rest Greater h = let low : depth v ≤ members_depth ms = rest h in omega (arith, low)
-
 pub below-object : (name : List ℕ) (d v : Data) → Some v ≡ get name d → suc (depth v) ≤ depth d
 below-object name null v e = absurd (cc)
 below-object name (boolean b) v e = absurd (cc)
 below-object name (number n) v e = absurd (cc)
 below-object name (string s) v e = absurd (cc)
 below-object name (array ds) v e = absurd (cc)
-below-object name (object ms) v e = let low : depth v ≤ members_depth ms = of-members name ms v e in omega (arith, low)
+below-object name (object ms) v e = let low : depth v ≤ members_depth ms = of-members-nests name ms v e in omega (arith, low)
 
 held-depth : (f : Field) (v d : Data) (most : ℕ) → f.default ≡ Some v → depth v ≤ most → depth d ≤ suc most → depth (held f d) ≤ most
 held-depth f v d most e h k = from (get f.name d) refl

@@ -16,18 +16,18 @@ use Rattle.scenario_read.specs.Sorted.{Sorted}
 use Rattle.scenario_read.specs.Readers.{Refuses, Answers}
 use Rattle.scenario_read.specs.Answers.{Reads, OnRefusal}
 use Rattle.scenario_read.specs.Faults.{first_cause, faults}
+use Rattle.scenario_read.proofs.NoFaults.{none-left}
 use Rattle.scenario_read.proofs.Refusing.{refuses_more}
-use Rattle.scenario_checked.proofs.RangesParts.{none-left}
 use Rattle.scenario_checked.specs.Inside.{scenario}
 use Rattle.detector_bank.specs.declared.bank.Call.{Call}
 use Rattle.detector_bank.specs.Lists.{EachStands}
 use Rattle.field_read.specs.Content.{RespondContent, FieldContent, field_of, cabinets_run}
 use Rattle.field_read.specs.Checks.{named_faults, across_faults, file_faults}
-use Rattle.field_read.specs.Answers.{IsField, IsFirstFieldFault}
+use Rattle.field_read.specs.Answers.{IsFirstFieldFault}
 use Rattle.field_read.proofs.Placed.{few-run}
 use Rattle.field_file.specs.Counting.{RulesStand}
 use Rattle.field_file.specs.Written.{with_traffic, calls_of, schedule_of, result_of, result_text}
-use Rattle.field_file.specs.Told.{entry_count, inputs_faults, entries_faults, bytes_faults, size_faults, result_faults, WasRead, TellsOf, IsFirstResultFault}
+use Rattle.field_file.specs.FieldAnswer.{entry_count, inputs_faults, entries_faults, bytes_faults, size_faults, result_faults, WasRead, TellsOf, IsFirstResultFault}
 use Rattle.field_file.specs.Texts.{IsTextOf}
 use Rattle.field_file.proofs.Called.{each-stands}
 use Rattle.field_file.proofs.Ranges.{scenario-faultless, scenario-stands, rounds-few, bank-in, pulses-few, rules-in, rules-stand}
@@ -79,13 +79,6 @@ inputs-same f calls n are is = ap (λ (m : ℕ). fault_at (Named (codes "pulses"
 
 pub entries-same : (f : FieldContent) (o : Option (List Entry)) (n : ℕ) → o ≡ schedule_of f → n ≡ entry_count o → fault_at (Named (codes "respond") ∷ []) (within 0 1000 n) ≡ entries_faults f
 entries-same f o n are is = ap (λ (m : ℕ). fault_at (Named (codes "respond") ∷ []) (within 0 1000 m)) (is ∙ ap entry_count are)
-
--- faults that come one after the other
-pub second-refused : (fail : ReadFail) (a b : List Cause) → a ≡ [] → Refuses fail b → Refuses fail (a ++ b)
-second-refused fail a b none h = subst (λ (cs : List Cause). Refuses fail (cs ++ b)) (sym none) h
-
-pub neither-refused : (a b : List Cause) → a ≡ [] → b ≡ [] → a ++ b ≡ []
-neither-refused a b p q = rw (p, q) refl
 
 -- the first fault of the traffic is one of the result
 pub traffic-refused : (fail : ReadFail) (f : FieldContent) (d : Data) → WasRead f d → Refuses fail (inputs_faults f ++ entries_faults f) → Refuses fail (result_faults d)

@@ -13,7 +13,9 @@ use Rattle.scenario_read.specs.Sorted.{Sorted}
 use Rattle.scenario_read.specs.Faults.{faults}
 use Rattle.scenario_read.proofs.Whole.{faultless-parts}
 use Rattle.scenario_read.proofs.Compact.{faultless-floatless}
-use Rattle.scenario_checked.proofs.RangesParts.{none-left, fits-alone, in-range, each-length}
+use Rattle.scenario_read.proofs.NoFaults.{none-left, fits-alone}
+use Rattle.scenario_read.proofs.Walks.{each_of-len}
+use Rattle.scenario_checked.proofs.RangesParts.{in-range}
 use Rattle.scenario_checked.specs.Inside.{scenario}
 use Rattle.responsive.proofs.Levels.{stays, level-few}
 use Rattle.field_read.specs.Content.{RuleContent, RespondContent, FieldContent, field_of, respond_asked}
@@ -21,7 +23,7 @@ use Rattle.field_read.specs.Checks.{named_faults, across_faults, file_faults}
 use Rattle.field_read.proofs.Inside.{member-sorted}
 use Rattle.field_file.specs.Schedule.{Counted, volume, level_after}
 use Rattle.field_file.specs.Written.{calls_of, counted, schedule_by, schedule_of, result_of, result_text}
-use Rattle.field_file.specs.Told.{entry_count, inputs_faults, entries_faults, bytes_faults, size_faults, result_faults, LevelsStay, TellsOf}
+use Rattle.field_file.specs.FieldAnswer.{entry_count, inputs_faults, entries_faults, bytes_faults, size_faults, result_faults, LevelsStay, TellsOf}
 use Rattle.field_file.specs.Texts.{IsTextOf}
 use Rattle.field_file.proofs.Called.{calls-in}
 use Rattle.field_file.proofs.Faultless.{AreListed, with-traffic-clean}
@@ -48,7 +50,7 @@ result-clean d named inputs_few entries_few =
     let r : ℕ = round_count s in
     let c : ℕ = cabinet_count s in
     with-traffic-clean (calls_of f) (schedule_of f) s (listed-in d named entries_few) (calls-in r c f.bank f.pulses r (bank-in d named) (omega arith))
-    (subst (λ (n : ℕ). n + length (calls_of f) ≤ 1000000) (each-length (input_of r c) (items_in (held (inputs r c) s))) inputs_few)
+    (subst (λ (n : ℕ). n + length (calls_of f) ≤ 1000000) (each_of-len (input_of r c) (items_in (held (inputs r c) s))) inputs_few)
     (scenario-faultless d named)
 
 pub few-at : (path : List Step) (most n : ℕ) → fault_at path (within 0 most n) ≡ [] → n ≤ most

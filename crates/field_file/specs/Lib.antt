@@ -1,5 +1,5 @@
 pub mod Schedule
 pub mod Counting
 pub mod Written
-pub mod Told
+pub mod FieldAnswer
 pub mod Texts

@@ -16,7 +16,7 @@ ghost use Rattle.scenario_data.specs.declared.refusal.Refusal.{Refusal};
 ghost use Rattle.scenario_read.specs.Answers.{IsFirstFault, SameFault};
 ghost use Rattle.scenario_read.specs.Faults.{faults};
 ghost use Rattle.field_file.specs.Written.{result_of};
-ghost use Rattle.field_file.specs.Told.{result_faults, HasResult, TellsResult, IsFirstResultFault};
+ghost use Rattle.field_file.specs.FieldAnswer.{result_faults, HasResult, TellsResult, IsFirstResultFault};
 
 pub use told::respond;
 

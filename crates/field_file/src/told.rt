@@ -16,7 +16,7 @@ ghost use Rattle.field_read.specs.Content.{field_content, field_of};
 ghost use Rattle.field_read.specs.Checks.{file_faults};
 ghost use Rattle.field_read.specs.Answers.{IsFirstFieldFault};
 ghost use Rattle.field_file.specs.Written.{with_traffic};
-ghost use Rattle.field_file.specs.Told.{bytes_faults, result_faults, WasRead, TellsOf, TellsResult, IsFirstResultFault};
+ghost use Rattle.field_file.specs.FieldAnswer.{bytes_faults, result_faults, WasRead, TellsOf, TellsResult, IsFirstResultFault};
 ghost use Rattle.field_file.specs.Texts.{IsTextOf};
 
 use crate::parts::text_in_parts;

@@ -7,7 +7,7 @@ ghost use Rattle.scenario_read.specs.Kinds.{fault_at, within};
 ghost use Rattle.scenario_read.specs.Readers.{Answers};
 ghost use Rattle.field_read.specs.Content.{field_content};
 ghost use Rattle.field_file.specs.Written.{calls_of, schedule_of};
-ghost use Rattle.field_file.specs.Told.{entry_count, inputs_faults, entries_faults, WasRead, IsTraffic};
+ghost use Rattle.field_file.specs.FieldAnswer.{entry_count, inputs_faults, entries_faults, WasRead, IsTraffic};
 
 use crate::schedule::schedule_of;
 use detector_bank::{Call, bank_calls};

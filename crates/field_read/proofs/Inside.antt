@@ -23,7 +23,7 @@ member-sorted k (string s) v e sorted = absurd (cc)
 member-sorted k (array ds) v e sorted = absurd (cc)
 member-sorted k (object ms) v e sorted = of-members-sorted k ms v e sorted
 
-of-members-nests : (k : List ℕ) (ms : Members) (v : Data) → Some v ≡ get_member k ms → depth v ≤ members_depth ms
+pub of-members-nests : (k : List ℕ) (ms : Members) (v : Data) → Some v ≡ get_member k ms → depth v ≤ members_depth ms
 of-members-nests k no_members v e = absurd (cc)
 of-members-nests k (member l d ms) v e = split (λ h. of-members-nests k ms v h) (slice_cmp nat_cmp k l) e
   where

@@ -1,5 +1,5 @@
 -- What is known of pulses that are judged one at a time, and of what stands at their name.
-use Rattle.std.proofs.Common.{◌≡◌, ◌≤◌, ◌<◌, ℕ, ◌+◌, List, [], ◌++◌, codes, None, is_some, true, false, Result, Ok, Err, bytes_eq, refl, sym, ap, ◌∙◌, subst, arith, append_assoc, append-nil}
+use Rattle.std.proofs.Common.{◌≡◌, ◌≤◌, ◌<◌, ℕ, ◌+◌, List, [], ◌++◌, codes, None, is_some, true, false, Result, Ok, Err, bytes_eq, refl, sym, ap, ◌∙◌, subst, arith}
 use Rattle.std.specs.Result.{result_err}
 use Rattle.std.proofs.lemmas.Slice.Eq.{bytes_eq-Decides}
 use Rattle.serde_json.specs.Data.{Data, array, object, Items, no_items, item, Members, put}
@@ -9,9 +9,10 @@ use Rattle.serde_json.proofs.Views.{get_member-put, get_member-put_other}
 use Rattle.scenario_data.specs.declared.refusal.ReadFail.{ReadFail}
 use Rattle.scenario_read.specs.Faults.{first_cause}
 use Rattle.scenario_read.specs.Fields.{Field, either, faults_of, field_faults}
-use Rattle.scenario_read.specs.Kinds.{Wrong, Beyond, Kind, fault_at, within, each}
+use Rattle.scenario_read.specs.Kinds.{Wrong, Beyond, fault_at, within}
 use Rattle.scenario_read.specs.Paths.{Step, then_item, then_named}
 use Rattle.scenario_read.specs.Readers.{Refuses, Answers}
+use Rattle.scenario_read.proofs.NameOrder.{apart}
 use Rattle.scenario_read.proofs.Refusing.{refuses_more}
 use Rattle.scenario_read.proofs.Walks.{within-fits, within-beyond}
 use Rattle.scenario_cut.specs.declared.form.Form.TheVariants.{Pulse}
@@ -19,13 +20,12 @@ use Rattle.scenario_cut.specs.declared.judge.Extent.{Extent}
 use Rattle.scenario_cut.specs.Cutting.{cut}
 use Rattle.scenario_cut.specs.Growing.{both}
 use Rattle.scenario_cut.specs.Judging.{TellsUpTo, Counted, IsNoList}
-use Rattle.scenario_cut.proofs.Judging.{no-first, refuses-same, counted-next, counted-past, tells-past, tells-behind, tells-next}
+use Rattle.scenario_cut.proofs.Judging.{each-more, no-first, refuses-same, counted-next, counted-past, tells-past, tells-behind, tells-next}
 use Rattle.scenario_cut.proofs.Verdicts.{list-wrong}
 use Rattle.scenario_file.specs.Listing.{list_path}
 use Rattle.field_read.specs.declared.judged.Judged.{Judged}
 use Rattle.field_read.specs.Judging.{pulse_kind, pulses_field, each_pulse, IsJudged, IsListAnswer, IsAnswer}
 use Rattle.field_read.proofs.Kept.{pulse-same}
-use Rattle.field_read.proofs.Standing.{apart}
 
 abbrev here : List Step
 here = list_path (codes "pulses")
@@ -42,16 +42,6 @@ kept-refused e path d v fail is h =
     refuses-same fail (pulse_kind e path (cut Pulse d)) (pulse_kind e path d) (pulse-same e.rounds e.cabinets path d) (subst (λ w. Refuses fail (pulse_kind e path w)) is h)
 
 -- ---- one pulse more
-
-each-more : (kind : Kind) (path : List Step) (d : Data) (at : ℕ) (ds : Items) (p : ℕ) → at ≡ p + items_len ds
-    → each kind path p (both ds (item d no_items)) ≡ each kind path p ds ++ kind (then_item path at) d
-each-more kind path d at no_items p is =
-    let place : p ≡ at = omega (arith, is) in
-    append-nil _ ∙ ap (λ n. kind (then_item path n) d) place
-each-more kind path d at (item first ds) p is =
-    let later : at ≡ (p + 1) + items_len ds = omega (arith, is) in
-    ap (λ causes. kind (then_item path p) first ++ causes) (each-more kind path d at ds (p + 1) later)
-    ∙ sym (append_assoc (kind (then_item path p) first) (each kind path (p + 1) ds) (kind (then_item path at) d))
 
 pulse-more : (e : Extent) (ds : Items) (d : Data) (n : ℕ) → n ≡ items_len ds → each_pulse e (both ds (item d no_items)) ≡ each_pulse e ds ++ pulse_kind e (then_item here n) d
 pulse-more e ds d n is = each-more (pulse_kind e) here d n ds 0 (omega (arith, is))

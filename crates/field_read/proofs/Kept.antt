@@ -20,12 +20,12 @@ use Rattle.scenario_read.specs.Paths.{Step, then_named}
 use Rattle.scenario_read.specs.Readers.{Refuses}
 use Rattle.scenario_read.specs.Sorted.{Sorted}
 use Rattle.scenario_read.specs.Table.{round, cabinet_number, on}
+use Rattle.scenario_read.proofs.NoFaults.{none-left}
 use Rattle.scenario_read.proofs.Rising.{read-sorted}
 use Rattle.scenario_cut.specs.declared.form.Form.TheVariants.{Field, Whole, Pulse, Entries, Entry, Respond, Sections, Section, Steps, Step as StepForm}
 use Rattle.scenario_cut.specs.Cutting.{is_of_a_round, cut}
 use Rattle.scenario_cut.specs.Texts.{IsNoText}
 use Rattle.scenario_cut.proofs.Same.{Same, Faulty, same-both, same-ended, faulty-first, faulty-later, same-map, map-none, same-more, kept-right}
-use Rattle.scenario_cut.proofs.Known.{none-left}
 use Rattle.scenario_cut.proofs.Members.{IsObject, object-same, held-cut, get-cut}
 use Rattle.scenario_cut.proofs.Items.{KeepsItem, PulseStops, few-same, pulses-same}
 use Rattle.scenario_cut.proofs.Kept.{whole-same, flag-same, le-of, entries-same, object-stops}

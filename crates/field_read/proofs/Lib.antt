@@ -7,7 +7,6 @@ pub mod Placed
 pub mod WholeFields
 pub mod OneAnswer
 pub mod LimitNames
-pub mod Names
 pub mod Standing
 pub mod Narrow
 pub mod Saying

@@ -9,7 +9,7 @@ use Rattle.scenario_read.specs.Kinds.{Kind, each}
 use Rattle.scenario_read.specs.Fields.{Field, Shape, field_faults, fields_faults, names, known_fields, unknown_faults, object_of}
 use Rattle.scenario_read.specs.Table.{round, cabinet_number, phase, on}
 use Rattle.scenario_read.specs.Content.{number_at, each_of}
-use Rattle.scenario_file.proofs.Growth.{none-left, none-both}
+use Rattle.scenario_read.proofs.NoFaults.{none-left, none-both}
 use Rattle.scenario_file.proofs.Rounds.{whole-within, one-within}
 use Rattle.detector_bank.specs.declared.bank.Detector.{Detector}
 use Rattle.detector_bank.specs.declared.bank.Pulse.{Pulse}

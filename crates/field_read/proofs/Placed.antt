@@ -8,7 +8,8 @@ use Rattle.scenario_read.specs.Fields.{held, field_faults, object_of}
 use Rattle.scenario_read.specs.Table.{needed_whole, number_at}
 use Rattle.scenario_read.specs.Content.{each_of}
 use Rattle.scenario_read.specs.Faults.{faults}
-use Rattle.scenario_checked.proofs.RangesParts.{none-left, whole-in, list-in, held-in, object-in, all-clean, AllClean}
+use Rattle.scenario_read.proofs.NoFaults.{none-left}
+use Rattle.scenario_checked.proofs.RangesParts.{whole-in, list-in, held-in, object-in, all-clean, AllClean}
 use Rattle.scenario_checked.specs.Inside.{inner_cause, scenario}
 use Rattle.scenario_checked.proofs.Around.{few-cabinets}
 use Rattle.detector_bank.specs.declared.bank.Detector.{Detector}
@@ -26,7 +27,7 @@ each-at kind f P given path place (item d ds) e zero x low = given (then_item pa
 each-at kind f P given path place (item d ds) e (suc k) x low =
     each-at kind f P given path (place + 1) ds (none-left (kind (then_item path place) d) (each kind path (place + 1) ds) e).1 k x (omega (arith, low))
 
-whole-held : (path : List Step) (d : Data) (name : List ℕ) (least most : ℕ) → field_faults path d (needed_whole name least most) ≡ []
+pub whole-held : (path : List Step) (d : Data) (name : List ℕ) (least most : ℕ) → field_faults path d (needed_whole name least most) ≡ []
     → (least ≤ number_at (needed_whole name least most) d) × (number_at (needed_whole name least most) d ≤ most)
 whole-held path d name least most e = whole-in least most (then_named path name) (held (needed_whole name least most) d) (held-in path d (needed_whole name least most) e)
 
@@ -44,11 +45,11 @@ pulse-placed rounds cabinets few path d e =
     let low : (pulse_of rounds cabinets d).cabinet ≤ cabinets = (whole-held path d (codes "cabinet") 1 cabinets own.1.0).1 in
     (omega (arith, low, few), (whole-held path d (codes "detector") 1 64 own.1.1.0).1)
 
-none-mapped : (causes : List Cause) → map inner_cause causes ≡ [] → causes ≡ []
+pub none-mapped : (causes : List Cause) → map inner_cause causes ≡ [] → causes ≡ []
 none-mapped [] e = refl
 none-mapped (c ∷ causes) e = absurd (cc)
 
-named-clean : (d : Data) → named_faults d ≡ [] → AllClean [] d (field_shape (rounds_run d) (cabinets_run d)).fields
+pub named-clean : (d : Data) → named_faults d ≡ [] → AllClean [] d (field_shape (rounds_run d) (cabinets_run d)).fields
 named-clean d e =
     let shape = field_shape (rounds_run d) (cabinets_run d) in
     all-clean [] d shape.fields (object-in shape [] d e).0

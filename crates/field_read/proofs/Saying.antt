@@ -10,14 +10,14 @@ use Rattle.scenario_read.specs.Kinds.{Kind, fault_at, within, each}
 use Rattle.scenario_read.specs.Fields.{either, faults_of, field_faults, fields_faults, held, object_of}
 use Rattle.scenario_read.specs.Table.{optional_list}
 use Rattle.scenario_read.specs.Content.{each_of, list_in, scenario_of}
+use Rattle.scenario_read.proofs.NoFaults.{none-both}
 use Rattle.scenario_read.proofs.Objects.{at-same}
-use Rattle.scenario_read.proofs.Walks.{within-fits}
+use Rattle.scenario_read.proofs.Walks.{within-fits, each_of-len}
 use Rattle.scenario_checked.specs.Inside.{scenario}
 use Rattle.scenario_checked.proofs.Around.{scenario-clean, scenario-held}
 use Rattle.scenario_file.specs.declared.source.Source.{Source}
 use Rattle.scenario_file.specs.Listing.{list_path, ListTold}
 use Rattle.scenario_file.specs.Source.{Writes}
-use Rattle.scenario_file.proofs.Growth.{none-both, each_of-len}
 use Rattle.scenario_file.proofs.Rounds.{said-same}
 use Rattle.field_read.specs.declared.respond.Respond.{Respond}
 use Rattle.field_read.specs.Table.{detector_shape, pulse_shape, unasked, respond_shape, bank, pulses, respond, traffic_fields}

@@ -1,22 +1,16 @@
 -- What was found at the names stands there when another member is put among the members.
-use Rattle.std.proofs.Common.{◌≡◌, ℕ, List, [], true, false, Option, Some, bytes_eq, length, refl, sym, ap, ◌∙◌, subst, arith}
-use Rattle.std.proofs.lemmas.Slice.Eq.{bytes_eq-Decides}
+use Rattle.std.proofs.Common.{◌≡◌, ℕ, List, [], false, Option, Some, bytes_eq, length, refl, sym, ap, subst, arith}
 use Rattle.serde_json.specs.Data.{Data, array, Items, no_items, Members, put}
 use Rattle.serde_json.specs.Find.{get_member}
 use Rattle.serde_json.proofs.Views.{get_member-put, get_member-put_other}
 use Rattle.scenario_read.specs.Paths.{Step}
 use Rattle.scenario_read.specs.Kinds.{Kind}
+use Rattle.scenario_read.proofs.NameOrder.{apart}
 use Rattle.scenario_file.specs.Listing.{ListTold}
 use Rattle.field_read.specs.declared.found.Found.{Found}
 use Rattle.field_read.specs.declared.parts.Parts.{Parts}
 use Rattle.field_read.specs.Lists.{Holds, name_of}
 use Rattle.field_read.specs.Parts.{IsAt, IsList, ListStands, PartsStand}
-
-pub apart : (k l : List ℕ) → bytes_eq k l ≡ false → k ≡ l → ⊥
-apart k l other same =
-    let both : bytes_eq k l ≡ true = (bytes_eq-Decides k l).1 same in
-    let clash : true ≡ false = sym both ∙ other in
-    absurd (cc)
 
 -- what is put at its name, and at another
 pub is-here : {A : Type 0} (Says : A → Data → Type 0) (a : A) (name : List ℕ) (d : Data) (ms : Members) → Says a d → IsAt Says (Some a) (get_member name (put name d ms))

@@ -7,7 +7,6 @@ use Rattle.scenario_read.specs.Fields.{unknown_faults, object_of}
 use Rattle.scenario_read.specs.Content.{scenario_of}
 use Rattle.scenario_read.specs.Faults.{faults}
 use Rattle.scenario_file.specs.declared.source.Source.{Source}
-use Rattle.scenario_file.specs.Left.{is_left, without}
 use Rattle.scenario_file.specs.Listing.{list_path}
 use Rattle.scenario_file.specs.Source.{Writes}
 use Rattle.field_read.specs.declared.respond.Respond.{Respond}
@@ -16,7 +15,6 @@ use Rattle.field_read.specs.Content.{respond_content, respond_of}
 use Rattle.field_read.specs.declared.found.Found.{Found}
 use Rattle.field_read.specs.declared.found.Found.TheVariants.{Bank, Pulses}
 use Rattle.field_read.specs.declared.parts.Parts.{Parts}
-use Rattle.field_read.specs.declared.top.Reading.{Reading}
 use Rattle.field_read.specs.Lists.{Holds, name_of}
 
 -- the names that may stand there
@@ -61,7 +59,3 @@ pub record PartsStand (parts : Parts) (ms : Members) : Type 0 where
 -- a value was read at a name, in place of what was found there before
 abbrev pub Puts : Parts → Parts → List ℕ → Data → Type 0
 Puts old new name d = (ms : Members) → PartsStand old ms → PartsStand new (put name d ms)
-
--- these members were read, and the parts are those of the ones of which no more is to come
-abbrev pub ReadSoFar : Reading → Members → Type 0
-ReadSoFar reading ms = PartsStand reading.parts (without (is_left reading.coming.own) ms)

@@ -18,7 +18,7 @@ ghost use Rattle.field_read.specs.Table.{pulses};
 use crate::place::{Place, refuse_member};
 use crate::pulses::pulse_in;
 use json::{Reader, Scratch, Token};
-use scenario_cut::{Extent, Form, keep, pass, pass_other};
+use scenario_cut::{Extent, Form, keep, pass, pass_rest};
 use scenario_data::ReadFail;
 use scenario_read::Unfit;
 use std::alloc::Global;
@@ -131,7 +131,7 @@ fn judge_list(
             Some(verdict(alloc, judged))
         }
         other => {
-            if pass_other(reader, 126, other) {
+            if pass_rest(reader, 126, other) {
                 Some(no_list(alloc))
             } else {
                 None

@@ -6,7 +6,6 @@
 
 mod across;
 mod bank;
-mod coming;
 mod first;
 mod found;
 mod inner;

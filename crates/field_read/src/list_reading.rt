@@ -12,28 +12,30 @@ ghost use Rattle.field_read.specs.Content.{field_content, field_of};
 ghost use Rattle.field_read.specs.Checks.{file_faults};
 ghost use Rattle.field_read.specs.Right.{SaysNames};
 
-use crate::coming::Coming;
 use crate::lists_fit;
-use crate::top::parts_with;
 use crate::whole::{Listed, whole_of};
 use scenario_data::ReadFail;
+use scenario_file::{FileLeft, parts_with};
 use std::alloc::Global;
 
+/// The names of a field file.
+const NAMES: [&str; 4] = ["scenario", "bank", "pulses", "respond"];
+
 /// What the names of a field file say, of whose names so many come, where all of it is read and no name is at fault.
-fn names_with<'a>(alloc: Global, bytes: &'a [u8], coming: Coming) -> Option<Listed<'a>>
+fn names_with<'a>(alloc: Global, bytes: &'a [u8], left: FileLeft) -> Option<Listed<'a>>
     ensures { IfSome result (λ l. (d : Data) × Reads bytes.now d × SaysNames l d) }
 {
-    let parts = parts_with(alloc, bytes, coming)?;
+    let parts = parts_with(alloc, bytes, left)?;
     let listed = whole_of(parts)?;
     Some(listed)
 }
 
 /// Reads a field file that is right, of whose names so many come, or finds its first fault where that lies across its lists.
-fn listed_with<'a>(alloc: Global, bytes: &'a [u8], coming: Coming) -> Result<Listed<'a>, ReadFail>
+fn listed_with<'a>(alloc: Global, bytes: &'a [u8], left: FileLeft) -> Result<Listed<'a>, ReadFail>
     ensures ok { IfOk result (λ l. (d : Data) × Reads bytes.now d × (file_faults d ≡ []) × (field_content l.field ≡ field_of d) × Writes l.text (held scenario d)) }
     ensures refused { IfErr result (λ fail. OnRefusal fail (IsFirstFieldFault bytes.now)) }
 {
-    let Some(listed) = names_with(alloc, bytes, coming) else {
+    let Some(listed) = names_with(alloc, bytes, left) else {
         return Err(ReadFail::NoMemory);
     };
     match lists_fit(alloc, &listed.field) {
@@ -50,7 +52,7 @@ pub fn listed<'a>(alloc: Global, bytes: &'a [u8]) -> Result<Listed<'a>, ReadFail
     ensures ok { IfOk result (λ l. (d : Data) × Reads bytes.now d × (file_faults d ≡ []) × (field_content l.field ≡ field_of d) × Writes l.text (held scenario d)) }
     ensures refused { IfErr result (λ fail. OnRefusal fail (IsFirstFieldFault bytes.now)) }
 {
-    listed_with(alloc, bytes, Coming::none(alloc))
+    listed_with(alloc, bytes, FileLeft::none(alloc))
 }
 
 /// Reads a field file that is right: of equal names, its own, the scenario's and those of the scenario's master, the last alone, as what
@@ -63,8 +65,8 @@ pub fn listed_again<'a>(alloc: Global, bytes: &'a [u8]) -> Result<Listed<'a>, Re
     ensures ok { IfOk result (λ l. (d : Data) × Reads bytes.now d × (file_faults d ≡ []) × (field_content l.field ≡ field_of d) × Writes l.text (held scenario d)) }
     ensures refused { IfErr result (λ fail. OnRefusal fail (IsFirstFieldFault bytes.now)) }
 {
-    match Coming::counted(alloc, bytes) {
-        Some(coming) => listed_with(alloc, bytes, coming),
+    match FileLeft::counted(alloc, bytes, &NAMES) {
+        Some(left) => listed_with(alloc, bytes, left),
         None => Err(ReadFail::NoMemory),
     }
 }

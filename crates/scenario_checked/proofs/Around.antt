@@ -11,7 +11,9 @@ use Rattle.scenario_read.specs.Fields.{held, either, faults_of, field_faults}
 use Rattle.scenario_read.specs.Table.{cabinet, cabinets, scenario_shape}
 use Rattle.scenario_read.specs.Content.{version_number, round_count, tick_count, cabinet_count, cabinets_of, cabinet_of}
 use Rattle.scenario_read.specs.Faults.{faults, named_faults, product_faults, all_table_faults, first_cause}
-use Rattle.scenario_checked.proofs.RangesParts.{none-left, list-in, each-length, held-in, object-in, all-clean}
+use Rattle.scenario_read.proofs.NoFaults.{none-left}
+use Rattle.scenario_read.proofs.Walks.{each_of-len}
+use Rattle.scenario_checked.proofs.RangesParts.{list-in, held-in, object-in, all-clean}
 use Rattle.scenario_checked.specs.Inside.{inner_path, inner_cause, inner_scenario, scenario}
 
 pub few-cabinets : (d : Data) → faults d ≡ [] → length (cabinets_of d) ≤ 64
@@ -21,7 +23,7 @@ few-cabinets d e =
     let front = none-left (named_faults d) (product_faults (cabinet_count d * round_count d * tick_count d) ++ all_table_faults 1 (cabinets_of d)) e in
     let own = all-clean [] d shape.fields (object-in shape [] d front.0).0 in
     let in_cabinets = list-in 1 64 (cabinet v) (then_named [] (cabinets v).name) (held (cabinets v) d) (held-in [] d (cabinets v) own.1.1.1.1.0) in
-    subst (λ (k : ℕ). k ≤ 64) (sym (each-length (cabinet_of v) (items_in (held (cabinets v) d)))) in_cabinets.1
+    subst (λ (k : ℕ). k ≤ 64) (sym (each_of-len (cabinet_of v) (items_in (held (cabinets v) d)))) in_cabinets.1
 
 first-mapped : (causes : List Cause) (cause : Cause) → first_cause causes ≡ Some cause → first_cause (map inner_cause causes) ≡ Some (inner_cause cause)
 first-mapped [] cause e = absurd (cc)

@@ -12,11 +12,13 @@ use Rattle.scenario_read.specs.Table.{cabinet, input_shape, load_cabinet, load, 
 use Rattle.scenario_read.specs.Content.{version_number, round_count, tick_count, cabinet_count, cabinets_of, cabinet_of, each_of, input_of, load_of, priority_of, frame_of, fault_of, scenario_of}
 use Rattle.scenario_read.specs.Faults.{named_faults, product_faults, all_table_faults, faults}
 use Rattle.scenario_read.specs.Answers.{IsScenario}
+use Rattle.scenario_read.proofs.NoFaults.{none-left}
+use Rattle.scenario_read.proofs.Walks.{each_of-len}
 use Rattle.snmp_msg.specs.Shortest.{AreOctets}
 use Rattle.master_load.specs.Downloads.{IsLoad}
 use Rattle.runnable.specs.Octets.{PutOctets, IsShortAct}
 use Rattle.runnable.specs.Runnable.{Runnable}
-use Rattle.scenario_checked.proofs.RangesParts.{none-left, whole-in, list-in, each-length, held-in, object-in, AllClean, all-clean}
+use Rattle.scenario_checked.proofs.RangesParts.{whole-in, list-in, held-in, object-in, AllClean, all-clean}
 use Rattle.scenario_checked.proofs.RangesLine.{line-lacks, compact-line}
 use Rattle.scenario_checked.proofs.RangesLists.{each-holds, behind-holds, behind-in}
 use Rattle.scenario_checked.proofs.RangesCells.{text-in}
@@ -46,7 +48,7 @@ counted-in : {A : Type 0} (kind : Kind) (most : ℕ) (path : List Step) (says : 
     → Counted kind most path says (items_in d)
 counted-in kind most path says d e =
     let list = list-in 0 most kind path d e in
-    (subst (λ (n : ℕ). n ≤ most) (sym (each-length says (items_in d))) list.1, list.2)
+    (subst (λ (n : ℕ). n ≤ most) (sym (each_of-len says (items_in d))) list.1, list.2)
 
 value-runs : (d : Data) → faults d ≡ [] → Runnable (scenario_of d)
 value-runs d e =
@@ -60,7 +62,7 @@ value-runs d e =
     let in_ticks = whole-in 1 600 (then_named [] ticks.name) (held ticks d) (held-in [] d ticks own.1.1.0) in
     let in_community = text-in 1 32 (then_named [] community.name) (held community d) (held-in [] d community own.1.1.1.0) in
     let in_cabinets = list-in 1 64 (cabinet v) (then_named [] (cabinets v).name) (held (cabinets v) d) (held-in [] d (cabinets v) own.1.1.1.1.0) in
-    let some_cabinets = each-length (cabinet_of v) (items_in (held (cabinets v) d)) in
+    let some_cabinets = each_of-len (cabinet_of v) (items_in (held (cabinets v) d)) in
     let few_cabinets : n ≤ 64 = subst (λ (k : ℕ). k ≤ 64) (sym some_cabinets) in_cabinets.1 in
     let events = own.1.1.1.1.1.1 in
     let in_inputs = counted-in (object_of (input_shape r n)) 1000000 (then_named [] (inputs r n).name) (input_of r n) (held (inputs r n) d)

@@ -19,9 +19,10 @@ use Rattle.scenario_read.specs.Table.{input_shape, round, cabinet_number}
 use Rattle.scenario_read.specs.Content.{whole_of, flag_of, each_of, cabinet_of, input_of}
 use Rattle.scenario_read.specs.CellLists.{cell, cell_of}
 use Rattle.scenario_read.specs.Faults.{broken_causes, table_faults, all_table_faults}
+use Rattle.scenario_read.proofs.NoFaults.{none-left}
 use Rattle.runnable.specs.Octets.{HoldsOctets, PutOctets}
 use Rattle.runnable.specs.Runnable.{HasPlace, AllOpen, AllHeard, InReach, AllInReach}
-use Rattle.scenario_checked.proofs.RangesParts.{none-left, whole-in, list-in, rare-in, held-in, object-in, AllClean, all-clean}
+use Rattle.scenario_checked.proofs.RangesParts.{whole-in, list-in, rare-in, held-in, object-in, AllClean, all-clean}
 use Rattle.scenario_checked.proofs.RangesLists.{each-holds}
 use Rattle.scenario_checked.proofs.RangesCells.{cell-in}
 

@@ -18,9 +18,10 @@ use Rattle.scenario_read.specs.Paths.{Step}
 use Rattle.scenario_read.specs.Kinds.{Fits, Wrong, all_printable, within, text}
 use Rattle.scenario_read.specs.CellLists.{put_value, put_in, content_in, item_count, value_place, octets_in, octets_of, octets_fits, decoded_fits, content_fits, listed_cell, listed_fits, cell, cell_of, hex_text}
 use Rattle.scenario_read.specs.Content.{text_of}
+use Rattle.scenario_read.proofs.NoFaults.{fits-alone}
 use Rattle.master_load.specs.Downloads.{IsPut}
 use Rattle.runnable.specs.Octets.{HoldsOctets}
-use Rattle.scenario_checked.proofs.RangesParts.{fits-alone, in-range}
+use Rattle.scenario_checked.proofs.RangesParts.{in-range}
 
 -- bytes are octets
 pub bytes-are : (xs : List ℕ) → IsBytes xs → AreOctets xs

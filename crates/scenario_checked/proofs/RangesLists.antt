@@ -5,7 +5,7 @@ use Rattle.serde_json.specs.Data.{Data, null, boolean, number, string, array, ob
 use Rattle.scenario_read.specs.Paths.{Step, then_item}
 use Rattle.scenario_read.specs.Kinds.{Kind, each, each_behind, items_in, list_behind}
 use Rattle.scenario_read.specs.Content.{each_of}
-use Rattle.scenario_checked.proofs.RangesParts.{none-left}
+use Rattle.scenario_read.proofs.NoFaults.{none-left}
 
 pub each-holds : {A : Type 0} (kind : Kind) (f : Data → A) (Holds : A → Type 0) → ((path : List Step) (d : Data) → kind path d ≡ [] → Holds (f d))
     → (path : List Step) (place : ℕ) (ds : Items) → each kind path place ds ≡ [] → AllByRecursion Holds (each_of f ds)

@@ -11,9 +11,11 @@ use Rattle.scenario_read.specs.CellLists.{cell, cell_of}
 use Rattle.scenario_read.specs.Fields.{held, object_of}
 use Rattle.scenario_read.specs.Table.{round, cabinet_number, load_cells, load_shape, load_cabinet, count_of, full_faults, load}
 use Rattle.scenario_read.specs.Content.{load_of, each_of}
+use Rattle.scenario_read.proofs.NoFaults.{none-left}
+use Rattle.scenario_read.proofs.Walks.{each_of-len}
 use Rattle.master_load.specs.Downloads.{IsPut, IsLoad}
 use Rattle.runnable.specs.Octets.{PutOctets, HoldsOctets}
-use Rattle.scenario_checked.proofs.RangesParts.{none-left, whole-in, list-in, each-length, held-in, object-in, AllClean, all-clean}
+use Rattle.scenario_checked.proofs.RangesParts.{whole-in, list-in, held-in, object-in, AllClean, all-clean}
 use Rattle.scenario_checked.proofs.RangesLists.{each-holds}
 use Rattle.scenario_checked.proofs.RangesCells.{cell-in}
 
@@ -32,7 +34,7 @@ load-in rounds cabinets earlier path d e =
     let own = (load-clean rounds cabinets earlier path d e).0 in
     let list = list-in 1 768 cell (then_named path load_cells.name) (held load_cells d) (held-in path d load_cells own.1.1.0) in
     let items : Items = items_in (held load_cells d) in
-    let few : length (each_of cell_of items) ≤ 768 = subst (λ (n : ℕ). n ≤ 768) (sym (each-length cell_of items)) list.1 in (
+    let few : length (each_of cell_of items) ≤ 768 = subst (λ (n : ℕ). n ≤ 768) (sym (each_of-len cell_of items)) list.1 in (
       (few, each-holds cell cell_of IsPut (λ p x k. (cell-in p x k).0) (then_named path load_cells.name) 0 items list.2),
       each-holds cell cell_of (λ put. HoldsOctets put.1) (λ p x k. (cell-in p x k).1) (then_named path load_cells.name) 0 items list.2,
     )
@@ -141,4 +143,4 @@ pub loads-in : (rounds cabinets : ℕ) (path : List Step) (ds : Items) → cabin
     → each_behind (load rounds cabinets) (load_cabinet cabinets) path 0 [] ds ≡ [] → length (each_of (load_of rounds cabinets) ds) ≤ 6400
 loads-in rounds cabinets path ds few e =
     let all : 0 + items_len ds ≤ cabinets * 100 = loads-few rounds cabinets path 0 [] ds (record { upto = tt; few = λ c. omega arith }) e in
-    omega (arith, all, few, each-length (load_of rounds cabinets) ds)
+    omega (arith, all, few, each_of-len (load_of rounds cabinets) ds)

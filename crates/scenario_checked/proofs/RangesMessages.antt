@@ -8,9 +8,10 @@ use Rattle.scenario_read.specs.Kinds.{items_in}
 use Rattle.scenario_read.specs.Fields.{Field, held, stands, only_one, chosen_faults, object_of}
 use Rattle.scenario_read.specs.Table.{number_at, second, entry_section, entry_pattern, entry_shape, clock, poll_every, clock_every, pattern_every, retries, schedule, master_shape, cancel, request_number, class, level, phase, arrival, departure, request_fields, priority_shape, request_of, act_of, departure_faults, priority_item, round, cabinet_number, stream, frame_hex, frame_shape, way, index, fault_kind, by, octet, fault_shape}
 use Rattle.scenario_read.specs.Content.{entry_of, list_in, priority_of, frame_of, fault_of}
+use Rattle.scenario_read.proofs.NoFaults.{none-left}
 use Rattle.snmp_msg.specs.Shortest.{AreOctets}
 use Rattle.runnable.specs.Octets.{IsShortRequest, IsShortAct}
-use Rattle.scenario_checked.proofs.RangesParts.{none-left, whole-in, list-in as list-holds, held-in, object-in, AllClean, all-clean}
+use Rattle.scenario_checked.proofs.RangesParts.{whole-in, list-in as list-holds, held-in, object-in, AllClean, all-clean}
 use Rattle.scenario_checked.proofs.RangesLists.{each-holds}
 use Rattle.scenario_checked.proofs.RangesCells.{hex-in}
 

@@ -1,24 +1,15 @@
 -- What stands at the names of a value without faults.
-use Rattle.std.proofs.Common.{◌≡◌, ◌≤◌, ◌⊎◌, ◌==◌, ◌&&◌, inl, inr, ℕ, Bool, true, false, nat_le, if◌then◌else◌, List, [], ◌∷◌, ◌++◌, length, Option, Some, None, unwrap_or}
-use Rattle.std.proofs.Common.{refl, arith}
+use Rattle.std.proofs.Common.{◌≡◌, ◌≤◌, ◌⊎◌, ◌==◌, ◌&&◌, inl, inr, ℕ, Bool, true, false, nat_le, if◌then◌else◌, List, [], ◌∷◌, ◌++◌, Option, Some, None, unwrap_or}
+use Rattle.std.proofs.Common.{refl}
 use Rattle.std.proofs.lemmas.Bool.{leb-true, eqb-true}
-use Rattle.serde_json.specs.Data.{unsigned, negative, float, Data, null, boolean, number, string, array, object, Items, no_items, item}
+use Rattle.serde_json.specs.Data.{unsigned, negative, float, Data, null, boolean, number, string, array, object}
 use Rattle.serde_json.specs.Events.{items_len}
-use Rattle.scenario_data.specs.Causes.{Cause}
 use Rattle.scenario_read.specs.Paths.{Step, then_named}
-use Rattle.scenario_read.specs.Kinds.{Fit, Fits, Wrong, Beyond, Kind, fault_at, within, whole, rare, rare_number_fits, each, items_in, list_of}
+use Rattle.scenario_read.specs.Kinds.{Fits, Beyond, Kind, fault_at, within, whole, rare, rare_number_fits, each, items_in, list_of}
 use Rattle.scenario_read.specs.Fields.{Field, Shape, held, value_of, faults_of, field_faults, fields_faults, names, known_fields, unknown_faults}
 use Rattle.scenario_read.specs.Fields.{alternative_faults, object_of}
-use Rattle.scenario_read.specs.Content.{whole_of, each_of}
-
-pub none-left : (xs ys : List Cause) → xs ++ ys ≡ [] → (xs ≡ []) × (ys ≡ [])
-none-left [] ys e = (refl, e)
-none-left (x ∷ xs) ys e = absurd (cc)
-
-pub fits-alone : (path : List Step) (fit : Fit) → fault_at path fit ≡ [] → fit ≡ Fits
-fits-alone path Fits e = refl
-fits-alone path Wrong e = absurd (cc)
-fits-alone path Beyond e = absurd (cc)
+use Rattle.scenario_read.specs.Content.{whole_of}
+use Rattle.scenario_read.proofs.NoFaults.{none-left, fits-alone}
 
 pub in-range : (least most n : ℕ) → within least most n ≡ Fits → (least ≤ n) × (n ≤ most)
 in-range least most n e = from (nat_le least n) (nat_le n most) refl refl e
@@ -51,10 +42,6 @@ list-in least most kind path (array ds) e =
     let range = in-range least most (items_len ds) (fits-alone path (within least most (items_len ds)) parts.0) in
     (range.0, range.1, parts.1)
 list-in least most kind path (object ms) e = absurd (cc)
-
-pub each-length : {A : Type 0} (f : Data → A) (ds : Items) → length (each_of f ds) ≡ items_len ds
-each-length f no_items = refl
-each-length f (item d ds) = rw (each-length f ds) (omega arith)
 
 -- what is held at a field without faults has none
 pub held-in : (path : List Step) (d : Data) (f : Field) → field_faults path d f ≡ [] → f.kind (then_named path f.name) (held f d) ≡ []

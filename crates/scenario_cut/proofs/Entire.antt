@@ -13,10 +13,11 @@ use Rattle.scenario_read.specs.CellLists.{cell, octets_fits, hex_text}
 use Rattle.scenario_read.specs.Fields.{Shape, fields_faults, alternative_faults, known_fields, names, unknown_faults, object_of}
 use Rattle.scenario_read.specs.Sorted.{Sorted, ItemsSorted}
 use Rattle.scenario_read.specs.Table
+use Rattle.scenario_read.proofs.NoFaults.{none-left}
 use Rattle.scenario_read.proofs.Whole.{faultless-parts}
 use Rattle.scenario_cut.specs.Cutting.{Form, Whole, Cabinets, Cabinet, Events, Event, Pulses, Pulse, Master, Entries, Entry, Rows, Row, Bare, is_of_a_round, is_a_pulse, room_behind, member_form, names_at, few, cut, cut_items, cut_members}
 use Rattle.scenario_cut.proofs.Same.{Faulty}
-use Rattle.scenario_cut.proofs.Known.{none-left, AtEach, AllGive, EachGives, at-each}
+use Rattle.scenario_cut.proofs.Known.{AtEach, AllGive, EachGives, at-each}
 use Rattle.scenario_cut.proofs.Plain.{cell-whole}
 use Rattle.scenario_cut.proofs.Few.{all_among, each_among, covers, known-among, whole-few}
 use Rattle.scenario_cut.proofs.Members.{IsObject, kept-object}

@@ -9,7 +9,7 @@ use Rattle.scenario_data.specs.Causes.{Cause, Names}
 use Rattle.scenario_data.specs.Content.{cabinet_content}
 use Rattle.scenario_read.specs.Faults.{first_cause}
 use Rattle.scenario_read.specs.Paths.{Step, then_item}
-use Rattle.scenario_read.specs.Kinds.{Kind, each_behind}
+use Rattle.scenario_read.specs.Kinds.{Kind, each, each_behind}
 use Rattle.scenario_read.specs.Table.{cabinet, load, load_cabinet}
 use Rattle.scenario_read.specs.Content.{each_of, cabinet_of}
 use Rattle.scenario_read.specs.Readers.{Refuses, Answers, load_cabinets}
@@ -48,12 +48,23 @@ pub answers-same : (answer : Result (Unit {0}) ReadFail) (xs ys : List Cause) (P
 answers-same (Ok u) xs ys P Q same go h = let clean = no-first ys (sym same ∙ ap first_cause h.0) in (clean, go clean h.1)
 answers-same (Err fail) xs ys P Q same go h = refuses-same fail xs ys same h
 
-pub each-next : {A : Type 0} (says : Data → A) (ds : Items) (d : Data) → each_of says (both ds (item d no_items)) ≡ each_of says ds ++ says d ∷ []
-each-next says no_items d = refl
-each-next says (item first ds) d = ap (λ rest. says first ∷ rest) (each-next says ds d)
+-- the faults of one item more
+pub each-more : (kind : Kind) (path : List Step) (d : Data) (at : ℕ) (ds : Items) (p : ℕ) → at ≡ p + items_len ds
+    → each kind path p (both ds (item d no_items)) ≡ each kind path p ds ++ kind (then_item path at) d
+each-more kind path d at no_items p is =
+    let place : p ≡ at = omega (arith, is) in
+    append-nil _ ∙ ap (λ n. kind (then_item path n) d) place
+each-more kind path d at (item first ds) p is =
+    let later : at ≡ (p + 1) + items_len ds = omega (arith, is) in
+    ap (λ causes. kind (then_item path p) first ++ causes) (each-more kind path d at ds (p + 1) later)
+    ∙ sym (append_assoc (kind (then_item path p) first) (each kind path (p + 1) ds) (kind (then_item path at) d))
+
+pub each_of-next : {A : Type 0} (says : Data → A) (ds : Items) (d : Data) → each_of says (both ds (item d no_items)) ≡ each_of says ds ++ says d ∷ []
+each_of-next says no_items d = refl
+each_of-next says (item first ds) d = ap (λ rest. says first ∷ rest) (each_of-next says ds d)
 
 said-same : {A : Type 0} (says : Data → A) (ds : Items) (v d : Data) → says v ≡ says d → each_of says (both ds (item v no_items)) ≡ each_of says (both ds (item d no_items))
-said-same says ds v d same = each-next says ds v ∙ ap (λ a. each_of says ds ++ a ∷ []) same ∙ sym (each-next says ds d)
+said-same says ds v d same = each_of-next says ds v ∙ ap (λ a. each_of says ds ++ a ∷ []) same ∙ sym (each_of-next says ds d)
 
 -- of an item without faults
 pub stays-same : (l : Listing) (e : Extent) (found : Found) (ds : Items) (path : List Step) (d : Data) → item_kind l e (cabinets_of e ds) path d ≡ []
@@ -124,14 +135,14 @@ counted-next most count ds d low c =
 pub cabinet-judged : (e : Extent) (old new : Found) (ds : Items) (d : Data) (path : List Step) (answer : Result (Unit {0}) ReadFail)
     → Answers answer (cabinet e.version path d) (λ _. map cabinet_content new.cabinets.items ≡ map cabinet_content old.cabinets.items ++ cabinet_of e.version d ∷ [])
     → Stays Cabinets e old ds → Answers answer (item_kind Cabinets e (cabinets_of e ds) path d) (λ _. Stays Cabinets e new (both ds (item d no_items)))
-cabinet-judged e old new ds d path (Ok u) h stays = (h.0, h.1 ∙ ap (λ xs. xs ++ cabinet_of e.version d ∷ []) stays ∙ sym (each-next (cabinet_of e.version) ds d))
+cabinet-judged e old new ds d path (Ok u) h stays = (h.0, h.1 ∙ ap (λ xs. xs ++ cabinet_of e.version d ∷ []) stays ∙ sym (each_of-next (cabinet_of e.version) ds d))
 cabinet-judged e old new ds d path (Err fail) h stays = h
 
 pub load-judged : (e : Extent) (old new : Found) (ds : Items) (d : Data) (path : List Step) (answer : Result (Unit {0}) ReadFail)
     → Answers answer (load e.rounds e.cabinets (load_cabinets old.loads.items) path d) (λ _. load_cabinets new.loads.items ≡ load_cabinets old.loads.items ++ load_cabinet e.cabinets d ∷ [])
     → Stays Loads e old ds → Answers answer (item_kind Loads e (cabinets_of e ds) path d) (λ _. Stays Loads e new (both ds (item d no_items)))
 load-judged e old new ds d path (Ok u) h stays =
-    (subst (λ xs. load e.rounds e.cabinets xs path d ≡ []) stays h.0, h.1 ∙ ap (λ xs. xs ++ load_cabinet e.cabinets d ∷ []) stays ∙ sym (each-next (load_cabinet e.cabinets) ds d))
+    (subst (λ xs. load e.rounds e.cabinets xs path d ≡ []) stays h.0, h.1 ∙ ap (λ xs. xs ++ load_cabinet e.cabinets d ∷ []) stays ∙ sym (each_of-next (load_cabinet e.cabinets) ds d))
 load-judged e old new ds d path (Err fail) h stays = subst (λ xs. Refuses fail (load e.rounds e.cabinets xs path d)) stays h
 
 -- what is known of items that were counted, with further faults behind theirs: past the most that are judged, behind a refusal, and of an item that is judged

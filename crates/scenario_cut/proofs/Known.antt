@@ -1,42 +1,15 @@
 -- The members of an object without faults: each has a known name, and what stands there has no faults of the field's kind.
-use Rattle.std.proofs.Common.{◌≡◌, ℕ, Bool, true, false, ◌||◌, if◌then◌else◌, List, [], ◌∷◌, ◌++◌, filter, Option, Some, None, unwrap_or, Ordering, Less, Equal, Greater, nat_cmp, bytes_eq, refl, sym, ap, ◌∙◌, subst}
-use Rattle.std.proofs.lemmas.Cmp.{nat_list_cmp_total, tied_itself}
+use Rattle.std.proofs.Common.{◌≡◌, ℕ, Bool, true, false, ◌||◌, if◌then◌else◌, List, [], ◌∷◌, ◌++◌, filter, Option, Some, None, unwrap_or, bytes_eq, refl, sym, ap, ◌∙◌, subst}
 use Rattle.std.proofs.lemmas.Slice.Eq.{bytes_eq-Decides}
-use Rattle.std.specs.Cmp.Lexicographic.{slice_cmp}
-use Rattle.std.specs.Ordering.{match_ordering, ordering_reverse}
 use Rattle.serde_json.specs.Data.{Data, object, Members, no_members, member}
 use Rattle.serde_json.specs.Find.{get_member, get}
-use Rattle.scenario_data.specs.Causes.{Cause, Field as FieldCause}
+use Rattle.scenario_data.specs.Causes.{Field as FieldCause}
 use Rattle.scenario_read.specs.Paths.{Step, path_text, then_named}
 use Rattle.scenario_read.specs.Kinds.{is_among}
 use Rattle.scenario_read.specs.Fields.{Field, Shape, either, faults_of, field_faults, fields_faults, stands, only_one, all_of, known_fields, names, unknown_faults, chosen_faults, alternative_faults, members_faults}
-use Rattle.scenario_read.specs.Sorted.{Below, Sorted, MembersSorted}
-
-pub none-left : (xs ys : List Cause) → xs ++ ys ≡ [] → (xs ≡ []) × (ys ≡ [])
-none-left [] ys e = (refl, e)
-none-left (x ∷ xs) ys e = absurd (cc)
-
--- ---- what is found at a name
-
--- each of these is what is found at its name
-abbrev AllFound : Members → Members → Type 0
-AllFound all no_members = Unit {0}
-AllFound all (member name d ms) = (get_member name all ≡ Some d) × AllFound all ms
-
-past : (o : Ordering) (a b : Option Data) → o ≡ Greater → match_ordering o a b a ≡ a
-past Less a b e = absurd (cc)
-past Equal a b e = absurd (cc)
-past Greater a b e = refl
-
-found-behind : (name : List ℕ) (d : Data) (all ms : Members) → Below name ms → AllFound all ms → AllFound (member name d all) ms
-found-behind name d all no_members below found = tt
-found-behind name d all (member other e ms) below found =
-    let above : slice_cmp nat_cmp other name ≡ Greater = nat_list_cmp_total.antisymm other name ∙ ap ordering_reverse below.0 in
-    (past (slice_cmp nat_cmp other name) (get_member other all) (Some d) above ∙ found.0, found-behind name d all ms below.1 found.1)
-
-all-found : (ms : Members) → MembersSorted ms → AllFound ms ms
-all-found no_members sorted = tt
-all-found (member name d ms) sorted = (rw (tied_itself nat_list_cmp_total name) refl, found-behind name d ms ms sorted.1 (all-found ms sorted.2))
+use Rattle.scenario_read.specs.Sorted.{Sorted, MembersSorted}
+use Rattle.scenario_read.proofs.NameOrder.{AllFound, all-found}
+use Rattle.scenario_read.proofs.NoFaults.{none-left, both-faultless}
 
 -- ---- the members
 
@@ -61,12 +34,6 @@ module _ (P : List ℕ → Data → Type 0) where
   both-give : (xs ys : List Field) → AllGive xs → AllGive ys → AllGive (xs ++ ys)
   both-give [] ys a b = b
   both-give (f ∷ xs) ys a b = (a.0, both-give xs ys a.1 b)
-
-  both-faultless : (path : List Step) (d : Data) (xs ys : List Field) → fields_faults path d xs ≡ [] → fields_faults path d ys ≡ [] → fields_faults path d (xs ++ ys) ≡ []
-  both-faultless path d [] ys a b = b
-  both-faultless path d (f ∷ xs) ys a b =
-      let parts = none-left (field_faults path d f) (fields_faults path d xs) a in
-      rw parts.0 (both-faultless path d xs ys parts.1 b)
 
   -- so it is of what stands at a known name
   at-known : (path : List Step) (d : Data) (fields : List Field) → AllGive fields → fields_faults path d fields ≡ []

@@ -1,11 +1,11 @@
 -- Members that come again: what stands for those that are passed over is replaced by the last.
 use Rattle.std.proofs.Common.{◌≡◌, ◌<◌, ℕ, zero, suc, nat_lt, Bool, true, false, if◌then◌else◌, List, [], ◌∷◌, length, get_or, Ordering, Less, Equal, Greater, nat_cmp, bytes_eq, refl, sym, ap, ap₂, ◌∙◌, subst, arith}
-use Rattle.std.proofs.lemmas.Cmp.{nat_list_cmp_total, tied_itself}
 use Rattle.std.proofs.lemmas.Slice.Eq.{bytes_eq-Decides}
 use Rattle.std.specs.Cmp.Lexicographic.{slice_cmp}
 use Rattle.std.specs.Ordering.{match_ordering}
 use Rattle.serde_json.specs.Data.{Data, null, Members, no_members, member, put}
 use Rattle.scenario_read.specs.Sorted.{Below, MembersSorted}
+use Rattle.scenario_read.proofs.NameOrder.{apart-names, not-less, not-greater, below-chain}
 use Rattle.scenario_cut.specs.Cutting.{Whole, cut_members}
 use Rattle.scenario_cut.specs.Last.{large_names, place_in, hidden, filled, Enters}
 use Rattle.scenario_cut.proofs.Members.{equal-names}
@@ -46,23 +46,6 @@ all-shown left none no_members = refl
 all-shown left none (member name d ms) = ap₂ (member name) (shown left name d (none (place_in large_names name))) (all-shown left none ms)
 
 -- ---- a member that is put
-
-apart-names : (a b : List ℕ) → (slice_cmp nat_cmp a b ≡ Equal → ⊥) → bytes_eq b a ≡ false
-apart-names a b other = differ (bytes_eq b a) refl
-  where
-    differ : (same : Bool) → bytes_eq b a ≡ same → same ≡ false
-    differ true e = absurd (other (ap (slice_cmp nat_cmp a) ((bytes_eq-Decides b a).0 e) ∙ tied_itself nat_list_cmp_total a))
-    differ false e = refl
-
-not-less : (o : Ordering) → o ≡ Less → o ≡ Equal → ⊥
-not-less o a b = cc
-
-not-greater : (o : Ordering) → o ≡ Greater → o ≡ Equal → ⊥
-not-greater o a b = cc
-
-pub below-chain : (low name : List ℕ) (ms : Members) → slice_cmp nat_cmp low name ≡ Less → Below name ms → Below low ms
-below-chain low name no_members less below = tt
-below-chain low name (member other d ms) less below = (nat_list_cmp_total.trans low name other less below.0, below-chain low name ms less below.1)
 
 module _ (l : List ℕ) (old now : List ℕ → Data → Data) (d standing : Data) (enters : Enters old now l d standing) where
   without : (ms : Members) → Below l ms → filled old ms ≡ filled now ms

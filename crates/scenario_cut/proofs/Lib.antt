@@ -11,6 +11,7 @@ pub mod Entire
 pub mod Right
 pub mod Shapes
 pub mod Turns
+pub mod Begun
 pub mod Growth
 pub mod Judging
 pub mod Verdicts

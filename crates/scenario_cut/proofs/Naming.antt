@@ -6,12 +6,12 @@ use Rattle.std.specs.Ordering.{match_ordering, ordering_reverse}
 use Rattle.serde_json.specs.Data.{Data, null, Members, no_members, member, put}
 use Rattle.scenario_read.specs.Kinds.{is_among}
 use Rattle.scenario_read.specs.Sorted.{Below, MembersSorted}
+use Rattle.scenario_read.proofs.NameOrder.{below-chain, put-below}
 use Rattle.scenario_cut.specs.Cutting.{Form, names_at, only, few, member_form, cut, cut_members}
 use Rattle.scenario_cut.specs.Others.{first_other, lesser, with_other}
 use Rattle.scenario_cut.proofs.Few.{equal-names}
 use Rattle.scenario_cut.proofs.Growth.{put-kept}
 use Rattle.scenario_cut.proofs.Shapes.{below-only, members-kept}
-use Rattle.scenario_cut.proofs.Lasting.{below-chain}
 
 -- ---- the least of the other names
 
@@ -55,10 +55,6 @@ module _ (own : List (List ℕ)) where
   inside a b e = cc
 
 -- ---- the members that are kept
-
-put-below : (k : List ℕ) (d : Data) (ms : Members) → Below k ms → put k d ms ≡ member k d ms
-put-below k d no_members below = refl
-put-below k d (member name e ms) below = ap (λ o. match_ordering o (member k d (member name e ms)) (member name d ms) (member name e (put k d ms))) below.0
 
 module _ (known : List (List ℕ)) where
   -- a member of a known name is put among them

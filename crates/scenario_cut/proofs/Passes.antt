@@ -1,11 +1,12 @@
 -- What is known of the lists that are looked for in one pass, a member at a time; and of a scenario inside an object.
 use Rattle.std.proofs.Common.{◌≡◌, ◌||◌, ℕ, Bool, true, false, if◌then◌else◌, List, codes, Option, Some, None, option_map, is_some, unwrap_or, bytes_eq, refl, sym, ap, ◌∙◌, subst}
 use Rattle.std.proofs.lemmas.Slice.Eq.{bytes_eq-Decides}
-use Rattle.serde_json.specs.Data.{Data, null, object, Members, no_members, put}
+use Rattle.serde_json.specs.Data.{Data, null, boolean, number, string, array, object, Members, no_members, put}
 use Rattle.serde_json.specs.Find.{get}
 use Rattle.serde_json.proofs.Views.{get_member-put, get_member-put_other}
 use Rattle.scenario_read.specs.Fields.{either}
-use Rattle.scenario_cut.specs.Around.{Object, scenario_in, HasNoNames}
+use Rattle.scenario_cut.specs.Around.{Object, scenario_in}
+use Rattle.scenario_cut.specs.Beginning.{IsNoObject}
 use Rattle.scenario_cut.specs.Cutting.{Outer, Setup, cut}
 use Rattle.scenario_cut.specs.Judging.{name_of, TellsOf, TellsIn}
 use Rattle.scenario_cut.specs.Known.{is_in, stands, any_stands, if_named, list_named, told_of, with_told, Knows}
@@ -173,12 +174,21 @@ none-inside s known absent = λ l looked. tells-same l s.extent (told_of l known
     nowhere : (l : Listing) → get (name_of l) (object no_members) ≡ get (name_of l) null
     nowhere l = refl
 
--- in a value without names none of the lists stands
-pub none-named : (s : Search) (known : Known) (d : Data) → HasNoNames d → ((e : Extent) → (l : Listing) → TellsIn l e (told_of l known) (object no_members)) → Knows s known d
+-- nothing stands at a name in what is no object
+no-names : (d : Data) → IsNoObject d → (name : List ℕ) → get name d ≡ None
+no-names null none name = refl
+no-names (boolean b) none name = refl
+no-names (number n) none name = refl
+no-names (string s) none name = refl
+no-names (array ds) none name = refl
+no-names (object ms) none name = absurd none
+
+-- in what is no object none of the lists stands
+pub none-named : (s : Search) (known : Known) (d : Data) → IsNoObject d → ((e : Extent) → (l : Listing) → TellsIn l e (told_of l known) (object no_members)) → Knows s known d
 none-named s known d none absent = λ l looked. tells-same l s.extent (told_of l known) (object no_members) d (nowhere l) (absent s.extent l)
   where
     nowhere : (l : Listing) → get (name_of l) (object no_members) ≡ get (name_of l) d
-    nowhere l = sym (none (name_of l))
+    nowhere l = sym (no-names d none (name_of l))
 
 is-outer : IsObject Outer
 is-outer = record { opens = refl; closed = refl }

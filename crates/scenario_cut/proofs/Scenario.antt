@@ -10,13 +10,15 @@ use Rattle.scenario_read.specs.Readers.{Refuses}
 use Rattle.scenario_data.specs.Causes.{Cause, Names}
 use Rattle.scenario_data.specs.Content.{CabinetContent}
 use Rattle.scenario_read.specs.Paths.{Step, then_named, then_item}
-use Rattle.scenario_read.specs.Kinds.{Fit, Fits, Wrong, Beyond, Kind, fault_at, within, list_fits, list_of, list_behind, items_in, each, is_among}
+use Rattle.scenario_read.specs.Kinds.{Fits, Beyond, Kind, fault_at, within, list_fits, list_of, list_behind, items_in, each, is_among}
 use Rattle.scenario_read.specs.Fields.{Field, held, either, faults_of, field_faults, fields_faults, object_of, unknown_faults, names, known_fields}
 use Rattle.scenario_read.specs.CellLists.{cell, cell_of, whole_of}
 use Rattle.scenario_read.specs.Table
-use Rattle.scenario_read.specs.Table.{number_at, load, load_cabinet}
+use Rattle.scenario_read.specs.Table.{load, load_cabinet}
 use Rattle.scenario_read.specs.Content.{each_of, list_in, base_of, cabinet_of, drift_at, version_number, round_count, tick_count, cabinets_of, cabinet_count}
 use Rattle.scenario_read.specs.Faults.{named_faults, product_faults, all_table_faults, faults, first_cause}
+use Rattle.scenario_read.proofs.NoFaults.{fits-alone}
+use Rattle.scenario_read.proofs.Walks.{each_of-len}
 use Rattle.scenario_cut.specs.Cutting.{Whole, Cabinets, Cabinet, Events, Event, Rows, Row, Bare, names_at, cut, cut_items, member_form}
 use Rattle.scenario_cut.proofs.Same.{Same, Faulty, same-both, same-ended, faulty-first, faulty-later}
 use Rattle.scenario_cut.proofs.Members.{IsObject, AllKeep, object-same, held-cut, get-cut}
@@ -87,10 +89,6 @@ rounds-same = held-cut Whole is-whole Table.rounds refl whole_of bare-number
 
 ticks-same : (d : Data) → tick_count (cut Whole d) ≡ tick_count d
 ticks-same = held-cut Whole is-whole Table.ticks refl whole_of bare-number
-
-each_of-len : {A : Type 0} (says : Data → A) (ds : Items) → length (each_of says ds) ≡ items_len ds
-each_of-len says no_items = refl
-each_of-len says (item d ds) = ap suc (each_of-len says ds)
 
 -- the number of cabinets, however they are read
 abbrev pub cabinets_in : Data → ℕ
@@ -213,11 +211,6 @@ none-later : (xs ys : List Cause) → xs ++ ys ≡ [] → ys ≡ []
 none-later [] ys e = e
 none-later (x ∷ xs) ys e = absurd (cc)
 
-fits-of : (path : List Step) (fit : Fit) → fault_at path fit ≡ [] → fit ≡ Fits
-fits-of path Fits e = refl
-fits-of path Wrong e = absurd (cc)
-fits-of path Beyond e = absurd (cc)
-
 few-of : (least most n : ℕ) → within least most n ≡ Fits → n ≤ most
 few-of least most n fits = le-of n most (at (nat_le least n) (nat_le n most) refl fits)
   where
@@ -283,7 +276,7 @@ cells-fit version path (object ms) e =
   where
     at : (here : List Step) (o : Option Data) → faults_of (list_of 0 4096 cell) here (either o (Some (array no_items))) ≡ [] → list_fits 0 4096 (cells_or_none o) ≡ Fits
     at here None k = refl
-    at here (Some v) k = fits-of here (list_fits 0 4096 v) (none-first (fault_at here (list_fits 0 4096 v)) (each cell here 0 (items_in v)) k)
+    at here (Some v) k = fits-alone here (list_fits 0 4096 v) (none-first (fault_at here (list_fits 0 4096 v)) (each cell here 0 (items_in v)) k)
 
 -- cabinets without faults
 each-said : (version : ℕ) (path : List Step) (n p : ℕ) (ds : Items) → items_len ds ≤ n → each (Table.cabinet version) path p ds ≡ [] → each_of (cabinet_of version) (cut_items Cabinet n ds) ≡ each_of (cabinet_of version) ds
@@ -302,7 +295,7 @@ cabinets-said version path (string s) e = refl
 cabinets-said version path (array ds) e =
     let own = fault_at path (within 1 64 (items_len ds)) in
     let inner = each (Table.cabinet version) path 0 ds in
-    let few = few-of 1 64 (items_len ds) (fits-of path (within 1 64 (items_len ds)) (none-first own inner e)) in
+    let few = few-of 1 64 (items_len ds) (fits-alone path (within 1 64 (items_len ds)) (none-first own inner e)) in
     each-said version path 65 0 ds (omega (arith, few)) (none-later own inner e)
 cabinets-said version path (object ms) e = refl
 

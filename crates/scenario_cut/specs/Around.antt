@@ -1,5 +1,5 @@
 -- Where the scenario of a text stands: it is the text's value, or stands at `scenario` of the object that this is.
-use Rattle.std.specs.Prelude.{ℕ, ◌≡◌, List, codes, unwrap_or, None}
+use Rattle.std.specs.Prelude.{codes, unwrap_or, None}
 use Rattle.serde_json.specs.Data.{Data, null}
 use Rattle.serde_json.specs.Find.{get}
 use Rattle.scenario_read.specs.Fields.{either}
@@ -10,7 +10,3 @@ pub use Rattle.scenario_cut.specs.declared.around.Around.TheVariants.{Nothing, O
 abbrev pub scenario_in : Around → Data → Data
 scenario_in Nothing d = d
 scenario_in Object d = unwrap_or (either (get (codes "scenario") d) None) null
-
--- nothing stands at any name of the value, as in one that is no object
-abbrev pub HasNoNames : Data → Type 0
-HasNoNames d = (name : List ℕ) → get name d ≡ None

@@ -3,6 +3,7 @@ pub mod Around
 pub mod Growing
 pub mod Texts
 pub mod Judging
+pub mod Beginning
 pub mod Known
 pub mod Checks
 pub mod Last

@@ -1,17 +1,15 @@
 //! The scenario of a text: the whole, or what stands at `scenario` of the one object that the text is. Of equal names the last counts.
 
-ghost use Rattle.std.specs.Prelude.{◌≡◌, ◌<◌, ◌≤◌, ◌∷◌, true, length, Some, IfSome};
+ghost use Rattle.std.specs.Prelude.{◌≡◌, ◌<◌, length, Some, IfSome};
 ghost use Rattle.json.specs.Json.{value, members};
-ghost use Rattle.json.specs.Reads.{token_of};
 ghost use Rattle.serde_json.specs.Data.{Data, Members, object, no_members, put};
 ghost use Rattle.serde_json.specs.Read.{of_json, of_members, converted};
 ghost use Rattle.scenario_read.specs.Answers.{Reads};
-ghost use Rattle.scenario_cut.specs.Around.{Object, HasNoNames, scenario_in};
+ghost use Rattle.scenario_cut.specs.Around.{Object, scenario_in};
 ghost use Rattle.scenario_cut.specs.Known.{Knows};
 
 use crate::named::{Known, Search, all_absent, judge_members};
-use crate::numbers::number_of;
-use crate::passing::{pass, pass_items};
+use crate::passing::{pass, pass_rest};
 use json::{Reader, Scratch, Token};
 use std::alloc::Global;
 
@@ -20,30 +18,6 @@ use std::alloc::Global;
 pub enum Around {
     Nothing,
     Object,
-}
-
-/// Passes over the rest of a value that begins with this token and is nested at most so deep, where it is no object; false, where it is
-/// one or has no reading.
-fn pass_no_object(reader: &mut Reader<'_>, depth: usize, token: Token<'_>) -> bool
-    ensures passed { result ≡ true → (d : Data) × (converted of_json (value depth (token_of token.entry ∷ reader.old)) ≡ Some (d, reader.new)) × HasNoNames d }
-    ensures shorter { result ≡ true → length reader.new ≤ length reader.old }
-{
-    match token {
-        Token::String(_) => true,
-        Token::Number(text) => match number_of(text) {
-            Some(_) => true,
-            None => false,
-        },
-        Token::Bool(_) => true,
-        Token::Null => true,
-        Token::BeginArray => {
-            if depth == 0 {
-                return false;
-            }
-            pass_items(reader, depth - 1)
-        }
-        _ => false,
-    }
 }
 
 /// What is known of the lists of the reader's next value, a scenario nested at most so deep. In a value that is no object none stands.
@@ -68,7 +42,7 @@ fn judge_scenario(
             }
         }
         other => {
-            if pass_no_object(reader, depth, other) {
+            if pass_rest(reader, depth, other) {
                 Some(all_absent(alloc))
             } else {
                 None

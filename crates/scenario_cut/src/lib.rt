@@ -29,9 +29,8 @@ pub use checks::inner_fault;
 pub use form::Form;
 pub use judge::Extent;
 pub use keeping::keep;
-pub use listing::pass_other;
 pub use numbers::number_of;
-pub use passing::{pass, pass_items, pass_members};
+pub use passing::{pass, pass_items, pass_members, pass_rest};
 pub use reading::read;
 pub use texts::{kept_of, kept_of_few};
 

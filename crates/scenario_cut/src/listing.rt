@@ -1,9 +1,8 @@
 //! A list at the top of a scenario, judged item by item. Behind its first fault, and past the most that are judged, the items are passed
 //! over; so that no list takes more than one item's memory, beside what stays of the items.
 
-ghost use Rattle.std.specs.Prelude.{◌≡◌, ◌<◌, ◌≤◌, [], ◌∷◌, true, length, Some, IfSome};
+ghost use Rattle.std.specs.Prelude.{◌≡◌, ◌<◌, ◌≤◌, [], length, Some, IfSome};
 ghost use Rattle.json.specs.Json.{value, items};
-ghost use Rattle.json.specs.Reads.{token_of};
 ghost use Rattle.serde_json.specs.Data.{Data, Items, array, item, no_items};
 ghost use Rattle.serde_json.specs.Read.{of_json, of_items, converted};
 ghost use Rattle.scenario_cut.specs.Growing.{both};
@@ -11,8 +10,7 @@ ghost use Rattle.scenario_cut.specs.Judging.{IsJudged, IsNoList, TellsOf, may_ha
 ghost use Rattle.scenario_cut.specs.declared.judge.Extent.{Extent};
 
 use crate::judge::{Extent, Found, Listing, judge_next, name_of};
-use crate::numbers::number_of;
-use crate::passing::{pass, pass_members};
+use crate::passing::{pass, pass_rest};
 use json::{Reader, Token};
 use scenario_data::ReadFail;
 use scenario_read::{Place, Unfit, refuse_member};
@@ -157,30 +155,6 @@ fn verdict(alloc: Global, list: Listing, judged: Judged) -> Option<ListVerdict>
     Some(ListVerdict { refusal, found })
 }
 
-/// Passes over the rest of a value that begins with this token and is nested at most so deep, where it is no list; false, where it is one
-/// or has no reading.
-pub fn pass_other(reader: &mut Reader<'_>, depth: usize, token: Token<'_>) -> bool
-    ensures passed { result ≡ true → (d : Data) × (converted of_json (value depth (token_of token.entry ∷ reader.old)) ≡ Some (d, reader.new)) × IsNoList d }
-    ensures shorter { result ≡ true → length reader.new ≤ length reader.old }
-{
-    match token {
-        Token::String(_) => true,
-        Token::Number(text) => match number_of(text) {
-            Some(_) => true,
-            None => false,
-        },
-        Token::Bool(_) => true,
-        Token::Null => true,
-        Token::BeginObject => {
-            if depth == 0 {
-                return false;
-            }
-            pass_members(reader, depth - 1)
-        }
-        _ => false,
-    }
-}
-
 /// The refusal of what stands as a list and is none.
 fn no_list(alloc: Global, list: Listing) -> ListVerdict
     ensures { (e : Extent) → (d : Data) → IsNoList d → TellsOf list e result d }
@@ -215,7 +189,7 @@ pub(crate) fn judge_list(
             }
         }
         other => {
-            if pass_other(reader, depth, other) {
+            if pass_rest(reader, depth, other) {
                 Some(no_list(alloc, list))
             } else {
                 None

@@ -1,10 +1,12 @@
 //! Passing over a value, of which nothing is kept: whether it has a reading. Whoever reads a text value by value passes so over those
 //! of which nothing is asked.
 
-ghost use Rattle.std.specs.Prelude.{◌≡◌, ◌<◌, true, false, length, None, Some};
+ghost use Rattle.std.specs.Prelude.{◌≡◌, ◌<◌, ◌≤◌, ◌∷◌, true, false, length, None, Some};
 ghost use Rattle.json.specs.Json.{value, items, members};
+ghost use Rattle.json.specs.Reads.{token_of};
 ghost use Rattle.serde_json.specs.Data.{Data, Items, Members, no_members};
 ghost use Rattle.serde_json.specs.Read.{of_json, of_items, of_members, converted};
+ghost use Rattle.scenario_cut.specs.Beginning.{BeginsWith};
 
 use crate::numbers::number_of;
 use json::{Reader, Token};
@@ -21,6 +23,18 @@ pub fn pass(reader: &mut Reader<'_>, depth: usize) -> bool
     let Some(token) = reader.next() else {
         return false;
     };
+    pass_rest(reader, depth, token)
+}
+
+/// Passes over the rest of a value that begins with this token, in which arrays and objects nest at most `depth` levels deep. True, where
+/// the value has a reading: the reader stands behind it then. False, where it has none; where the reader stands then isn't said.
+#[cycle(pass)]
+pub fn pass_rest(reader: &mut Reader<'_>, depth: usize, token: Token<'_>) -> bool
+    ensures passed { result ≡ true → (d : Data) × (converted of_json (value depth (token_of token.entry ∷ reader.old)) ≡ Some (d, reader.new))
+        × BeginsWith token.entry d }
+    ensures refused { result ≡ false → converted of_json (value depth (token_of token.entry ∷ reader.old)) ≡ None }
+    ensures shorter { result ≡ true → length reader.new ≤ length reader.old }
+{
     match token {
         Token::String(_) => true,
         Token::Number(text) => match number_of(text) {

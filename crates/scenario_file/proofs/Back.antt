@@ -17,10 +17,11 @@ use Rattle.serde_json.specs.Read.{number_of, of_json, of_items, of_members, max_
 use Rattle.serde_json.specs.Written.{outline, items_outline, members_outline, has_float, items_have_float, members_have_float, compact_text}
 use Rattle.serde_json.proofs.Texts.{print-outline}
 use Rattle.scenario_read.specs.Sorted.{Below, Sorted, ItemsSorted, MembersSorted}
+use Rattle.scenario_read.proofs.Rising.{IfFound, found-map, found-then}
 use Rattle.serde_json.specs.Find.{get}
 use Rattle.scenario_cut.proofs.Turns.{whole}
 use Rattle.scenario_file.proofs.Putting.{Each, each-there}
-use Rattle.scenario_file.proofs.Numerals.{IfFound, found-map, found-then, IsNumeral, number-numeral}
+use Rattle.scenario_file.proofs.Numerals.{IsNumeral, number-numeral}
 
 -- what is written for the value has numbers, and is this value
 pub record IsWritten (d : Data) : Type 0 where
@@ -149,10 +150,6 @@ mutual
   all-back (member k d ms) h = (back d h.0, all-back ms h.1)
 
 -- ---- whatever was read has such numbers
-
-any : {A : Type 0} (o : Option A) → IfFound (λ a. ⊤) o
-any None = tt
-any (Some a) = tt
 
 pub numerals-put : (k : List ℕ) (d : Data) (ms : Members) → HasNumerals d → MembersHaveNumerals ms → MembersHaveNumerals (put k d ms)
 numerals-put k d no_members here all = (here, tt)

@@ -1,5 +1,5 @@
 -- What a tree gives nests no deeper than the tree.
-use Rattle.std.proofs.Common.{◌≡◌, ◌≤◌, ℕ, List, Option, Some, None, option_map, Ordering, Less, Equal, Greater, nat_cmp, subst, arith}
+use Rattle.std.proofs.Common.{◌≡◌, ◌≤◌, ℕ, List, Some, option_map, Ordering, Less, Equal, Greater, nat_cmp, subst, arith}
 use Rattle.std.specs.Prelude.{⊤}
 use Rattle.std.specs.Cmp.Lexicographic.{slice_cmp}
 use Rattle.std.specs.Ordering.{match_ordering}
@@ -7,7 +7,7 @@ use Rattle.json.specs.Json as json
 use Rattle.json.specs.Tree as tree
 use Rattle.serde_json.specs.Data.{Data, number, array, object, Items, item, Members, no_members, member, put, depth, items_depth, members_depth}
 use Rattle.serde_json.specs.Read.{number_of, of_json, of_items, of_members}
-use Rattle.scenario_file.proofs.Numerals.{IfFound, found-map, found-then}
+use Rattle.scenario_read.proofs.Rising.{IfFound, found-map, found-then, any}
 
 -- what was found nests at most so deep
 abbrev Low : ℕ → Data → Type 0
@@ -27,10 +27,6 @@ low-put k d (member l e ms) n p q = at (slice_cmp nat_cmp k l) (low-put k d ms n
     at Less rest = omega (arith, p, q)
     at Equal rest = omega (arith, p, q)
     at Greater rest = omega (arith, q, rest)
-
-any : {A : Type 0} (o : Option A) → IfFound (λ a. ⊤) o
-any None = tt
-any (Some a) = tt
 
 mutual
   low : (j : json.Json) (n : ℕ) → tree.depth j ≤ n → IfFound (Low n) (of_json j)

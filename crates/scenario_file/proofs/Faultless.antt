@@ -14,13 +14,15 @@ use Rattle.scenario_read.specs.Table.{version, rounds, ticks, community, cabinet
 use Rattle.scenario_read.specs.Content.{number_at, text_of, list_in, cabinet_of, master_of, input_of, load_of, priority_of, frame_of, fault_of, each_of, events_at, version_number, round_count, tick_count, cabinets_of, cabinet_count, scenario_of}
 use Rattle.scenario_read.specs.Faults.{faults, named_faults, product_faults, all_table_faults}
 use Rattle.scenario_read.specs.Readers.{Says, content_from}
+use Rattle.scenario_read.proofs.NoFaults.{none-left, none-both}
 use Rattle.scenario_read.proofs.Objects.{both-fields, at-same}
+use Rattle.scenario_read.proofs.Walks.{each_of-len}
 use Rattle.scenario_read.proofs.Whole.{faultless-parts, whole-content}
 use Rattle.scenario_file.specs.declared.lists.Lists.{Lists}
 use Rattle.scenario_file.specs.Growing.{blanks}
 use Rattle.scenario_file.specs.Listing.{AllOf, AsksWithin, InRounds, list_path, any_input, any_priority, any_frame, any_fault}
 use Rattle.scenario_file.specs.Framing.{value_in, with_lists, IsHeld, AllStand, setup_with}
-use Rattle.scenario_file.proofs.Growth.{none-left, none-both, within-more, chain, each_of-len}
+use Rattle.scenario_file.proofs.Growth.{within-more, chain}
 use Rattle.scenario_file.proofs.Filled.{unknown-same, kept, kept-fields, same-held, same-number, Becomes, stood, list-faults}
 use Rattle.scenario_file.proofs.Masters.{master-kept, master-said, master-value}
 use Rattle.scenario_file.proofs.Frames.{get-through}

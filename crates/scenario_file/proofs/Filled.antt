@@ -10,10 +10,10 @@ use Rattle.scenario_read.specs.Kinds.{Kind, is_among, fault_at, within, each}
 use Rattle.scenario_read.specs.Fields.{Field, either, faults_of, field_faults, fields_faults, held, unknown_faults}
 use Rattle.scenario_read.specs.Table.{optional_list}
 use Rattle.scenario_read.specs.Content.{whole_of, number_at}
-use Rattle.scenario_read.proofs.Walks.{within-fits}
+use Rattle.scenario_read.proofs.NoFaults.{none-left, none-both}
+use Rattle.scenario_read.proofs.Walks.{within-fits, each_of-len}
 use Rattle.scenario_file.specs.Listing.{ListTold}
 use Rattle.scenario_file.specs.Framing.{filled, filled_in, IsHeld}
-use Rattle.scenario_file.proofs.Growth.{none-left, none-both, each_of-len}
 use Rattle.scenario_file.proofs.Frames.{get-in}
 
 pub unknown-same : (known : List (List ℕ)) (path : List Step) (fill : List ℕ → Data → Data) (ms : Members) → unknown_faults known path (filled fill ms) ≡ unknown_faults known path ms

@@ -1,31 +1,12 @@
 -- What is put into a frame is put into the value of which it is one.
 use Rattle.std.proofs.Common.{◌≡◌, ℕ, Bool, true, false, ◌||◌, if◌then◌else◌, List, Some, option_map, Ordering, Less, Equal, Greater, nat_cmp, bytes_eq, codes, refl, sym, ap, ap₂, ◌∙◌, subst}
-use Rattle.std.proofs.lemmas.Cmp.{nat_list_cmp_total, tied_itself}
 use Rattle.std.proofs.lemmas.Slice.Eq.{bytes_eq-Decides}
 use Rattle.std.specs.Cmp.Lexicographic.{slice_cmp}
 use Rattle.std.specs.Ordering.{match_ordering}
 use Rattle.serde_json.specs.Data.{Data, null, boolean, number, string, array, object, Items, Members, no_members, member}
 use Rattle.serde_json.specs.Find.{get, get_member}
-use Rattle.scenario_read.specs.Sorted.{Below}
 use Rattle.scenario_cut.proofs.Members.{equal-names}
 use Rattle.scenario_file.specs.Framing.{is_list, filled, filled_in, scheduled, master_with, value_in, with_rows, Enters}
-
-pub apart-names : (a b : List ℕ) → (slice_cmp nat_cmp a b ≡ Equal → ⊥) → bytes_eq b a ≡ false
-apart-names a b other = differ (bytes_eq b a) refl
-  where
-    differ : (same : Bool) → bytes_eq b a ≡ same → same ≡ false
-    differ true e = absurd (other (ap (slice_cmp nat_cmp a) ((bytes_eq-Decides b a).0 e) ∙ tied_itself nat_list_cmp_total a))
-    differ false e = refl
-
-pub not-less : (o : Ordering) → o ≡ Less → o ≡ Equal → ⊥
-not-less o a b = cc
-
-pub not-greater : (o : Ordering) → o ≡ Greater → o ≡ Equal → ⊥
-not-greater o a b = cc
-
-pub Below-chain : (low name : List ℕ) (ms : Members) → slice_cmp nat_cmp low name ≡ Less → Below name ms → Below low ms
-Below-chain low name no_members less below = tt
-Below-chain low name (member other d ms) less below = (nat_list_cmp_total.trans low name other less below.0, Below-chain low name ms less below.1)
 
 -- ---- the names of lists
 

@@ -1,26 +1,21 @@
 -- One item more, and all items of a list.
-use Rattle.std.proofs.Common.{◌≡◌, ◌≤◌, ℕ, suc, codes, ◌+◌, Bool, true, false, List, [], ◌∷◌, ◌++◌, length, bytes_eq, refl, sym, ap, ◌∙◌, subst, arith, append_assoc, append-nil}
+use Rattle.std.proofs.Common.{◌≡◌, ◌≤◌, ℕ, codes, ◌+◌, Bool, true, false, List, [], ◌∷◌, ◌++◌, length, bytes_eq, refl, sym, ap, ◌∙◌, subst, arith, append_assoc, append-nil}
 use Rattle.serde_json.specs.Data.{Data, Items, no_items, item}
 use Rattle.serde_json.specs.Events.{items_len}
 use Rattle.serde_json.specs.Written.{comma_if, compact_text, items_text}
-use Rattle.scenario_data.specs.Causes.{Cause}
 use Rattle.scenario_data.specs.Content.{LoadContent}
 use Rattle.scenario_read.specs.Paths.{Step, then_item}
 use Rattle.scenario_read.specs.Kinds.{Kind, each, each_behind}
 use Rattle.scenario_read.specs.Table.{round, cabinet_number, load_cabinet}
 use Rattle.scenario_read.specs.Content.{each_of, number_at, load_of}
+use Rattle.scenario_read.proofs.NoFaults.{none-left, none-both}
+use Rattle.scenario_read.proofs.Walks.{each_of-len}
 use Rattle.scenario_cut.specs.Growing.{both}
+use Rattle.scenario_cut.proofs.Judging.{each_of-next}
 use Rattle.scenario_file.specs.Growing.{written, inner_text, follows}
 use Rattle.scenario_file.specs.declared.found.Reach.{Reach}
 use Rattle.scenario_file.specs.declared.listed.Listed.{Listed}
-use Rattle.scenario_file.specs.Listing.{ListTold, ToldLoads, Adds, AllOf, AsksWithin, UnlessEntry, Further, Within, Holds, Lists, any_load, asked_version, list_path, name_of}
-
-pub none-left : (xs ys : List Cause) → xs ++ ys ≡ [] → (xs ≡ []) × (ys ≡ [])
-none-left [] ys e = (refl, e)
-none-left (x ∷ xs) ys e = absurd (cc)
-
-pub none-both : (xs ys : List Cause) → xs ≡ [] → ys ≡ [] → xs ++ ys ≡ []
-none-both xs ys p q = rw (p, q) refl
+use Rattle.scenario_file.specs.Listing.{ListTold, ToldLoads, Adds, AllOf, AsksWithin, UnlessEntry, ReachGrows, Within, Holds, Lists, any_load, asked_version, list_path, name_of}
 
 each-next : (kind : Kind) (path : List Step) (d : Data) (at : ℕ) → kind (then_item path at) d ≡ [] → (ds : Items) (p : ℕ)
     → at ≡ p + items_len ds → each kind path p ds ≡ [] → each kind path p (both ds (item d no_items)) ≡ []
@@ -47,21 +42,13 @@ behind-next kind says path d at all here (item first ds) p earlier is same e =
     none-both (kind earlier (then_item path p) first) (each_behind kind says path (p + 1) next (both ds (item d no_items))) parts.0
     (behind-next kind says path d at all here ds (p + 1) next later whole parts.1)
 
-each_of-next : {A : Type 0} (f : Data → A) (d : Data) (ds : Items) → each_of f (both ds (item d no_items)) ≡ each_of f ds ++ f d ∷ []
-each_of-next f d no_items = refl
-each_of-next f d (item first ds) = ap (λ rest. f first ∷ rest) (each_of-next f d ds)
-
-pub each_of-len : {A : Type 0} (f : Data → A) (ds : Items) → length (each_of f ds) ≡ items_len ds
-each_of-len f no_items = refl
-each_of-len f (item d ds) = ap suc (each_of-len f ds)
-
 pub told-next : {A : Type 0} (path : List Step) (kind : Kind) (says : Data → A) (most : ℕ) (old new : List A) (ds : Items) (d : Data)
     → ListTold path kind says most old ds → Adds path kind says most old new d → ListTold path kind says most new (both ds (item d no_items))
 told-next path kind says most old new ds d t a =
     let counted : length old ≡ items_len ds = ap length t.said ∙ each_of-len says ds in
     record {
       causes = each-next kind path d (length old) a.causes ds 0 (omega (arith, counted)) t.causes;
-      said = a.more ∙ ap (λ found. found ++ says d ∷ []) t.said ∙ sym (each_of-next says d ds);
+      said = a.more ∙ ap (λ found. found ++ says d ∷ []) t.said ∙ sym (each_of-next says ds d);
       few = a.few;
     }
 
@@ -72,8 +59,8 @@ loads-next old new cabinets now at ds d t none place more named =
     let counted : at ≡ items_len ds = place ∙ ap length t.said ∙ each_of-len (load_of 86400 64) ds in
     record {
       causes = behind-next any_load (load_cabinet 64) (list_path (codes "loads")) d at cabinets none ds 0 [] (omega (arith, counted)) t.whose t.causes;
-      said = more ∙ ap (λ found. found ++ load_of 86400 64 d ∷ []) t.said ∙ sym (each_of-next (load_of 86400 64) d ds);
-      whose = named ∙ ap (λ found. found ++ load_cabinet 64 d ∷ []) t.whose ∙ sym (each_of-next (load_cabinet 64) d ds);
+      said = more ∙ ap (λ found. found ++ load_of 86400 64 d ∷ []) t.said ∙ sym (each_of-next (load_of 86400 64) ds d);
+      whose = named ∙ ap (λ found. found ++ load_cabinet 64 d ∷ []) t.whose ∙ sym (each_of-next (load_cabinet 64) ds d);
     }
 
 follows-more : (ds : Items) → follows true ds ≡ true
@@ -106,19 +93,19 @@ within-next P (item first ds) d all here = (all.0, within-next P ds d all.1 here
 pub chain : (a b c : ℕ) → a ≤ b → b ≤ c → a ≤ c
 chain a b c p q = omega (arith, p, q)
 
-asks-further : (b : Bool) (old new : Reach) (d : Data) → Further old new → AsksWithin b old d → AsksWithin b new d
+asks-further : (b : Bool) (old new : Reach) (d : Data) → ReachGrows old new → AsksWithin b old d → AsksWithin b new d
 asks-further true old new d far asks = chain (asked_version d) old.version new.version asks far.version
 asks-further false old new d far asks =
     (chain (number_at (round 86400) d) old.round new.round asks.0 far.round, chain (number_at (cabinet_number 64) d) old.cabinet new.cabinet asks.1 far.cabinet)
 
-unless-further : (entry b : Bool) (old new : Reach) (d : Data) → Further old new → UnlessEntry entry (AsksWithin b old d) → UnlessEntry entry (AsksWithin b new d)
+unless-further : (entry b : Bool) (old new : Reach) (d : Data) → ReachGrows old new → UnlessEntry entry (AsksWithin b old d) → UnlessEntry entry (AsksWithin b new d)
 unless-further true b old new d far asks = tt
 unless-further false b old new d far asks = asks-further b old new d far asks
 
-within-further : (name : List ℕ) (old new : Reach) (d : Data) → Further old new → Within name old d → Within name new d
+within-further : (name : List ℕ) (old new : Reach) (d : Data) → ReachGrows old new → Within name old d → Within name new d
 within-further name old new d far asks = unless-further (bytes_eq name (codes "schedule")) (bytes_eq name (codes "cabinets")) old new d far asks
 
-pub all-further : (name : List ℕ) (old new : Reach) (ds : Items) → Further old new → AllOf (Within name old) ds → AllOf (Within name new) ds
+pub all-further : (name : List ℕ) (old new : Reach) (ds : Items) → ReachGrows old new → AllOf (Within name old) ds → AllOf (Within name new) ds
 all-further name old new ds far all = within-more (Within name old) (Within name new) ds (λ d asks. within-further name old new d far asks) all
 
 -- the list's own text has the brackets
@@ -133,7 +120,7 @@ bracketed later (item d ds) = ap (λ s. comma_if later ++ (compact_text d ++ s))
 
 pub lists-next : (old new : Listed) (ds : Items) (d : Data) (reach : Reach) → Lists old ds → Holds new.found (both ds (item d no_items))
     → written new.text ≡ (written old.text ++ comma_if old.some) ++ compact_text d → new.some ≡ true → name_of new.found ≡ name_of old.found
-    → Within (name_of old.found) reach d → Further old.last new.last → Further reach new.last → Lists new (both ds (item d no_items))
+    → Within (name_of old.found) reach d → ReachGrows old.last new.last → ReachGrows reach new.last → Lists new (both ds (item d no_items))
 lists-next old new ds d reach l holds text some same within far there =
     let name = name_of old.found in
     let here : Within name new.last d = within-further name reach new.last d there within in

@@ -10,16 +10,13 @@ use Rattle.scenario_read.specs.Kinds.{Fit, Fits as Fitting, fault_at, within}
 use Rattle.scenario_read.specs.Table.{round, cabinet_number, number_at}
 use Rattle.scenario_read.specs.Content.{input_of}
 use Rattle.scenario_read.specs.Sorted.{Below}
+use Rattle.scenario_read.proofs.NameOrder.{put-below}
 use Rattle.scenario_file.specs.declared.plain.NumberName.{NumberName}
 use Rattle.scenario_file.specs.declared.plain.Plain.{Plain}
 use Rattle.scenario_file.specs.Listing.{any_input, Within}
 use Rattle.scenario_file.specs.Plain.{number_name, number_then, flag_then, plain_members, input_members, Fits, FieldFits, InputFits}
 
 -- ---- a member goes to its place
-
-below : (name : List ℕ) (d : Data) (ms : Members) → Below name ms → put name d ms ≡ member name d ms
-below name d no_members less = refl
-below name d (member other e ms) less = rw less.0 refl
 
 below-number : (name other : List ℕ) (o : Option ℕ) (ms : Members) → slice_cmp nat_cmp name other ≡ Less → Below name ms → Below name (number_then other o ms)
 below-number name other None ms less rest = rest
@@ -30,11 +27,11 @@ below-flag name other None ms less rest = rest
 below-flag name other (Some b) ms less rest = (less, rest)
 
 here-number : (name : List ℕ) (d : Data) (o : Option ℕ) (ms : Members) → slice_cmp nat_cmp name name ≡ Equal → Below name ms → put name d (number_then name o ms) ≡ member name d ms
-here-number name d None ms same rest = below name d ms rest
+here-number name d None ms same rest = put-below name d ms rest
 here-number name d (Some n) ms same rest = rw same refl
 
 here-flag : (name : List ℕ) (d : Data) (o : Option Bool) (ms : Members) → slice_cmp nat_cmp name name ≡ Equal → Below name ms → put name d (flag_then name o ms) ≡ member name d ms
-here-flag name d None ms same rest = below name d ms rest
+here-flag name d None ms same rest = put-below name d ms rest
 here-flag name d (Some b) ms same rest = rw same refl
 
 past-number : (name other : List ℕ) (d : Data) (o : Option ℕ) (ms now : Members) → slice_cmp nat_cmp name other ≡ Greater → put name d ms ≡ now → put name d (number_then other o ms) ≡ number_then other o now

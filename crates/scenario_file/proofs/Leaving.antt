@@ -5,9 +5,9 @@ use Rattle.std.specs.Cmp.Lexicographic.{slice_cmp}
 use Rattle.std.specs.Ordering.{match_ordering}
 use Rattle.serde_json.specs.Data.{Data, Members, no_members, member, put}
 use Rattle.scenario_read.specs.Sorted.{Below, MembersSorted}
+use Rattle.scenario_read.proofs.NameOrder.{apart-names, not-less, not-greater, below-chain, put-below}
 use Rattle.scenario_cut.proofs.Members.{equal-names}
 use Rattle.scenario_file.specs.Left.{place_from, count_at, without}
-use Rattle.scenario_file.proofs.Frames.{apart-names, not-less, not-greater, Below-chain}
 
 -- ---- the place of a name
 
@@ -99,10 +99,6 @@ below-without gone low (member name d ms) below = at (gone name) (below-without 
     at true rest = rest
     at false rest = (below.0, rest)
 
-put-below : (k : List ℕ) (d : Data) (ms : Members) → Below k ms → put k d ms ≡ member k d ms
-put-below k d no_members below = refl
-put-below k d (member name e ms) below = ap (λ o. match_ordering o (member k d (member name e ms)) (member name d ms) (member name e (put k d ms))) below.0
-
 module _ (old now : List ℕ → Bool) (k : List ℕ) (d : Data) (others : (other : List ℕ) → bytes_eq other k ≡ false → old other ≡ now other) (is : now k ≡ false) where
   behind : (ms : Members) → Below k ms → without old ms ≡ without now ms
   behind no_members below = refl
@@ -135,7 +131,7 @@ module _ (old now : List ℕ → Bool) (k : List ℕ) (d : Data) (others : (othe
       at : (o : Ordering) → slice_cmp nat_cmp k name ≡ o → without now (put k d ms) ≡ put k d (without old ms)
           → without now (match_ordering o (member k d (member name e ms)) (member name d ms) (member name e (put k d ms))) ≡ put k d (without old (member name e ms))
       at Less less rest =
-          let below : Below k (member name e ms) = (less, Below-chain k name ms less sorted.1) in
+          let below : Below k (member name e ms) = (less, below-chain k name ms less sorted.1) in
           ap (λ b. if b then without now (member name e ms) else member k d (without now (member name e ms))) is ∙ first (member name e ms) below
       at Equal tied rest =
           let here : k ≡ name = equal-names k name tied in

@@ -8,9 +8,9 @@ use Rattle.scenario_read.specs.Paths.{Step, Named}
 use Rattle.scenario_read.specs.Fields.{either, faults_of, field_faults, fields_faults, held, names, known_fields, unknown_faults, object_of}
 use Rattle.scenario_read.specs.Table.{clock, poll_every, clock_every, pattern_every, retries, schedule, master_shape, master}
 use Rattle.scenario_read.specs.Content.{each_of, list_in, entry_of, master_of}
+use Rattle.scenario_read.proofs.NoFaults.{none-left, none-both}
 use Rattle.scenario_file.specs.Listing.{ToldEntries, any_entry}
 use Rattle.scenario_file.specs.Framing.{filled, scheduled, master_with, value_in, with_lists, HoldsPlace}
-use Rattle.scenario_file.proofs.Growth.{none-left, none-both}
 use Rattle.scenario_file.proofs.Frames.{get-in}
 use Rattle.scenario_file.proofs.Filled.{unknown-same, kept, kept-fields, same-number, stood, list-faults}
 use Rattle.scenario_file.proofs.Standing.{master_or_none}

@@ -1,6 +1,5 @@
 -- The text of a number that was read is read as the same number.
-use Rattle.std.proofs.Common.{◌≡◌, ℕ, zero, suc, ◌^◌, ◌<◌, ◌≤◌, ◌==◌, ◌&&◌, nat_lt, nat_le, List, drop, get_or, Bool, true, false, Float, negsuc, if◌then◌else◌, Option, Some, None, option_map, option_and_then, refl, arith}
-use Rattle.std.specs.Prelude.{⊤}
+use Rattle.std.proofs.Common.{◌≡◌, ℕ, zero, suc, ◌^◌, ◌<◌, ◌≤◌, ◌==◌, ◌&&◌, nat_lt, nat_le, List, drop, get_or, Bool, true, false, Float, negsuc, if◌then◌else◌, Some, None, refl, arith}
 use Rattle.std.proofs.lemmas.Bool.{and_parts, leb-true, ltb-true}
 use Rattle.std.specs.Float.{binary64, float_is_finite}
 use Rattle.fast_float.specs.Text.{Parts, scan, digits_of, nearest, with_sign}
@@ -11,19 +10,7 @@ use Rattle.serde_json.specs.Find.{is_float}
 use Rattle.serde_json.specs.Read.{number_of, number_from, float_of, is_integer}
 use Rattle.serde_json.specs.Written.{number_text}
 use Rattle.serde_json.proofs.Numbers.{number_of-decimal, number_of-negative}
-
--- what was found, if anything was
-abbrev pub IfFound : {A : Type 0} → (A → Type 0) → Option A → Type 0
-IfFound P None = ⊤
-IfFound P (Some a) = P a
-
-pub found-map : {A B : Type 0} (P : A → Type 0) (Q : B → Type 0) (f : A → B) → ((a : A) → P a → Q (f a)) → (o : Option A) → IfFound P o → IfFound Q (option_map f o)
-found-map P Q f step None h = tt
-found-map P Q f step (Some a) h = step a h
-
-pub found-then : {A B : Type 0} (P : A → Type 0) (Q : B → Type 0) (f : A → Option B) → ((a : A) → P a → IfFound Q (f a)) → (o : Option A) → IfFound P o → IfFound Q (option_and_then f o)
-found-then P Q f step None h = tt
-found-then P Q f step (Some a) h = step a h
+use Rattle.scenario_read.proofs.Rising.{IfFound}
 
 -- the number's own text is one, and is read as this number
 abbrev pub IsNumeral : Num → Type 0

@@ -10,9 +10,9 @@ use Rattle.serde_json.specs.Written.{has_float, members_have_float}
 use Rattle.serde_json.specs.declared.value.Value.{Null, the_lemmas}
 use Rattle.scenario_read.specs.Fields.{either}
 use Rattle.scenario_read.specs.Sorted.{Below, Sorted, MembersSorted}
+use Rattle.scenario_read.proofs.NameOrder.{below-chain}
 use Rattle.scenario_read.proofs.Rising.{sorted-put}
 use Rattle.scenario_file.specs.Source.{with_member, master_and}
-use Rattle.scenario_file.proofs.Frames.{Below-chain}
 
 pub view-Null : view Null ≡ null
 view-Null = search (rules, the_lemmas)
@@ -110,6 +110,6 @@ put-same k v (member l d ms) sorted e = split (λ h. put-same k v ms sorted.2 h)
   where
     split : (get_member k ms ≡ Some v → put k v ms ≡ ms) → (o : Ordering) → slice_cmp nat_cmp k l ≡ o → match_ordering o (get_member k ms) (Some d) (get_member k ms) ≡ Some v
         → match_ordering o (member k v (member l d ms)) (member l v ms) (member l d (put k v ms)) ≡ member l d ms
-    split rest Less is h = absurd (none-below k ms v (Below-chain k l ms is sorted.1) h)
+    split rest Less is h = absurd (none-below k ms v (below-chain k l ms is sorted.1) h)
     split rest Equal is h = let same : d ≡ v = cc in ap (λ (x : Data). member l x ms) (sym same)
     split rest Greater is h = ap (member l d) (rest h)

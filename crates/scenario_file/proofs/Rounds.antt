@@ -8,8 +8,8 @@ use Rattle.scenario_read.specs.Kinds.{Kind, Fits, Beyond, whole, fault_at, each,
 use Rattle.scenario_read.specs.Fields.{Field, Shape, either, faults_of, field_faults, fields_faults, alternative_faults, names, known_fields, unknown_faults, object_of}
 use Rattle.scenario_read.specs.Table.{round, cabinet_number, input_fields, load_cells, load_shape, load_cabinet, load, full_faults, priority_fields, priority_shape, priority_item, departure_faults, act_of, input_shape, stream, frame_hex, frame_shape, way, index, fault_kind, by, octet, fault_shape}
 use Rattle.scenario_read.specs.Content.{whole_of, number_at, each_of}
+use Rattle.scenario_read.proofs.NoFaults.{none-left, none-both}
 use Rattle.scenario_file.specs.Listing.{any_input, any_load, any_priority, any_frame, any_fault, AllOf, InRounds}
-use Rattle.scenario_file.proofs.Growth.{none-left, none-both}
 
 -- a number that fits one range and lies below the end of another fits that
 pub whole-within : (most end : ℕ) (path : List Step) (o : Option Data) → faults_of (whole 1 most) path (either o None) ≡ []

@@ -10,7 +10,7 @@ use Rattle.scenario_file.specs.declared.listed.Listed.{Listed}
 use Rattle.scenario_file.specs.declared.lists.Lists.{Lists}
 use Rattle.scenario_file.specs.declared.written.Written.{Written}
 use Rattle.scenario_file.specs.Growing.{written, inner_text}
-use Rattle.scenario_file.specs.Listing.{Holds, name_of, AllOf, Further, Within, Lists as ListsItems}
+use Rattle.scenario_file.specs.Listing.{Holds, name_of, AllOf, ReachGrows, Within, Lists as ListsItems}
 use Rattle.scenario_read.specs.Fields.{either}
 use Rattle.scenario_file.specs.Framing.{is_list, text_named, stand_in, with_rows, IsHeld, HoldsPlace, TextsStand, FramingStands, MasterStands, ScheduleStands, AllStand}
 use Rattle.scenario_file.proofs.Growth.{all-further}
@@ -28,7 +28,7 @@ master_or_none o = unwrap_or (either o (Some (object no_members))) null
 
 -- another member, and items that ask for more
 pub stand-other : (found : Found) (text : Written) (last now : Reach) (frame : Members) (ds : Items) (k : List ℕ) (d : Data)
-    → bytes_eq k (name_of found) ≡ false → Further last now → FramingStands found text last frame ds → FramingStands found text now (put k d frame) ds
+    → bytes_eq k (name_of found) ≡ false → ReachGrows last now → FramingStands found text last frame ds → FramingStands found text now (put k d frame) ds
 stand-other found text last now frame ds k d other far stands = record {
   holds = stands.holds;
   text_is = stands.text_is;
@@ -38,7 +38,7 @@ stand-other found text last now frame ds k d other far stands = record {
 
 -- the list itself
 pub stand-here : (found : Found) (text : Written) (last now : Reach) (frame : Members) (ds : Items) → Holds found ds → written text ≡ inner_text false ds
-    → AllOf (Within (name_of found) last) ds → Further last now → FramingStands found text now (put (name_of found) (stand_in (name_of found) ds) frame) ds
+    → AllOf (Within (name_of found) last) ds → ReachGrows last now → FramingStands found text now (put (name_of found) (stand_in (name_of found) ds) frame) ds
 stand-here found text last now frame ds holds is within far = record {
   holds = holds;
   text_is = is;
@@ -74,7 +74,7 @@ none-of-six a b c d e f none =
     let t = or_parts e f s.1 in
     (p.0, q.0, r.0, s.0, t.0, t.1)
 
-no-further : (last : Reach) → Further last last
+no-further : (last : Reach) → ReachGrows last last
 no-further last = record { round = omega arith; cabinet = omega arith; version = omega arith }
 
 -- a member that is none of the lists, nor the master

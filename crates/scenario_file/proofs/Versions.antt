@@ -14,11 +14,11 @@ use Rattle.scenario_read.specs.Fields.{Field, either, held, names, unknown_fault
 use Rattle.scenario_read.specs.CellLists.{cell_of}
 use Rattle.scenario_read.specs.Table.{base, cells, pattern, clock, section, gain, lose, number_at, cabinet}
 use Rattle.scenario_read.specs.Content.{whole_of, base_of, list_in, each_of, cabinet_of}
+use Rattle.scenario_read.proofs.NameOrder.{not-less, not-greater}
+use Rattle.scenario_read.proofs.NoFaults.{none-left, none-both}
 use Rattle.scenario_read.proofs.Objects.{both-fields}
 use Rattle.scenario_file.specs.declared.found.Reach.{Reach}
 use Rattle.scenario_file.specs.Listing.{AsksWithin, AllOf}
-use Rattle.scenario_file.proofs.Growth.{none-left, none-both}
-use Rattle.scenario_file.proofs.Frames.{not-less, not-greater}
 
 -- ---- names that do not stand
 

@@ -132,7 +132,7 @@ AllOf P no_items = Unit {0}
 AllOf P (item d ds) = P d × AllOf P ds
 
 -- what is asked for goes at least as far
-pub record Further (old new : Reach) : Type 0 where
+pub record ReachGrows (old new : Reach) : Type 0 where
   pub round : old.round ≤ new.round
   pub cabinet : old.cabinet ≤ new.cabinet
   pub version : old.version ≤ new.version

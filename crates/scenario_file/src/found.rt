@@ -9,7 +9,7 @@ ghost use Rattle.scenario_read.specs.Sorted.{Sorted};
 ghost use Rattle.scenario_cut.specs.Growing.{both};
 ghost use Rattle.scenario_file.specs.Growing.{blanks};
 ghost use Rattle.scenario_file.specs.Plain.{InputFits, input_members};
-ghost use Rattle.scenario_file.specs.Listing.{Further, Holds, Within, asked_version, name_of};
+ghost use Rattle.scenario_file.specs.Listing.{ReachGrows, Holds, Within, asked_version, name_of};
 ghost use Rattle.scenario_file.specs.Framing.{Begins, stand_in};
 
 use crate::entries::entry_in;
@@ -67,8 +67,8 @@ impl Reach {
 
     /// The later round, the higher cabinet and the later version of two.
     pub(crate) fn farthest(self, other: Reach) -> Reach
-        ensures self_far { Further self result }
-        ensures other_far { Further other result }
+        ensures self_far { ReachGrows self result }
+        ensures other_far { ReachGrows other result }
     {
         Reach {
             round: greater(self.round, other.round),

@@ -1,11 +1,12 @@
 //! The scenario file, read with little memory: the lists of the cabinets, of what happens in the rounds and of the master's
 //! schedule, which may be most of a file, are read item by item, and only what stands beside them becomes a tree. What a
 //! scenario is, and what is refused, is as in `scenario_read`. A scenario inside another file is read so too, with its text in parts,
-//! which takes further inputs and another schedule.
+//! which takes further inputs and another schedule; the object around it is read name by name.
 #![tactic(auto)]
 
 mod compact;
 mod entries;
+mod file_left;
 mod found;
 mod left;
 mod listed;
@@ -13,6 +14,7 @@ mod lists;
 mod look;
 mod master;
 mod members;
+mod outer;
 mod pieces;
 mod plain;
 mod reading;
@@ -21,8 +23,10 @@ mod top;
 mod trees;
 mod written;
 
+pub use file_left::FileLeft;
 pub use left::Left;
 pub use members::{put_in_master, put_named};
+pub use outer::{OuterParts, parts_with};
 pub use reading::{read, scenario_of};
-pub use source::{SCENARIO_NAMES, ScenarioText, Source, scenario_at};
+pub use source::{ScenarioText, Source, scenario_at};
 pub use trees::{Level, tree};

@@ -30,7 +30,7 @@ use serde_json::{Map, Value};
 use std::alloc::Global;
 
 /// The names of a scenario.
-pub const SCENARIO_NAMES: [&str; 11] = [
+pub(crate) const SCENARIO_NAMES: [&str; 11] = [
     "version",
     "rounds",
     "ticks",

@@ -1,5 +1,5 @@
 -- A list that is a cell has no float.
-use Rattle.std.proofs.Common.{◌≡◌, ℕ, zero, suc, ◌+◌, ◌<◌, ◌≤◌, Bool, true, false, ◌&&◌, ◌==◌, nat_le, if◌then◌else◌, List, [], Option, Some, None, option_and_then, unwrap_or, bytes_eq, codes, refl, ◌∙◌, subst, arith}
+use Rattle.std.proofs.Common.{◌≡◌, ℕ, zero, suc, ◌+◌, ◌<◌, ◌≤◌, Bool, true, false, ◌&&◌, ◌==◌, nat_le, if◌then◌else◌, List, Option, Some, None, option_and_then, unwrap_or, bytes_eq, codes, refl, ◌∙◌, subst, arith}
 use Rattle.std.proofs.lemmas.Bool.{and_parts, leb-true, leb-false}
 use Rattle.std.proofs.lemmas.Bool.Decides.{Decides-eqb}
 use Rattle.serde_json.specs.Data.{unsigned, negative, float, Data, null, boolean, number, string, array, object, Items, no_items, item}
@@ -11,16 +11,11 @@ use Rattle.sig_tables.specs.declared.cells.Cell.TheVariants.{Phase, Sequence, Sp
 use Rattle.sig_tables.specs.declared.cells.Allowed.{Allowed}
 use Rattle.sig_tables.specs.declared.cells.Allowed.TheVariants.{Numbers, Lists}
 use Rattle.sig_tables.specs.Ranges.{allowed_in}
-use Rattle.scenario_read.specs.Paths.{Step}
-use Rattle.scenario_read.specs.Kinds.{Fit, Fits, Wrong, Beyond, fault_at}
+use Rattle.scenario_read.specs.Kinds.{Fit, Fits, Wrong}
 use Rattle.sig_tables.specs.Cells.{lies, is_cell}
 use Rattle.scenario_read.specs.CellLists.{octet_of, octet_at, named_cell, listed_cell, value_place, put_value, item_count, content_fits, listed_fits, cell}
 use Rattle.scenario_read.proofs.Floatless.{Floatless}
-
-fits-alone : (path : List Step) (fit : Fit) → fault_at path fit ≡ [] → fit ≡ Fits
-fits-alone path Fits e = refl
-fits-alone path Wrong e = absurd (cc)
-fits-alone path Beyond e = absurd (cc)
+use Rattle.scenario_read.proofs.NoFaults.{fits-alone}
 
 octet-floatless : (v : Data) → 1 ≤ octet_of v → has_float v ≡ false
 octet-floatless null h = refl

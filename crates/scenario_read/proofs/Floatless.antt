@@ -1,10 +1,7 @@
 -- A value without faults has no float: what stands at each name is a whole number, a word, a flag, a list of these or an
 -- object of these.
-use Rattle.std.proofs.Common.{◌≡◌, ℕ, ◌+◌, Bool, true, false, ◌||◌, if◌then◌else◌, List, [], ◌∷◌, ◌++◌, filter, Option, Some, None, unwrap_or, Ordering, Less, Equal, Greater, nat_cmp, bytes_eq, refl, sym, ap, ◌∙◌, subst}
-use Rattle.std.proofs.lemmas.Cmp.{nat_list_cmp_total, tied_itself}
+use Rattle.std.proofs.Common.{◌≡◌, ℕ, ◌+◌, Bool, true, false, ◌||◌, if◌then◌else◌, List, [], ◌∷◌, ◌++◌, filter, Option, Some, None, unwrap_or, bytes_eq, refl, sym, ap, ◌∙◌, subst}
 use Rattle.std.proofs.lemmas.Slice.Eq.{bytes_eq-Decides}
-use Rattle.std.specs.Cmp.Lexicographic.{slice_cmp}
-use Rattle.std.specs.Ordering.{match_ordering, ordering_reverse}
 use Rattle.serde_json.specs.Data.{unsigned, negative, float, Data, null, boolean, number, string, array, object, Items, no_items, item, Members, no_members, member}
 use Rattle.serde_json.specs.Find.{get_member, get}
 use Rattle.serde_json.specs.Written.{has_float, items_have_float, members_have_float}
@@ -13,15 +10,13 @@ use Rattle.scenario_read.specs.Paths.{Step, path_text, then_named, then_item}
 use Rattle.scenario_read.specs.Kinds.{Kind, is_among, whole, rare, text, word, flag, each, list_of, each_behind, list_behind}
 use Rattle.scenario_read.specs.Fields.{Field, Shape, either, faults_of, field_faults, fields_faults, stands, only_one, all_of, known_fields, names, unknown_faults, chosen_faults, alternative_faults, object_of}
 use Rattle.scenario_read.specs.CellLists.{hex_text}
-use Rattle.scenario_read.specs.Sorted.{Below, Sorted, ItemsSorted, MembersSorted}
+use Rattle.scenario_read.specs.Sorted.{Sorted, ItemsSorted, MembersSorted}
+use Rattle.scenario_read.proofs.NameOrder.{AllFound, all-found}
+use Rattle.scenario_read.proofs.NoFaults.{none-left, both-faultless}
 
 -- a value of the kind that has no faults has no float
 abbrev pub Floatless : Kind → Type 0
 Floatless kind = (path : List Step) (d : Data) → Sorted d → kind path d ≡ [] → has_float d ≡ false
-
-none-left : (xs ys : List Cause) → xs ++ ys ≡ [] → (xs ≡ []) × (ys ≡ [])
-none-left [] ys e = (refl, e)
-none-left (x ∷ xs) ys e = absurd (cc)
 
 pub whole-floatless : (least most : ℕ) → Floatless (whole least most)
 whole-floatless least most path null sorted e = refl
@@ -111,26 +106,6 @@ list-behind-floatless kind says good path (object ms) sorted e = absurd (cc)
 
 -- ---- the members of an object
 
--- each of these is what is found at its name
-abbrev AllFound : Members → Members → Type 0
-AllFound all no_members = Unit {0}
-AllFound all (member name d ms) = (get_member name all ≡ Some d) × AllFound all ms
-
-past : (o : Ordering) (a b : Option Data) → o ≡ Greater → match_ordering o a b a ≡ a
-past Less a b e = absurd (cc)
-past Equal a b e = absurd (cc)
-past Greater a b e = refl
-
-found-behind : (name : List ℕ) (d : Data) (all ms : Members) → Below name ms → AllFound all ms → AllFound (member name d all) ms
-found-behind name d all no_members below found = tt
-found-behind name d all (member other e ms) below found =
-    let above : slice_cmp nat_cmp other name ≡ Greater = nat_list_cmp_total.antisymm other name ∙ ap ordering_reverse below.0 in
-    (past (slice_cmp nat_cmp other name) (get_member other all) (Some d) above ∙ found.0, found-behind name d all ms below.1 found.1)
-
-all-found : (ms : Members) → MembersSorted ms → AllFound ms ms
-all-found no_members sorted = tt
-all-found (member name d ms) sorted = (rw (tied_itself nat_list_cmp_total name) refl, found-behind name d ms ms sorted.1 (all-found ms sorted.2))
-
 -- all fields are of kinds without floats
 abbrev pub AllFloatless : List Field → Type 0
 AllFloatless [] = Unit {0}
@@ -143,12 +118,6 @@ EachFloatless (fields ∷ more) = AllFloatless fields × EachFloatless more
 both-floatless : (xs ys : List Field) → AllFloatless xs → AllFloatless ys → AllFloatless (xs ++ ys)
 both-floatless [] ys a b = b
 both-floatless (f ∷ xs) ys a b = (a.0, both-floatless xs ys a.1 b)
-
-both-faultless : (path : List Step) (d : Data) (xs ys : List Field) → fields_faults path d xs ≡ [] → fields_faults path d ys ≡ [] → fields_faults path d (xs ++ ys) ≡ []
-both-faultless path d [] ys a b = b
-both-faultless path d (f ∷ xs) ys a b =
-    let parts = none-left (field_faults path d f) (fields_faults path d xs) a in
-    rw parts.0 (both-faultless path d xs ys parts.1 b)
 
 -- what stands at a known name has no float
 at-known : (path : List Step) (d : Data) (fields : List Field) → AllFloatless fields → fields_faults path d fields ≡ []

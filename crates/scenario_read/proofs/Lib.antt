@@ -4,6 +4,9 @@ pub mod Behind
 pub mod Lists
 pub mod Judged
 pub mod Objects
+pub mod NameOrder
+pub mod KnownNames
+pub mod NoFaults
 pub mod Rising
 pub mod Floatless
 pub mod CellFloats

@@ -35,6 +35,10 @@ pub refuses_more : (fail : ReadFail) (causes more : List Cause) → Refuses fail
 refuses_more (Refused refusal) causes more h = names-more refusal causes more h
 refuses_more NoMemory causes more h = tt
 
+-- and so is the first fault behind what has none
+pub refuses_behind : (fail : ReadFail) (causes more : List Cause) → causes ≡ [] → Refuses fail more → Refuses fail (causes ++ more)
+refuses_behind fail causes more none h = rw none h
+
 named-first : (bytes : List ℕ) (d : Data) (refusal : Refusal) → Reads bytes d → Names refusal (first_cause (faults d)) → IsFirstFault bytes refusal
 named-first bytes d Syntax reads h = absurd h
 named-first bytes d (Field path) reads h = (d, reads, h)

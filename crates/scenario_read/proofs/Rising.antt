@@ -9,27 +9,24 @@ use Rattle.json.specs.Json as json
 use Rattle.serde_json.specs.Data.{Data, number, array, object, item, Members, no_members, member, put}
 use Rattle.serde_json.specs.Read.{number_of, of_json, of_items, of_members, max_depth, read}
 use Rattle.scenario_read.specs.Sorted.{Below, Sorted, ItemsSorted, MembersSorted}
+use Rattle.scenario_read.proofs.NameOrder.{below-chain}
 
 -- what was found, if anything was
-abbrev IfFound : {A : Type 0} → (A → Type 0) → Option A → Type 0
+abbrev pub IfFound : {A : Type 0} → (A → Type 0) → Option A → Type 0
 IfFound P None = ⊤
 IfFound P (Some a) = P a
 
-found-map : {A B : Type 0} (P : A → Type 0) (Q : B → Type 0) (f : A → B) → ((a : A) → P a → Q (f a)) → (o : Option A) → IfFound P o → IfFound Q (option_map f o)
+pub found-map : {A B : Type 0} (P : A → Type 0) (Q : B → Type 0) (f : A → B) → ((a : A) → P a → Q (f a)) → (o : Option A) → IfFound P o → IfFound Q (option_map f o)
 found-map P Q f step None h = tt
 found-map P Q f step (Some a) h = step a h
 
-found-then : {A B : Type 0} (P : A → Type 0) (Q : B → Type 0) (f : A → Option B) → ((a : A) → P a → IfFound Q (f a)) → (o : Option A) → IfFound P o → IfFound Q (option_and_then f o)
+pub found-then : {A B : Type 0} (P : A → Type 0) (Q : B → Type 0) (f : A → Option B) → ((a : A) → P a → IfFound Q (f a)) → (o : Option A) → IfFound P o → IfFound Q (option_and_then f o)
 found-then P Q f step None h = tt
 found-then P Q f step (Some a) h = step a h
 
-any : {A : Type 0} (o : Option A) → IfFound (λ a. ⊤) o
+pub any : {A : Type 0} (o : Option A) → IfFound (λ a. ⊤) o
 any None = tt
 any (Some a) = tt
-
-Below-chain : (low name : List ℕ) (ms : Members) → slice_cmp nat_cmp low name ≡ Less → Below name ms → Below low ms
-Below-chain low name no_members less below = tt
-Below-chain low name (member other d ms) less below = (nat_list_cmp_total.trans low name other less below.0, Below-chain low name ms less below.1)
 
 Below-put : (low name : List ℕ) (d : Data) (ms : Members) → slice_cmp nat_cmp low name ≡ Less → Below low ms → Below low (put name d ms)
 Below-put low name d no_members less below = (less, tt)
@@ -46,7 +43,7 @@ sorted-put name d (member other e ms) here sorted = at (sorted-put name d ms her
   where
     at : MembersSorted (put name d ms) → (o : Ordering) → slice_cmp nat_cmp name other ≡ o
         → MembersSorted (match_ordering o (member name d (member other e ms)) (member other d ms) (member other e (put name d ms)))
-    at rest Less is = (here, (is, Below-chain name other ms is sorted.1), sorted)
+    at rest Less is = (here, (is, below-chain name other ms is sorted.1), sorted)
     at rest Equal is = (here, sorted.1, sorted.2)
     at rest Greater is = (sorted.0, Below-put other name d ms (nat_list_cmp_total.antisymm other name ∙ ap ordering_reverse is) sorted.1, rest)
 

@@ -1,8 +1,9 @@
 -- A list is read item by item: the faults and the content of those before a place are known.
-use Rattle.std.proofs.Common.{◌≡◌, Bool, true, false, ◌&&◌, nat_le, if◌then◌else◌, ℕ, ◌+◌, ◌<◌, ◌≤◌, List, [], ◌∷◌, ◌++◌, length, drop, get_or, map, refl, sym, ap, ◌∙◌, append-nil, append_assoc}
+use Rattle.std.proofs.Common.{◌≡◌, Bool, true, false, ◌&&◌, nat_le, if◌then◌else◌, ℕ, suc, ◌+◌, ◌<◌, ◌≤◌, List, [], ◌∷◌, ◌++◌, length, drop, get_or, map, refl, sym, ap, ◌∙◌, append-nil, append_assoc}
 use Rattle.std.proofs.lemmas.Bool.{leb-true, le-leb}
 use Rattle.std.proofs.lemmas.List.{drop_more, drop_all}
-use Rattle.serde_json.specs.Data.{Data}
+use Rattle.serde_json.specs.Data.{Data, Items, no_items, item}
+use Rattle.serde_json.specs.Events.{items_len}
 use Rattle.serde_json.specs.View.{view, items_view}
 use Rattle.serde_json.specs.declared.value.Value.{Value}
 use Rattle.scenario_data.specs.declared.refusal.ReadFail.{ReadFail}
@@ -19,6 +20,11 @@ pub record Walked {A : Type 0} (kind : Kind) (path : List Step) (f : Data → A)
 
 pub Walked-start : {A : Type 0} (kind : Kind) (path : List Step) (f : Data → A) (all : List Value) → Walked kind path f all [] 0
 Walked-start kind path f all = record { causes = refl; content = refl }
+
+-- as many are said as there are items
+pub each_of-len : {A : Type 0} (says : Data → A) (ds : Items) → length (each_of says ds) ≡ items_len ds
+each_of-len says no_items = refl
+each_of-len says (item d ds) = ap suc (each_of-len says ds)
 
 pub map-more : {A B : Type 0} (f : A → B) (xs : List A) (x : A) → map f (xs ++ x ∷ []) ≡ map f xs ++ f x ∷ []
 map-more f [] x = refl

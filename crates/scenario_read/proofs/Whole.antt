@@ -10,9 +10,7 @@ use Rattle.scenario_read.specs.declared.scenario.Parts.{Parts}
 use Rattle.scenario_read.specs.Content.{round_count, tick_count, cabinet_count, cabinets_of, scenario_of}
 use Rattle.scenario_read.specs.Faults.{named_faults, product_faults, all_table_faults, faults}
 use Rattle.scenario_read.specs.Readers.{Refuses, Says, content_from}
-
-all-none : (a b c : List Cause) → a ≡ [] → b ≡ [] → c ≡ [] → a ++ (b ++ c) ≡ []
-all-none a b c p q r = rw (p, q, r) refl
+use Rattle.scenario_read.proofs.NoFaults.{none-left, none-of-three}
 
 -- as many ticks in all as the names say
 same-product : (parts : Parts) (d : Data) → Says parts d → length parts.setup.cabinets.items * parts.setup.rounds * parts.setup.ticks ≡ cabinet_count d * round_count d * tick_count d
@@ -24,7 +22,7 @@ same-product parts d says =
 pub whole-faultless : (parts : Parts) (d : Data) → Says parts d → named_faults d ≡ []
     → product_faults (length parts.setup.cabinets.items * parts.setup.rounds * parts.setup.ticks) ≡ [] → all_table_faults 1 (map cabinet_content parts.setup.cabinets.items) ≡ [] → faults d ≡ []
 whole-faultless parts d says names product tables =
-    all-none _ _ _ names (subst (λ n. product_faults n ≡ []) (same-product parts d says) product) (subst (λ (cs : List CabinetContent). all_table_faults 1 cs ≡ []) says.setup.cabinets tables)
+    none-of-three _ _ _ names (subst (λ n. product_faults n ≡ []) (same-product parts d says) product) (subst (λ (cs : List CabinetContent). all_table_faults 1 cs ≡ []) says.setup.cabinets tables)
 
 -- the first fault of the tables is that of the value, where nothing else is at fault
 pub tables-refused : (fail : ReadFail) (parts : Parts) (d : Data) → Says parts d → named_faults d ≡ []
@@ -43,15 +41,11 @@ whole-content parts text d says is =
     let events = says.events in
     rw (says.version, setup.rounds, setup.ticks, setup.community, setup.cabinets, setup.master, events.inputs, events.loads, events.priority, events.frames, events.faults, is) refl
 
-both-none : (xs ys : List Cause) → xs ++ ys ≡ [] → (xs ≡ []) × (ys ≡ [])
-both-none [] ys e = (refl, e)
-both-none (x ∷ xs) ys e = absurd (cc)
-
 -- a scenario without faults has none at its names, none in its number of ticks, and none in its tables
 pub faultless-parts : (d : Data) → faults d ≡ []
     → (named_faults d ≡ []) × (product_faults (cabinet_count d * round_count d * tick_count d) ≡ []) × (all_table_faults 1 (cabinets_of d) ≡ [])
 faultless-parts d e =
-    let names = both-none (named_faults d)
+    let names = none-left (named_faults d)
     (product_faults (cabinet_count d * round_count d * tick_count d) ++ all_table_faults 1 (cabinets_of d)) e in
-    let rest = both-none (product_faults (cabinet_count d * round_count d * tick_count d)) (all_table_faults 1 (cabinets_of d)) names.1 in
+    let rest = none-left (product_faults (cabinet_count d * round_count d * tick_count d)) (all_table_faults 1 (cabinets_of d)) names.1 in
     (names.0, rest.0, rest.1)

@@ -4,7 +4,7 @@ use Rattle.scenario_read.specs.Answers.{IsFirstFault}
 use Rattle.scenario_read.specs.Content.{scenario_of}
 use Rattle.scenario_read.proofs.OneAnswer.{no-fault-beside}
 use Rattle.field_file.specs.Written.{result_of}
-use Rattle.field_file.specs.Told.{TellsResult}
+use Rattle.field_file.specs.FieldAnswer.{TellsResult}
 use Rattle.field_file.proofs.Whole.{result-faultless}
 use Rattle.field_file.proofs.results_are_scenarios.Goals as goal
 

@@ -5,6 +5,7 @@ use Rattle.json.proofs.Grammar.{value-begin_array}
 use Rattle.serde_json.specs.Data.{array}
 use Rattle.serde_json.specs.Read.{of_json, converted}
 use Rattle.scenario_cut.proofs.Turns.{converted-array}
+use Rattle.band_report.proofs.Times.{no-array}
 use Rattle.band_report.proofs.legs.travel_times.Goals as goal
 
 pub returns-in-Some-clause-ok : goal.returns-in-Some-clause-ok
@@ -20,4 +21,5 @@ pub returns-then-pass_rest-clause-ok : goal.returns-then-pass_rest-clause-ok
 returns-then-pass_rest-clause-ok c =
     let done = c.pass_rest.ensures.passed c.if-pass_rest.true in
     let first : c.args.reader.now ≡ token_of c.in_ok-token.token ∷ c.next.new.self = grind arith in
-    (done.0, ap (λ ts. converted of_json (value c.args.depth ts)) first ∙ done.1, c.no_list.ensures done.0 (done.2.no_list c.in_default.not-BeginArray))
+    let none = no-array done.0 (done.2.no_list c.in_default.not-BeginArray) in
+    (done.0, ap (λ ts. converted of_json (value c.args.depth ts)) first ∙ done.1, c.no_list.ensures done.0 none)

@@ -7,6 +7,7 @@ use Rattle.serde_json.specs.Data.{null, number}
 use Rattle.serde_json.specs.Read.{of_json, converted}
 use Rattle.serde_json.specs.View.{view, number_view}
 use Rattle.serde_json.specs.declared.value.Value.{Null, Number, the_lemmas}
+use Rattle.band_report.proofs.Alone.{alone-null}
 use Rattle.band_report.proofs.numbers.number_alone.Goals as goal
 
 pub returns-in-Some-clause-ok : goal.returns-in-Some-clause-ok
@@ -21,4 +22,5 @@ returns-then-pass_rest-clause-ok c =
     let done = c.pass_rest.ensures.passed c.if-pass_rest.true in
     let first : c.args.reader.now ≡ token_of c.in_ok-token.token ∷ c.next.new.self = grind arith in
     let seen : view Null ≡ null = search (rules, the_lemmas) in
-    (done.0, ap (λ ts. converted of_json (value c.args.depth ts)) first ∙ done.1, seen ∙ sym (done.2.no_number c.in_default.not-Number))
+    let none = alone-null done.0 (done.2.no_number c.in_default.not-Number) in
+    (done.0, ap (λ ts. converted of_json (value c.args.depth ts)) first ∙ done.1, seen ∙ sym none)

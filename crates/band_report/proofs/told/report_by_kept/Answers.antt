@@ -1,7 +1,7 @@
 use Rattle.std.proofs.Common.{◌≡◌, [], subst}
 use Rattle.serde_json.specs.View.{view}
 use Rattle.band_report.specs.Asked.{band_faults}
-use Rattle.band_report.specs.Told.{TellsOf}
+use Rattle.band_report.specs.BandAnswer.{TellsOf}
 use Rattle.band_report.proofs.Kept.{street-right, street-refused, no-street}
 use Rattle.band_report.proofs.told.report_by_kept.Goals as goal
 

@@ -1,6 +1,6 @@
 use Rattle.std.proofs.Common.{subst}
 use Rattle.scenario_read.specs.Answers.{OnRefusal}
-use Rattle.field_file.specs.Told.{IsFirstResultFault}
+use Rattle.field_file.specs.FieldAnswer.{IsFirstResultFault}
 use Rattle.field_file.proofs.Sizes.{field-refused, result-refused}
 use Rattle.field_file.proofs.told.respond.Goals as goal
 

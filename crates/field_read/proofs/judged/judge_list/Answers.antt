@@ -15,9 +15,10 @@ returns-in_ok-judged-in-BeginArray-clause-ok c =
     let found = c.in_ok-judged-in-BeginArray.ensures.ok in
     (array found.0, opened ∙ ap (parse_map array) found.1, c.verdict.ensures c.args.extent found.0 found.2)
 
-pub returns-then-pass_other-clause-ok : goal.returns-then-pass_other-clause-ok
-returns-then-pass_other-clause-ok c =
+pub returns-then-pass_rest-clause-ok : goal.returns-then-pass_rest-clause-ok
+returns-then-pass_rest-clause-ok c =
     let rest = c.next.new.self in
     let first : c.args.reader.now ≡ token_of c.in_ok-token.token ∷ rest = grind arith in
-    let done = c.pass_other.ensures.passed c.if-pass_other.true in
-    (done.0, ap (λ ts. converted of_json (value 126 ts)) first ∙ done.1, c.no_list.ensures c.args.extent done.0 done.2)
+    let done = c.pass_rest.ensures.passed c.if-pass_rest.true in
+    let bare = done.2.no_list c.in_default.not-BeginArray in
+    (done.0, ap (λ ts. converted of_json (value 126 ts)) first ∙ done.1, c.no_list.ensures c.args.extent done.0 bare)

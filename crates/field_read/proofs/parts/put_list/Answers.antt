@@ -1,10 +1,10 @@
 use Rattle.std.proofs.Common.{[], codes, refl, subst}
 use Rattle.serde_json.specs.Data.{array}
+use Rattle.scenario_read.proofs.KnownNames.{known-put}
 use Rattle.field_read.specs.declared.found.Found.{Found}
 use Rattle.field_read.specs.declared.found.Found.TheVariants.{Bank, Pulses}
 use Rattle.field_read.specs.Lists.{Holds}
 use Rattle.field_read.specs.Parts.{known, SaysScenario, SaysRespond}
-use Rattle.field_read.proofs.Names.{known-put}
 use Rattle.field_read.proofs.Standing.{is-there, list-here, list-there, same-found}
 use Rattle.field_read.proofs.parts.put_list.Goals as goal
 

@@ -1,7 +1,7 @@
 use Rattle.std.proofs.Common.{[], codes, refl}
+use Rattle.scenario_read.proofs.KnownNames.{known-put}
 use Rattle.field_read.specs.declared.found.Found.TheVariants.{Bank, Pulses}
 use Rattle.field_read.specs.Parts.{known, SaysScenario, SaysRespond}
-use Rattle.field_read.proofs.Names.{known-put}
 use Rattle.field_read.proofs.Standing.{is-here, is-there, list-there}
 use Rattle.field_read.proofs.parts.put_respond.Goals as goal
 

@@ -1,4 +1,4 @@
-use Rattle.std.proofs.Common.{◌≡◌, ◌-◌, ◌∷◌, length, refl, sym, ap, ◌∙◌, arith}
+use Rattle.std.proofs.Common.{◌≡◌, ◌-◌, ◌∷◌, length, ap, ◌∙◌, arith}
 use Rattle.json.specs.Json.{value, members, parse_map}
 use Rattle.json.specs.Reads.{token_of}
 use Rattle.json.proofs.Grammar.{value-begin_object}
@@ -17,10 +17,11 @@ returns-in-Some-clause-ok c =
     let found = c.in-Some.ensures.ok in
     (object found.0, opened ∙ ap (parse_map object) found.1, found.2)
 
-pub returns-then-pass_no_object-clause-ok : goal.returns-then-pass_no_object-clause-ok
-returns-then-pass_no_object-clause-ok c =
+pub returns-then-pass_rest-clause-ok : goal.returns-then-pass_rest-clause-ok
+returns-then-pass_rest-clause-ok c =
     let depth = c.args.depth in
     let rest = c.next.new.self in
     let first : c.args.reader.now ≡ token_of c.in_ok-token.token ∷ rest = grind arith in
-    let done = c.pass_no_object.ensures.passed c.if-pass_no_object.true in
-    (done.0, ap (converted of_json) (ap (value depth) first) ∙ done.1, none-named c.args.search c.all_absent.result done.0 done.2 c.all_absent.ensures)
+    let done = c.pass_rest.ensures.passed c.if-pass_rest.true in
+    let none = done.2.no_object c.in_default.not-BeginObject in
+    (done.0, ap (converted of_json) (ap (value depth) first) ∙ done.1, none-named c.args.search c.all_absent.result done.0 none c.all_absent.ensures)

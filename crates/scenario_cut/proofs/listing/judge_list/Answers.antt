@@ -15,3 +15,11 @@ returns-in-Some-clause-ok c =
     let opened = ap (converted of_json) (ap (value depth) (first ∙ ap (λ k. token_of k ∷ rest) c.in-BeginArray.is) ∙ value-begin_array depth rest (omega arith)) ∙ converted-array (items (value (depth - 1)) (length rest) rest) in
     let found = c.in_ok-judged-in-BeginArray.ensures.ok in
     (array found.0, opened ∙ ap (parse_map array) found.1, c.in-Some.ensures c.args.extent found.0 found.2)
+
+pub returns-then-pass_rest-clause-ok : goal.returns-then-pass_rest-clause-ok
+returns-then-pass_rest-clause-ok c =
+    let rest = c.next.new.self in
+    let first : c.args.reader.now ≡ token_of c.in_ok-token.token ∷ rest = grind arith in
+    let done = c.pass_rest.ensures.passed c.if-pass_rest.true in
+    let bare = done.2.no_list c.in_default.not-BeginArray in
+    (done.0, ap (λ ts. converted of_json (value c.args.depth ts)) first ∙ done.1, c.no_list.ensures c.args.extent done.0 bare)

@@ -7,6 +7,7 @@ use Rattle.serde_json.specs.Data.{null, boolean, number, string, array, object, 
 use Rattle.serde_json.specs.Read.{of_json, of_items, converted}
 use Rattle.serde_json.specs.View.{number_view}
 use Rattle.scenario_cut.specs.Growing.{both}
+use Rattle.scenario_cut.proofs.Begun.{begun-value}
 use Rattle.scenario_cut.proofs.Turns.{converted-array, converted-object, item_read, item_refused, items_over, member_read, member_refused, key_refused, members_over, both-end, one_more, none_before}
 use Rattle.scenario_cut.proofs.passing.+pass.Goals as goal
 
@@ -15,80 +16,98 @@ pass-returns-in_default-clause-refused t c = λ no-reading.
     let empty : c.args.reader.now ≡ [] = grind arith in
     ap (converted of_json) (ap (value c.args.depth) empty ∙ value_is c.args.depth [])
 
-pub pass-returns-then-depth-eq0-clause-refused : goal.pass-returns-then-depth-eq0-clause-refused
-unfolding value
-pass-returns-then-depth-eq0-clause-refused t c = λ no-reading.
+pub pass-returns-clause-passed : goal.pass-returns-clause-passed
+pass-returns-clause-passed t c = λ yes.
     let first : c.args.reader.now ≡ token_of c.in-Some.token ∷ c.next.new.self = grind arith in
-    let none : c.args.depth ≡ 0 = omega arith in
-    ap (converted of_json) (ap₂ value none (first ∙ ap (λ k. token_of k ∷ c.next.new.self) c.in-BeginArray.is))
+    let done = c.pass_rest.ensures.passed yes in
+    (done.0, ap (λ ts. converted of_json (value c.args.depth ts)) first ∙ done.1)
 
-pub pass-returns-then-depth-eq0-2-clause-refused : goal.pass-returns-then-depth-eq0-2-clause-refused
-unfolding value
-pass-returns-then-depth-eq0-2-clause-refused t c = λ no-reading.
+pub pass-returns-clause-refused : goal.pass-returns-clause-refused
+pass-returns-clause-refused t c = λ no-reading.
     let first : c.args.reader.now ≡ token_of c.in-Some.token ∷ c.next.new.self = grind arith in
-    let none : c.args.depth ≡ 0 = omega arith in
-    ap (converted of_json) (ap₂ value none (first ∙ ap (λ k. token_of k ∷ c.next.new.self) c.in-BeginObject.is))
+    ap (λ ts. converted of_json (value c.args.depth ts)) first ∙ c.pass_rest.ensures.refused no-reading
 
-pub pass-returns-in-String-clause-passed : goal.pass-returns-in-String-clause-passed
-pass-returns-in-String-clause-passed t c = λ yes.
-    let first : c.args.reader.now ≡ token_of c.in-Some.token ∷ c.next.new.self = grind arith in
-    let is : c.args.reader.now ≡ Token.string c.in-String.field-0.now ∷ c.next.new.self = grind (arith, first) in
-    (string c.in-String.field-0.now, ap (converted of_json) (ap (value c.args.depth) is ∙ value_is c.args.depth _))
+pub pass_rest-returns-in-String-clause-passed : goal.pass_rest-returns-in-String-clause-passed
+pass_rest-returns-in-String-clause-passed t c = λ yes.
+    let rest = c.args.reader.now in
+    let is : token_of c.args.token ≡ Token.string c.in-String.field-0.now = grind arith in
+    begun-value c.args.token c.args.depth rest rest (string c.in-String.field-0.now)
+    (ap (converted of_json) (ap (λ k. value c.args.depth (k ∷ rest)) is ∙ value_is c.args.depth _))
 
-pub pass-returns-in-Some-number_of-clause-passed : goal.pass-returns-in-Some-number_of-clause-passed
-pass-returns-in-Some-number_of-clause-passed t c = λ yes.
-    let first : c.args.reader.now ≡ token_of c.in-Some.token ∷ c.next.new.self = grind arith in
-    let is : c.args.reader.now ≡ Token.number c.in-Number.text.now ∷ c.next.new.self = grind (arith, first) in
-    (number (number_view c.in-Some-number_of.field-0), ap (converted of_json) (ap (value c.args.depth) is ∙ value_is c.args.depth _) ∙ rw (← c.in-Some-number_of.ensures))
+pub pass_rest-returns-in-Some-clause-passed : goal.pass_rest-returns-in-Some-clause-passed
+pass_rest-returns-in-Some-clause-passed t c = λ yes.
+    let rest = c.args.reader.now in
+    let is : token_of c.args.token ≡ Token.number c.in-Number.text.now = grind arith in
+    begun-value c.args.token c.args.depth rest rest (number (number_view c.in-Some.field-0))
+    (ap (converted of_json) (ap (λ k. value c.args.depth (k ∷ rest)) is ∙ value_is c.args.depth _) ∙ rw (← c.in-Some.ensures))
 
-pub pass-returns-in-None-clause-refused : goal.pass-returns-in-None-clause-refused
-pass-returns-in-None-clause-refused t c = λ no-reading.
-    let first : c.args.reader.now ≡ token_of c.in-Some.token ∷ c.next.new.self = grind arith in
-    let is : c.args.reader.now ≡ Token.number c.in-Number.text.now ∷ c.next.new.self = grind (arith, first) in
-    ap (converted of_json) (ap (value c.args.depth) is ∙ value_is c.args.depth _) ∙ rw (← c.in-None.ensures)
+pub pass_rest-returns-in-None-clause-refused : goal.pass_rest-returns-in-None-clause-refused
+pass_rest-returns-in-None-clause-refused t c = λ no-reading.
+    let is : token_of c.args.token ≡ Token.number c.in-Number.text.now = grind arith in
+    ap (converted of_json) (ap (λ k. value c.args.depth (k ∷ c.args.reader.now)) is ∙ value_is c.args.depth _) ∙ rw (← c.in-None.ensures)
 
-pub pass-returns-in-Bool-clause-passed : goal.pass-returns-in-Bool-clause-passed
-pass-returns-in-Bool-clause-passed t c = λ yes.
-    let first : c.args.reader.now ≡ token_of c.in-Some.token ∷ c.next.new.self = grind arith in
-    let is : c.args.reader.now ≡ Token.boolean c.in-Bool.field-0 ∷ c.next.new.self = grind (arith, first) in
-    (boolean c.in-Bool.field-0, ap (converted of_json) (ap (value c.args.depth) is ∙ value_is c.args.depth _))
+pub pass_rest-returns-in-Bool-clause-passed : goal.pass_rest-returns-in-Bool-clause-passed
+pass_rest-returns-in-Bool-clause-passed t c = λ yes.
+    let rest = c.args.reader.now in
+    let is : token_of c.args.token ≡ Token.boolean c.in-Bool.field-0 = grind arith in
+    begun-value c.args.token c.args.depth rest rest (boolean c.in-Bool.field-0)
+    (ap (converted of_json) (ap (λ k. value c.args.depth (k ∷ rest)) is ∙ value_is c.args.depth _))
 
-pub pass-returns-in-Null-clause-passed : goal.pass-returns-in-Null-clause-passed
-pass-returns-in-Null-clause-passed t c = λ yes.
-    let first : c.args.reader.now ≡ token_of c.in-Some.token ∷ c.next.new.self = grind arith in
-    let is : c.args.reader.now ≡ Token.null ∷ c.next.new.self = grind (arith, first) in
-    (null, ap (converted of_json) (ap (value c.args.depth) is ∙ value_is c.args.depth _))
+pub pass_rest-returns-in-Null-clause-passed : goal.pass_rest-returns-in-Null-clause-passed
+pass_rest-returns-in-Null-clause-passed t c = λ yes.
+    let rest = c.args.reader.now in
+    let is : token_of c.args.token ≡ Token.null = grind arith in
+    begun-value c.args.token c.args.depth rest rest null
+    (ap (converted of_json) (ap (λ k. value c.args.depth (k ∷ rest)) is ∙ value_is c.args.depth _))
 
-pub pass-returns-in-EndObject-clause-refused : goal.pass-returns-in-EndObject-clause-refused
-pass-returns-in-EndObject-clause-refused t c = λ no-reading.
-    let first : c.args.reader.now ≡ token_of c.in-Some.token ∷ c.next.new.self = grind arith in
-    let none : value c.args.depth c.args.reader.now ≡ None = rw (value_is c.args.depth c.args.reader.now, first) (grind arith) in
+pub pass_rest-returns-in-EndObject-clause-refused : goal.pass_rest-returns-in-EndObject-clause-refused
+pass_rest-returns-in-EndObject-clause-refused t c = λ no-reading.
+    let all = token_of c.args.token ∷ c.args.reader.now in
+    let none : value c.args.depth all ≡ None = rw (value_is c.args.depth all) (grind arith) in
     ap (converted of_json) none
 
-pub pass-returns-else-depth-eq0-clause-passed : goal.pass-returns-else-depth-eq0-clause-passed
-pass-returns-else-depth-eq0-clause-passed t c = λ yes.
-    let first : c.args.reader.now ≡ token_of c.in-Some.token ∷ c.next.new.self = grind arith in
-    let opened = ap (converted of_json) (ap (value c.args.depth) (first ∙ ap (λ k. token_of k ∷ c.next.new.self) c.in-BeginArray.is) ∙ value-begin_array c.args.depth c.next.new.self (omega arith)) ∙ converted-array (items (value (c.args.depth - 1)) (length c.next.new.self) c.next.new.self) in
-    let found = c.pass_items.ensures.passed yes in
-    (array found.0, opened ∙ ap (parse_map array) found.1)
+pub pass_rest-returns-then-depth-eq0-clause-refused : goal.pass_rest-returns-then-depth-eq0-clause-refused
+unfolding value
+pass_rest-returns-then-depth-eq0-clause-refused t c = λ no-reading.
+    let none : c.args.depth ≡ 0 = omega arith in
+    let is : token_of c.args.token ≡ Token.begin_array = grind arith in
+    ap (converted of_json) (ap₂ value none (ap (λ k. k ∷ c.args.reader.now) is))
 
-pub pass-returns-else-depth-eq0-clause-refused : goal.pass-returns-else-depth-eq0-clause-refused
-pass-returns-else-depth-eq0-clause-refused t c = λ no-reading.
-    let first : c.args.reader.now ≡ token_of c.in-Some.token ∷ c.next.new.self = grind arith in
-    let opened = ap (converted of_json) (ap (value c.args.depth) (first ∙ ap (λ k. token_of k ∷ c.next.new.self) c.in-BeginArray.is) ∙ value-begin_array c.args.depth c.next.new.self (omega arith)) ∙ converted-array (items (value (c.args.depth - 1)) (length c.next.new.self) c.next.new.self) in
+pub pass_rest-returns-then-depth-eq0-2-clause-refused : goal.pass_rest-returns-then-depth-eq0-2-clause-refused
+unfolding value
+pass_rest-returns-then-depth-eq0-2-clause-refused t c = λ no-reading.
+    let none : c.args.depth ≡ 0 = omega arith in
+    let is : token_of c.args.token ≡ Token.begin_object = grind arith in
+    ap (converted of_json) (ap₂ value none (ap (λ k. k ∷ c.args.reader.now) is))
+
+pub pass_rest-returns-else-depth-eq0-clause-passed : goal.pass_rest-returns-else-depth-eq0-clause-passed
+pass_rest-returns-else-depth-eq0-clause-passed t c = λ yes.
+    let rest = c.args.reader.now in
+    let is : token_of c.args.token ≡ Token.begin_array = grind arith in
+    let opened = ap (converted of_json) (ap (λ k. value c.args.depth (k ∷ rest)) is ∙ value-begin_array c.args.depth rest (omega arith)) ∙ converted-array (items (value (c.args.depth - 1)) (length rest) rest) in
+    let found = c.pass_items.ensures.passed yes in
+    begun-value c.args.token c.args.depth rest _ (array found.0) (opened ∙ ap (parse_map array) found.1)
+
+pub pass_rest-returns-else-depth-eq0-clause-refused : goal.pass_rest-returns-else-depth-eq0-clause-refused
+pass_rest-returns-else-depth-eq0-clause-refused t c = λ no-reading.
+    let rest = c.args.reader.now in
+    let is : token_of c.args.token ≡ Token.begin_array = grind arith in
+    let opened = ap (converted of_json) (ap (λ k. value c.args.depth (k ∷ rest)) is ∙ value-begin_array c.args.depth rest (omega arith)) ∙ converted-array (items (value (c.args.depth - 1)) (length rest) rest) in
     opened ∙ ap (parse_map array) (c.pass_items.ensures.refused no-reading)
 
-pub pass-returns-else-depth-eq0-2-clause-passed : goal.pass-returns-else-depth-eq0-2-clause-passed
-pass-returns-else-depth-eq0-2-clause-passed t c = λ yes.
-    let first : c.args.reader.now ≡ token_of c.in-Some.token ∷ c.next.new.self = grind arith in
-    let opened = ap (converted of_json) (ap (value c.args.depth) (first ∙ ap (λ k. token_of k ∷ c.next.new.self) c.in-BeginObject.is) ∙ value-begin_object c.args.depth c.next.new.self (omega arith)) ∙ converted-object (members (value (c.args.depth - 1)) (length c.next.new.self) c.next.new.self) in
+pub pass_rest-returns-else-depth-eq0-2-clause-passed : goal.pass_rest-returns-else-depth-eq0-2-clause-passed
+pass_rest-returns-else-depth-eq0-2-clause-passed t c = λ yes.
+    let rest = c.args.reader.now in
+    let is : token_of c.args.token ≡ Token.begin_object = grind arith in
+    let opened = ap (converted of_json) (ap (λ k. value c.args.depth (k ∷ rest)) is ∙ value-begin_object c.args.depth rest (omega arith)) ∙ converted-object (members (value (c.args.depth - 1)) (length rest) rest) in
     let found = c.pass_members.ensures.passed yes in
-    (object found.0, opened ∙ ap (parse_map object) found.1)
+    begun-value c.args.token c.args.depth rest _ (object found.0) (opened ∙ ap (parse_map object) found.1)
 
-pub pass-returns-else-depth-eq0-2-clause-refused : goal.pass-returns-else-depth-eq0-2-clause-refused
-pass-returns-else-depth-eq0-2-clause-refused t c = λ no-reading.
-    let first : c.args.reader.now ≡ token_of c.in-Some.token ∷ c.next.new.self = grind arith in
-    let opened = ap (converted of_json) (ap (value c.args.depth) (first ∙ ap (λ k. token_of k ∷ c.next.new.self) c.in-BeginObject.is) ∙ value-begin_object c.args.depth c.next.new.self (omega arith)) ∙ converted-object (members (value (c.args.depth - 1)) (length c.next.new.self) c.next.new.self) in
+pub pass_rest-returns-else-depth-eq0-2-clause-refused : goal.pass_rest-returns-else-depth-eq0-2-clause-refused
+pass_rest-returns-else-depth-eq0-2-clause-refused t c = λ no-reading.
+    let rest = c.args.reader.now in
+    let is : token_of c.args.token ≡ Token.begin_object = grind arith in
+    let opened = ap (converted of_json) (ap (λ k. value c.args.depth (k ∷ rest)) is ∙ value-begin_object c.args.depth rest (omega arith)) ∙ converted-object (members (value (c.args.depth - 1)) (length rest) rest) in
     opened ∙ ap (parse_map object) (c.pass_members.ensures.refused no-reading)
 
 pub pass_items-items-init : goal.pass_items-items-init

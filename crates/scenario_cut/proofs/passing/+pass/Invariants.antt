@@ -6,13 +6,16 @@ use Rattle.scenario_cut.specs.Growing.{both}
 use Rattle.scenario_cut.proofs.passing.+pass.Given as goal
 
 abbrev pub decreases-pass : goal.decreases-pass
-decreases-pass l = 2 * l.depth
+decreases-pass l = 3 * l.depth + 1
+
+abbrev pub decreases-pass_rest : goal.decreases-pass_rest
+decreases-pass_rest l = 3 * l.depth
 
 abbrev pub decreases-pass_items : goal.decreases-pass_items
-decreases-pass_items l = 2 * l.depth + 1
+decreases-pass_items l = 3 * l.depth + 2
 
 abbrev pub decreases-pass_members : goal.decreases-pass_members
-decreases-pass_members l = 2 * l.depth + 1
+decreases-pass_members l = 3 * l.depth + 2
 
 -- these items were passed
 abbrev pub invariant-pass_items-items : goal.invariant-pass_items-items

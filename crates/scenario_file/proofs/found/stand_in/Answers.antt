@@ -4,12 +4,12 @@ use Rattle.serde_json.specs.Data.{array}
 use Rattle.serde_json.specs.Events.{items_len}
 use Rattle.scenario_data.specs.Content.{cabinet_content}
 use Rattle.scenario_read.specs.Content.{cabinet_of}
+use Rattle.scenario_read.proofs.Walks.{each_of-len}
 use Rattle.scenario_file.specs.declared.found.Found.{Found}
 use Rattle.scenario_file.specs.declared.found.Found.TheVariants.{Cabinets}
 use Rattle.scenario_file.specs.Growing.{blanks}
 use Rattle.scenario_file.specs.Listing.{Holds, ToldCabinets, name_of}
 use Rattle.scenario_file.specs.Framing.{stand_in}
-use Rattle.scenario_file.proofs.Growth.{each_of-len}
 use Rattle.scenario_file.proofs.found.stand_in.Goals as goal
 
 pub returns-in-Some : goal.returns-in-Some

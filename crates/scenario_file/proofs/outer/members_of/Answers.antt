@@ -8,14 +8,13 @@ use Rattle.scenario_read.proofs.Rising.{tree-sorted, sorted-put}
 use Rattle.scenario_cut.proofs.Turns.{converted_some, member_read, members_over}
 use Rattle.scenario_file.specs.Left.{is_left}
 use Rattle.scenario_file.proofs.Leaving.{all-there}
-use Rattle.field_read.specs.Parts.{PartsStand}
-use Rattle.field_read.proofs.top.members_of.Goals as goal
+use Rattle.scenario_file.proofs.outer.members_of.Goals as goal
 
 pub members-init : goal.members-init
-members-init c = (length c.args.reader.now, no_members, omega arith, refl, omega arith, tt, c.nothing_read-reading.ensures)
+members-init g c = (length c.args.reader.now, no_members, omega arith, refl, omega arith, tt, c.none-parts.ensures)
 
 pub members-preserved : goal.members-preserved
-members-preserved c =
+members-preserved g c =
     let p = value 126 in
     let l = c.members in
     let n = l.invariant.0 in
@@ -40,12 +39,12 @@ members-preserved c =
     )
 
 pub returns-then-none_left : goal.returns-then-none_left
-returns-then-none_left c =
+returns-then-none_left g c =
     let l = c.members in
     let n = l.invariant.0 in
     let ms = l.invariant.1 in
     let none = c.none_left.ensures c.if-none_left.true in (
       ms,
       l.invariant.3 ∙ members_over (value 126) ms n l.reader c.next_key.new.self l.invariant.2 (grind arith),
-      subst (λ (all : Members). PartsStand l.reading.parts all) (all-there (is_left l.reading.coming.own) none ms) l.invariant.6,
+      subst (λ (all : Members). g.P.OuterParts.stand l.parts all) (all-there (is_left l.left.own) none ms) l.invariant.6,
     )

@@ -1,4 +1,4 @@
-use Rattle.band_report.proofs.parts.member_at.Goals as goal
+use Rattle.band_report.proofs.parts.PartsOuterParts.put_next.Goals as goal
 
 pub returns-in-scenario-clause-ok : goal.returns-in-scenario-clause-ok
 returns-in-scenario-clause-ok c = rw c.in-scenario.is c.scenario_member.ensures.ok

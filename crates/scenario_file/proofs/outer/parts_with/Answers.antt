@@ -7,10 +7,10 @@ use Rattle.json.proofs.Grammar.{value-begin_object}
 use Rattle.serde_json.specs.Data.{object}
 use Rattle.serde_json.specs.Read.{of_json, converted, read}
 use Rattle.scenario_cut.proofs.Turns.{converted-object, whole_read}
-use Rattle.band_report.proofs.parts.parts_with.Goals as goal
+use Rattle.scenario_file.proofs.outer.parts_with.Goals as goal
 
 pub returns-clause-ok : goal.returns-clause-ok
-returns-clause-ok c =
+returns-clause-ok g c =
     let text = c.in-Ok.text.now in
     let rest = c.next.new.self in
     let found = c.in_ok-parts.ensures in

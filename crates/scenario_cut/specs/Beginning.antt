@@ -1,0 +1,23 @@
+-- What the first token of a value tells of it.
+use Rattle.std.specs.Prelude.{ℕ, ◌≡◌, List}
+use Rattle.std.specs.Borrow.{Bor}
+use Rattle.json.specs.declared.token.Token.{Token}
+use Rattle.json.specs.declared.token.Token.TheVariants.{BeginArray, BeginObject, Number}
+use Rattle.serde_json.specs.Data.{Data, null, boolean, number, string, array, object}
+use Rattle.scenario_cut.specs.Judging.{IsNoList}
+
+-- a value is no number
+abbrev pub IsNoNumber : Data → Type 0
+IsNoNumber (number n) = ⊥
+IsNoNumber _ = Unit {0}
+
+-- a value is no object
+abbrev pub IsNoObject : Data → Type 0
+IsNoObject (object ms) = ⊥
+IsNoObject _ = Unit {0}
+
+-- what the token that a value begins with tells of it
+pub record BeginsWith (token : Token) (d : Data) : Type 0 where
+  pub no_number : ((text : Bor (List ℕ)) → token ≡ Number text → ⊥) → IsNoNumber d
+  pub no_list : (token ≡ BeginArray → ⊥) → IsNoList d
+  pub no_object : (token ≡ BeginObject → ⊥) → IsNoObject d
