@@ -67,7 +67,7 @@ mod measured {
         drawn / 16 % 10
     }
 
-    fn stretch<W: Way>(way: &mut W, street: &str, draw: &mut u32) -> u32 {
+    fn span<W: Way>(way: &mut W, street: &str, draw: &mut u32) -> u32 {
         if street.starts_with("traffic") { hear(way, draw) } else { 600 }
     }
 
@@ -84,7 +84,7 @@ mod measured {
     fn counted_strides<W: Way>(way: &mut W, street: &str, ticks: u32) -> u64 {
         let (mut draw, mut sum, mut done) = (0, 0, 0);
         while done < ticks {
-            let end = done + stretch(way, street, &mut draw).min(ticks - done);
+            let end = done + span(way, street, &mut draw).min(ticks - done);
             while done < end {
                 let (took, told) = way.stride(end - done);
                 done += took;

@@ -28,7 +28,7 @@ mod measured {
         drawn / 16 % 10
     }
 
-    fn stretch(controller: &mut Controller, street: &str, draw: &mut u32) -> u32 {
+    fn span(controller: &mut Controller, street: &str, draw: &mut u32) -> u32 {
         if street.starts_with("traffic") { hear(controller, draw) } else { 600 }
     }
 
@@ -46,7 +46,7 @@ mod measured {
     fn counted_ticks(controller: &mut Controller, street: &str, ticks: u32) -> u64 {
         let (mut draw, mut sum, mut done) = (0, 0, 0);
         while done < ticks {
-            let most = stretch(controller, street, &mut draw).min(ticks - done);
+            let most = span(controller, street, &mut draw).min(ticks - done);
             for _ in 0..most {
                 let last = controller.frame();
                 let next = controller.tick();
@@ -63,7 +63,7 @@ mod measured {
     fn counted_strides(controller: &mut Controller, street: &str, ticks: u32) -> u64 {
         let (mut draw, mut sum, mut done) = (0, 0, 0);
         while done < ticks {
-            let end = done + stretch(controller, street, &mut draw).min(ticks - done);
+            let end = done + span(controller, street, &mut draw).min(ticks - done);
             while done < end {
                 let took = controller.stride(end - done);
                 done += took;
@@ -81,13 +81,13 @@ mod measured {
         false
     }
 
-    /// Whether strides and ticks come to the same at the end of every stretch.
+    /// Whether strides and ticks come to the same at the end of every span.
     fn agree(street: &str, ticks: u32) -> bool {
         let (mut one, mut two) = (opened(street), opened(street));
         let (mut draw, mut too, mut done) = (0, 0, 0);
         while done < ticks {
-            let most = stretch(&mut one, street, &mut draw).min(ticks - done);
-            let end = done + stretch(&mut two, street, &mut too).min(ticks - done);
+            let most = span(&mut one, street, &mut draw).min(ticks - done);
+            let end = done + span(&mut two, street, &mut too).min(ticks - done);
             let mut lines = Vec::new();
             for tick in done..done + most {
                 let last = one.frame();

@@ -15,9 +15,9 @@ use Rattle.rule_facts.proofs.Facts.{sound}
 use Rattle.tick_laws.specs.InStep.{Coordinated, EachCoordinated}
 use Rattle.safety_laws.specs.Safe.{Indications, dark, told, shown_at, intersection_of}
 use Rattle.safety_laws.specs.Written.{shown_by, written, tables_of}
-use Rattle.safety_laws.specs.Told.{told_in, history_told}
+use Rattle.safety_laws.specs.CabinetTold.{told_in, history_told}
 use Rattle.safety_laws.specs.TraceText.{AreLines}
-use Rattle.safety_laws.proofs.Told.{shown-by-frames}
+use Rattle.safety_laws.proofs.CabinetTold.{shown-by-frames}
 use Rattle.safety_laws.proofs.Shown.{lines-show}
 use Rattle.safety_laws.proofs.Versions.{versions}
 use Rattle.scenario_data.specs.Content.{CabinetContent, ScenarioContent}

@@ -23,8 +23,8 @@ use Rattle.agent.specs.Groups.{bits}
 use Rattle.agent.specs.Seen.{Seen, IsWithin}
 use Rattle.agent.specs.Replies.{reply}
 use Rattle.cabinet_history.specs.Coming.{Coming, past_of, in_force, outcome}
-use Rattle.cabinet_history.specs.Told.{set_of, shown_at, seen_in, replied, in_frame}
-use Rattle.cab_book.specs.Stands.{IsSound}
+use Rattle.cabinet_history.specs.CabinetAnswers.{set_of, shown_at, seen_in, replied, in_frame}
+use Rattle.cab_book.specs.CabinetStands.{IsSound}
 use Rattle.cabinet_history.proofs.Installing.{few-within}
 
 -- a number after it was halved so often

@@ -3,13 +3,13 @@ use Rattle.std.proofs.Common.{◌≡◌, ◌≤◌, ◌<◌, ℕ, zero, suc, ◌
 use Rattle.std.proofs.lemmas.List.{length-map, length-replicate}
 use Rattle.sig_types.specs.declared.frame.Frame.{Frame}
 use Rattle.sig_types.specs.declared.streams.Streams.{Streams}
-use Rattle.sig_types.specs.Items.{Item, Told, Ticked, items_of}
+use Rattle.sig_types.specs.Items.{Item, InputTold, Ticked, items_of}
 use Rattle.cabinet_history.specs.CabinetHistory.{CabinetHistory, after}
 use Rattle.cabinet_history.specs.Journals.{Act, times, acts_of, items_in}
 use Rattle.cab_book.specs.declared.cabinet.Cabinet.{Cabinet}
 use Rattle.cab_book.specs.declared.happened.Answered.{Answered}
 use Rattle.cab_book.specs.declared.happened.Happened.{Happened}
-use Rattle.cab_book.specs.Stands.{CabinetStands}
+use Rattle.cab_book.specs.CabinetStands.{CabinetStands}
 use Rattle.cab_book.specs.Happenings.{interleaved, replies_in, AreInOrder}
 use Rattle.cab_book.specs.Happened.{IsWritten, journal_in, written_of, answered_of}
 use Rattle.cab_book.proofs.Coming.{frames-many}
@@ -33,7 +33,7 @@ round-begins c streams h cabinet_history journal written answered is =
 
 -- no stream of a round that can be taken has more items than the longest list, or its ticks
 pub taken-small : (streams : Streams) → CanBeTaken streams → streams.ticks ≤ 2147483648 → (p : ℕ) → length (get_or (items_of streams) p []) ≤ 2147483648
-taken-small streams can few zero = omega (arith, can.few_fields, length-map streams.fields.items Told)
+taken-small streams can few zero = omega (arith, can.few_fields, length-map streams.fields.items InputTold)
 taken-small streams can few (suc zero) = omega (arith, can.few_polls, frames-many streams.polls.items)
 taken-small streams can few (suc (suc zero)) = omega (arith, can.few_loads, frames-many streams.loads.items)
 taken-small streams can few (suc (suc (suc zero))) = omega (arith, can.few_prios, frames-many streams.prios.items)
@@ -42,7 +42,7 @@ taken-small streams can few (suc (suc (suc (suc (suc p))))) = omega arith
 
 -- the streams of a round that can be taken are short
 pub taken-short : (streams : Streams) → CanBeTaken streams → streams.ticks ≤ 4294967294 → AreShort streams
-taken-short streams can few zero = omega (arith, can.few_fields, length-map streams.fields.items Told)
+taken-short streams can few zero = omega (arith, can.few_fields, length-map streams.fields.items InputTold)
 taken-short streams can few (suc zero) = omega (arith, can.few_polls, frames-many streams.polls.items)
 taken-short streams can few (suc (suc zero)) = omega (arith, can.few_loads, frames-many streams.loads.items)
 taken-short streams can few (suc (suc (suc zero))) = omega (arith, can.few_prios, frames-many streams.prios.items)
@@ -66,7 +66,7 @@ all-left streams fields polls loads prios h a b d e journal = record {
     left = fields ∷ polls ∷ loads ∷ prios ∷ streams.ticks ∷ 0 ∷ 0 ∷ 0 ∷ []
 
     each : (p : ℕ) → p < 4 → get_or left p 0 + times p (journal_in h) ≡ length (get_or (items_of streams) p [])
-    each zero low = omega (arith, none 0, a, length-map streams.fields.items Told)
+    each zero low = omega (arith, none 0, a, length-map streams.fields.items InputTold)
     each (suc zero) low = omega (arith, none 1, b, frames-many streams.polls.items)
     each (suc (suc zero)) low = omega (arith, none 2, d, frames-many streams.loads.items)
     each (suc (suc (suc zero))) low = omega (arith, none 3, e, frames-many streams.prios.items)
@@ -92,7 +92,7 @@ no-items streams none p =
     ap (λ (x : List (List Item)). length (get_or x p [])) none ∙ ap (λ (x : List Item). length x) (none_at p)
 
 pub no-fields : (streams : Streams) → items_of streams ≡ replicate 5 [] → ArePlaced streams
-no-fields streams none k field less = absurd (omega (arith, less, no-items streams none 0, length-map streams.fields.items Told))
+no-fields streams none k field less = absurd (omega (arith, less, no-items streams none 0, length-map streams.fields.items InputTold))
 
 -- nothing of any pass
 abbrev zeros : List ℕ

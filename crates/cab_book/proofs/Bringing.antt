@@ -7,11 +7,11 @@ use Rattle.sig_types.specs.declared.streams.Streams.{Streams}
 use Rattle.sig_types.specs.Items.{Item, Ticked, items_of}
 use Rattle.cabinet_history.specs.CabinetHistory.{CabinetHistory, with_item, after}
 use Rattle.cabinet_history.specs.Journals.{Act, times, acts_of, items_in}
-use Rattle.cabinet_history.specs.Told.{item_replies, item_written}
+use Rattle.cabinet_history.specs.CabinetAnswers.{item_replies, item_written}
 use Rattle.cabinet_history.proofs.Growing.{act_at, acts-more, cabinet_history-more}
 use Rattle.cab_book.specs.declared.cabinet.Cabinet.{Cabinet}
 use Rattle.cab_book.specs.declared.happened.Happened.{Happened}
-use Rattle.cab_book.specs.Stands.{CabinetStands}
+use Rattle.cab_book.specs.CabinetStands.{CabinetStands}
 use Rattle.cab_book.specs.Happened.{HasRoom, IsWritten, HappenedGoesOn, TicksOn, journal_in}
 use Rattle.cab_book.specs.Ticks.{ticks_on, ticks_written}
 use Rattle.cab_book.specs.Shares.{read_journal, ticks_left, ticks_brought}

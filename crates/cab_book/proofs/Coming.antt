@@ -6,17 +6,17 @@ use Rattle.arrayvec.specs.ArrayVec.{ArrayVec}
 use Rattle.sig_types.specs.declared.frame.Field.{Field}
 use Rattle.sig_types.specs.declared.frame.Field.TheVariants.{Veh, Ped as Button, Preempt as PreemptInput}
 use Rattle.sig_types.specs.declared.frame.Frame.{Frame}
-use Rattle.tick_context.specs.Told.{NamesPlace}
+use Rattle.tick_context.specs.CanRun.{NamesPlace}
 use Rattle.sig_types.specs.declared.streams.Streams.{Streams}
-use Rattle.sig_types.specs.Items.{Item, Told, Came, Ticked, items_of, texts_of}
+use Rattle.sig_types.specs.Items.{Item, InputTold, Came, Ticked, items_of, texts_of}
 use Rattle.cabinet_history.specs.declared.Load.{Load}
 use Rattle.cabinet_history.specs.declared.Reply.{Reply}
 use Rattle.cabinet_history.specs.CabinetHistory.{CabinetHistory, with_item}
 use Rattle.cabinet_history.specs.Journals.{times}
-use Rattle.cabinet_history.specs.Told.{item_replies, in_frame, reply_to, load_end}
+use Rattle.cabinet_history.specs.CabinetAnswers.{item_replies, in_frame, reply_to, load_end}
 use Rattle.cab_book.specs.declared.cabinet.Cabinet.{Cabinet}
 use Rattle.cab_book.specs.declared.happened.Happened.{Happened}
-use Rattle.cab_book.specs.Stands.{CabinetStands}
+use Rattle.cab_book.specs.CabinetStands.{CabinetStands}
 use Rattle.cab_book.specs.Happened.{HappenedGoesOn, TicksOn, journal_in}
 use Rattle.cab_book.specs.Ticks.{ticks_on, ticks_written}
 use Rattle.cab_book.specs.Rounds.{AreTallied, RoundStands, cabinet_history_after}
@@ -30,22 +30,22 @@ NamesPlace-prop (PreemptInput i on) = ×_prop le_prop le_prop
 -- no more inputs are left than there are
 pub left-of-fields : (streams : Streams) (left : List ℕ) (h : Happened) → AreTallied streams left h → get_or left 0 0 ≤ length streams.fields.items
 left-of-fields streams left h tallied =
-    let many : length (map Told streams.fields.items) ≡ length streams.fields.items = length-map streams.fields.items Told in
+    let many : length (map InputTold streams.fields.items) ≡ length streams.fields.items = length-map streams.fields.items InputTold in
     omega (arith, tallied.each 0 (omega arith), many)
 
 -- an input was heard
 pub heard : (c next : Cabinet) (streams : Streams) (left : List ℕ) (old new : Happened) (field : Field) (place : ℕ) → AreTallied streams left old
     → place + get_or left 0 0 ≡ length streams.fields.items → 0 < get_or left 0 0 → field ≡ get_or streams.fields.items place field
-    → ((cabinet_history : CabinetHistory) → CabinetStands c cabinet_history → CabinetStands next (with_item cabinet_history (Told field))) → HappenedGoesOn old new 0 [] [] → (cabinet_history : CabinetHistory)
+    → ((cabinet_history : CabinetHistory) → CabinetStands c cabinet_history → CabinetStands next (with_item cabinet_history (InputTold field))) → HappenedGoesOn old new 0 [] [] → (cabinet_history : CabinetHistory)
     → RoundStands c streams old cabinet_history → RoundStands next streams new cabinet_history
 heard c next streams left old new field place tallied e some is stands goes cabinet_history so =
-    let many : length (map Told streams.fields.items) ≡ length streams.fields.items = length-map streams.fields.items Told in
+    let many : length (map InputTold streams.fields.items) ≡ length streams.fields.items = length-map streams.fields.items InputTold in
     let at : place ≡ times 0 (journal_in old) = omega (arith, tallied.each 0 (omega arith), e, many) in
     let less : place < length streams.fields.items = omega (arith, e, some) in
-    let item : Told field ≡ get_or (map Told streams.fields.items) (times 0 (journal_in old)) Ticked =
-    ap Told is ∙ sym (get_or-map Told streams.fields.items place field Ticked less)
-    ∙ ap (λ (n : ℕ). get_or (map Told streams.fields.items) n Ticked) at in
-    round-more c next streams old new cabinet_history 0 (Told field) item so (stands (cabinet_history_after streams old cabinet_history) so.cabinet) goes
+    let item : InputTold field ≡ get_or (map InputTold streams.fields.items) (times 0 (journal_in old)) Ticked =
+    ap InputTold is ∙ sym (get_or-map InputTold streams.fields.items place field Ticked less)
+    ∙ ap (λ (n : ℕ). get_or (map InputTold streams.fields.items) n Ticked) at in
+    round-more c next streams old new cabinet_history 0 (InputTold field) item so (stands (cabinet_history_after streams old cabinet_history) so.cabinet) goes
 
 ticked_at : (many k : ℕ) → get_or (replicate many Ticked) k Ticked ≡ Ticked
 ticked_at zero k = refl

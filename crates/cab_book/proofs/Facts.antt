@@ -12,7 +12,7 @@ use Rattle.sig_tables.specs.Decide.{past_at}
 use Rattle.sig_tables.specs.Looking.{last_frame}
 use Rattle.sig_tables.specs.Seen.{frame_seen, moment_seen}
 use Rattle.controller.specs.declared.Controller.{Controller}
-use Rattle.controller.specs.StandsFor.{ControllerKeeps as Keeps_kept}
+use Rattle.controller.specs.ControllerStands.{ControllerKeeps as Keeps_kept}
 use Rattle.cab_book.specs.declared.control.Control.{Control}
 use Rattle.cab_book.specs.declared.control.Control.TheVariants.{Registers, LookingBack}
 use Rattle.cab_book.specs.Controls.{ControlKeeps, ControlStands, tick_count, install_count}

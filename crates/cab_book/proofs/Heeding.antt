@@ -18,7 +18,7 @@ use Rattle.agent.specs.declared.ask.Wish.TheVariants.{Get, Next, Direct, Begin, 
 use Rattle.agent.specs.Asks.{CanBeCarriedOut}
 use Rattle.cabinet_history.specs.Coming.{Coming, in_force, is_flashing, past_of, carried_out, installs, with_events}
 use Rattle.cabinet_history.specs.Installs.{FewInstalls}
-use Rattle.cab_book.specs.Stands.{IsShowable, IsSound}
+use Rattle.cab_book.specs.CabinetStands.{IsShowable, IsSound}
 use Rattle.cabinet_history.proofs.Installing.{few-begin, few-part, few-verify, few-finish, version_after}
 use Rattle.cab_book.proofs.Ordering.{orders-aside}
 

@@ -2,7 +2,7 @@
 use Rattle.std.proofs.Common.{◌≡◌, ◌≤◌, ℕ, zero, suc, ◌∙◌, List, [], ◌∷◌, map, get_or, sym, ap, subst}
 use Rattle.sig_types.specs.declared.frame.Field.{Field}
 use Rattle.sig_types.specs.declared.streams.Streams.{Streams}
-use Rattle.sig_types.specs.Items.{Item, Told, Came, Ticked, items_of}
+use Rattle.sig_types.specs.Items.{Item, InputTold, Came, Ticked, items_of}
 use Rattle.cab_book.proofs.Coming.{tick_item}
 
 -- an item is a frame
@@ -18,7 +18,7 @@ octets_in _ = []
 pub same-octets : (some others : List ℕ) → Came some ≡ Came others → some ≡ others
 same-octets some others same = ap octets_in same
 
-told-no-frame : (fields : List Field) (place : ℕ) → IsFrame (get_or (map Told fields) place Ticked) → ⊥
+told-no-frame : (fields : List Field) (place : ℕ) → IsFrame (get_or (map InputTold fields) place Ticked) → ⊥
 told-no-frame [] place frame = frame
 told-no-frame (field ∷ fields) zero frame = frame
 told-no-frame (field ∷ fields) (suc place) frame = told-no-frame fields place frame

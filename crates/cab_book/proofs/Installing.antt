@@ -5,7 +5,7 @@ use Rattle.sig_types.specs.declared.notes.StageAnswer.TheVariants.{Accepted, Wro
 use Rattle.sig_tables.specs.declared.tables.Tables.{Tables}
 use Rattle.rule_book.specs.Rules.{broken, first_of}
 use Rattle.rule_facts.proofs.Facts.{accepted-consistent, times-hold}
-use Rattle.tick_context.specs.Told.{CanRun}
+use Rattle.tick_context.specs.CanRun.{CanRun}
 use Rattle.stage_txn.specs.Calls.{Answered, Finish}
 use Rattle.stage_txn.specs.Answers.{kept, staged, stage_state, finish_answer, judged, first_broken, unless_broken, answer_to}
 use Rattle.cabinet_history.proofs.Installing.{accepted-checked}

@@ -5,7 +5,7 @@ use Rattle.sig_types.specs.declared.notes.StageAnswer.{StageAnswer}
 use Rattle.sig_types.specs.declared.notes.StageAnswer.TheVariants.{Staged, Repeated, Verified, Accepted, WrongToken, WrongPart, NotVerified, Refused}
 use Rattle.sig_tables.specs.declared.tables.Tables.{Tables}
 use Rattle.sig_tables.specs.Past.{Install}
-use Rattle.tick_context.specs.Told.{CanRun}
+use Rattle.tick_context.specs.CanRun.{CanRun}
 use Rattle.stage_txn.specs.Calls.{Finish as FinishCall, deeds}
 use Rattle.stage_txn.specs.Answers.{answered, answer_to, staged}
 use Rattle.agent.specs.declared.ask.Wish.{Wish}

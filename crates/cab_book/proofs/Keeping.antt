@@ -2,11 +2,11 @@
 use Rattle.std.proofs.Common.{◌≡◌, ℕ, zero, suc, ◌+◌, ◌∙◌, List, [], ◌∷◌, ◌++◌, length, map, refl, sym, ap, subst, append-nil, append_assoc, length-append, arith}
 use Rattle.std.proofs.lemmas.List.{map-append}
 use Rattle.sig_types.specs.declared.frame.Frame.{Frame}
-use Rattle.sig_types.specs.Items.{Item, Told, Came, Ticked}
+use Rattle.sig_types.specs.Items.{Item, InputTold, Came, Ticked}
 use Rattle.cabinet_history.specs.declared.Reply.{Reply}
 use Rattle.cabinet_history.specs.CabinetHistory.{CabinetHistory, with_item, after}
 use Rattle.cabinet_history.specs.Journals.{Act, items_in}
-use Rattle.cabinet_history.specs.Told.{item_replies, item_written, acts_replies, acts_written}
+use Rattle.cabinet_history.specs.CabinetAnswers.{item_replies, item_written, acts_replies, acts_written}
 use Rattle.cabinet_history.specs.Coming.{history_of}
 use Rattle.cabinet_history.specs.Frames.{tick_written}
 use Rattle.cabinet_history.proofs.Growing.{told-more, cabinet_history-more}
@@ -53,7 +53,7 @@ quiet frames answered more is =
 
 ordered : (frames : List (ℕ × Frame)) (answered : List Answered) (now : CabinetHistory) (pass : ℕ) (item : Item) → AreInOrder 0 answered (length frames)
     → Ordered frames answered now pass item
-ordered frames answered now pass (Told field) is =
+ordered frames answered now pass (InputTold field) is =
     let q = quiet frames answered [] is in
     record { order = q.0; counts = q.1 }
 ordered frames answered now pass Ticked is =

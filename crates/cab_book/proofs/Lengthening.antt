@@ -10,7 +10,7 @@ use Rattle.sig_types.specs.declared.streams.Streams.{Streams}
 use Rattle.sig_types.specs.declared.streams.Stream.{Stream}
 use Rattle.sig_types.specs.Passes.{number_of}
 use Rattle.sig_types.specs.Items.{Item, Ticked, items_of}
-use Rattle.tick_context.specs.Told.{NamesPlace}
+use Rattle.tick_context.specs.CanRun.{NamesPlace}
 use Rattle.cabinet_history.specs.declared.Reply.{Reply}
 use Rattle.cabinet_history.specs.CabinetHistory.{CabinetHistory, after}
 use Rattle.cabinet_history.specs.Coming.{ask_after}
@@ -19,7 +19,7 @@ use Rattle.cab_book.specs.declared.book.Book.{Book}
 use Rattle.cab_book.specs.declared.cabinet.Cabinet.{Cabinet}
 use Rattle.cab_book.specs.declared.happened.Answered.{Answered}
 use Rattle.cab_book.specs.declared.happened.Happened.{Happened}
-use Rattle.cab_book.specs.Stands.{CabinetStands}
+use Rattle.cab_book.specs.CabinetStands.{CabinetStands}
 use Rattle.cab_book.specs.Happenings.{interleaved, replies_in, AreInOrder}
 use Rattle.cab_book.specs.Happened.{IsSameRound, IsWritten, behind, journal_in, written_of, answered_of}
 use Rattle.cab_book.specs.Rounds.{ArePlaced, AreShort, AreTallied, RoundStands, acts_so_far}

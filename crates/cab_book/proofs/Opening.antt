@@ -9,7 +9,7 @@ use Rattle.sig_tables.specs.Putting.{EachFits}
 use Rattle.cab_book.specs.declared.control.Control.{Control}
 use Rattle.cab_book.specs.Controls.{ControlStands, tick_count}
 use Rattle.cab_book.proofs.Facts.{first-ticks}
-use Rattle.cab_book.specs.Stands.{OnlyDrifts, IsNew, IsSound}
+use Rattle.cab_book.specs.CabinetStands.{OnlyDrifts, IsNew, IsSound}
 
 -- what such a history has come to
 record NewPast (t : Tables) (clock : ℕ) (past : Past) : Type 0 where

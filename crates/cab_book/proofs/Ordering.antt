@@ -7,7 +7,7 @@ use Rattle.agent.specs.declared.ask.Order.{Order}
 use Rattle.agent.specs.declared.ask.Order.TheVariants.{Pattern, Clock, Request as RequestOrder, Cancel}
 use Rattle.agent.specs.Orders.{IsFit}
 use Rattle.cabinet_history.specs.Coming.{order_event, with_events}
-use Rattle.cab_book.specs.Stands.{IsShowable}
+use Rattle.cab_book.specs.CabinetStands.{IsShowable}
 
 pub record Aside (before after : History) : Type 0 where
   pub tables : (past_at after).tables ≡ (past_at before).tables

@@ -8,11 +8,11 @@ use Rattle.sig_types.specs.Items.{Item, Ticked, items_of}
 use Rattle.cabinet_history.specs.declared.Reply.{Reply}
 use Rattle.cabinet_history.specs.CabinetHistory.{CabinetHistory, with_item, after}
 use Rattle.cabinet_history.specs.Journals.{Act, act_of, acts_from, acts_of, items_in, times}
-use Rattle.cabinet_history.specs.Told.{item_replies, item_written, acts_replies, acts_written}
+use Rattle.cabinet_history.specs.CabinetAnswers.{item_replies, item_written, acts_replies, acts_written}
 use Rattle.cab_book.specs.declared.cabinet.Cabinet.{Cabinet}
 use Rattle.cab_book.specs.declared.happened.Answered.{Answered}
 use Rattle.cab_book.specs.declared.happened.Happened.{Happened}
-use Rattle.cab_book.specs.Stands.{CabinetStands}
+use Rattle.cab_book.specs.CabinetStands.{CabinetStands}
 use Rattle.cab_book.specs.Happenings.{Happening, item_happenings, acts_happenings, interleaved, replies_in, AreInOrder}
 use Rattle.cab_book.specs.Happened.{IsWritten, journal_in, written_of, answered_of}
 use Rattle.cab_book.specs.Rounds.{RoundStands, acts_so_far}

@@ -22,7 +22,7 @@ use Rattle.cab_book.specs.Controls.{ControlKeeps}
 use Rattle.cab_book.proofs.Facts.{within-cycle}
 use Rattle.tick_context.proofs.Steps.{coord-defined, seek-defined}
 use Rattle.tick_context.proofs.Counted.{some-cycle}
-use Rattle.cab_book.specs.Stands.{IsShowable}
+use Rattle.cab_book.specs.CabinetStands.{IsShowable}
 
 same_number : (n : ℕ) → (n == n) ≡ true
 same_number n = elim (eqb_tells n n) [ inl (t, e) ↦ t | inr (t, ne) ↦ absurd (ne refl) ]

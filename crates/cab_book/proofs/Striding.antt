@@ -13,7 +13,7 @@ use Rattle.cabinet_history.specs.CabinetHistory.{CabinetHistory}
 use Rattle.cabinet_history.specs.Coming.{Coming, coming, history_of}
 use Rattle.cabinet_history.specs.Frames.{tick_written}
 use Rattle.cab_book.specs.declared.cabinet.Cabinet.{Cabinet}
-use Rattle.cab_book.specs.Stands.{CabinetKeeps, CabinetStands}
+use Rattle.cab_book.specs.CabinetStands.{CabinetKeeps, CabinetStands}
 use Rattle.cab_book.specs.Ticks.{ticks_on, ticks_written}
 use Rattle.cab_book.proofs.Showable.{ticked-shows}
 

@@ -10,7 +10,7 @@ use Rattle.cabinet_history.specs.CabinetHistory.{CabinetHistory, with_item}
 use Rattle.cabinet_history.specs.Coming.{Coming, coming, history_of}
 use Rattle.cabinet_history.specs.Frames.{has_line, tick_written}
 use Rattle.cab_book.specs.declared.cabinet.Cabinet.{Cabinet}
-use Rattle.cab_book.specs.Stands.{CabinetKeeps, CabinetStands}
+use Rattle.cab_book.specs.CabinetStands.{CabinetKeeps, CabinetStands}
 use Rattle.cab_book.proofs.Showable.{ticked-shows}
 
 -- the cabinet with what its controller has become

@@ -12,7 +12,7 @@ use Rattle.tick_context.specs.Modes.{is_flash}
 use Rattle.stage_txn.specs.declared.Stage.{Stage}
 use Rattle.stage_txn.specs.Calls.{Call, Begin as BeginCall, Verify as VerifyCall, Finish as FinishCall, Deed, finish_deed, staged_by}
 use Rattle.stage_txn.specs.Answers.{answered, answer_to}
-use Rattle.stage_txn.specs.Stands.{StageStands}
+use Rattle.stage_txn.specs.StageKeeps.{StageStands}
 use Rattle.agent.specs.declared.ask.Order.{Order}
 use Rattle.agent.specs.declared.ask.Wish.{Wish}
 use Rattle.agent.specs.declared.ask.Wish.TheVariants.{Get, Next, Direct, Begin, Part, Verify, Finish, Bad}

@@ -2,7 +2,7 @@
 use Rattle.std.specs.Prelude.{ℕ}
 use Rattle.sig_tables.specs.Past.{Past, History}
 use Rattle.sig_tables.specs.Decide.{past_at}
-use Rattle.controller.specs.StandsFor.{ControllerKeeps as Keeps_kept, tick_count as ticks_kept, install_count as installs_kept}
+use Rattle.controller.specs.ControllerStands.{ControllerKeeps as Keeps_kept, tick_count as ticks_kept, install_count as installs_kept}
 use Rattle.observer.specs.Remembers.{Remembers, tick_count as ticks_looked, install_count as installs_looked}
 use Rattle.cab_book.specs.declared.control.Control.{Control}
 use Rattle.cab_book.specs.declared.control.Control.TheVariants.{Registers, LookingBack}

@@ -4,7 +4,7 @@ use Rattle.sig_types.specs.declared.frame.Frame.{Frame}
 use Rattle.cabinet_history.specs.declared.Reply.{Reply}
 use Rattle.cabinet_history.specs.CabinetHistory.{CabinetHistory}
 use Rattle.cabinet_history.specs.Journals.{Act, passes_of}
-use Rattle.cabinet_history.specs.Told.{acts_replies, acts_written}
+use Rattle.cabinet_history.specs.CabinetAnswers.{acts_replies, acts_written}
 use Rattle.cab_book.specs.declared.happened.Answered.{Answered}
 use Rattle.cab_book.specs.declared.happened.Happened.{Happened}
 use Rattle.cab_book.specs.Happenings.{acts_happenings, interleaved, replies_in, AreInOrder}

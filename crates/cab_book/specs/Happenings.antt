@@ -6,7 +6,7 @@ use Rattle.sig_types.specs.Items.{Item}
 use Rattle.cabinet_history.specs.declared.Reply.{Reply}
 use Rattle.cabinet_history.specs.CabinetHistory.{CabinetHistory, with_item}
 use Rattle.cabinet_history.specs.Journals.{Act}
-use Rattle.cabinet_history.specs.Told.{item_replies, item_written}
+use Rattle.cabinet_history.specs.CabinetAnswers.{item_replies, item_written}
 use Rattle.cab_book.specs.declared.happened.Answered.{Answered}
 
 pub data Happening : Type 0 where

@@ -1,5 +1,5 @@
 pub mod Controls
-pub mod Stands
+pub mod CabinetStands
 pub mod Carried
 pub mod Ticks
 pub mod Shares

@@ -1,7 +1,7 @@
 -- A round of a cabinet, part by part: which streams it can take, what of them is left, and the cabinet history of what was brought.
 use Rattle.std.specs.Prelude.{ℕ, ◌+◌, ◌≡◌, ◌≤◌, ◌<◌, List, [], ◌∷◌, ◌++◌, length, get_or, slice_set}
 use Rattle.sig_types.specs.declared.frame.Field.{Field}
-use Rattle.tick_context.specs.Told.{NamesPlace}
+use Rattle.tick_context.specs.CanRun.{NamesPlace}
 use Rattle.sig_types.specs.declared.streams.Streams.{Streams}
 use Rattle.sig_types.specs.declared.streams.Stream.{Stream}
 use Rattle.sig_types.specs.declared.streams.Stream.TheVariants.{Inputs, Ticks}
@@ -12,7 +12,7 @@ use Rattle.cabinet_history.specs.CabinetHistory.{CabinetHistory, after}
 use Rattle.cabinet_history.specs.Journals.{Act, times, acts_of, items_in}
 use Rattle.cab_book.specs.declared.cabinet.Cabinet.{Cabinet}
 use Rattle.cab_book.specs.declared.happened.Happened.{Happened}
-use Rattle.cab_book.specs.Stands.{CabinetStands}
+use Rattle.cab_book.specs.CabinetStands.{CabinetStands}
 use Rattle.cab_book.specs.Shares.{ticks_left, ticks_brought}
 use Rattle.cab_book.specs.Happened.{IsWritten, HasRoom, journal_in}
 

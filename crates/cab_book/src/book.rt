@@ -4,15 +4,15 @@
 
 ghost use Rattle.std.specs.Prelude.{◌≡◌, ◌≢◌, ◌<◌, ◌≤◌, ◌+◌, ◌-◌, ◌⊎◌, ◌++◌, ◌∷◌, [], ℕ, OnOk, OnErr, IfOk, IfErr, length, replicate, map, get_or};
 ghost use Rattle.sig_tables.specs.Decide.{last_frame_of, past_at};
-ghost use Rattle.sig_types.specs.Items.{Told as ToldItem, Came, items_of, texts_of};
+ghost use Rattle.sig_types.specs.Items.{InputTold, Came, items_of, texts_of};
 ghost use Rattle.sig_types.specs.Passes.{Brings, number_of, pass_of};
 ghost use Rattle.sig_types.specs.declared.streams.Stream.TheVariants.{Inputs, Messages, Ticks};
-ghost use Rattle.tick_context.specs.Told.{NamesPlace};
+ghost use Rattle.tick_context.specs.CanRun.{NamesPlace};
 ghost use Rattle.tick_context.specs.Strides.{IsStride};
 ghost use Rattle.cabinet_history.specs.CabinetHistory.{CabinetHistory};
 ghost use Rattle.cabinet_history.specs.Coming.{history_of};
 ghost use Rattle.cabinet_history.specs.Journals.{runs_of};
-ghost use Rattle.cab_book.specs.Stands.{CabinetStands};
+ghost use Rattle.cab_book.specs.CabinetStands.{CabinetStands};
 ghost use Rattle.cab_book.specs.Rounds.{ArePlaced, AreShort, AreTallied, HasRoomFor, RoundStands, frames_left, items_left, with_last};
 ghost use Rattle.cab_book.specs.Happened.{HasRoom};
 ghost use Rattle.cab_book.specs.Shares.{read_journal, ticks_left, shares};
@@ -51,7 +51,7 @@ fn frames_of(streams: &Streams, way: Way) -> &[Octets]
 
 /// An input more stands at the end of the others. Where memory is wanting all streams are as before.
 fn push_field(streams: &mut Streams, field: Field) -> Result<(), NoMemory>
-    ensures items { OnOk result (items_of streams.new ≡ with_last (items_of streams.old) Inputs (ToldItem field)) }
+    ensures items { OnOk result (items_of streams.new ≡ with_last (items_of streams.old) Inputs (InputTold field)) }
     ensures fields { OnOk result (streams.new.fields.items ≡ streams.old.fields.items ++ field ∷ []) }
     ensures no_memory { OnErr result (items_of streams.new ≡ items_of streams.old) }
     ensures as_before { OnErr result (streams.new.fields.items ≡ streams.old.fields.items) }
@@ -291,7 +291,7 @@ impl Book {
         requires place { NamesPlace field }
         requires none { left_of self.old (number_of Inputs) ≡ 0 }
         requires few { length (get_or (streams_in self.old) (number_of Inputs) []) < 2147483648 }
-        ensures brought { OnOk result (IsBroughtAtEnd self.old self.new Inputs (ToldItem field)) }
+        ensures brought { OnOk result (IsBroughtAtEnd self.old self.new Inputs (InputTold field)) }
         ensures no_memory { OnErr result (IsAsBefore self.old self.new) }
     {
         match self.add_input(field) {
@@ -335,7 +335,7 @@ impl Book {
     fn add_input(&mut self, field: Field) -> Result<(), NoMemory>
         requires place { NamesPlace field }
         requires few { length (get_or (streams_in self.old) (number_of Inputs) []) < 2147483648 }
-        ensures added { OnOk result (IsLengthened self.old self.new Inputs (ToldItem field)) }
+        ensures added { OnOk result (IsLengthened self.old self.new Inputs (InputTold field)) }
         ensures no_memory { OnErr result (IsAsBefore self.old self.new) }
     {
         match self.reserve_one() {

@@ -3,16 +3,16 @@
 ghost use Rattle.std.specs.Prelude.{◌≡◌, ◌<◌, ◌≤◌, ◌+◌, option_to_list, Some};
 ghost use Rattle.sig_tables.specs.Past.{History};
 ghost use Rattle.sig_tables.specs.Decide.{last_frame_of, past_at};
-ghost use Rattle.tick_context.specs.Told.{NamesPlace};
+ghost use Rattle.tick_context.specs.CanRun.{NamesPlace};
 ghost use Rattle.cab_book.specs.Controls.{ControlStands};
 ghost use Rattle.tick_context.specs.Strides.{IsStride};
 ghost use Rattle.agent.specs.Asks.{IsAsked, CanBeCarriedOut};
-ghost use Rattle.sig_types.specs.Items.{Told as ToldItem, Came, Ticked};
+ghost use Rattle.sig_types.specs.Items.{InputTold, Came, Ticked};
 ghost use Rattle.cabinet_history.specs.CabinetHistory.{CabinetHistory, opened, with_item};
 ghost use Rattle.cabinet_history.specs.Coming.{Coming, history_of, ask_after, carried_out};
 ghost use Rattle.cabinet_history.specs.Frames.{tick_written};
-ghost use Rattle.cabinet_history.specs.Told.{reply_to, load_end, in_frame, replied, ask_end};
-ghost use Rattle.cab_book.specs.Stands.{blank_ask};
+ghost use Rattle.cabinet_history.specs.CabinetAnswers.{reply_to, load_end, in_frame, replied, ask_end};
+ghost use Rattle.cab_book.specs.CabinetStands.{blank_ask};
 
 use crate::Control;
 use crate::carrying::{call_stage, carry_out, end_of};
@@ -73,7 +73,7 @@ fn clear(ask: &mut Ask)
 }
 
 impl Cabinet {
-    ghost use Rattle.cab_book.specs.Stands.{IsNew, CabinetKeeps, CabinetStands};
+    ghost use Rattle.cab_book.specs.CabinetStands.{IsNew, CabinetKeeps, CabinetStands};
     ghost use Rattle.cab_book.specs.Ticks.{ticks_on, ticks_written};
 
     /// A cabinet whose control has just been opened, with the community of those who may ask it. Nothing was sent to its stage.
@@ -107,7 +107,7 @@ impl Cabinet {
     /// It hears an input from the street.
     pub fn hear(&mut self, field: Field)
         requires place { NamesPlace field }
-        ensures stands { (cabinet_history : CabinetHistory) → CabinetStands self.old cabinet_history → CabinetStands self.new (with_item cabinet_history (ToldItem field)) }
+        ensures stands { (cabinet_history : CabinetHistory) → CabinetStands self.old cabinet_history → CabinetStands self.new (with_item cabinet_history (InputTold field)) }
         ensures ticks { self.new.ticks ≡ self.old.ticks }
     {
         self.control.input(field);

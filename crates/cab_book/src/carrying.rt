@@ -4,12 +4,12 @@ ghost use Rattle.std.specs.Prelude.{◌≡◌, ◌<◌, ◌≤◌, ◌+◌, All,
 ghost use Rattle.sig_tables.specs.Past.{History};
 ghost use Rattle.sig_tables.specs.Decide.{with_one};
 ghost use Rattle.cab_book.specs.Controls.{ControlStands, tick_count};
-ghost use Rattle.stage_txn.specs.Stands.{StageStands};
+ghost use Rattle.stage_txn.specs.StageKeeps.{StageStands};
 ghost use Rattle.agent.specs.Asks.{CanBeCarriedOut};
 ghost use Rattle.agent.specs.Orders.{IsFit};
 ghost use Rattle.cabinet_history.specs.Coming.{Coming, call_of, outcome as outcome_of, order_event, events_of, with_events, with_call};
-ghost use Rattle.cabinet_history.specs.Told.{wish_end};
-ghost use Rattle.cab_book.specs.Stands.{IsAnswered};
+ghost use Rattle.cabinet_history.specs.CabinetAnswers.{wish_end};
+ghost use Rattle.cab_book.specs.CabinetStands.{IsAnswered};
 ghost use Rattle.cab_book.specs.Carried.{orders_in, is_accepted};
 
 use crate::Control;

@@ -29,7 +29,7 @@ impl Control {
     ghost use Rattle.sig_tables.specs.Decide.{decide, ticked, opening, with_one, last_frame_of, past_at};
     ghost use Rattle.sig_tables.specs.Showing.{ShownAfter};
     ghost use Rattle.tick_context.specs.Modes.{is_flash};
-    ghost use Rattle.tick_context.specs.Told.{CanRun, NamesPlace};
+    ghost use Rattle.tick_context.specs.CanRun.{CanRun, NamesPlace};
     ghost use Rattle.tick_context.specs.Strides.{IsStride, is_told, ticks_more};
     ghost use Rattle.cab_book.specs.declared.control.Engine.{Engine};
     ghost use Rattle.cab_book.specs.Controls.{ControlStands, tick_count};

@@ -21,7 +21,7 @@ use Rattle.agent.specs.declared.ask.Wish.{Wish}
 use Rattle.agent.specs.declared.ask.Wish.TheVariants.{Get, Next, Direct, Begin, Part, Verify, Finish, Bad}
 use Rattle.agent.specs.declared.ask.Ask.{Ask}
 use Rattle.agent.specs.Asks.{ask_of}
-use Rattle.sig_types.specs.Items.{Item, Told, Came, Ticked}
+use Rattle.sig_types.specs.Items.{Item, InputTold, Came, Ticked}
 use Rattle.cabinet_history.specs.Coming.{Coming, past_of, in_force, is_flashing, order_event, with_events, installs, carried_out, heeded, coming_from}
 use Rattle.cabinet_history.specs.Downloads.{content_by, accepted_by, is_under_way, base_by, with_downloads, deeds_of, HaveIds}
 
@@ -299,7 +299,7 @@ heeded-whole opening c (Some ask) w = carried-whole opening c ask.wish w
 
 pub whole : (community : List ℕ) (opening : History) (items : List Item) → Whole opening (coming_from community opening items)
 whole community opening [] = record { version = omega arith; base = λ way. absurd (false≢true way); tables = λ ids. refl }
-whole community opening (Told field ∷ items) =
+whole community opening (InputTold field ∷ items) =
     let w = whole community opening items in
     record { version = w.version; base = w.base; tables = w.tables }
 whole community opening (Came octets ∷ items) =

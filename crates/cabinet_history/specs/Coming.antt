@@ -18,7 +18,7 @@ use Rattle.agent.specs.declared.ask.Wish.{Wish}
 use Rattle.agent.specs.declared.ask.Wish.TheVariants.{Direct, Begin, Part, Verify, Finish}
 use Rattle.agent.specs.declared.ask.Ask.{Ask}
 use Rattle.agent.specs.Asks.{ask_of}
-use Rattle.sig_types.specs.Items.{Item, Told, Came, Ticked}
+use Rattle.sig_types.specs.Items.{Item, InputTold, Came, Ticked}
 use Rattle.cabinet_history.specs.CabinetHistory.{CabinetHistory}
 
 pub record Coming : Type 0 where
@@ -96,7 +96,7 @@ heeded c (Some ask) = carried_out c ask.wish
 
 -- one item more comes to a cabinet of this community
 abbrev pub with_item : List ℕ → Item → Coming → Coming
-with_item community (Told field) c = record { history = with_one c.history (Input field); calls = c.calls }
+with_item community (InputTold field) c = record { history = with_one c.history (Input field); calls = c.calls }
 with_item community (Came octets) c = heeded c (ask_of octets community (in_force c))
 with_item community Ticked c = record { history = ticked c.history; calls = c.calls }
 

@@ -2,6 +2,6 @@ pub mod CabinetHistory
 pub mod Journals
 pub mod Coming
 pub mod Frames
-pub mod Told
+pub mod CabinetAnswers
 pub mod Downloads
 pub mod Installs

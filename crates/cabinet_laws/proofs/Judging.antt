@@ -17,7 +17,7 @@ use Rattle.sig_types.specs.Items.{Came}
 use Rattle.cabinet_history.specs.declared.Load.{Load}
 use Rattle.cabinet_history.specs.CabinetHistory.{CabinetHistory, with_item}
 use Rattle.cabinet_history.specs.Coming.{Coming, in_force, past_of, is_flashing, answer_in, outcome, installs, with_events, carried_out, heeded, coming, ask_after}
-use Rattle.cabinet_history.specs.Told.{verify_end, finish_end, wish_end, ask_end, load_end}
+use Rattle.cabinet_history.specs.CabinetAnswers.{verify_end, finish_end, wish_end, ask_end, load_end}
 use Rattle.cabinet_laws.specs.Judging.{IsVerdict}
 
 -- ---- a refusal names the first rule

@@ -13,7 +13,7 @@ use Rattle.agent.specs.declared.ask.Wish.TheVariants.{Get, Next, Direct, Begin, 
 use Rattle.agent.specs.declared.ask.Ask.{Ask}
 use Rattle.agent.specs.Asks.{ask_of}
 use Rattle.agent.specs.Downloads.{IsId}
-use Rattle.sig_types.specs.Items.{Item, Told, Came, Ticked}
+use Rattle.sig_types.specs.Items.{Item, InputTold, Came, Ticked}
 use Rattle.cabinet_history.specs.Coming.{Coming, in_force, past_of, is_flashing, answer_in, order_event, installs, with_events, carried_out, heeded, with_item, coming_from}
 use Rattle.cabinet_laws.proofs.Ids.{HasId, ask-id}
 
@@ -89,7 +89,7 @@ ask-keeps Known P k c None is before after h = h
 
 item-keeps : (Known P : Coming → Type 0) → StepKeeps Known P → (community : List ℕ) (item : Item) (c : Coming) → Known c
     → Known (with_item community item c) → P c → P (with_item community item c)
-item-keeps Known P k community (Told field) c before after h = k.event c (Input field) tt h
+item-keeps Known P k community (InputTold field) c before after h = k.event c (Input field) tt h
 item-keeps Known P k community (Came octets) c before after h =
     ask-keeps Known P k c (ask_of octets community (in_force c)) (ask-id octets community (in_force c)) before after h
 item-keeps Known P k community Ticked c before after h = k.event c Tick tt h

@@ -7,14 +7,14 @@ use Rattle.sig_tables.specs.declared.tables.Tables.{Tables}
 use Rattle.sig_tables.specs.Past.{Tick, History, first_frame}
 use Rattle.sig_tables.specs.Decide.{with_one, decide, frames, last_frame_of, past_at, opening}
 use Rattle.safety_laws.specs.Written.{shown_by}
-use Rattle.safety_laws.specs.Told.{CabinetTold, Shows, history_told}
+use Rattle.safety_laws.specs.CabinetTold.{CabinetTold, Shows, history_told}
 use Rattle.agent.specs.declared.ask.Order.{Order}
 use Rattle.agent.specs.declared.ask.Order.TheVariants.{Pattern as PatternOrder, Clock as ClockOrder, Request as RequestOrder, Cancel as CancelOrder}
 use Rattle.agent.specs.declared.ask.Wish.{Wish}
 use Rattle.agent.specs.declared.ask.Wish.TheVariants.{Get, Next, Direct, Begin, Part, Verify, Finish, Bad}
 use Rattle.agent.specs.declared.ask.Ask.{Ask}
 use Rattle.agent.specs.Asks.{ask_of}
-use Rattle.sig_types.specs.Items.{Item, Told as Input, Came, Ticked}
+use Rattle.sig_types.specs.Items.{Item, InputTold as Input, Came, Ticked}
 use Rattle.stage_txn.specs.Calls.{Verify as VerifyCall, Finish as FinishCall}
 use Rattle.stage_txn.specs.Answers.{answered, staged}
 use Rattle.plan_facts.specs.Disturbances.{Drift}
@@ -22,7 +22,7 @@ use Rattle.cabinet_history.specs.CabinetHistory.{CabinetHistory, with_item as wi
 use Rattle.cabinet_history.specs.Journals.{Act, items_in}
 use Rattle.cabinet_history.specs.Coming.{Coming, in_force, past_of, is_flashing, answer_in, outcome, order_event, installs, with_events, carried_out, heeded, with_item, coming_from, history_of}
 use Rattle.cabinet_history.specs.Frames.{has_line, tick_written}
-use Rattle.cabinet_history.specs.Told.{verify_end, finish_end, wish_end, ask_end}
+use Rattle.cabinet_history.specs.CabinetAnswers.{verify_end, finish_end, wish_end, ask_end}
 use Rattle.cabinet_laws.specs.Openings.{IsOpening}
 use Rattle.cabinet_laws.specs.Telling.{load_told, frames_told, item_told, items_told, cabinet_history_told, acts_told}
 

@@ -5,12 +5,12 @@ use Rattle.sig_types.specs.declared.notes.Broken.{Broken}
 use Rattle.sig_types.specs.declared.frame.Frame.{Frame}
 use Rattle.sig_tables.specs.Past.{History, first_frame}
 use Rattle.safety_laws.specs.Written.{shown_by}
-use Rattle.safety_laws.specs.Told.{CabinetTold, Shows, Loads}
-use Rattle.sig_types.specs.Items.{Item, Told as Input, Came, Ticked}
+use Rattle.safety_laws.specs.CabinetTold.{CabinetTold, Shows, Loads}
+use Rattle.sig_types.specs.Items.{Item, InputTold as Input, Came, Ticked}
 use Rattle.cabinet_history.specs.declared.Load.{Load}
 use Rattle.cabinet_history.specs.CabinetHistory.{CabinetHistory, with_item}
 use Rattle.cabinet_history.specs.Journals.{Act}
-use Rattle.cabinet_history.specs.Told.{load_end, item_written}
+use Rattle.cabinet_history.specs.CabinetAnswers.{load_end, item_written}
 
 -- a version that was made
 abbrev pub version_told : Result ℕ Broken → List CabinetTold

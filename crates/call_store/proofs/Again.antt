@@ -16,7 +16,7 @@ use Rattle.sig_tables.specs.Decide.{with_moment}
 use Rattle.sig_tables.specs.Seen.{frame_seen, moment_seen, vehicle_seen, pedestrian_seen, detectors_seen}
 use Rattle.sig_tables.proofs.Called.{called, called-on, frame-same}
 use Rattle.call_store.specs.declared.Calls.{Calls}
-use Rattle.call_store.specs.Stands.{CallsStand, is_walking}
+use Rattle.call_store.specs.CallsStand.{CallsStand, is_walking}
 
 twice : (g y : Bool) → (not g && (not g && y)) ≡ (not g && y)
 twice true y = refl

@@ -9,7 +9,7 @@ use Rattle.sig_tables.specs.Splits.{split_maximum}
 use Rattle.sig_tables.specs.Calls.{is_active, is_green}
 use Rattle.sig_tables.specs.Layout.{Has}
 use Rattle.sig_tables.specs.Seen.{frame_seen, detectors_seen, quiet_with}
-use Rattle.call_store.specs.Stands.{is_active_with}
+use Rattle.call_store.specs.CallsStand.{is_active_with}
 
 -- a Green phase is quiet where it is not among the active ones
 pub quiet-is : (pattern : Option ℕ) (past : Past) (active : PhaseSet) → Has active (is_active_with pattern past) → (p : ℕ)

@@ -37,7 +37,7 @@ impl Calls {
     ghost use Rattle.sig_tables.specs.Layout.{LaidOut, Has};
     ghost use Rattle.sig_tables.specs.Seen.{frame_seen, vehicle_seen, pedestrian_seen, detectors_seen, demand_with, quiet_with};
     ghost use Rattle.pattern_plan.specs.Options.{AreActivePattern};
-    ghost use Rattle.call_store.specs.Stands.{CallsStand, NamesPhase, is_active_with, is_walking};
+    ghost use Rattle.call_store.specs.CallsStand.{CallsStand, NamesPhase, is_active_with, is_walking};
 
     /// No call, and no detector on.
     pub fn new() -> Calls

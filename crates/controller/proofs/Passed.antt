@@ -27,7 +27,7 @@ use Rattle.sig_tables.specs.Modes.{bound}
 use Rattle.sig_tables.specs.Seen.{frame_seen, moment_seen, moves_seen, quiet_with}
 use Rattle.call_store.proofs.Again.{calls-on}
 use Rattle.coord_count.specs.declared.Count.{Count}
-use Rattle.coord_count.specs.Stands.{CountStands}
+use Rattle.coord_count.specs.CountStands.{CountStands}
 use Rattle.coord_count.proofs.Passed.{count-on}
 use Rattle.phase_clock.proofs.Passed.{clocks-on}
 use Rattle.ped_clock.proofs.Passed.{signals-on}
@@ -44,14 +44,14 @@ use Rattle.controller.specs.Shows.{ShowsColours}
 use Rattle.tick_context.specs.UnitCommands.{UnitCommandsStand}
 use Rattle.tick_context.specs.Even.{IsEven, UnitCommandsPassed}
 use Rattle.tick_context.specs.Context.{CountsOn}
-use Rattle.controller.specs.StandsFor.{ControllerKeeps}
+use Rattle.controller.specs.ControllerStands.{ControllerKeeps}
 use Rattle.tick_context.specs.Lasting.{Lasts, opposed_with}
 use Rattle.tick_context.specs.Passed.{timed, planned_target}
 use Rattle.controller.specs.Passed.{counted, passed, IsReady}
 use Rattle.tick_context.proofs.EvenRuns.{unit_commands-next, next-passed, first-even, rest-even, rest-by, timed-none}
 use Rattle.tick_context.proofs.Again.{free-apart, no-counter, no-target}
 use Rattle.tick_context.proofs.Counted.{counters-head}
-use Rattle.tick_context.proofs.GoesOn.{Goes, tick-goes, frame-goes, goes-alike}
+use Rattle.tick_context.proofs.TicksGoOn.{Goes, tick-goes, frame-goes, goes-alike}
 use Rattle.tick_context.proofs.InStep.{step-in, counter-next}
 use Rattle.tick_context.proofs.OneLess.{seen-again, looks-on, lasts-less}
 use Rattle.tick_context.proofs.Rings.{each-ring, last-again, latest-again}

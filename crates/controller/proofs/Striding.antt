@@ -7,7 +7,7 @@ use Rattle.sig_tables.specs.Past.{Past, History}
 use Rattle.sig_tables.specs.Decide.{past_at}
 use Rattle.controller.specs.declared.Controller.{Controller}
 use Rattle.tick_context.specs.Even.{IsEven, UnitCommandsPassed}
-use Rattle.controller.specs.StandsFor.{ControllerKeeps, ControllerStands}
+use Rattle.controller.specs.ControllerStands.{ControllerKeeps, ControllerStands}
 use Rattle.tick_context.specs.Strides.{ticks_more}
 use Rattle.tick_context.specs.Lasting.{Lasts}
 use Rattle.controller.specs.Passed.{passed, IsReady}

@@ -5,7 +5,7 @@ use Rattle.tick_context.specs.declared.tick_state.TickState.{TickState}
 use Rattle.controller.specs.declared.Controller.{Controller}
 use Rattle.tick_context.specs.Binds.{IsBound}
 use Rattle.tick_context.specs.TickState.{TickStateIs}
-use Rattle.controller.specs.StandsFor.{ControllerKeeps}
+use Rattle.controller.specs.ControllerStands.{ControllerKeeps}
 
 -- the controller keeps what the past gives, and what its tick is about is this
 pub record Runs (c : Controller) (k : TickState) (past : Past) : Type 0 where

@@ -30,7 +30,7 @@ impl Controller {
     ghost use Rattle.tick_context.specs.Rests.{IsCurrent, Repeats};
     ghost use Rattle.controller.specs.Runs.{Runs};
     ghost use Rattle.tick_context.specs.Sees.{Sees};
-    ghost use Rattle.controller.specs.StandsFor.{ControllerKeeps, tick_count, install_count};
+    ghost use Rattle.controller.specs.ControllerStands.{ControllerKeeps, tick_count, install_count};
 
     /// Whether a cabinet that runs free goes on to: no preempt input is on, and this pattern in command is none that is defined
     /// and is no flash.

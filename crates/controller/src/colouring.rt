@@ -30,7 +30,7 @@ impl Controller {
     ghost use Rattle.controller.specs.Runs.{Runs};
     ghost use Rattle.tick_context.specs.Sees.{Sees};
     ghost use Rattle.controller.specs.Comes.{Comes};
-    ghost use Rattle.controller.specs.StandsFor.{ControllerKeeps, tick_count};
+    ghost use Rattle.controller.specs.ControllerStands.{ControllerKeeps, tick_count};
     ghost use Rattle.tick_context.specs.Moves.{AreMoves};
 
     /// The colour of a phase, 1 to 16, after these moves.

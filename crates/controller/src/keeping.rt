@@ -63,15 +63,15 @@ impl Controller {
     ghost use Rattle.sig_tables.specs.Decide.{with_moment, next_moment};
     ghost use Rattle.sig_types.specs.declared.frame.Frame.{Frame};
     ghost use Rattle.sig_tables.specs.Layout.{Has};
-    ghost use Rattle.call_store.specs.Stands.{is_walking};
+    ghost use Rattle.call_store.specs.CallsStand.{is_walking};
     ghost use Rattle.tick_context.specs.Shows.{is_signalling};
     ghost use Rattle.controller.specs.Comes.{Comes};
     ghost use Rattle.controller.specs.Runs.{Runs};
     ghost use Rattle.tick_context.specs.Sees.{Sees};
     ghost use Rattle.sig_tables.specs.Choosing.{is_in_step};
-    ghost use Rattle.coord_count.specs.Stands.{CountStands};
+    ghost use Rattle.coord_count.specs.CountStands.{CountStands};
     ghost use Rattle.tick_context.specs.Context.{CountsOn};
-    ghost use Rattle.controller.specs.StandsFor.{ControllerKeeps, tick_count, install_count};
+    ghost use Rattle.controller.specs.ControllerStands.{ControllerKeeps, tick_count, install_count};
 
     /// The phases that show Walk; the set that is kept, where every phase keeps its signal.
     fn walking_in(&self, next: &Next) -> PhaseSet

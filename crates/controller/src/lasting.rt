@@ -18,7 +18,7 @@ impl Controller {
     ghost use Rattle.call_store.specs.Signals.{SignalLasts};
     ghost use Rattle.tick_context.specs.Binds.{ActivePatternIs, IsBound};
     ghost use Rattle.tick_context.specs.Lasting.{Looks, ColourLasts, StaysUnserved, HasNoGap, HasNoMaximum, HasNoReason, StaysUnforced, PhaseLasts, StaysOn, RingLasts, opposed_with};
-    ghost use Rattle.controller.specs.StandsFor.{ControllerKeeps, tick_count};
+    ghost use Rattle.controller.specs.ControllerStands.{ControllerKeeps, tick_count};
 
     /// For how many ticks more a phase, 1 to 16, keeps its colour where it neither ends nor begins.
     fn colour_left(&self, phase: u8) -> u32

@@ -60,8 +60,8 @@ impl Controller {
     ghost use Rattle.sig_tables.specs.Decide.{decide, ticked, opening, with_one, last_frame_of, past_at};
     ghost use Rattle.sig_tables.specs.Showing.{ShownAfter};
     ghost use Rattle.tick_context.specs.Modes.{is_flash};
-    ghost use Rattle.controller.specs.StandsFor.{ControllerStands, tick_count, install_count};
-    ghost use Rattle.tick_context.specs.Told.{CanRun, NamesPlace};
+    ghost use Rattle.controller.specs.ControllerStands.{ControllerStands, tick_count, install_count};
+    ghost use Rattle.tick_context.specs.CanRun.{CanRun, NamesPlace};
 
     /// A cabinet that is opened with these tables, in Start, with a pattern in command, 0 to 255 (254 and those that are
     /// not defined run free, 255 flashes), and a clock in ticks of the day. The tables' limits of adding and subtracting

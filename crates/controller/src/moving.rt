@@ -20,7 +20,7 @@ impl Controller {
     ghost use Rattle.sig_tables.specs.Seen.{ring_turn_seen, view_seen, moves_seen};
     ghost use Rattle.controller.specs.Runs.{Runs};
     ghost use Rattle.tick_context.specs.Sees.{Sees};
-    ghost use Rattle.controller.specs.StandsFor.{ControllerKeeps, tick_count};
+    ghost use Rattle.controller.specs.ControllerStands.{ControllerKeeps, tick_count};
 
     /// Whether each ring is open at this tick.
     fn opening(&self) -> [bool; 2]

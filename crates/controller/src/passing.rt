@@ -21,7 +21,7 @@ impl Controller {
     ghost use Rattle.sig_tables.specs.Slots.{cycle_time, window};
     ghost use Rattle.sig_tables.specs.Clock.{target_at};
     ghost use Rattle.sig_tables.specs.Seen.{moment_seen};
-    ghost use Rattle.coord_count.specs.Stands.{counter_of};
+    ghost use Rattle.coord_count.specs.CountStands.{counter_of};
     ghost use Rattle.tick_context.specs.Modes.{is_coord};
     ghost use Rattle.sig_tables.specs.Past.{Past};
     ghost use Rattle.sig_tables.specs.Layout.{Has};
@@ -29,7 +29,7 @@ impl Controller {
     ghost use Rattle.tick_context.specs.Binds.{ActivePatternIs, IsBound};
     ghost use Rattle.tick_context.specs.Lasting.{IsFresh, Looks, StaysFree, StaysInStep, ModeLasts, Lasts, opposed_with};
     ghost use Rattle.controller.specs.Passed.{IsReady, GoesEvenly, HasPassed, HasUnitCommands};
-    ghost use Rattle.controller.specs.StandsFor.{ControllerKeeps, tick_count, install_count};
+    ghost use Rattle.controller.specs.ControllerStands.{ControllerKeeps, tick_count, install_count};
 
     /// What is seen of the phases, where the mode goes on.
     fn tick_inputs_kept(&self) -> TickInputs

@@ -25,7 +25,7 @@ impl Controller {
     ghost use Rattle.ring_barrier.specs.Shows.{is_leaving};
     ghost use Rattle.controller.specs.Runs.{Runs};
     ghost use Rattle.tick_context.specs.Sees.{Sees};
-    ghost use Rattle.controller.specs.StandsFor.{ControllerKeeps, tick_count};
+    ghost use Rattle.controller.specs.ControllerStands.{ControllerKeeps, tick_count};
 
     /// How long a phase, 1 to 16, clears: its yellow change and its red clearance, in ticks.
     pub(crate) fn clearance(&self, phase: u8) -> u32

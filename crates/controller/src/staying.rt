@@ -19,7 +19,7 @@ impl Controller {
     ghost use Rattle.tick_context.specs.Shows.{is_signalling};
     ghost use Rattle.tick_context.specs.Walks.{signal_seen};
     ghost use Rattle.tick_context.specs.Sees.{Sees};
-    ghost use Rattle.controller.specs.StandsFor.{ControllerKeeps, tick_count};
+    ghost use Rattle.controller.specs.ControllerStands.{ControllerKeeps, tick_count};
 
     /// Whether a phase on which no walk begins keeps its signal. What is no phase does.
     fn walks_on(&self, phase: u8) -> bool

@@ -10,7 +10,7 @@ impl Controller {
     ghost use Rattle.sig_tables.specs.Past.{History};
     ghost use Rattle.sig_tables.specs.Decide.{ticked};
     ghost use Rattle.tick_context.specs.Strides.{IsStride, is_told, ticks_more};
-    ghost use Rattle.controller.specs.StandsFor.{ControllerStands, tick_count, install_count};
+    ghost use Rattle.controller.specs.ControllerStands.{ControllerStands, tick_count, install_count};
 
     /// Passes over ticks that come, at most so many, and says how many, where nothing has been told since the last tick. It may
     /// stop before the first whose frame has a line.

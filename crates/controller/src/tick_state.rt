@@ -11,7 +11,7 @@ impl Controller {
     ghost use Rattle.sig_tables.specs.Command.{command_now};
     ghost use Rattle.sig_tables.specs.Seen.{mode_seen};
     ghost use Rattle.tick_context.specs.Binds.{IsBound};
-    ghost use Rattle.controller.specs.StandsFor.{ControllerKeeps, tick_count, install_count};
+    ghost use Rattle.controller.specs.ControllerStands.{ControllerKeeps, tick_count, install_count};
 
     /// The mode of this tick before its colours are known, with this pattern in command.
     pub(crate) fn mode(&self, command: u8) -> Mode

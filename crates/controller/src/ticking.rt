@@ -43,7 +43,7 @@ impl Controller {
     ghost use Rattle.preempt_stages.specs.Inputs.{preempts_seen};
     ghost use Rattle.controller.specs.Runs.{Runs};
     ghost use Rattle.tick_context.specs.Sees.{Sees};
-    ghost use Rattle.controller.specs.StandsFor.{ControllerKeeps, tick_count, install_count};
+    ghost use Rattle.controller.specs.ControllerStands.{ControllerKeeps, tick_count, install_count};
 
     /// The frame of a tick that is about this and sees this.
     fn go_on(&mut self, tick_state: &TickState, tick_inputs: &TickInputs) -> Frame

@@ -27,7 +27,7 @@ impl Controller {
     ghost use Rattle.tick_context.specs.Walks.{walk_after, signal_seen};
     ghost use Rattle.controller.specs.Runs.{Runs};
     ghost use Rattle.tick_context.specs.Sees.{Sees};
-    ghost use Rattle.controller.specs.StandsFor.{ControllerKeeps, tick_count};
+    ghost use Rattle.controller.specs.ControllerStands.{ControllerKeeps, tick_count};
     ghost use Rattle.tick_context.specs.Moves.{AreMoves};
 
     /// The lesser times of a phase, 1 to 16; none for a phase of the goal.

@@ -2,7 +2,7 @@
 use Rattle.std.proofs.Common.{◌≡◌, ◌≢◌, ◌+◌, ◌==◌, ◌&&◌, not, ℕ, Bool, false, List, ◌∷◌, refl, sym, ◌∙◌, ap, arith}
 use Rattle.std.proofs.lemmas.Bool.{ne_eqb}
 use Rattle.coord_count.specs.declared.Count.{Count}
-use Rattle.coord_count.specs.Stands.{CountStands}
+use Rattle.coord_count.specs.CountStands.{CountStands}
 use Rattle.coord_count.specs.Passed.{passed}
 
 pub count-on : (c : Count) (last : ℕ) (before : List ℕ) → CountStands c (last ∷ before) → CountStands (passed 1 c) ((last + 1) ∷ last ∷ before)

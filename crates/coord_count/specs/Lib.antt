@@ -1,3 +1,3 @@
 pub mod Limits
-pub mod Stands
+pub mod CountStands
 pub mod Passed

@@ -26,7 +26,7 @@ pub struct Count {
 impl Count {
     ghost use Rattle.sig_tables.specs.Counting.{next_counter, last_counter, dwelling, adding, skipping};
     ghost use Rattle.coord_count.specs.Limits.{correction_in};
-    ghost use Rattle.coord_count.specs.Stands.{CountStands, counter_of};
+    ghost use Rattle.coord_count.specs.CountStands.{CountStands, counter_of};
 
     /// Before any pickup: it counts as if the pattern were picked up now.
     pub fn new() -> Count

@@ -5,7 +5,7 @@ ghost use Rattle.std.specs.Prelude.{◌≡◌, ◌≤◌, ◌+◌};
 use crate::Count;
 
 impl Count {
-    ghost use Rattle.coord_count.specs.Stands.{counter_of};
+    ghost use Rattle.coord_count.specs.CountStands.{counter_of};
     ghost use Rattle.coord_count.specs.Passed.{passed};
 
     /// So many ticks, at each of which the counter goes on by one.

@@ -62,7 +62,7 @@ pub struct Gate<'a> {
 }
 
 impl Gate<'_> {
-    ghost use Rattle.coord_gate.specs.Stands.{GateStands};
+    ghost use Rattle.coord_gate.specs.GateStands.{GateStands};
 
     /// Those of the phases that the pattern does not coordinate.
     fn others(&self, among: PhaseSet) -> PhaseSet

@@ -42,7 +42,7 @@ use Rattle.coordination_laws.specs.Cycles.{HasTime, step_at}
 use Rattle.coordination_laws.specs.Facts.{is_coord, SeekFacts, StepFacts, Tells, Elsewhere, Seeks, Steps}
 use Rattle.coordination_laws.specs.Goes.{CounterGoesOn}
 use Rattle.coordination_laws.proofs.Telling.{goes-on, target-later}
-use Rattle.coordination_laws.specs.Told.{Obeys, ModeFollows, MomentTold}
+use Rattle.coordination_laws.specs.MomentTold.{Obeys, ModeFollows, MomentTold}
 use Rattle.coordination_laws.proofs.TellingMet.{obeys}
 use Rattle.coordination_laws.proofs.Seeking.{SeeksOn, seek-tick}
 

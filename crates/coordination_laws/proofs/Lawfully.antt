@@ -21,7 +21,7 @@ use Rattle.plan_facts.specs.Disturbances.{Drift, drifts, drift_gap, IsSlow}
 use Rattle.coordination_laws.specs.Cycles.{HasTime}
 use Rattle.coordination_laws.specs.Facts.{TellsEach}
 use Rattle.coordination_laws.proofs.Meeting.{tells-opening}
-use Rattle.coordination_laws.specs.Told.{MomentTold}
+use Rattle.coordination_laws.specs.MomentTold.{MomentTold}
 use Rattle.coordination_laws.specs.Ranged.{PutsInRange, EachInRange}
 use Rattle.coordination_laws.proofs.Underway.{any-moment}
 use Rattle.coordination_laws.proofs.TellingMet.{next-told, first-told}

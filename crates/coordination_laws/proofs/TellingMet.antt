@@ -18,7 +18,7 @@ use Rattle.sig_tables.specs.Seen.{mode_seen, moves_seen}
 use Rattle.sig_tables.specs.Decide.{colours_of, next_moment}
 use Rattle.tick_laws.proofs.Sought.{Numbered, IsStage, EachStage, now-stage}
 use Rattle.tick_laws.proofs.InStep.{next-named}
-use Rattle.coordination_laws.specs.Told.{Obeys, ModeFollows, MomentTold}
+use Rattle.coordination_laws.specs.MomentTold.{Obeys, ModeFollows, MomentTold}
 
 commanded : (t : Tables) (v n : ℕ) (f : Frame) → Obeys t v f n (mode_commanded t v n f)
 commanded t v n f = split (is_defined t n) (is_in_step f v n) refl refl

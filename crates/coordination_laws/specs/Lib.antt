@@ -4,5 +4,5 @@ pub mod Lasting
 pub mod Cycles
 pub mod Facts
 pub mod Goes
-pub mod Told
+pub mod MomentTold
 pub mod Ranged

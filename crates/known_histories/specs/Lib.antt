@@ -1,6 +1,6 @@
 pub mod Changes
 pub mod Timeline
-pub mod Told
+pub mod HistoryTold
 pub mod WholeWalk
 pub mod ForcedOff
 pub mod Dwells

@@ -9,7 +9,7 @@ use Rattle.sig_tables.specs.Putting.{with_cells}
 use Rattle.sig_tables.specs.Past.{Input, Install, SetPattern, SetClock, Ask, Cancel, History}
 use Rattle.sig_tables.specs.Standard.{std8}
 use Rattle.known_histories.specs.Timeline.{Step, ticks, told_in_order, after, request}
-use Rattle.known_histories.specs.Told.{HistoryTold, line}
+use Rattle.known_histories.specs.HistoryTold.{HistoryTold, line}
 
 -- the tables that the cabinet opens with
 abbrev pub mixed_second_tables : Tables

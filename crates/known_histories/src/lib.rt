@@ -6,7 +6,7 @@ ghost use Rattle.std.specs.Prelude.{◌≡◌, [], ◌∷◌};
 ghost use Rattle.sig_types.specs.declared.frame.Colour.TheVariants.{Green, Yellow, Clear, Red};
 ghost use Rattle.sig_tables.specs.Standard.{max8, std8};
 ghost use Rattle.known_histories.specs.Changes.{changed, shown, two_cars, long_six, ticks};
-ghost use Rattle.known_histories.specs.Told.{told_of};
+ghost use Rattle.known_histories.specs.HistoryTold.{told_of};
 ghost use Rattle.known_histories.specs.WholeWalk.{whole_walk_history, whole_walk_told};
 ghost use Rattle.known_histories.specs.ForcedOff.{forced_off_history, forced_off_told};
 ghost use Rattle.known_histories.specs.Dwells.{dwells_history, dwells_told};

@@ -5,7 +5,7 @@ use Rattle.sig_types.specs.declared.notes.Way.{Way}
 use Rattle.scenario_data.specs.declared.scenario.Direction.{Direction}
 use Rattle.scenario_data.specs.declared.scenario.Fault.{Fault}
 use Rattle.scenario_data.specs.Content.{ScenarioContent}
-use Rattle.sig_types.specs.Items.{Item, Told, Came}
+use Rattle.sig_types.specs.Items.{Item, InputTold, Came}
 use Rattle.link_sim.specs.declared.lines.Lines.{Lines}
 use Rattle.link_sim.specs.declared.Line.{Line}
 use Rattle.link_sim.specs.Order.{SameFaults}
@@ -30,12 +30,12 @@ stream_is fs s same cab way round rounds texts first arrived all past own e f is
 
 -- the streams are the same where their items are
 pub same_streams : (a a2 : List Field) (b b2 c c2 d d2 : List (List ℕ)) (ticks : List (List Item)) → a ≡ a2 → b ≡ b2 → c ≡ c2 → d ≡ d2
-    → ◌≡◌ {A = List (List Item)} (map Told a ∷ map Came b ∷ map Came c ∷ map Came d ∷ ticks) (map Told a2 ∷ map Came b2 ∷ map Came c2 ∷ map Came d2 ∷ ticks)
+    → ◌≡◌ {A = List (List Item)} (map InputTold a ∷ map Came b ∷ map Came c ∷ map Came d ∷ ticks) (map InputTold a2 ∷ map Came b2 ∷ map Came c2 ∷ map Came d2 ∷ ticks)
 same_streams a a2 b b2 c c2 d d2 ticks p q r t =
-    ap (λ (x : List Field). map Told x ∷ map Came b ∷ map Came c ∷ map Came d ∷ ticks) p
-    ∙ ap (λ (x : List (List ℕ)). map Told a2 ∷ map Came x ∷ map Came c ∷ map Came d ∷ ticks) q
-    ∙ ap (λ (x : List (List ℕ)). map Told a2 ∷ map Came b2 ∷ map Came x ∷ map Came d ∷ ticks) r
-    ∙ ap (λ (x : List (List ℕ)). map Told a2 ∷ map Came b2 ∷ map Came c2 ∷ map Came x ∷ ticks) t
+    ap (λ (x : List Field). map InputTold x ∷ map Came b ∷ map Came c ∷ map Came d ∷ ticks) p
+    ∙ ap (λ (x : List (List ℕ)). map InputTold a2 ∷ map Came x ∷ map Came c ∷ map Came d ∷ ticks) q
+    ∙ ap (λ (x : List (List ℕ)). map InputTold a2 ∷ map Came b2 ∷ map Came x ∷ map Came d ∷ ticks) r
+    ∙ ap (λ (x : List (List ℕ)). map InputTold a2 ∷ map Came b2 ∷ map Came c2 ∷ map Came x ∷ ticks) t
 
 -- the lines hold a round by what was sent in it
 pub held_is : (lines : Lines) (fs : List Fault) (cab : ℕ) (direction : Direction) (p p2 l l2 r r2 : List (List ℕ)) (past : Passed) → p ≡ p2 → l ≡ l2 → r ≡ r2

@@ -11,7 +11,7 @@ pub mod Reaching
 pub mod Lists
 pub mod StreamFrames
 pub mod Link
-pub mod Stands
+pub mod LinkStands
 pub mod LinkRounds
 pub mod Sorted
 pub mod Holds

@@ -9,7 +9,7 @@ use Rattle.scenario_data.specs.Content.{ScenarioContent}
 use Rattle.link_sim.specs.declared.link.Link.{Link}
 use Rattle.link_sim.specs.Link.{ArriveFrom, answered, sent_text}
 use Rattle.link_sim.specs.Reaching.{deliveries}
-use Rattle.link_sim.specs.Stands.{LinkStands, cabinet_count}
+use Rattle.link_sim.specs.LinkStands.{LinkStands, cabinet_count}
 use Rattle.link_sim.specs.StreamFrames.{Passed}
 
 -- a round goes down to each cabinet: for whatever the link stands there, it comes right behind the rounds that were sent, and this holds

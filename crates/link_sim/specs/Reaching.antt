@@ -7,7 +7,7 @@ use Rattle.sig_types.specs.declared.notes.Way.TheVariants.{Poll, Load, Prio}
 use Rattle.scenario_data.specs.declared.scenario.Direction.TheVariants.{Down, Up}
 use Rattle.scenario_data.specs.Content.{ScenarioContent, FrameContent}
 use Rattle.scenario_data.specs.Inputs.{inputs_of}
-use Rattle.sig_types.specs.Items.{Item, Told, Came, Ticked}
+use Rattle.sig_types.specs.Items.{Item, InputTold, Came, Ticked}
 use Rattle.link_sim.specs.declared.Line.{Line}
 use Rattle.link_sim.specs.Faults.{same_way}
 use Rattle.link_sim.specs.Priority.{priority_texts}
@@ -46,7 +46,7 @@ reaching s cab way sent = carried s.faults (line_down cab way) (sent_on s cab wa
 -- all that reaches it, by streams, where the master sent these on its two: inputs, frames and ticks
 abbrev pub deliveries : ScenarioContent → ℕ → List (List (List ℕ)) → List (List (List ℕ)) → List (List Item)
 deliveries s cab polls loads =
-    map Told (inputs_of (length polls) cab s.inputs)
+    map InputTold (inputs_of (length polls) cab s.inputs)
     ∷ map Came (reaching s cab Poll polls)
     ∷ map Came (reaching s cab Load loads)
     ∷ map Came (reaching s cab Prio polls)

@@ -95,7 +95,7 @@ fn bring_all_back(
 
 impl Link {
     ghost use Rattle.std.specs.Prelude.{[], OnOk, OnErr};
-    ghost use Rattle.link_sim.specs.Stands.{LinkStands, cabinet_count};
+    ghost use Rattle.link_sim.specs.LinkStands.{LinkStands, cabinet_count};
     ghost use Rattle.link_sim.specs.LinkRounds.{EachSentTo, EachHeardFrom};
     ghost use Rattle.link_sim.specs.LinkRounds.{ReceivesItsFrames, StandsWithSent, RepliesArrive, StandsWithReplied};
 

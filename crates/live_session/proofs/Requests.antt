@@ -3,7 +3,7 @@ use Rattle.std.proofs.Common.{◌≡◌, ◌<◌, ◌≤◌, ◌+◌, nat_le, by
 use Rattle.std.proofs.lemmas.Bool.{and_from, leb-false}
 use Rattle.sig_types.specs.declared.frame.Field.{Field}
 use Rattle.sig_types.specs.Phases.{is_phase}
-use Rattle.tick_context.specs.Told.{NamesPlace}
+use Rattle.tick_context.specs.CanRun.{NamesPlace}
 use Rattle.scenario_data.specs.Content.{ScenarioContent}
 use Rattle.session_words.specs.declared.request.Request.{Request}
 use Rattle.session_words.specs.declared.request.Request.TheVariants.{Tick, Input, Frame}

@@ -11,7 +11,7 @@ use Rattle.scenario_data.specs.Content.{ScenarioContent, scenario_content}
 use Rattle.runnable.specs.Runnable.{Runnable}
 use Rattle.cab_book.specs.declared.book.Book.{Book}
 use Rattle.cabinet_history.specs.Journals.{Act}
-use Rattle.cabinet_history.specs.Told.{acts_replies}
+use Rattle.cabinet_history.specs.CabinetAnswers.{acts_replies}
 use Rattle.run_definition.specs.CabinetState.{CabinetState, answers_in}
 use Rattle.run_definition.specs.Lines.{notes_lines}
 use Rattle.round_run.specs.declared.rounds.ClosedLoop.{ClosedLoop}

@@ -10,7 +10,7 @@ use Rattle.scenario_data.specs.Content.{ScenarioContent}
 use Rattle.cabinet_history.specs.declared.Reply.{Reply}
 use Rattle.cabinet_history.specs.CabinetHistory.{CabinetHistory, with_item, after}
 use Rattle.cabinet_history.specs.Journals.{Act, items_in}
-use Rattle.cabinet_history.specs.Told.{item_written, acts_written, item_replies, acts_replies}
+use Rattle.cabinet_history.specs.CabinetAnswers.{item_written, acts_written, item_replies, acts_replies}
 use Rattle.cab_book.specs.declared.book.Book.{Book}
 use Rattle.cab_book.specs.declared.happened.Answered.{Answered}
 use Rattle.cab_book.specs.Books.{BookStands, IsOnePart, IsBroughtAtEnd, acts_in, streams_in, journal_of, tick_acts, left_of, ticks_by_end, written_in, answered_in}

@@ -7,7 +7,7 @@ use Rattle.look_back.specs.declared.frame_runs.FrameRun.{FrameRun}
 use Rattle.circular_buffer.specs.Buffer.{Buffer, buffer}
 use Rattle.look_back.specs.declared.frame_runs.FrameRuns.{FrameRuns}
 use Rattle.look_back.specs.Look.{Tells}
-use Rattle.look_back.specs.Keeps.{FrameRunsKeep}
+use Rattle.look_back.specs.FrameRunsKeep.{FrameRunsKeep}
 use Rattle.look_back.specs.Spread.{frame_run, spread, EachLasts, more_of, TellLast}
 use Rattle.look_back.proofs.Spreads.{cut, cut-lasts, add-other, add-full}
 

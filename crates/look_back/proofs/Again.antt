@@ -24,7 +24,7 @@ use Rattle.look_back.specs.declared.frame_runs.FrameRuns.{FrameRuns}
 use Rattle.look_back.specs.declared.latched.Latched.{Latched}
 use Rattle.look_back.specs.Look.{Tells}
 use Rattle.look_back.specs.Spread.{frame_run, spread, TellLast, more_of}
-use Rattle.look_back.specs.Keeps.{FrameRunsKeep, newest_of}
+use Rattle.look_back.specs.FrameRunsKeep.{FrameRunsKeep, newest_of}
 use Rattle.look_back.specs.Latching.{LatchedStands}
 use Rattle.look_back.specs.Rows.{most, no_row, RowStands}
 use Rattle.look_back.specs.Again.{ShowsAgain, AllGoOn, AllTell, AllPass, more_by, lengthened}

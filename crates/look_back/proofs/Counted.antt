@@ -8,7 +8,7 @@ use Rattle.sig_tables.specs.Looking.{last_frame}
 use Rattle.sig_tables.specs.Counters.{counters_since}
 use Rattle.coord_count.specs.declared.Count.{Count}
 use Rattle.sig_tables.specs.Counting.{last_counter}
-use Rattle.coord_count.specs.Stands.{CountStands, counter_of}
+use Rattle.coord_count.specs.CountStands.{CountStands, counter_of}
 use Rattle.coord_count.specs.Passed.{passed}
 use Rattle.coord_count.proofs.Passed.{count-on}
 use Rattle.look_back.specs.declared.counting.Counting.{Counting}

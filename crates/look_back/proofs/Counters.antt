@@ -6,7 +6,7 @@ use Rattle.sig_tables.specs.Past.{Moment}
 use Rattle.sig_tables.specs.Looking.{last_frame}
 use Rattle.sig_tables.specs.Counters.{counters_since}
 use Rattle.coord_count.specs.declared.Count.{Count}
-use Rattle.coord_count.specs.Stands.{CountStands}
+use Rattle.coord_count.specs.CountStands.{CountStands}
 use Rattle.coord_count.specs.Passed.{passed}
 use Rattle.look_back.specs.declared.counting.Counting.{Counting}
 use Rattle.look_back.specs.Counts.{CountingStands, counters_in}

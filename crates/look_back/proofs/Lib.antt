@@ -1,7 +1,7 @@
 pub mod Same
 pub mod Spreads
 pub mod Runs
-pub mod Told
+pub mod SampleTold
 pub mod Looks
 pub mod Adding
 pub mod Pushing

@@ -7,9 +7,9 @@ use Rattle.look_back.specs.declared.sample.Look.{Look}
 use Rattle.look_back.specs.declared.frame_runs.FrameRuns.{FrameRuns}
 use Rattle.look_back.specs.Look.{is_so, is_told, LooksAtPhase}
 use Rattle.look_back.specs.Spread.{spread, told_run}
-use Rattle.look_back.specs.Keeps.{FrameRunsKeep}
+use Rattle.look_back.specs.FrameRunsKeep.{FrameRunsKeep}
 use Rattle.look_back.proofs.Runs.{same-run, told-newest}
-use Rattle.look_back.proofs.Told.{tells-so}
+use Rattle.look_back.proofs.SampleTold.{tells-so}
 
 -- as many as `most`, of at most 4,096, are told alike
 pub look-is : (s : FrameRuns) (look : Look) (most : ℕ) (past : List Moment) → LooksAtPhase look → most ≤ 4096 → FrameRunsKeep s past

@@ -14,9 +14,9 @@ use Rattle.look_back.specs.declared.sample.Sample.{Sample}
 use Rattle.look_back.specs.declared.window.Seen.{Seen}
 use Rattle.look_back.specs.declared.window.Window.{Window}
 use Rattle.look_back.specs.Shown.{IsShown}
-use Rattle.look_back.specs.Keeps.{newest_of}
+use Rattle.look_back.specs.FrameRunsKeep.{newest_of}
 use Rattle.look_back.specs.Look.{Tells}
-use Rattle.look_back.specs.Stands.{WindowStands, Saw}
+use Rattle.look_back.specs.WindowStands.{WindowStands, Saw}
 
 -- the set that is kept of the last frame is that of its Green phases
 pub green-before : (w : Window) (past : List Moment) → WindowStands w past → Has (newest_of w.kept).shown.green (is_green (last_frame past))

@@ -5,7 +5,7 @@ use Rattle.sig_types.specs.declared.frame.Mode.TheVariants.{Coord}
 use Rattle.sig_tables.specs.Past.{Moment}
 use Rattle.sig_tables.specs.Looking.{last_frame}
 use Rattle.sig_tables.specs.Counters.{counters_since}
-use Rattle.coord_count.specs.Stands.{CountStands}
+use Rattle.coord_count.specs.CountStands.{CountStands}
 use Rattle.look_back.specs.declared.counting.Counting.{Counting}
 
 -- the counters of the last frames in a row in step with the pattern of this mode, with this version; none where it is in step with none

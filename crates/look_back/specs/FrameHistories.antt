@@ -2,7 +2,7 @@
 use Rattle.std.specs.Prelude.{List}
 use Rattle.sig_tables.specs.Past.{Moment}
 use Rattle.look_back.specs.declared.frame_history.FrameHistory.{FrameHistory}
-use Rattle.look_back.specs.Stands.{WindowStands}
+use Rattle.look_back.specs.WindowStands.{WindowStands}
 use Rattle.look_back.specs.Latching.{LatchedStands}
 use Rattle.look_back.specs.LongCounts.{LongCountsStands}
 use Rattle.look_back.specs.Counts.{CountingStands}

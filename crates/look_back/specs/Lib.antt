@@ -1,8 +1,8 @@
 pub mod Shown
 pub mod Look
 pub mod Spread
-pub mod Keeps
-pub mod Stands
+pub mod FrameRunsKeep
+pub mod WindowStands
 pub mod Reach
 pub mod Latched
 pub mod Latching

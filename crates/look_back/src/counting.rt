@@ -6,7 +6,7 @@ ghost use Rattle.sig_types.specs.declared.frame.Mode.TheVariants.{Coord};
 ghost use Rattle.sig_tables.specs.Past.{Moment};
 ghost use Rattle.sig_tables.specs.Looking.{last_frame};
 ghost use Rattle.sig_tables.specs.Counters.{counters_since};
-ghost use Rattle.coord_count.specs.Stands.{CountStands, counter_of};
+ghost use Rattle.coord_count.specs.CountStands.{CountStands, counter_of};
 ghost use Rattle.coord_count.specs.Passed.{passed};
 
 use crate::sample::same_mode;

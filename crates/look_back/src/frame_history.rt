@@ -37,7 +37,7 @@ pub struct FrameHistory {
 
 impl FrameHistory {
     ghost use Rattle.look_back.specs.Shown.{IsShown};
-    ghost use Rattle.look_back.specs.Stands.{WindowStands, Saw};
+    ghost use Rattle.look_back.specs.WindowStands.{WindowStands, Saw};
     ghost use Rattle.look_back.specs.Latching.{LatchedStands};
     ghost use Rattle.look_back.specs.LongCounts.{LongCountsStands};
     ghost use Rattle.look_back.specs.Counts.{CountingStands};

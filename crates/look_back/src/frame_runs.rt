@@ -49,7 +49,7 @@ fn more_by(ticks: u16, more: u32) -> u16
 impl FrameRuns {
     ghost use Rattle.look_back.specs.Look.{Tells, LooksAtPhase, is_so, is_told};
     ghost use Rattle.look_back.specs.Spread.{told_run};
-    ghost use Rattle.look_back.specs.Keeps.{FrameRunsKeep, newest_of};
+    ghost use Rattle.look_back.specs.FrameRunsKeep.{FrameRunsKeep, newest_of};
     ghost use Rattle.look_back.specs.Again.{AllTell, lengthened};
 
     /// Room for the runs of frames, of which none has come; before them this is shown.

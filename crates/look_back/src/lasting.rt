@@ -23,7 +23,7 @@ use sig_types::{Colour, Mode};
 
 impl Window {
     ghost use Rattle.look_back.specs.Look.{LooksAtPhase, is_so};
-    ghost use Rattle.look_back.specs.Stands.{WindowStands};
+    ghost use Rattle.look_back.specs.WindowStands.{WindowStands};
 
     /// Whether it was so in each of so many last frames.
     pub fn lasts(&self, look: Look, frames: u32) -> bool

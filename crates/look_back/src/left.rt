@@ -18,7 +18,7 @@ use sig_tables::Tables;
 use sig_types::{Colour, Ped};
 
 impl Window {
-    ghost use Rattle.look_back.specs.Stands.{WindowStands};
+    ghost use Rattle.look_back.specs.WindowStands.{WindowStands};
 
     /// For how many ticks more a phase, 1 to 16, that is green and not active at any of them has no gap.
     pub fn gap_left(&self, t: &Tables, phase: u8) -> u32

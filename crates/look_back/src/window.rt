@@ -31,8 +31,8 @@ pub struct Window {
 
 impl Window {
     ghost use Rattle.look_back.specs.Look.{LooksAtPhase, is_so};
-    ghost use Rattle.look_back.specs.Keeps.{FrameRunsKeep, newest_of};
-    ghost use Rattle.look_back.specs.Stands.{WindowStands, Saw};
+    ghost use Rattle.look_back.specs.FrameRunsKeep.{FrameRunsKeep, newest_of};
+    ghost use Rattle.look_back.specs.WindowStands.{WindowStands, Saw};
     ghost use Rattle.look_back.specs.Again.{AllGoOn};
 
     /// A window over no frame; before any, all is red.

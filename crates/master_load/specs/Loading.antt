@@ -13,13 +13,13 @@ use Rattle.master_load.specs.Downloads.{loads_of, load_at, cells_of, parts_for, 
 
 -- what happens to the loader of a cabinet: it is told a message, or it sends a frame
 pub data LoadEvent : Type 0 where
-  Told : (m : Message) → LoadEvent
+  AnswerTold : (m : Message) → LoadEvent
   Sent : (frame : LoadFrame) → LoadEvent
 
 -- the last frame that was sent
 abbrev pub last_frame : List LoadEvent → Option LoadFrame
 last_frame [] = None
-last_frame (Told m ∷ past) = last_frame past
+last_frame (AnswerTold m ∷ past) = last_frame past
 last_frame (Sent frame ∷ past) = Some frame
 
 -- the message is the Response to this frame
@@ -36,7 +36,7 @@ or_now None false m = None
 -- the first Response to the last frame, told since it was sent
 abbrev pub answer : List LoadEvent → Option Message
 answer [] = None
-answer (Told m ∷ past) = or_now (answer past) (answers_frame (last_frame past) m) m
+answer (AnswerTold m ∷ past) = or_now (answer past) (answers_frame (last_frame past) m) m
 answer (Sent frame ∷ past) = None
 
 -- the frame that begins a load, or takes it to a step, under an id

@@ -7,7 +7,7 @@ ghost use Rattle.sig_tables.specs.Putting.{put_content};
 ghost use Rattle.scenario_data.specs.Content.{LoadContent, load_content};
 ghost use Rattle.requests.specs.Requests.{octets_in};
 ghost use Rattle.master_load.specs.Downloads.{ArePuts, AreLoads, IsFirstOf, cells_in, loads_of, frame_text};
-ghost use Rattle.master_load.specs.Loading.{LoadEvent, Told, answer, begin_next, begun_by, last_frame, next_frame, note_of, step_due, with_frame};
+ghost use Rattle.master_load.specs.Loading.{LoadEvent, AnswerTold, answer, begin_next, begun_by, last_frame, next_frame, note_of, step_due, with_frame};
 
 use crate::download::{LoadFrame, Step, step_after, step_octets};
 use requests::answers;
@@ -66,7 +66,7 @@ fn cells_at(loads: &[LoadItem], place: usize) -> &[(Cell, CellValue)]
 }
 
 impl Loader {
-    ghost use Rattle.master_load.specs.Stands.{LoaderStands};
+    ghost use Rattle.master_load.specs.LoaderStands.{LoaderStands};
 
     /// Nothing was sent yet.
     pub fn new() -> Loader
@@ -83,7 +83,7 @@ impl Loader {
     /// A message arrived on the load stream: a note where it is the first Response to the last frame and ends the load.
     pub fn reply(&mut self, m: &Message) -> Option<MasterNote>
         ensures made { (cab : ℕ) (loads : List LoadContent) (past : List LoadEvent) → LoaderStands self.old cab loads past → result ≡ note_of past m.now }
-        ensures stands { (cab : ℕ) (loads : List LoadContent) (past : List LoadEvent) → LoaderStands self.old cab loads past → LoaderStands self.new cab loads (Told m.now ∷ past) }
+        ensures stands { (cab : ℕ) (loads : List LoadContent) (past : List LoadEvent) → LoaderStands self.old cab loads past → LoaderStands self.new cab loads (AnswerTold m.now ∷ past) }
     {
         let Some(frame) = self.sent else {
             return None;

@@ -1,5 +1,5 @@
 pub mod Open
-pub mod Told
+pub mod LoaderTold
 pub mod Posting
 pub mod Fits
 pub mod Rounds

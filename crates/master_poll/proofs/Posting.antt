@@ -15,7 +15,7 @@ use Rattle.master_poll.specs.declared.command.Turned.{Turned}
 use Rattle.master_poll.specs.Commands.{Turn, frames_sent, count_of}
 use Rattle.master_poll.specs.Turns.{Plan, next_turn, load_events, told}
 use Rattle.master_poll.specs.Notes.{turn_notes, load_notes, where_made, pattern_note}
-use Rattle.master_poll.specs.Stands.{IsTurn, sent_by}
+use Rattle.master_poll.specs.CommandStands.{IsTurn, sent_by}
 
 -- the id of the next frame is that of the turn's frame of a download
 pub frame_is : (d : CommandState) (r : Turned) (plan : Plan) (past : List Turn) (polls loads : List Message) (id : ℤ)

@@ -10,7 +10,7 @@ use Rattle.requests.specs.Requests.{messages, octets_in}
 use Rattle.master_plan.specs.Schedule.{master_clock, scheduled}
 use Rattle.master_poll.specs.declared.command.Now.{Now}
 use Rattle.master_poll.specs.declared.channel.Channel.{Channel}
-use Rattle.master_poll.specs.Stands.{plan_with}
+use Rattle.master_poll.specs.CommandStands.{plan_with}
 use Rattle.master_poll.specs.Channels.{HasSent}
 use Rattle.master_poll.specs.Sends.{Arrived, Frames, notes_of, plan_of, sending_of, turns}
 use Rattle.master_poll.specs.Masters.{MasterGoesOn, ChannelIsAt, frames_of, notes_from, sendings_from}

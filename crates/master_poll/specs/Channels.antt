@@ -7,13 +7,13 @@ use Rattle.sig_types.specs.declared.streams.Sending.{Sending}
 use Rattle.scenario_data.specs.Content.{LoadContent}
 use Rattle.requests.specs.Requests.{octets_in}
 use Rattle.master_load.specs.Downloads.{frame_text}
-use Rattle.master_load.specs.Stands.{LoaderStands}
+use Rattle.master_load.specs.LoaderStands.{LoaderStands}
 use Rattle.master_poll.specs.declared.channel.Channel.{Channel}
 use Rattle.master_poll.specs.Commands.{Turn}
 use Rattle.master_poll.specs.Turns.{Plan, next_turn, load_events}
 use Rattle.master_poll.specs.Notes.{turn_notes}
 use Rattle.master_poll.specs.Sends.{command_text}
-use Rattle.master_poll.specs.Stands.{CommandStateStands, sent_by}
+use Rattle.master_poll.specs.CommandStands.{CommandStateStands, sent_by}
 
 pub record ChannelStands (p : Channel) (retries cab : ℕ) (loads : List LoadContent) (past : List Turn) : Type 0 where
   pub command_state : CommandStateStands p.command_state retries past

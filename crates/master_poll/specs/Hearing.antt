@@ -4,7 +4,7 @@ use Rattle.sig_types.specs.declared.notes.MasterNote.{MasterNote}
 use Rattle.snmp_msg.specs.declared.message.Message.{Message}
 use Rattle.scenario_data.specs.Content.{LoadContent}
 use Rattle.master_load.specs.declared.loader.Loader.{Loader}
-use Rattle.master_load.specs.Stands.{LoaderStands}
+use Rattle.master_load.specs.LoaderStands.{LoaderStands}
 use Rattle.master_load.specs.Loading.{LoadEvent}
 use Rattle.master_poll.specs.Turns.{told}
 use Rattle.master_poll.specs.Notes.{load_notes}

@@ -2,7 +2,7 @@ pub mod Commands
 pub mod Turns
 pub mod Notes
 pub mod Sends
-pub mod Stands
+pub mod CommandStands
 pub mod Laws
 pub mod Hearing
 pub mod Channels

@@ -6,14 +6,14 @@ ghost use Rattle.sig_types.specs.Items.{texts_of};
 ghost use Rattle.scenario_data.specs.Content.{LoadContent, load_content, master_content};
 ghost use Rattle.requests.specs.Requests.{messages, octets_in};
 ghost use Rattle.master_load.specs.Downloads.{AreLoads};
-ghost use Rattle.master_load.specs.Loading.{LoadEvent, Told, note_of};
-ghost use Rattle.master_load.specs.Stands.{LoaderStands};
+ghost use Rattle.master_load.specs.Loading.{LoadEvent, AnswerTold, note_of};
+ghost use Rattle.master_load.specs.LoaderStands.{LoaderStands};
 ghost use Rattle.master_poll.specs.Commands.{IsTask, Turn};
 ghost use Rattle.master_poll.specs.Turns.{told};
 ghost use Rattle.master_poll.specs.Notes.{load_notes, noted, where_made, pattern_note};
 ghost use Rattle.master_poll.specs.Sends.{command_text};
 ghost use Rattle.master_poll.specs.Hearing.{Hears};
-ghost use Rattle.master_poll.specs.Stands.{plan_with};
+ghost use Rattle.master_poll.specs.CommandStands.{plan_with};
 
 use crate::command::{Command, Now, task_octets};
 use crate::command_state::CommandState;
@@ -26,7 +26,7 @@ use std::alloc::AllocError;
 
 /// The loader is told a message; its note, if any, is appended.
 fn tell(loader: &mut Loader, m: &Message, notes: &mut Vec<MasterNote>) -> Result<(), AllocError>
-    ensures stands { OnOk result ((cab : ℕ) (all : List LoadContent) (past : List LoadEvent) → LoaderStands loader.old cab all past → LoaderStands loader.new cab all (Told m.now ∷ past)) }
+    ensures stands { OnOk result ((cab : ℕ) (all : List LoadContent) (past : List LoadEvent) → LoaderStands loader.old cab all past → LoaderStands loader.new cab all (AnswerTold m.now ∷ past)) }
     ensures noted { OnOk result ((cab : ℕ) (all : List LoadContent) (past : List LoadEvent) → LoaderStands loader.old cab all past → notes.new.items ≡ notes.old.items ++ noted (note_of past m.now) []) }
 {
     match loader.reply(m) {

@@ -51,7 +51,7 @@ fn wants_pattern(
 }
 
 impl CommandState {
-    ghost use Rattle.master_poll.specs.Stands.{CommandFollows, CommandStateStands, IsTurn, KeepsWaiting, Settles, sent_by, plan_with};
+    ghost use Rattle.master_poll.specs.CommandStands.{CommandFollows, CommandStateStands, IsTurn, KeepsWaiting, Settles, sent_by, plan_with};
 
     /// Nothing was sent yet.
     pub fn new() -> CommandState

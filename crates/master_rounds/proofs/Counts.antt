@@ -4,7 +4,7 @@ use Rattle.std.proofs.lemmas.List.{length-map}
 use Rattle.std.specs.Option.{option_to_list}
 use Rattle.scenario_data.specs.Content.{ScenarioContent, CabinetContent}
 use Rattle.scenario_data.specs.Inputs.{inputs_of}
-use Rattle.sig_types.specs.Items.{Told, Came, Ticked}
+use Rattle.sig_types.specs.Items.{InputTold, Came, Ticked}
 use Rattle.sig_types.specs.Replies.{Reply}
 use Rattle.master_poll.specs.Sends.{Arrived}
 use Rattle.master_rounds.specs.Rounds.{arrivals, sendings, polls_sent, loads_sent, delivered, AreDelivered}
@@ -29,5 +29,5 @@ loads_counted s cab c answered =
 
 pub are_delivered : (s : ScenarioContent) (cab : ℕ) (c : CabinetContent) (answered : List (List Reply)) → AreDelivered s cab c answered
 are_delivered s cab c answered =
-    ap (λ (round : ℕ). map Told (inputs_of round cab s.inputs) ∷ map Came (delivered s cab c answered 1) ∷ map Came (delivered s cab c answered 2)
+    ap (λ (round : ℕ). map InputTold (inputs_of round cab s.inputs) ∷ map Came (delivered s cab c answered 1) ∷ map Came (delivered s cab c answered 2)
     ∷ map Came (delivered s cab c answered 3) ∷ replicate s.ticks Ticked ∷ []) (polls_counted s cab c answered)

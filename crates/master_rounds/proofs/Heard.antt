@@ -5,7 +5,7 @@ use Rattle.scenario_data.specs.declared.scenario.Input.{Input}
 use Rattle.scenario_data.specs.Content.{CabinetContent, ScenarioContent}
 use Rattle.scenario_data.specs.Inputs.{inputs_of}
 use Rattle.sig_types.specs.declared.streams.Streams.{Streams}
-use Rattle.sig_types.specs.Items.{Item, Told, Came, Ticked, items_of}
+use Rattle.sig_types.specs.Items.{Item, InputTold, Came, Ticked, items_of}
 use Rattle.sig_types.specs.Replies.{Reply}
 use Rattle.master_rounds.specs.Rounds.{streams_of}
 use Rattle.master_rounds.specs.Bounds.{AreInputs, IsInput}
@@ -13,11 +13,11 @@ use Rattle.master_rounds.specs.Bounds.{AreInputs, IsInput}
 -- what happens at the street, read from a stream
 untold : List Item → List Field
 untold [] = []
-untold (Told field ∷ items) = field ∷ untold items
+untold (InputTold field ∷ items) = field ∷ untold items
 untold (Came octets ∷ items) = untold items
 untold (Ticked ∷ items) = untold items
 
-told_back : (fields : List Field) → untold (map Told fields) ≡ fields
+told_back : (fields : List Field) → untold (map InputTold fields) ≡ fields
 unfolding untold
 told_back [] = refl
 told_back (field ∷ fields) = ap (λ others. field ∷ others) (told_back fields)

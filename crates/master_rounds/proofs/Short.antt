@@ -12,7 +12,7 @@ use Rattle.scenario_data.specs.declared.scenario.PriorityItem.{PriorityItem}
 use Rattle.scenario_data.specs.Content.{CabinetContent, FrameContent, ScenarioContent}
 use Rattle.scenario_data.specs.Inputs.{inputs_of}
 use Rattle.sig_types.specs.declared.streams.Streams.{Streams}
-use Rattle.sig_types.specs.Items.{Told, Came, Ticked, items_of, texts_of}
+use Rattle.sig_types.specs.Items.{InputTold, Came, Ticked, items_of, texts_of}
 use Rattle.sig_types.specs.Replies.{Reply}
 use Rattle.link_sim.specs.declared.Line.{Line}
 use Rattle.link_sim.specs.Carried.{carried}
@@ -94,7 +94,7 @@ round_is_short s cab c answered served = record {
     inputs = inputs_of (length answered + 1) cab s.inputs
 
     by_pass : (pass : ℕ) → pass < 4 → length (get_or (streams_of s cab c answered) pass []) ≤ 1000000
-    by_pass zero low = omega (arith, length-map inputs Told, few_inputs (length answered + 1) cab s.inputs, served.few_inputs)
+    by_pass zero low = omega (arith, length-map inputs InputTold, few_inputs (length answered + 1) cab s.inputs, served.few_inputs)
     by_pass (suc zero) low =
         omega (arith, length-map (delivered s cab c answered 1) Came, few_reach s cab (length polls) Poll (line_down cab Poll) polls served (few_polls s cab c answered))
     by_pass (suc (suc zero)) low =
@@ -113,7 +113,7 @@ pub is_short : (streams : Streams) (s : ScenarioContent) (cab : ℕ) (c : Cabine
 is_short streams s cab c answered is served =
     let short = round_is_short s cab c answered served in
     record {
-      few_fields = omega (arith, length-map streams.fields.items Told, ap (λ xs. length (get_or xs 0 [])) is, short.few 0 (omega arith));
+      few_fields = omega (arith, length-map streams.fields.items InputTold, ap (λ xs. length (get_or xs 0 [])) is, short.few 0 (omega arith));
       few_polls =
           omega (
             arith,

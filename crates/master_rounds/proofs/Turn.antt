@@ -12,7 +12,7 @@ use Rattle.requests.specs.Requests.{octets_in}
 use Rattle.link_sim.specs.declared.link.Link.{Link}
 use Rattle.link_sim.specs.Link.{sent_text}
 use Rattle.link_sim.specs.Reaching.{deliveries}
-use Rattle.link_sim.specs.Stands.{LinkStands, cabinet_count as link_count}
+use Rattle.link_sim.specs.LinkStands.{LinkStands, cabinet_count as link_count}
 use Rattle.link_sim.specs.StreamFrames.{Passed}
 use Rattle.master_poll.specs.declared.master.Master.{Master}
 use Rattle.master_poll.specs.declared.master.Round.{Round}
@@ -24,7 +24,7 @@ use Rattle.master_rounds.proofs.Counts.{are_delivered, polls_counted}
 use Rattle.master_rounds.specs.Answered.{arrivals_before, arrived_since, loads_before, polls_before}
 use Rattle.master_rounds.specs.declared.master_rounds.MasterRounds.{MasterRounds}
 use Rattle.master_rounds.specs.Begun.{noted_from}
-use Rattle.master_rounds.specs.Stands.{MasterRoundsStands, cabinet_count, rounds_begun}
+use Rattle.master_rounds.specs.RoundsStand.{MasterRoundsStands, cabinet_count, rounds_begun}
 
 -- what has arrived by the turn to come: what has arrived since the last one, and what had before
 arrivals_are : (s : ScenarioContent) (cab : ℕ) (answered : List (List Reply)) → arrived_since s cab answered ∷ arrivals_before s cab answered ≡ arrivals s cab answered

@@ -2,6 +2,6 @@ pub mod Rounds
 pub mod Served
 pub mod Bounds
 pub mod Answered
-pub mod Stands
+pub mod RoundsStand
 pub mod Begun
 pub mod Turns

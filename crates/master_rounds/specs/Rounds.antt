@@ -8,7 +8,7 @@ use Rattle.sig_types.specs.declared.notes.Way.{Way}
 use Rattle.sig_types.specs.declared.notes.Way.TheVariants.{Poll, Load, Prio}
 use Rattle.scenario_data.specs.Content.{ScenarioContent, CabinetContent}
 use Rattle.scenario_data.specs.Inputs.{inputs_of}
-use Rattle.sig_types.specs.Items.{Item, Told, Came, Ticked}
+use Rattle.sig_types.specs.Items.{Item, InputTold, Came, Ticked}
 use Rattle.sig_types.specs.Passes.{pass_of}
 use Rattle.sig_types.specs.Replies.{Reply, replied_on}
 use Rattle.link_sim.specs.Reaching.{reaching, returning, deliveries}
@@ -60,7 +60,7 @@ noted s cab c answered = notes_of s cab c (arrivals s cab answered)
 -- the streams of the round to come: inputs, the frames of the three streams of messages, and ticks
 abbrev pub streams_of : ScenarioContent → ℕ → CabinetContent → List (List Reply) → List (List Item)
 streams_of s cab c answered =
-    map Told (inputs_of (length answered + 1) cab s.inputs)
+    map InputTold (inputs_of (length answered + 1) cab s.inputs)
     ∷ map Came (delivered s cab c answered 1)
     ∷ map Came (delivered s cab c answered 2)
     ∷ map Came (delivered s cab c answered 3)

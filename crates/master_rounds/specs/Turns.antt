@@ -8,7 +8,7 @@ use Rattle.master_rounds.specs.declared.master_rounds.Begun.{Begun}
 use Rattle.master_rounds.specs.declared.master_rounds.MasterRounds.{MasterRounds}
 use Rattle.master_rounds.specs.Answered.{AreAllReplies, with_replies}
 use Rattle.master_rounds.specs.Begun.{IsBegun}
-use Rattle.master_rounds.specs.Stands.{HasBegun, MasterRoundsStands}
+use Rattle.master_rounds.specs.RoundsStand.{HasBegun, MasterRoundsStands}
 
 -- the round begins with the notes and the streams that are due by what the cabinets have answered
 abbrev pub BeginsAsDue : MasterRounds → ScenarioContent → Begun → Type 0

@@ -4,7 +4,7 @@ ghost use Rattle.std.specs.Prelude.{◌≡◌, ◌≤◌, ◌+◌, [], length, A
 ghost use Rattle.scenario_data.specs.Content.{ScenarioContent, scenario_content};
 ghost use Rattle.master_rounds.specs.Answered.{IsEmpty};
 ghost use Rattle.master_poll.specs.Masters.{cabinet_count as master_count};
-ghost use Rattle.link_sim.specs.Stands.{cabinet_count as link_count};
+ghost use Rattle.link_sim.specs.LinkStands.{cabinet_count as link_count};
 
 use link_sim::Link;
 use master_poll::Master;
@@ -47,7 +47,7 @@ fn nothing_from(alloc: Global, count: usize) -> Result<Vec<Answers>, AllocError>
 
 impl MasterRounds {
     ghost use Rattle.master_rounds.specs.Served.{CanBeServed};
-    ghost use Rattle.master_rounds.specs.Stands.{MasterRoundsStands, cabinet_count, rounds_begun};
+    ghost use Rattle.master_rounds.specs.RoundsStand.{MasterRoundsStands, cabinet_count, rounds_begun};
     ghost use Rattle.master_rounds.specs.Turns.{BeginsAsDue, StandsBegun, StandsBetween, StandsEnded, StillBegun};
 
     /// Master and line of a scenario before its first round.

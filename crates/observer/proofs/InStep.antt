@@ -17,7 +17,7 @@ use Rattle.sig_tables.specs.Decide.{next_moment, colours_of}
 use Rattle.sig_tables.specs.Seen.{frame_seen, mode_seen, moves_seen}
 use Rattle.preempt_stages.proofs.Goes.{one-mode}
 use Rattle.coord_count.specs.declared.Count.{Count}
-use Rattle.coord_count.specs.Stands.{CountStands}
+use Rattle.coord_count.specs.CountStands.{CountStands}
 use Rattle.tick_context.specs.Context.{CountStandsFor}
 use Rattle.tick_context.specs.declared.tick_state.TickState.{TickState}
 use Rattle.tick_context.specs.TickState.{TickStateIs}

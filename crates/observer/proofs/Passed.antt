@@ -37,7 +37,7 @@ use Rattle.tick_context.specs.Lasting.{Lasts, Looks, opposed_with}
 use Rattle.tick_context.specs.Passed.{timed, planned_target}
 use Rattle.tick_context.proofs.Again.{free-apart, no-counter, no-target}
 use Rattle.tick_context.proofs.EvenRuns.{unit_commands-next, next-passed, first-even, rest-even, rest-by, timed-none}
-use Rattle.tick_context.proofs.GoesOn.{Goes, tick-goes, frame-goes, goes-alike}
+use Rattle.tick_context.proofs.TicksGoOn.{Goes, tick-goes, frame-goes, goes-alike}
 use Rattle.tick_context.proofs.InStep.{counter-next}
 use Rattle.tick_context.proofs.OneLess.{lasts-less, seen-again, looks-on}
 use Rattle.tick_context.proofs.Passed.{unit_commands-on, after, lasts-after}

@@ -78,7 +78,7 @@ impl Observer {
     ghost use Rattle.sig_tables.specs.Decide.{opening, with_one, last_frame_of, past_at};
     ghost use Rattle.sig_tables.specs.Showing.{ShownAfter};
     ghost use Rattle.tick_context.specs.Modes.{is_flash};
-    ghost use Rattle.tick_context.specs.Told.{CanRun, NamesPlace};
+    ghost use Rattle.tick_context.specs.CanRun.{CanRun, NamesPlace};
     ghost use Rattle.observer.specs.Remembers.{ObserverStands, tick_count, install_count};
 
     /// Of a cabinet that is opened with these tables, in Start, with a pattern in command, 0 to 255 (254 and those that are

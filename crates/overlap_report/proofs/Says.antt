@@ -9,7 +9,7 @@ use Rattle.safety_laws.specs.Safe.{Safe, told, intersection_of}
 use Rattle.safety_laws.specs.Whole.{downloads}
 use Rattle.safety_laws.specs.Written.{written, tables_of}
 use Rattle.safety_laws.specs.TraceText.{AreLines}
-use Rattle.safety_laws.specs.Told.{told_in, history_told}
+use Rattle.safety_laws.specs.CabinetTold.{told_in, history_told}
 use Rattle.safety_laws.proofs.Shown.{lines-show}
 use Rattle.scenario_data.specs.Content.{CabinetContent, ScenarioContent}
 use Rattle.scenario_data.specs.Opening.{opening_tables}

@@ -10,7 +10,7 @@ use Rattle.trace_text.specs.declared.lines.Line.TheVariants.{S, F, R, M, J, L, A
 use Rattle.safety_laws.specs.Safe.{Indications}
 use Rattle.safety_laws.specs.Whole.{downloads}
 use Rattle.safety_laws.specs.Written.{shown_by, written}
-use Rattle.safety_laws.specs.Told.{CabinetTold, Shows, Loads, told_in, frame_told, told_of, history_told}
+use Rattle.safety_laws.specs.CabinetTold.{CabinetTold, Shows, Loads, told_in, frame_told, told_of, history_told}
 use Rattle.overlap_run.specs.Parents.{Rise, AreFrames}
 use Rattle.overlap_run.specs.Trace.{frames_told, frames_written}
 

@@ -5,7 +5,7 @@ use Rattle.sig_types.specs.declared.frame.Colour.TheVariants.{Green, Red}
 use Rattle.overlap_run.specs.declared.overlap.Timing.{Timing}
 use Rattle.overlap_run.specs.declared.overlap.Overlap.{Overlap}
 use Rattle.overlap_run.specs.Overlap.{has_trail, shown_after, last_colour, colours}
-use Rattle.overlap_run.specs.StandsFor.{OverlapStands}
+use Rattle.overlap_run.specs.OverlapStands.{OverlapStands}
 
 after-red : (t : Timing) (greens : List Bool) (shown : Colour) (past : List Colour) → Red ≡ shown → shown_after t (true ∷ greens) (shown ∷ past) ≡ Green
 after-red t greens shown past is = rw (sym is) refl

@@ -4,7 +4,7 @@ use Rattle.sig_types.specs.declared.frame.Colour.{Colour}
 use Rattle.overlap_run.specs.declared.overlap.Timing.{Timing}
 use Rattle.overlap_run.specs.declared.overlap.Overlap.{Overlap}
 use Rattle.overlap_run.specs.Overlap.{last_colour, colours, greens_to, overlap_at}
-use Rattle.overlap_run.specs.StandsFor.{OverlapStands}
+use Rattle.overlap_run.specs.OverlapStands.{OverlapStands}
 use Rattle.overlap_run.specs.Text.{line_where, changes_to}
 
 greens-more : (shows : ℕ → Bool) (n : ℕ) → greens_to shows (n + 1) ≡ shows (n + 1) ∷ greens_to shows n

@@ -1,7 +1,7 @@
 pub mod Overlap
 pub mod Text
 pub mod Parents
-pub mod StandsFor
+pub mod OverlapStands
 pub mod Rows
 pub mod Rules
 pub mod Street

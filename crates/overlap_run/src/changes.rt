@@ -4,7 +4,7 @@ ghost use Rattle.std.specs.Prelude.{◌≡◌, ◌<◌, ◌≤◌, ◌+◌, ◌+
 ghost use Rattle.trace_text.specs.Texts.{colour_letter};
 ghost use Rattle.overlap_run.specs.declared.overlap.Timing.{Timing};
 ghost use Rattle.overlap_run.specs.Overlap.{timed, overlap_at};
-ghost use Rattle.overlap_run.specs.StandsFor.{IsOpened};
+ghost use Rattle.overlap_run.specs.OverlapStands.{IsOpened};
 ghost use Rattle.overlap_run.specs.Text.{change_line, line_where, end_line, changes_to, overlap_text};
 ghost use Rattle.overlap_run.specs.Parents.{parents_of, shows_green, green_at, AreFrames, IsSeen};
 

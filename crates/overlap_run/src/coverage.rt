@@ -10,7 +10,7 @@ ghost use Rattle.trace_text.specs.declared.lines.Line.{Line};
 ghost use Rattle.safety_laws.specs.Safe.{Intersection, intersection_of, told};
 ghost use Rattle.safety_laws.specs.Whole.{downloads};
 ghost use Rattle.safety_laws.specs.Written.{written};
-ghost use Rattle.safety_laws.specs.Told.{told_in, history_told};
+ghost use Rattle.safety_laws.specs.CabinetTold.{told_in, history_told};
 ghost use Rattle.overlap_run.specs.declared.overlap.Timing.{Timing};
 ghost use Rattle.overlap_run.specs.Overlap.{timed};
 ghost use Rattle.overlap_run.specs.Text.{overlap_text};

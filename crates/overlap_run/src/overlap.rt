@@ -26,7 +26,7 @@ pub struct Overlap {
 
 impl Overlap {
     ghost use Rattle.overlap_run.specs.Overlap.{timed, colours, last_colour};
-    ghost use Rattle.overlap_run.specs.StandsFor.{OverlapStands, IsOpened};
+    ghost use Rattle.overlap_run.specs.OverlapStands.{OverlapStands, IsOpened};
 
     /// An overlap at tick 0: Red, whatever its parents show.
     pub fn open(trail: u32, yellow: u32, red: u32) -> Overlap

@@ -13,7 +13,7 @@ use Rattle.sig_tables.specs.Sums.{greatest}
 use Rattle.sig_tables.specs.Slots.{slot_end, side_of, side_end, side_clearance}
 use Rattle.sig_tables.specs.Layout.{Has}
 use Rattle.sig_tables.specs.Laying.{EachIs}
-use Rattle.pattern_plan.specs.Stands.{at_phase, enabled_end}
+use Rattle.pattern_plan.specs.LayoutStands.{at_phase, enabled_end}
 use Rattle.pattern_plan.proofs.Greatest.{greatest-alike}
 
 middle : (a b c : Bool) → (a && b && c) ≡ true → b ≡ true

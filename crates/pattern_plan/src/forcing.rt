@@ -5,7 +5,7 @@ ghost use Rattle.sig_tables.specs.Tables.{is_enabled};
 ghost use Rattle.sig_tables.specs.Slots.{is_coordinated, is_omitted, least_service, zero_point, force_point, permissive_end};
 ghost use Rattle.sig_tables.specs.Layout.{Has};
 ghost use Rattle.sig_tables.specs.Laying.{EachIs};
-ghost use Rattle.pattern_plan.specs.Stands.{RingLayoutStands};
+ghost use Rattle.pattern_plan.specs.LayoutStands.{RingLayoutStands};
 
 use crate::laying::{clearances, ends};
 use crate::ring_layout::RingLayout;

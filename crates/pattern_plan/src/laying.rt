@@ -6,7 +6,7 @@ ghost use Rattle.sig_tables.specs.Tables.{clearance};
 ghost use Rattle.sig_tables.specs.Sums.{sum_of, before};
 ghost use Rattle.sig_tables.specs.Slots.{split_time, slot_start, slot_end, least_service};
 ghost use Rattle.sig_tables.specs.Laying.{time_of, EachIs};
-ghost use Rattle.pattern_plan.specs.Stands.{RingLayoutStands, enabled_end};
+ghost use Rattle.pattern_plan.specs.LayoutStands.{RingLayoutStands, enabled_end};
 
 use crate::ring_layout::RingLayout;
 use sig_tables::{SplitEntry, Tables, time_of};

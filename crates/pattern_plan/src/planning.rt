@@ -7,7 +7,7 @@ ghost use Rattle.sig_tables.specs.Splits.{coordinated_phases};
 ghost use Rattle.sig_tables.specs.Plan.{plan_of};
 ghost use Rattle.sig_tables.specs.Layout.{Has};
 ghost use Rattle.sig_tables.specs.Laying.{EachIs};
-ghost use Rattle.pattern_plan.specs.Stands.{RingLayoutStands};
+ghost use Rattle.pattern_plan.specs.LayoutStands.{RingLayoutStands};
 
 use crate::forcing::{forces, permissives};
 use crate::holding::{coordinated, coordinated_in, omitted};

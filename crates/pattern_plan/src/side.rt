@@ -15,7 +15,7 @@ pub struct Side {
 }
 
 impl Side {
-    ghost use Rattle.pattern_plan.specs.Stands.{at_phase, Measures};
+    ghost use Rattle.pattern_plan.specs.LayoutStands.{at_phase, Measures};
 
     /// No phase.
     pub fn none() -> Side

@@ -3,7 +3,7 @@ use Rattle.std.proofs.Common.{◌≡◌, ◌+◌, ℕ, List, ◌∷◌, arith, r
 use Rattle.sig_tables.specs.Past.{Moment}
 use Rattle.sig_tables.specs.Looking.{last_frame}
 use Rattle.ped_clock.specs.declared.PedClocks.{PedClocks}
-use Rattle.ped_clock.specs.Stands.{SignalsStand}
+use Rattle.ped_clock.specs.SignalsStand.{SignalsStand}
 use Rattle.ped_clock.specs.Passed.{passed}
 use Rattle.ped_clock.proofs.Signals.{signal_goes_on}
 

@@ -12,7 +12,7 @@ impl PedClocks {
     ghost use Rattle.sig_tables.specs.Past.{Moment};
     ghost use Rattle.sig_tables.specs.Looking.{last_frame, signal_run, signal_latched};
     ghost use Rattle.ped_clock.specs.Signals.{signal_time};
-    ghost use Rattle.ped_clock.specs.Stands.{SignalsStand, step_count};
+    ghost use Rattle.ped_clock.specs.SignalsStand.{SignalsStand, step_count};
     ghost use Rattle.ped_clock.specs.Passed.{passed};
     ghost use Rattle.call_store.specs.Signals.{SignalLasts};
 

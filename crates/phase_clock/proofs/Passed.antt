@@ -13,9 +13,9 @@ use Rattle.sig_tables.proofs.Below.{phase-is}
 use Rattle.phase_clock.specs.declared.Clocks.{Clocks}
 use Rattle.phase_clock.specs.declared.member_runs.MemberRuns.{MemberRuns}
 use Rattle.phase_clock.specs.MemberRuns.{MemberRunsStand}
-use Rattle.phase_clock.specs.Stands.{ClocksStand}
+use Rattle.phase_clock.specs.ClocksStand.{ClocksStand}
 use Rattle.phase_clock.specs.Passed.{IsSteady, passed}
-use Rattle.phase_clock.proofs.GoesOn.{colour_goes_on}
+use Rattle.phase_clock.proofs.IntervalsGoOn.{colour_goes_on}
 
 -- a set that stays is counted on
 runs-on : (runs : MemberRuns) (steps p : ℕ) (test : Moment → Bool) (past : List Moment) (m : Moment) → test m ≡ has runs.members p

@@ -7,7 +7,7 @@ use crate::Clocks;
 use sig_types::PhaseSet;
 
 impl Clocks {
-    ghost use Rattle.phase_clock.specs.Stands.{step_count};
+    ghost use Rattle.phase_clock.specs.ClocksStand.{step_count};
     ghost use Rattle.phase_clock.specs.Passed.{IsSteady, passed};
 
     /// Whether the phases that were quiet at the last tick are those that are green and not active, where these are, and

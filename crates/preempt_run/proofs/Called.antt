@@ -15,7 +15,7 @@ use Rattle.sig_tables.proofs.Below.{phase-is}
 use Rattle.sig_tables.proofs.Lasting.{lasts_now-counted}
 use Rattle.preempt_run.specs.declared.Preempts.{Preempts}
 use Rattle.preempt_stages.specs.Inputs.{preempts_seen}
-use Rattle.preempt_run.specs.Stands.{PreemptsStand}
+use Rattle.preempt_run.specs.PreemptsKeep.{PreemptsStand}
 use Rattle.preempt_stages.proofs.Inputs.{not-called}
 use Rattle.preempt_stages.proofs.Least.{in-preempts, preempt-above, preempt-within, least-none}
 

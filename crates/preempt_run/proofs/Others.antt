@@ -3,7 +3,7 @@ use Rattle.sig_types.specs.declared.frame.Field.TheVariants.{Veh, Ped as Button,
 use Rattle.sig_tables.specs.Past.{Event, Tick, Input, Install, SetPattern, SetClock, Ask, Cancel, SetDrift, Past}
 use Rattle.sig_tables.specs.Decide.{with_event}
 use Rattle.preempt_run.specs.declared.Preempts.{Preempts}
-use Rattle.preempt_run.specs.Stands.{PreemptsStand}
+use Rattle.preempt_run.specs.PreemptsKeep.{PreemptsStand}
 
 -- the event is no tick, and no input of a preempt
 abbrev pub IsOther : Event → Type 0

@@ -16,7 +16,7 @@ use Rattle.preempt_run.specs.declared.Preempts.{Preempts}
 use Rattle.phase_clock.specs.declared.member_runs.MemberRuns.{MemberRuns}
 use Rattle.phase_clock.specs.MemberRuns.{MemberRunsStand}
 use Rattle.preempt_stages.specs.Dwelling.{is_off, dwells_green, dwells_off}
-use Rattle.preempt_run.specs.Stands.{PreemptsStand, StaysBeside}
+use Rattle.preempt_run.specs.PreemptsKeep.{PreemptsStand, StaysBeside}
 use Rattle.preempt_run.specs.Passed.{IsClear, passed}
 use Rattle.preempt_stages.proofs.Goes.{same_mode-itself}
 use Rattle.preempt_run.proofs.Called.{seen-on}

@@ -10,7 +10,7 @@ use Rattle.sig_tables.proofs.Lasting.{lasts-counted}
 use Rattle.phase_clock.specs.declared.member_runs.MemberRuns.{MemberRuns}
 use Rattle.preempt_run.specs.declared.Preempts.{Preempts}
 use Rattle.phase_clock.specs.MemberRuns.{MemberRunsStand, count_of}
-use Rattle.preempt_run.specs.Stands.{PreemptsStand}
+use Rattle.preempt_run.specs.PreemptsKeep.{PreemptsStand}
 use Rattle.phase_clock.proofs.Counted.{counted}
 use Rattle.preempt_stages.proofs.Goes.{goes_on, begins, same_mode-itself, one-mode}
 use Rattle.std.proofs.lemmas.Bool.Decides.{Decides-eqb, eqb_tells}

@@ -50,7 +50,7 @@ impl Preempts {
     ghost use Rattle.sig_tables.specs.Preempts.{all_preempts, is_preempt_called, preempt_called, has_reached, is_track_over, is_dwell_over, stage_after, stage_now};
     ghost use Rattle.preempt_stages.specs.Dwelling.{NamesPhases, is_dwell, dwells, each_green, each_off};
     ghost use Rattle.preempt_stages.specs.Inputs.{preempts_seen};
-    ghost use Rattle.preempt_run.specs.Stands.{PreemptsStand, StaysBeside, step_count};
+    ghost use Rattle.preempt_run.specs.PreemptsKeep.{PreemptsStand, StaysBeside, step_count};
 
     /// No input on, and the moment before any tick.
     pub fn new() -> Preempts

@@ -6,7 +6,7 @@ ghost use Rattle.std.specs.Prelude.{◌≡◌, ◌≤◌, ◌+◌, IsTrue};
 use crate::Preempts;
 
 impl Preempts {
-    ghost use Rattle.preempt_run.specs.Stands.{step_count};
+    ghost use Rattle.preempt_run.specs.PreemptsKeep.{step_count};
     ghost use Rattle.preempt_run.specs.Passed.{IsClear, passed};
 
     /// Whether no input was on at the last tick, and no phase of a dwell is counted.

@@ -7,7 +7,7 @@ use Rattle.sig_tables.specs.Decide.{with_moment, ticks_in}
 use Rattle.prio_queue.specs.declared.place.Place.{Place as Kept}
 use Rattle.prio_queue.specs.declared.Queue.{Queue}
 use Rattle.prio_queue.specs.Places.{IsGivenBy, is_number}
-use Rattle.prio_queue.specs.Stands.{kept, QueueStands}
+use Rattle.prio_queue.specs.QueueStands.{kept, QueueStands}
 use Rattle.prio_queue.specs.Idle.{IsIdle}
 
 later : (a b : ℕ) (x : Option Kept) → a ≤ b → IsGivenBy a x → IsGivenBy b x

@@ -12,7 +12,7 @@ use Rattle.sig_tables.specs.Priority.{Place, all_requests, place_of, is_cancelle
 use Rattle.prio_queue.specs.declared.place.Place.{Place as Kept}
 use Rattle.prio_queue.specs.declared.Queue.{Queue}
 use Rattle.prio_queue.specs.Places.{meant, was_cancelled, StaysWithin, some_number, leader_by}
-use Rattle.prio_queue.specs.Stands.{kept, RequestStands, QueueStands}
+use Rattle.prio_queue.specs.QueueStands.{kept, RequestStands, QueueStands}
 
 -- the numbers from one on are that one and the numbers from the next on
 from : (k : ℕ) → k < 10 → drop k all_requests ≡ (k + 1) ∷ drop (k + 1) all_requests

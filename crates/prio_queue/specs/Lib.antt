@@ -1,3 +1,3 @@
 pub mod Places
-pub mod Stands
+pub mod QueueStands
 pub mod Idle

@@ -33,7 +33,7 @@ impl Queue {
     ghost use Rattle.sig_types.specs.declared.frame.Mode.TheVariants.{Coord};
     ghost use Rattle.sig_tables.specs.Showing.{state_shown, states_shown};
     ghost use Rattle.prio_queue.specs.Places.{meant, some_number};
-    ghost use Rattle.prio_queue.specs.Stands.{QueueStands};
+    ghost use Rattle.prio_queue.specs.QueueStands.{QueueStands};
 
     /// No request.
     pub fn new() -> Queue

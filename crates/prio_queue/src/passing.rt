@@ -10,7 +10,7 @@ impl Queue {
     ghost use Rattle.sig_tables.specs.Past.{Past};
     ghost use Rattle.sig_tables.specs.Priority.{active_in};
     ghost use Rattle.prio_queue.specs.Idle.{IsIdle};
-    ghost use Rattle.prio_queue.specs.Stands.{QueueStands};
+    ghost use Rattle.prio_queue.specs.QueueStands.{QueueStands};
 
     /// Whether no request was active at the last tick, or the one that was has been replaced since.
     pub fn is_idle(&self) -> bool

@@ -6,14 +6,14 @@ use Rattle.std.proofs.Math.Seq.{drop-append_seam}
 use Rattle.sig_types.specs.declared.frame.Frame.{Frame}
 use Rattle.sig_types.specs.declared.streams.Stream.{Stream}
 use Rattle.sig_types.specs.Passes.{number_of}
-use Rattle.sig_types.specs.Items.{Item, Told, Came, Ticked}
+use Rattle.sig_types.specs.Items.{Item, InputTold, Came, Ticked}
 use Rattle.trace_text.specs.declared.lines.Line.{Line}
 use Rattle.trace_text.specs.declared.lines.Line.TheVariants.{A}
 use Rattle.scenario_data.specs.Content.{ScenarioContent}
 use Rattle.cabinet_history.specs.declared.Reply.{Reply}
 use Rattle.cabinet_history.specs.CabinetHistory.{CabinetHistory, with_item, after}
 use Rattle.cabinet_history.specs.Journals.{Act, items_in}
-use Rattle.cabinet_history.specs.Told.{item_replies, item_written, acts_replies, acts_written}
+use Rattle.cabinet_history.specs.CabinetAnswers.{item_replies, item_written, acts_replies, acts_written}
 use Rattle.run_definition.specs.CabinetState.{CabinetState, answers_in, round_acts}
 use Rattle.run_definition.specs.Lines.{frame_lines, load_lines, reply_lines, item_lines, acts_lines, shown_line}
 use Rattle.cab_book.specs.declared.book.Book.{Book}
@@ -93,7 +93,7 @@ tick-line cab cabinet_history pass item tick =
 
 other-line : (cab : ℕ) (cabinet_history : CabinetHistory) (pass : ℕ) (item : Item) → (item ≡ Ticked → ⊥)
     → item_lines cab cabinet_history pass item ≡ reply_lines cab (item_replies cabinet_history pass item)
-other-line cab cabinet_history pass (Told field) other = refl
+other-line cab cabinet_history pass (InputTold field) other = refl
 other-line cab cabinet_history pass (Came octets) other = refl
 other-line cab cabinet_history pass Ticked other = absurd (other refl)
 

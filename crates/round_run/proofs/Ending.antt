@@ -8,7 +8,7 @@ use Rattle.cab_book.specs.declared.book.Book.{Book}
 use Rattle.cab_book.specs.Books.{ticks_by_end}
 use Rattle.run_definition.specs.CabinetState.{CabinetState}
 use Rattle.master_rounds.specs.Answered.{AreAllReplies, with_replies}
-use Rattle.master_rounds.specs.Stands.{MasterRoundsStands}
+use Rattle.master_rounds.specs.RoundsStand.{MasterRoundsStands}
 use Rattle.round_run.specs.CabinetStates.{AreAt, HaveEnded, TicksWithin}
 use Rattle.round_run.specs.Replied.{replied_in, EachAnswers}
 use Rattle.round_run.specs.declared.rounds.ClosedLoop.{ClosedLoop}

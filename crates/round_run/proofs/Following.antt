@@ -5,7 +5,7 @@ use Rattle.scenario_data.specs.Content.{ScenarioContent}
 use Rattle.cabinet_history.specs.declared.Reply.{Reply}
 use Rattle.cabinet_history.specs.CabinetHistory.{after}
 use Rattle.cabinet_history.specs.Journals.{Act, acts_of, items_in}
-use Rattle.cabinet_history.specs.Told.{acts_replies}
+use Rattle.cabinet_history.specs.CabinetAnswers.{acts_replies}
 use Rattle.run_definition.specs.CabinetState.{CabinetState, coming_streams, round_acts, answers_in, next_cabinet_state, each_cabinet_state}
 use Rattle.sig_types.specs.Items.{Item}
 use Rattle.cab_book.specs.declared.book.Book.{Book}

@@ -11,13 +11,13 @@ use Rattle.scenario_data.specs.Opening.{opening_tables}
 use Rattle.plan_facts.specs.Times.{CorrectionHolds}
 use Rattle.rule_book.specs.Rules.{Consistent}
 use Rattle.rule_facts.proofs.Facts.{times-hold}
-use Rattle.tick_context.specs.Told.{CanRun}
+use Rattle.tick_context.specs.CanRun.{CanRun}
 use Rattle.runnable.specs.Runnable.{CanOpen, AllOpen}
 use Rattle.runnable.specs.Cabinets.{opening_history}
 use Rattle.cabinet_history.specs.CabinetHistory.{opened}
 use Rattle.cab_book.specs.declared.cabinet.Cabinet.{Cabinet}
 use Rattle.cab_book.specs.declared.book.Book.{Book}
-use Rattle.cab_book.specs.Stands.{IsNew, CabinetStands}
+use Rattle.cab_book.specs.CabinetStands.{IsNew, CabinetStands}
 use Rattle.cab_book.specs.Books.{BookStands, journal_of, ticks_by_end}
 use Rattle.run_definition.specs.CabinetState.{CabinetState, opened_cabinet_state, opened_cabinet_states}
 use Rattle.round_run.specs.CabinetStates.{IsAt, AreAt, TicksWithin}

@@ -5,7 +5,7 @@ use Rattle.std.specs.List.{slice_get}
 use Rattle.sig_types.specs.declared.frame.Field.{Field}
 use Rattle.sig_types.specs.declared.frame.Field.TheVariants.{Veh, Ped as Button, Preempt as PreemptInput}
 use Rattle.sig_types.specs.declared.notes.MasterNote.{MasterNote}
-use Rattle.tick_context.specs.Told.{NamesPlace}
+use Rattle.tick_context.specs.CanRun.{NamesPlace}
 use Rattle.trace_text.specs.declared.lines.Line.{Line}
 use Rattle.trace_text.specs.declared.lines.Line.TheVariants.{M}
 use Rattle.scenario_data.specs.declared.scenario.Input.{Input}

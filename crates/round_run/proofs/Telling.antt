@@ -9,7 +9,7 @@ use Rattle.sig_types.specs.Items.{Item}
 use Rattle.cabinet_history.specs.declared.Reply.{Reply}
 use Rattle.cabinet_history.specs.CabinetHistory.{CabinetHistory, with_item}
 use Rattle.cabinet_history.specs.Journals.{Act, runs_of}
-use Rattle.cabinet_history.specs.Told.{item_written, item_replies}
+use Rattle.cabinet_history.specs.CabinetAnswers.{item_written, item_replies}
 use Rattle.run_definition.specs.CabinetState.{CabinetState, round_acts}
 use Rattle.run_definition.specs.Lines.{frame_lines, load_lines, reply_lines, item_lines, acts_lines, cabinet_lines}
 use Rattle.cab_book.specs.declared.book.Book.{Book}

@@ -5,7 +5,7 @@ use Rattle.scenario_data.specs.Content.{ScenarioContent}
 use Rattle.sig_types.specs.Items.{Ticked}
 use Rattle.cabinet_history.specs.CabinetHistory.{CabinetHistory, after}
 use Rattle.cabinet_history.specs.Journals.{Act, items_in}
-use Rattle.cabinet_history.specs.Told.{acts_replies}
+use Rattle.cabinet_history.specs.CabinetAnswers.{acts_replies}
 use Rattle.run_definition.specs.CabinetState.{CabinetState, answers_in, coming_streams}
 use Rattle.cab_book.specs.declared.book.Book.{Book}
 use Rattle.cab_book.specs.Books.{BookStands, IsOnePart, streams_in, journal_of, acts_in, cabinet_history_now, ticks_by_end}

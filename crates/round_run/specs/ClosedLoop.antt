@@ -4,7 +4,7 @@ use Rattle.scenario_data.specs.Content.{CabinetContent, ScenarioContent}
 use Rattle.sig_types.specs.Replies.{Reply}
 use Rattle.run_definition.specs.CabinetState.{CabinetState}
 use Rattle.master_rounds.specs.declared.master_rounds.MasterRounds.{MasterRounds}
-use Rattle.master_rounds.specs.Stands.{MasterRoundsStands, HasBegun}
+use Rattle.master_rounds.specs.RoundsStand.{MasterRoundsStands, HasBegun}
 use Rattle.round_run.specs.CabinetStates.{AreAt, TicksWithin}
 use Rattle.round_run.specs.declared.rounds.ClosedLoop.{ClosedLoop}
 

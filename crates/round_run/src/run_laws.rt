@@ -7,7 +7,7 @@ ghost use Rattle.sig_types.specs.declared.streams.Stream.{Stream};
 ghost use Rattle.scenario_data.specs.Content.{ScenarioContent};
 ghost use Rattle.cabinet_history.specs.CabinetHistory.{CabinetHistory, after};
 ghost use Rattle.cabinet_history.specs.Journals.{Act, items_in};
-ghost use Rattle.cabinet_history.specs.Told.{acts_replies};
+ghost use Rattle.cabinet_history.specs.CabinetAnswers.{acts_replies};
 ghost use Rattle.run_definition.specs.CabinetState.{CabinetState, answers_in, next_cabinet_state, each_cabinet_state, round_acts};
 ghost use Rattle.run_definition.specs.Lines.{acts_lines, cabinet_lines};
 ghost use Rattle.cab_book.specs.declared.book.Book.{Book as BookRow};

@@ -9,7 +9,7 @@ use Rattle.trace_text.specs.declared.lines.Line.{Line}
 use Rattle.trace_text.specs.declared.lines.Line.TheVariants.{Z}
 use Rattle.plan_facts.specs.Disturbances.{Drift}
 use Rattle.safety_laws.specs.Written.{shown_by}
-use Rattle.safety_laws.specs.Told.{CabinetTold, Shows, told_in}
+use Rattle.safety_laws.specs.CabinetTold.{CabinetTold, Shows, told_in}
 use Rattle.scenario_data.specs.declared.scenario.Base.{Base}
 use Rattle.scenario_data.specs.declared.scenario.Base.TheVariants.{Std8, Max8}
 use Rattle.scenario_data.specs.Content.{CabinetContent, ScenarioContent}

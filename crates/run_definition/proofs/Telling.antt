@@ -7,12 +7,12 @@ use Rattle.sig_types.specs.declared.notes.MasterNote.{MasterNote}
 use Rattle.trace_text.specs.declared.lines.Line.{Line}
 use Rattle.trace_text.specs.declared.lines.Line.TheVariants.{S, F, R, M, J, L, A, Z}
 use Rattle.safety_laws.specs.Written.{shown_by}
-use Rattle.safety_laws.specs.Told.{CabinetTold, Shows, Loads, told_in}
-use Rattle.sig_types.specs.Items.{Item, Told as Input, Came, Ticked}
+use Rattle.safety_laws.specs.CabinetTold.{CabinetTold, Shows, Loads, told_in}
+use Rattle.sig_types.specs.Items.{Item, InputTold as Input, Came, Ticked}
 use Rattle.cabinet_history.specs.declared.Load.{Load}
 use Rattle.cabinet_history.specs.CabinetHistory.{CabinetHistory, with_item}
 use Rattle.cabinet_history.specs.Journals.{Act}
-use Rattle.cabinet_history.specs.Told.{load_end, reply_to, in_frame, item_written}
+use Rattle.cabinet_history.specs.CabinetAnswers.{load_end, reply_to, in_frame, item_written}
 use Rattle.cabinet_laws.specs.Telling.{version_told, load_told, frames_told, item_told, acts_told}
 use Rattle.run_definition.specs.Lines.{frame_lines, load_lines, item_lines, acts_lines}
 

@@ -8,7 +8,7 @@ use Rattle.sig_types.specs.Replies.{Reply as Answer}
 use Rattle.cabinet_history.specs.declared.Reply.{Reply}
 use Rattle.cabinet_history.specs.CabinetHistory.{CabinetHistory, opened, after}
 use Rattle.cabinet_history.specs.Journals.{Act, acts_of, items_in}
-use Rattle.cabinet_history.specs.Told.{acts_replies}
+use Rattle.cabinet_history.specs.CabinetAnswers.{acts_replies}
 use Rattle.master_rounds.specs.Rounds.{streams_of}
 use Rattle.runnable.specs.Cabinets.{opening_history}
 

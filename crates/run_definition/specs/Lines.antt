@@ -13,7 +13,7 @@ use Rattle.cabinet_history.specs.declared.Reply.{Reply}
 use Rattle.cabinet_history.specs.CabinetHistory.{CabinetHistory, with_item}
 use Rattle.cabinet_history.specs.Journals.{Act, runs_of}
 use Rattle.cabinet_history.specs.Coming.{history_of}
-use Rattle.cabinet_history.specs.Told.{item_replies, item_written}
+use Rattle.cabinet_history.specs.CabinetAnswers.{item_replies, item_written}
 use Rattle.master_rounds.specs.Rounds.{noted}
 use Rattle.run_definition.specs.CabinetState.{CabinetState, opened_cabinet_states, round_acts, each_cabinet_state}
 

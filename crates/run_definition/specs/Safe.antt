@@ -14,7 +14,7 @@ use Rattle.sig_types.specs.Items.{Item, Came}
 use Rattle.cabinet_history.specs.CabinetHistory.{CabinetHistory, with_item}
 use Rattle.cabinet_history.specs.Coming.{coming, history_of}
 use Rattle.cabinet_history.specs.Downloads.{accepted_by, deeds_of, with_downloads}
-use Rattle.cabinet_history.specs.Told.{load_end}
+use Rattle.cabinet_history.specs.CabinetAnswers.{load_end}
 use Rattle.cabinet_laws.specs.Judging.{IsVerdict}
 use Rattle.runnable.specs.Cabinets.{IsCabinet}
 use Rattle.run_definition.specs.CabinetState.{CabinetState, HasComeTo, opened_cabinet_states, cabinet_states_after}

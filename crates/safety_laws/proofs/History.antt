@@ -19,13 +19,13 @@ use Rattle.tick_laws.proofs.Apart.{holds}
 use Rattle.tick_laws.proofs.Serving.{lawful-served}
 use Rattle.tick_laws.proofs.Quiet.{each-quiet}
 use Rattle.tick_laws.proofs.Ends.{each-clearance, each-green}
-use Rattle.tick_laws.proofs.Follows.{each-follows}
+use Rattle.tick_laws.proofs.ColoursFollow.{each-follows}
 use Rattle.tick_laws.proofs.Signals.{each-on-green, each-signals}
 use Rattle.tick_laws.proofs.SignalWithin.{each-walk-within, each-flash-within}
 use Rattle.safety_laws.specs.Safe.{Indications, Safe, Intersection, dark, shown_at, intersection_of, told}
 use Rattle.safety_laws.specs.Whole.{Whole, downloads}
 use Rattle.safety_laws.specs.Written.{TellsChanges, written, tables_of, version_tables}
-use Rattle.safety_laws.proofs.Told.{shown-by-frames}
+use Rattle.safety_laws.proofs.CabinetTold.{shown-by-frames}
 use Rattle.safety_laws.proofs.Intervals.{HasTables}
 use Rattle.safety_laws.proofs.AfterDont.{AfterDont, each-after-dont}
 use Rattle.safety_laws.proofs.Versions.{Versions, Within, versions, same-tables}

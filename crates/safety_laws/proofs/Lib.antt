@@ -1,5 +1,5 @@
 pub mod SoFar
-pub mod Told
+pub mod CabinetTold
 pub mod Intervals
 pub mod AfterDont
 pub mod Ways

@@ -13,7 +13,7 @@ use Rattle.trace_text.specs.declared.lines.Line.{Line}
 use Rattle.trace_text.specs.declared.lines.Line.TheVariants.{S, F, R, M, J, L, A, Z}
 use Rattle.safety_laws.specs.Whole.{downloads, Whole}
 use Rattle.safety_laws.specs.Written.{shown_by}
-use Rattle.safety_laws.specs.Told.{CabinetTold, Shows, Loads, told_in, frame_told, told_of, history_told}
+use Rattle.safety_laws.specs.CabinetTold.{CabinetTold, Shows, Loads, told_in, frame_told, told_of, history_told}
 
 -- the downloads alone, counted
 abbrev loads : List CabinetTold → ℕ

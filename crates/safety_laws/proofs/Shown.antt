@@ -13,7 +13,7 @@ use Rattle.safety_laws.specs.Safe.{Indications, Safe, told, intersection_of}
 use Rattle.safety_laws.specs.Written.{TellsChanges, shown_by, written, tables_of}
 use Rattle.safety_laws.proofs.Versions.{versions}
 use Rattle.safety_laws.proofs.History.{history-safe}
-use Rattle.safety_laws.specs.Told.{CabinetTold, Shows, Loads, told_in, frame_told, told_of, history_told}
+use Rattle.safety_laws.specs.CabinetTold.{CabinetTold, Shows, Loads, told_in, frame_told, told_of, history_told}
 
 -- the frames alone
 abbrev shown_in : List CabinetTold → List (ℕ × Indications)

@@ -3,4 +3,4 @@ pub mod Whole
 pub mod TraceText
 pub mod Written
 pub mod Rows
-pub mod Told
+pub mod CabinetTold

@@ -112,7 +112,7 @@ pub record PhaseFollows (s : Intersection) (p tick : ℕ) : Type 0 where
   pub signal : signal_at s p (tick + 1) ≢ signal_at s p tick
       → signal_at s p (tick + 1) ≡ next_signal (in_force s (tick + 1)) (mode_at s (tick + 1)) p (signal_at s p tick)
 
--- an interval that has ended: a longest stretch of ticks of which a fact holds, from the first of them up to before the end
+-- an interval that has ended: a longest run of ticks of which a fact holds, from the first of them up to before the end
 pub record Interval (holds : ℕ → Type 0) (first end : ℕ) : Type 0 where
   pub some : first < end
   pub during : (tick : ℕ) → first ≤ tick → tick < end → holds tick

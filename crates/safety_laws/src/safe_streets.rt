@@ -10,7 +10,7 @@ ghost use Rattle.rule_facts.specs.Admitted.{Admitted};
 ghost use Rattle.safety_laws.specs.Safe.{Safe, intersection_of};
 ghost use Rattle.safety_laws.specs.Whole.{Whole};
 ghost use Rattle.safety_laws.specs.Written.{TellsChanges, tables_of};
-ghost use Rattle.safety_laws.specs.Told.{told_in, history_told};
+ghost use Rattle.safety_laws.specs.CabinetTold.{told_in, history_told};
 
 /// The tables opened with are consistent, and each download broke no rule beside the tables that it replaced (a cabinet that flashes
 /// may take tables of another layout): then what the lines of a cabinet show is safe at every tick, in every mode, by the tables of

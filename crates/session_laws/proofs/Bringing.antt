@@ -4,7 +4,7 @@ use Rattle.std.proofs.lemmas.List.{length-append, map-append, replicate-append-r
 use Rattle.sig_types.specs.declared.frame.Field.{Field}
 use Rattle.sig_types.specs.declared.notes.Way.{Way}
 use Rattle.sig_types.specs.declared.notes.Way.TheVariants.{Poll, Load, Prio}
-use Rattle.sig_types.specs.Items.{Item, Told, Came, Ticked}
+use Rattle.sig_types.specs.Items.{Item, InputTold, Came, Ticked}
 use Rattle.sig_types.specs.Passes.{pass_of}
 use Rattle.scenario_data.specs.declared.scenario.Input.{Input}
 use Rattle.scenario_data.specs.Content.{FrameContent}
@@ -74,7 +74,7 @@ round-found keep round by brought is (x ∷ later) steps before at =
 other-frames : (round cab : ℕ) (way : Way) (n : ℕ) (steps : List Step) → n ≢ round → filter (is_frame_of round cab way) (frames_by n steps) ≡ []
 other-frames round cab way n [] other = refl
 other-frames round cab way n (Ticks many ∷ steps) other = other-frames round cab way n steps other
-other-frames round cab way n (Brings to pass (Told field) ∷ steps) other = other-frames round cab way n steps other
+other-frames round cab way n (Brings to pass (InputTold field) ∷ steps) other = other-frames round cab way n steps other
 other-frames round cab way n (Brings to pass Ticked ∷ steps) other = other-frames round cab way n steps other
 other-frames round cab way n (Brings to pass (Came octets) ∷ steps) other =
     let e : (n == round) ≡ false = ne_eqb n round other in rw e (other-frames round cab way n steps other)
@@ -125,7 +125,7 @@ other-inputs round cab n [] other = refl
 other-inputs round cab n (Ticks many ∷ steps) other = other-inputs round cab n steps other
 other-inputs round cab n (Brings to pass (Came octets) ∷ steps) other = other-inputs round cab n steps other
 other-inputs round cab n (Brings to pass Ticked ∷ steps) other = other-inputs round cab n steps other
-other-inputs round cab n (Brings to pass (Told field) ∷ steps) other =
+other-inputs round cab n (Brings to pass (InputTold field) ∷ steps) other =
     let e : (n == round) ≡ false = ne_eqb n round other in rw e (other-inputs round cab n steps other)
 
 later-input : (rounds round cab : ℕ) → round ≤ rounds → (i : Input) → nat_le i.round rounds ≡ false → is_input_of round cab i ≡ false
@@ -197,13 +197,13 @@ no-frame-tick Poll = refl
 no-frame-tick Load = refl
 no-frame-tick Prio = refl
 
-one-field : (b : Bool) (field : Field) (fields : List Field) (acts : List Act) → map Told fields ≡ of_pass 0 acts
-    → map Told (if b then field ∷ fields else fields) ≡ of_pass 0 ((if b then record { pass = 0; item = Told field } ∷ [] else []) ++ acts)
-one-field true field fields acts e = ap (λ (r : List Item). Told field ∷ r) e
+one-field : (b : Bool) (field : Field) (fields : List Field) (acts : List Act) → map InputTold fields ≡ of_pass 0 acts
+    → map InputTold (if b then field ∷ fields else fields) ≡ of_pass 0 ((if b then record { pass = 0; item = InputTold field } ∷ [] else []) ++ acts)
+one-field true field fields acts e = ap (λ (r : List Item). InputTold field ∷ r) e
 one-field false field fields acts e = e
 
 fields-asked : (round cab : ℕ) (requests : List Request)
-    → map Told (inputs_of round cab (inputs_by round (map step_of requests))) ≡ of_pass 0 (steps_acts cab (map step_of requests))
+    → map InputTold (inputs_of round cab (inputs_by round (map step_of requests))) ≡ of_pass 0 (steps_acts cab (map step_of requests))
 fields-asked round cab [] = refl
 fields-asked round cab (Tick many ∷ requests) =
     fields-asked round cab requests ∙ sym (past-ticks 0 many (steps_acts cab (map step_of requests)) refl)
@@ -235,7 +235,7 @@ octets-asked round cab way [] = refl
 octets-asked round cab way (Tick many ∷ requests) =
     octets-asked round cab way requests ∙ sym (past-ticks (pass_of way) many (steps_acts cab (map step_of requests)) (is-tick way))
 octets-asked round cab way (InputRequest to field ∷ requests) =
-    octets-asked round cab way requests ∙ sym (past-item (to == cab) (pass_of way) 0 (Told field) (steps_acts cab (map step_of requests)) (is-input way))
+    octets-asked round cab way requests ∙ sym (past-item (to == cab) (pass_of way) 0 (InputTold field) (steps_acts cab (map step_of requests)) (is-input way))
 octets-asked round cab way (Frame to from octets ∷ requests) =
     let own : (round == round) ≡ true = eq-eqb round round refl in
     let f : FrameContent = record { round = round; cabinet = to; stream = way_of (pass_of from); hex = octets.items } in
@@ -249,7 +249,7 @@ ticks-asked cab (Tick many ∷ requests) =
     ∙ ap (λ (r : List Item). replicate many Ticked ++ r) (ticks-asked cab requests)
     ∙ replicate-append-replicate many (ticks_in (map step_of requests)) Ticked
 ticks-asked cab (InputRequest to field ∷ requests) =
-    past-item (to == cab) 4 0 (Told field) (steps_acts cab (map step_of requests)) refl ∙ ticks-asked cab requests
+    past-item (to == cab) 4 0 (InputTold field) (steps_acts cab (map step_of requests)) refl ∙ ticks-asked cab requests
 ticks-asked cab (Frame to way octets ∷ requests) =
     past-item (to == cab) 4 (pass_of way) (Came octets.items) (steps_acts cab (map step_of requests)) (no-frame-tick way) ∙ ticks-asked cab requests
 
@@ -263,14 +263,14 @@ none-asked p cab [] high = refl
 none-asked p cab (Tick many ∷ requests) high =
     past-ticks p many (steps_acts cab (map step_of requests)) (ne_eqb p 4 (λ e. absurd (omega (arith, e, high)))) ∙ none-asked p cab requests high
 none-asked p cab (InputRequest to field ∷ requests) high =
-    past-item (to == cab) p 0 (Told field) (steps_acts cab (map step_of requests)) (ne_eqb p 0 (λ e. absurd (omega (arith, e, high)))) ∙ none-asked p cab requests high
+    past-item (to == cab) p 0 (InputTold field) (steps_acts cab (map step_of requests)) (ne_eqb p 0 (λ e. absurd (omega (arith, e, high)))) ∙ none-asked p cab requests high
 none-asked p cab (Frame to way octets ∷ requests) high =
     past-item (to == cab) p (pass_of way) (Came octets.items) (steps_acts cab (map step_of requests)) (high-pass p way high) ∙ none-asked p cab requests high
 
 -- the same of the steps
-pub fields-brought : (round cab : ℕ) (steps : List Step) → AreSteps steps → map Told (inputs_of round cab (inputs_by round steps)) ≡ of_pass 0 (steps_acts cab steps)
+pub fields-brought : (round cab : ℕ) (steps : List Step) → AreSteps steps → map InputTold (inputs_of round cab (inputs_by round steps)) ≡ of_pass 0 (steps_acts cab steps)
 fields-brought round cab steps (requests, made) =
-    subst (λ (x : List Step). map Told (inputs_of round cab (inputs_by round x)) ≡ of_pass 0 (steps_acts cab x)) (sym made) (fields-asked round cab requests)
+    subst (λ (x : List Step). map InputTold (inputs_of round cab (inputs_by round x)) ≡ of_pass 0 (steps_acts cab x)) (sym made) (fields-asked round cab requests)
 
 pub octets-brought : (round cab : ℕ) (way : Way) (steps : List Step) → AreSteps steps
     → map Came (frames_of (frames_by round steps) round cab way) ≡ of_pass (pass_of way) (steps_acts cab steps)

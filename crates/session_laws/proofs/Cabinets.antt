@@ -8,7 +8,7 @@ use Rattle.cabinet_history.specs.declared.Load.{Load}
 use Rattle.cabinet_history.specs.declared.Reply.{Reply}
 use Rattle.cabinet_history.specs.CabinetHistory.{CabinetHistory, with_item}
 use Rattle.cabinet_history.specs.Journals.{Act}
-use Rattle.cabinet_history.specs.Told.{item_replies, item_written}
+use Rattle.cabinet_history.specs.CabinetAnswers.{item_replies, item_written}
 use Rattle.run_definition.specs.CabinetState.{CabinetState, HasComeTo}
 use Rattle.run_definition.specs.Lines.{frame_lines, load_lines, reply_lines, item_lines, acts_lines}
 use Rattle.session_laws.specs.Record.{begins_part, is_of_street, is_journal_of, is_told_of, cabinets_in_order}

@@ -9,7 +9,7 @@ use Rattle.trace_text.specs.declared.lines.Line.TheVariants.{R, M, J, Z}
 use Rattle.scenario_data.specs.Content.{ScenarioContent, CabinetContent}
 use Rattle.cabinet_history.specs.CabinetHistory.{after}
 use Rattle.cabinet_history.specs.Journals.{Act, IsMerge, items_in, runs_of}
-use Rattle.cabinet_history.specs.Told.{acts_replies}
+use Rattle.cabinet_history.specs.CabinetAnswers.{acts_replies}
 use Rattle.master_rounds.specs.Rounds.{noted}
 use Rattle.run_definition.specs.CabinetState.{CabinetState, answers_in, coming_streams, round_acts, next_cabinet_state, opened_cabinet_states, each_cabinet_state, cabinet_states_after}
 use Rattle.run_definition.specs.Lines.{acts_lines, each_lines, notes_lines, head_lines, round_lines, opening_lines, front_lines, rest_lines}

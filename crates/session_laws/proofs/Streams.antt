@@ -3,7 +3,7 @@ use Rattle.std.proofs.Common.{◌≡◌, ◌∙◌, ◌+◌, ◌≤◌, ℕ, zer
 use Rattle.std.proofs.lemmas.List.{map-append}
 use Rattle.sig_types.specs.declared.notes.Way.{Way}
 use Rattle.sig_types.specs.declared.notes.Way.TheVariants.{Poll, Load, Prio}
-use Rattle.sig_types.specs.Items.{Item, Told, Came, Ticked}
+use Rattle.sig_types.specs.Items.{Item, InputTold, Came, Ticked}
 use Rattle.sig_types.specs.Passes.{pass_of}
 use Rattle.sig_types.specs.Replies.{Reply}
 use Rattle.scenario_data.specs.Content.{ScenarioContent, CabinetContent}
@@ -86,11 +86,11 @@ octets-kept s all compact steps before cab c answered Prio early is are at =
 
 fields-kept : (s : ScenarioContent) (all : List (List Step)) (compact : List ℕ) (steps : List Step) (before : List (List Step)) (round cab : ℕ)
     → IsRoundOf all steps before → AreSteps steps → round ≡ length before + 1
-    → map Told (inputs_of round cab (resulting s all compact).inputs) ≡ map Told (inputs_of round cab s.inputs) ++ of_pass 0 (steps_acts cab steps)
+    → map InputTold (inputs_of round cab (resulting s all compact).inputs) ≡ map InputTold (inputs_of round cab s.inputs) ++ of_pass 0 (steps_acts cab steps)
 fields-kept s all compact steps before round cab is are at =
-    ap (map Told) (inputs-kept all steps before s.inputs round cab is at)
-    ∙ map-append Told (inputs_of round cab s.inputs) (inputs_of round cab (inputs_by round steps))
-    ∙ ap (λ (r : List Item). map Told (inputs_of round cab s.inputs) ++ r) (fields-brought round cab steps are)
+    ap (map InputTold) (inputs-kept all steps before s.inputs round cab is at)
+    ∙ map-append InputTold (inputs_of round cab s.inputs) (inputs_of round cab (inputs_by round steps))
+    ∙ ap (λ (r : List Item). map InputTold (inputs_of round cab s.inputs) ++ r) (fields-brought round cab steps are)
 
 -- ---- all streams
 
@@ -110,8 +110,8 @@ pub streams-whole : (s : ScenarioContent) (all : List (List Step)) (compact : Li
     → (p : ℕ) → get_or (coming_streams (resulting s all compact) cab t) p [] ≡ of_pass p (session_acts s cab t steps)
 streams-whole s all compact steps before cab t early is are at zero =
     let round : ℕ = length t.answered + 1 in
-    let own : List Item = map Told (inputs_of round cab s.inputs) in
-    joined s cab t steps 0 (map Told (inputs_of round cab (resulting s all compact).inputs)) own
+    let own : List Item = map InputTold (inputs_of round cab s.inputs) in
+    joined s cab t steps 0 (map InputTold (inputs_of round cab (resulting s all compact).inputs)) own
     (fields-kept s all compact steps before round cab is are.made (omega (arith, at)))
     (front-given (coming_streams s cab t) 0 [] (sym (append-nil own)))
 streams-whole s all compact steps before cab t early is are at (suc zero) =

@@ -9,7 +9,7 @@ use Rattle.snmp_msg.specs.declared.message.Message.{Message}
 use Rattle.scenario_data.specs.Content.{ScenarioContent, CabinetContent}
 use Rattle.link_sim.specs.Reaching.{line_up}
 use Rattle.master_load.specs.declared.download.LoadFrame.{LoadFrame}
-use Rattle.master_load.specs.Loading.{LoadEvent, Told, last_frame, with_frame}
+use Rattle.master_load.specs.Loading.{LoadEvent, AnswerTold, last_frame, with_frame}
 use Rattle.master_poll.specs.Commands.{Turn}
 use Rattle.master_poll.specs.Turns.{told, load_events}
 use Rattle.master_poll.specs.Sends.{Arrived, Frames, turn_after, turns, last_sending, last_notes, sending_of, notes_of, command_text}
@@ -45,7 +45,7 @@ arrivals-kept s all compact cab (replies ∷ before) within =
 
 last-told : (messages : List Message) (past : List LoadEvent) → last_frame (told messages past) ≡ last_frame past
 last-told [] past = refl
-last-told (m ∷ messages) past = last-told messages (Told m ∷ past)
+last-told (m ∷ messages) past = last-told messages (AnswerTold m ∷ past)
 
 last-with : (rounds cab : ℕ) (s : ScenarioContent) (frame : Option LoadFrame) (past : List LoadEvent) → AgreesIf rounds cab s.loads frame → AgreesIf rounds cab s.loads (last_frame past)
     → AgreesIf rounds cab s.loads (last_frame (with_frame frame past))

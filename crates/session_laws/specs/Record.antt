@@ -2,7 +2,7 @@
 -- trace.
 use Rattle.std.specs.Prelude.{ℕ, zero, suc, ◌+◌, ◌==◌, nat_le, Bool, true, false, if◌then◌else◌, List, [], ◌∷◌, ◌++◌, length}
 use Rattle.std.specs.List.{filter}
-use Rattle.sig_types.specs.Items.{Told, Came}
+use Rattle.sig_types.specs.Items.{InputTold, Came}
 use Rattle.sig_types.specs.declared.notes.Way.{Way}
 use Rattle.sig_types.specs.declared.notes.Way.TheVariants.{Poll, Load, Prio}
 use Rattle.trace_text.specs.declared.lines.Line.{Line}
@@ -15,7 +15,7 @@ use Rattle.session_laws.specs.Answers.{Answer, Lines, NotTaken, journal_by}
 
 -- the input that a step brings to the scenario in a round
 abbrev pub input_of : ℕ → Step → List Input
-input_of round (Brings cab pass (Told field)) = record { round = round; cabinet = cab; field = field } ∷ []
+input_of round (Brings cab pass (InputTold field)) = record { round = round; cabinet = cab; field = field } ∷ []
 input_of round step = []
 
 -- the stream of a pass that brings frames

@@ -2,12 +2,12 @@
 -- scenario bring there is what was asked in the session. Lists of rounds have the newest first; the steps of a round
 -- are in their order.
 use Rattle.std.specs.Prelude.{ℕ, ◌+◌, ◌-◌, ◌==◌, Bool, if◌then◌else◌, List, [], ◌∷◌, ◌++◌, length, replicate, take}
-use Rattle.sig_types.specs.Items.{Item, Told, Came, Ticked}
+use Rattle.sig_types.specs.Items.{Item, InputTold, Came, Ticked}
 use Rattle.sig_types.specs.Passes.{pass_of}
 use Rattle.scenario_data.specs.Content.{ScenarioContent}
 use Rattle.cabinet_history.specs.CabinetHistory.{CabinetHistory, after}
 use Rattle.cabinet_history.specs.Journals.{Act, acts_of, items_in, serial}
-use Rattle.cabinet_history.specs.Told.{acts_replies}
+use Rattle.cabinet_history.specs.CabinetAnswers.{acts_replies}
 use Rattle.run_definition.specs.CabinetState.{CabinetState, answers_in, coming_streams, opened_cabinet_states}
 use Rattle.session_words.specs.declared.request.Request.{Request}
 use Rattle.session_words.specs.declared.request.Request.TheVariants.{Tick, Input, Frame}
@@ -19,7 +19,7 @@ pub data Step : Type 0 where
 
 abbrev pub step_of : Request → Step
 step_of (Tick many) = Ticks many
-step_of (Input cab field) = Brings cab 0 (Told field)
+step_of (Input cab field) = Brings cab 0 (InputTold field)
 step_of (Frame cab way octets) = Brings cab (pass_of way) (Came octets.items)
 
 -- what a session has come to: the steps of the rounds that are closed, and those of the round under way

@@ -6,7 +6,7 @@ use Rattle.sig_types.specs.declared.streams.Streams.{Streams}
 
 -- an item of a stream: an input from the street, the octets of a frame, or a tick
 pub data Item : Type 0 where
-  Told : (field : Field) → Item
+  InputTold : (field : Field) → Item
   Came : (octets : List ℕ) → Item
   Ticked : Item
 
@@ -17,7 +17,7 @@ texts_of frames = map (λ octets. octets.items) frames
 -- the items of each pass in turn
 abbrev pub items_of : Streams → List (List Item)
 items_of s =
-    map Told s.fields.items
+    map InputTold s.fields.items
     ∷ map Came (texts_of s.polls.items)
     ∷ map Came (texts_of s.loads.items)
     ∷ map Came (texts_of s.prios.items)

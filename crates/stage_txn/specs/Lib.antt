@@ -1,4 +1,4 @@
 pub mod Calls
 pub mod Answers
-pub mod Stands
+pub mod StageKeeps
 pub mod Laws

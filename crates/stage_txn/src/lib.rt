@@ -40,7 +40,7 @@ impl Stage {
     ghost use Rattle.sig_tables.specs.Putting.{put_content};
     ghost use Rattle.stage_txn.specs.Calls.{Call, Begin, Part, Verify, Finish};
     ghost use Rattle.stage_txn.specs.Answers.{answered, answer_to, first_broken, staged, stage_state, state_code, last_answer};
-    ghost use Rattle.stage_txn.specs.Stands.{StageStands};
+    ghost use Rattle.stage_txn.specs.StageKeeps.{StageStands};
 
     /// A stage to which nothing was sent. Its tables are the standard ones until a download begins.
     pub fn new() -> Stage

@@ -9,8 +9,8 @@ use Rattle.whole_run.specs.Counting.{surveyed_text}
 use Rattle.station.specs.declared.status.Status.{Status}
 use Rattle.scenario_data.specs.declared.refusal.Refusal.{Refusal}
 use Rattle.scenario_read.specs.Answers.{IsFirstFault}
-use Rattle.band_report.specs.Told.{AsksOfBands, TellsBands, IsFirstBandFault}
-use Rattle.field_file.specs.Told.{HasResult, TellsResult, IsFirstResultFault}
+use Rattle.band_report.specs.BandAnswer.{AsksOfBands, TellsBands, IsFirstBandFault}
+use Rattle.field_file.specs.FieldAnswer.{HasResult, TellsResult, IsFirstResultFault}
 use Rattle.command_words.specs.Words.{IsRun, IsCheck, IsGenerate, IsSurvey, IsBand, IsRespond, IsOverlaps, IsLive, IsHelp, IsVersion, AskFor}
 use Rattle.command_words.specs.declared.command.Seeding.{Seeding}
 use Rattle.command_words.specs.declared.command.Overlap.{Overlap}

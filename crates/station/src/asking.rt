@@ -1,6 +1,6 @@
 //! The command that reads what is asked of through bands and writes the greatest.
 
-ghost use Rattle.band_report.specs.Told.{AsksOfBands, TellsBands, IsFirstBandFault};
+ghost use Rattle.band_report.specs.BandAnswer.{AsksOfBands, TellsBands, IsFirstBandFault};
 ghost use Rattle.station.specs.Io.{io_of, Counts};
 ghost use Rattle.station.specs.Replied.{ReplyAnswer};
 

@@ -1,6 +1,6 @@
 //! The command that reads a field file and writes the scenario that it comes to.
 
-ghost use Rattle.field_file.specs.Told.{HasResult, TellsResult, IsFirstResultFault};
+ghost use Rattle.field_file.specs.FieldAnswer.{HasResult, TellsResult, IsFirstResultFault};
 ghost use Rattle.station.specs.Io.{io_of, Counts};
 ghost use Rattle.station.specs.Replied.{ReplyAnswer};
 

@@ -17,11 +17,11 @@ use Rattle.sig_tables.specs.Decide.{with_event}
 use Rattle.sig_tables.specs.Layout.{Has}
 use Rattle.sig_tables.specs.Seen.{moment_seen}
 use Rattle.call_store.specs.declared.Calls.{Calls}
-use Rattle.call_store.specs.Stands.{CallsStand}
+use Rattle.call_store.specs.CallsStand.{CallsStand}
 use Rattle.sig_tables.specs.Priority.{place_of, is_given_since}
 use Rattle.prio_queue.specs.declared.Queue.{Queue}
 use Rattle.prio_queue.specs.Places.{IsGivenBy}
-use Rattle.prio_queue.specs.Stands.{kept, QueueStands}
+use Rattle.prio_queue.specs.QueueStands.{kept, QueueStands}
 use Rattle.tick_context.specs.declared.unit_commands.UnitCommands.{UnitCommands}
 use Rattle.tick_context.specs.UnitCommands.{UnitCommandsStand}
 

@@ -23,7 +23,7 @@ pub mod Waiting
 pub mod Unwanted
 pub mod Stays
 pub mod InStep
-pub mod GoesOn
+pub mod TicksGoOn
 pub mod OneLess
 pub mod Left
 pub mod Passed

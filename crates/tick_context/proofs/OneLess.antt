@@ -40,7 +40,7 @@ use Rattle.tick_context.proofs.Again.{no-counter, no-target}
 use Rattle.tick_context.proofs.Free.{command-none}
 use Rattle.tick_context.proofs.InStep.{command-in, clock-in, target-next, counter-next}
 use Rattle.tick_context.proofs.Stays.{GoesAhead}
-use Rattle.tick_context.proofs.GoesOn.{Goes, tick-goes, Alike, goes-alike}
+use Rattle.tick_context.proofs.TicksGoOn.{Goes, tick-goes, Alike, goes-alike}
 
 -- a count of moments in a row has at most one more
 row-most : (test : Moment → Bool) (m : Moment) (past : List Moment) → in_a_row test (m ∷ past) ≤ in_a_row test past + 1

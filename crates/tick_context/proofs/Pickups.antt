@@ -12,7 +12,7 @@ use Rattle.sig_tables.specs.Past.{Past, Moment}
 use Rattle.sig_tables.specs.Looking.{last_frame, start_run}
 use Rattle.sig_tables.specs.Counters.{counters_since}
 use Rattle.coord_count.specs.declared.Count.{Count}
-use Rattle.coord_count.specs.Stands.{CountStands}
+use Rattle.coord_count.specs.CountStands.{CountStands}
 use Rattle.tick_context.proofs.Counted.{counters-more}
 
 -- a frame in step is counted, after those before it

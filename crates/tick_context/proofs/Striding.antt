@@ -18,7 +18,7 @@ use Rattle.sig_tables.specs.Seen.{frame_seen}
 use Rattle.preempt_stages.proofs.Goes.{same_mode-itself}
 use Rattle.tick_context.specs.Strides.{has_line, ticks_more, is_told}
 use Rattle.tick_context.specs.Lasting.{Lasts}
-use Rattle.tick_context.proofs.GoesOn.{tick-goes, Alike, goes-alike}
+use Rattle.tick_context.proofs.TicksGoOn.{tick-goes, Alike, goes-alike}
 use Rattle.tick_context.proofs.InStep.{counter-next, no-zero}
 use Rattle.tick_context.proofs.Passed.{after, lasts-after}
 

@@ -7,10 +7,10 @@ use Rattle.sig_tables.specs.Past.{Past}
 use Rattle.sig_tables.specs.Looking.{start_run}
 use Rattle.sig_tables.specs.Layout.{LaidOut, Ordered}
 use Rattle.sig_tables.specs.Seen.{frame_seen}
-use Rattle.call_store.specs.Stands.{CallsStand}
+use Rattle.call_store.specs.CallsStand.{CallsStand}
 use Rattle.coord_count.specs.declared.Count.{Count}
-use Rattle.coord_count.specs.Stands.{CountStands, counter_of}
-use Rattle.prio_queue.specs.Stands.{QueueStands}
+use Rattle.coord_count.specs.CountStands.{CountStands, counter_of}
+use Rattle.prio_queue.specs.QueueStands.{QueueStands}
 use Rattle.preempt_stages.specs.Dwelling.{NamesPhases}
 use Rattle.tick_context.specs.UnitCommands.{UnitCommandsStand, counted_ticks}
 use Rattle.tick_context.specs.Binds.{ActivePatternStands}

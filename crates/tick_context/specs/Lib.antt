@@ -1,4 +1,4 @@
-pub mod Told
+pub mod CanRun
 pub mod Context
 pub mod Runs
 pub mod Rings
@@ -15,4 +15,4 @@ pub mod Even
 pub mod Strides
 pub mod Lasting
 pub mod Passed
-pub mod GoesOn
+pub mod ComingTicks

@@ -31,7 +31,7 @@ ghost use Rattle.sig_tables.specs.Layout.{Has};
 ghost use Rattle.sig_tables.specs.Laying.{EachIs};
 ghost use Rattle.sig_tables.specs.Splits.{coordinated_phases};
 ghost use Rattle.sig_types.specs.Phases.{is_in};
-ghost use Rattle.coord_gate.specs.Stands.{GateStands};
+ghost use Rattle.coord_gate.specs.GateStands.{GateStands};
 
 /// A plan of no pattern.
 fn no_plan() -> Plan

@@ -35,7 +35,7 @@ impl TickContext {
     ghost use Rattle.sig_tables.specs.Past.{Past, Input, Install, SetPattern, SetClock, SetDrift, Ask, Cancel};
     ghost use Rattle.sig_tables.specs.Decide.{past_of, opening_commands, with_event};
     ghost use Rattle.sig_tables.specs.Showing.{ShownAfter};
-    ghost use Rattle.tick_context.specs.Told.{CanRun, NamesPlace};
+    ghost use Rattle.tick_context.specs.CanRun.{CanRun, NamesPlace};
     ghost use Rattle.tick_context.specs.Context.{ContextStands, told_ticks};
 
     /// Of a cabinet that is opened with these tables, in Start, with a pattern in command, 0 to 255, and a clock in ticks of

@@ -37,7 +37,7 @@ impl TickContext {
     ghost use Rattle.tick_context.specs.Binds.{ActivePatternIs, IsBound};
     ghost use Rattle.tick_context.specs.Context.{ContextStands};
     ghost use Rattle.tick_context.specs.Shows.{is_signalling};
-    ghost use Rattle.tick_context.specs.GoesOn.{is_bound_in, is_left_free, ticks_to_force, ticks_unforced, ticks_in_cycle};
+    ghost use Rattle.tick_context.specs.ComingTicks.{is_bound_in, is_left_free, ticks_to_force, ticks_unforced, ticks_in_cycle};
     ghost use Rattle.tick_context.specs.Lasting.{IsFresh, ComesBefore, StaysFree, StaysUnforced, opposed_with};
 
     /// Whether the cabinet runs free, or is in step with the pattern that is kept.

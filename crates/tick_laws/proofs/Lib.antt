@@ -24,7 +24,7 @@ pub mod GoalFits
 pub mod Next
 pub mod Within
 pub mod Apart
-pub mod Follows
+pub mod ColoursFollow
 pub mod Ended
 pub mod Ends
 pub mod Served

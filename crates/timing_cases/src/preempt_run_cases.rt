@@ -1,7 +1,7 @@
 //! The stages of preemption tick by tick, from its rules, worked by hand.
 
 ghost use Rattle.std.specs.Prelude.{◌≡◌, ◌<◌, ◌≤◌, ◌-◌};
-ghost use Rattle.preempt_run.specs.Stands.{step_count};
+ghost use Rattle.preempt_run.specs.PreemptsKeep.{step_count};
 
 use arrayvec::ArrayVec;
 use preempt_run::Preempts;

@@ -29,7 +29,7 @@ use Rattle.sig_types.specs.Items.{Came}
 use Rattle.cabinet_history.specs.declared.Load.{Load}
 use Rattle.cabinet_history.specs.CabinetHistory.{CabinetHistory, with_item}
 use Rattle.cabinet_history.specs.Coming.{Coming, past_of, in_force, is_flashing, with_events, installs, coming, coming_from, outcome}
-use Rattle.cabinet_history.specs.Told.{verify_end, finish_end, wish_end, ask_end, load_end}
+use Rattle.cabinet_history.specs.CabinetAnswers.{verify_end, finish_end, wish_end, ask_end, load_end}
 use Rattle.cabinet_laws.specs.Judging.{verdict, IsVerdict}
 use Rattle.cabinet_laws.proofs.Ids.{HasId, ask-id}
 use Rattle.cabinet_laws.proofs.Steps.{IsPlain, IsMadeAt, called, happened, Any, any, cabinet_history-keeps}

@@ -25,7 +25,7 @@ use Rattle.tick_laws.specs.Lawful.{Lawful}
 use Rattle.tick_laws.proofs.Apart.{holds}
 use Rattle.tick_laws.proofs.Serving.{lawful-coordinated}
 use Rattle.tick_laws.proofs.Sought.{Numbered}
-use Rattle.coordination_laws.specs.Told.{Obeys}
+use Rattle.coordination_laws.specs.MomentTold.{Obeys}
 use Rattle.coordination_laws.proofs.TellingMet.{obeys}
 
 -- the numbers of a line's frame

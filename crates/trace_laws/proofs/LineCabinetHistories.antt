@@ -18,7 +18,7 @@ use Rattle.rule_book.specs.Rules.{Consistent}
 use Rattle.rule_facts.specs.Admitted.{Admitted}
 use Rattle.rule_facts.proofs.Admitted.{lawful}
 use Rattle.plan_facts.specs.Disturbances.{Drift}
-use Rattle.sig_types.specs.Items.{Item, Told, Came, Ticked}
+use Rattle.sig_types.specs.Items.{Item, InputTold, Came, Ticked}
 use Rattle.sig_types.specs.Replies.{Reply as Answer}
 use Rattle.cabinet_history.specs.declared.Load.{Load}
 use Rattle.cabinet_history.specs.declared.Reply.{Reply}
@@ -26,7 +26,7 @@ use Rattle.cabinet_history.specs.CabinetHistory.{CabinetHistory, with_item}
 use Rattle.cabinet_history.specs.Journals.{Act, items_in}
 use Rattle.cabinet_history.specs.Frames.{has_line}
 use Rattle.cabinet_history.specs.Coming.{past_of, in_force, coming, history_of}
-use Rattle.cabinet_history.specs.Told.{in_frame, reply_to, load_end, item_replies, item_written, acts_replies}
+use Rattle.cabinet_history.specs.CabinetAnswers.{in_frame, reply_to, load_end, item_replies, item_written, acts_replies}
 use Rattle.cabinet_laws.specs.Judging.{IsVerdict}
 use Rattle.cabinet_laws.specs.Openings.{IsOpening}
 use Rattle.run_definition.specs.CabinetState.{answer_of, answers_in}
@@ -139,7 +139,7 @@ pub record ActFits (act : Act) : Type 0 where
 
 item-lines : (laws : CabinetHistoryLaws) (cab : ℕ) (t : Tables) (d : Drift) (cabinet_history : CabinetHistory) (pass : ℕ) (item : Item) → cab < 2 ^ 32 → pass ≤ 4 → IsTold t d cabinet_history
     → IsOctetItem item → ticks_in cabinet_history.items + tick_of item ≤ 55296000 → AreLines (item_lines cab cabinet_history pass item)
-item-lines laws cab t d cabinet_history pass (Told field) small low is own few = tt
+item-lines laws cab t d cabinet_history pass (InputTold field) small low is own few = tt
 item-lines laws cab t d cabinet_history pass (Came octets) small low is own few = came-lines laws cab t d cabinet_history pass octets small low is own
 item-lines laws cab t d cabinet_history pass Ticked small low is own few =
     all-lines (frame_lines cab (item_written cabinet_history Ticked)) [] (tick-lines laws cab t d cabinet_history small is (omega (arith, few))) tt
@@ -177,7 +177,7 @@ answers-append (r ∷ xs) ys a b =
 
 item-answers : (t : Tables) (d : Drift) (cabinet_history : CabinetHistory) (pass : ℕ) (item : Item) → IsTold t d cabinet_history → IsOctetItem item
     → AllByRecursion (λ r. AreOctets r.octets) (answers_in (item_replies cabinet_history pass item))
-item-answers t d cabinet_history pass (Told field) is own = tt
+item-answers t d cabinet_history pass (InputTold field) is own = tt
 item-answers t d cabinet_history pass (Came octets) is own =
     both-answers (answer_of pass (in_frame (reply_to cabinet_history octets))) [] (one-answer pass (reply_to cabinet_history octets) (reply-is t d cabinet_history octets is own)) tt
 item-answers t d cabinet_history pass Ticked is own = tt

@@ -15,7 +15,7 @@ use Rattle.master_load.specs.declared.download.Step.{Step}
 use Rattle.master_load.specs.declared.download.Step.TheVariants.{Begin, Part, Verify, Finish}
 use Rattle.master_load.specs.declared.download.LoadFrame.{LoadFrame}
 use Rattle.master_load.specs.Downloads.{loads_of, load_at}
-use Rattle.master_load.specs.Loading.{LoadEvent, Told, last_frame, answers_frame, answer, begin_where, begin_next, begun_by, step_due, go_on, next_frame, with_frame, done_note, ending_note, note_where, note_of}
+use Rattle.master_load.specs.Loading.{LoadEvent, AnswerTold, last_frame, answers_frame, answer, begin_where, begin_next, begun_by, step_due, go_on, next_frame, with_frame, done_note, ending_note, note_where, note_of}
 use Rattle.master_poll.specs.declared.command.Kind.{Kind}
 use Rattle.master_poll.specs.declared.command.Kind.TheVariants as kind
 use Rattle.master_poll.specs.declared.command.Task.{Task}
@@ -199,7 +199,7 @@ frame-few loads cab round id past few own =
 
 told-last : (messages : List Message) (past : List LoadEvent) → last_frame (told messages past) ≡ last_frame past
 told-last [] past = refl
-told-last (m ∷ messages) past = told-last messages (Told m ∷ past)
+told-last (m ∷ messages) past = told-last messages (AnswerTold m ∷ past)
 
 with-few : (cab : ℕ) (o : Option LoadFrame) (past : List LoadEvent) → FramesAre cab o → FramesAre cab (last_frame past) → FramesAre cab (last_frame (with_frame o past))
 with-few cab None past own before = before
@@ -238,9 +238,9 @@ loads-fit : (cab : ℕ) (past : List LoadEvent) (messages : List Message) → ca
     → AllByRecursion HasSmallNumbers messages → AllFit (load_notes past messages)
 loads-fit cab past [] small own all = tt
 loads-fit cab past (m ∷ messages) small own all =
-    noted-fit (note_of past m) (load_notes (Told m ∷ past) messages)
+    noted-fit (note_of past m) (load_notes (AnswerTold m ∷ past) messages)
     (told-fits (answer past) (answers_frame (last_frame past) m) (ending_note (last_frame past) m) (ending-fits cab (last_frame past) m small own all.0))
-    (loads-fit cab (Told m ∷ past) messages small own all.1)
+    (loads-fit cab (AnswerTold m ∷ past) messages small own all.1)
 
 -- ---- turns
 

@@ -35,7 +35,7 @@ use Rattle.agent.specs.Bindings.{before, each_gives}
 use Rattle.agent.specs.Downloads.{number_in, id_in, cell_value, put_into, put_named, put_of, begin_wish, with_puts, part_wish, verify_wish, finish_wish, download_object, step_named, step_wish}
 use Rattle.agent.specs.Asks.{direct_wish, set_wish, wish_of, ask_of, Asks}
 use Rattle.agent.proofs.Readings.{read_asked}
-use Rattle.sig_types.specs.Items.{Item, Told, Came, Ticked}
+use Rattle.sig_types.specs.Items.{Item, InputTold, Came, Ticked}
 use Rattle.cabinet_history.specs.CabinetHistory.{CabinetHistory}
 use Rattle.cabinet_history.specs.Coming.{Coming, in_force, call_of, with_call, heeded, coming, coming_from}
 use Rattle.cabinet_history.specs.Downloads.{content_by, accepted_by, with_downloads, deeds_of}
@@ -202,7 +202,7 @@ ask-puts frame community t all = among (ask_of frame community t) (read_asked fr
 items-put : (community : List ℕ) (opening : History) (items : List Item) → AreOctetItems items
     → AllByRecursion CallPuts (coming_from community opening items).calls
 items-put community opening [] all = tt
-items-put community opening (Told field ∷ items) all = items-put community opening items all.1
+items-put community opening (InputTold field ∷ items) all = items-put community opening items all.1
 items-put community opening (Ticked ∷ items) all = items-put community opening items all.1
 items-put community opening (Came octets ∷ items) all =
     let c : Coming = coming_from community opening items in

@@ -13,7 +13,7 @@ use Rattle.snmp_msg.specs.Reading.{message_of}
 use Rattle.snmp_msg.proofs.MessageLaws.{is_found}
 use Rattle.scenario_data.specs.Content.{CabinetContent, FrameContent, ScenarioContent}
 use Rattle.scenario_data.specs.Inputs.{inputs_of}
-use Rattle.sig_types.specs.Items.{Told, Came, Ticked}
+use Rattle.sig_types.specs.Items.{InputTold, Came, Ticked}
 use Rattle.sig_types.specs.Passes.{pass_of}
 use Rattle.sig_types.specs.Replies.{Reply, replied_on}
 use Rattle.requests.specs.Requests.{messages}
@@ -86,7 +86,7 @@ came-octets : (texts : List (List ℕ)) → AllOctets texts → AreOctetItems (m
 came-octets [] all = tt
 came-octets (text ∷ texts) all = (all.0, came-octets texts all.1)
 
-told-octets : (fields : List Field) → AreOctetItems (map Told fields)
+told-octets : (fields : List Field) → AreOctetItems (map InputTold fields)
 told-octets [] = tt
 told-octets (field ∷ fields) = (tt, told-octets fields)
 

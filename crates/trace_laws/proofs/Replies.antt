@@ -37,7 +37,7 @@ use Rattle.agent.proofs.Readings.{read_asked}
 use Rattle.agent.proofs.Rooms.{repeated_fits}
 use Rattle.cabinet_history.specs.CabinetHistory.{CabinetHistory}
 use Rattle.cabinet_history.specs.Coming.{Coming, in_force, coming, outcome}
-use Rattle.cabinet_history.specs.Told.{seen_in, replied, reply_to}
+use Rattle.cabinet_history.specs.CabinetAnswers.{seen_in, replied, reply_to}
 use Rattle.runnable.specs.Octets.{HoldsOctets}
 use Rattle.trace_laws.specs.Messages.{IsFrame, IsShortName, IsOctetValue, IsOctetBind, IsOctetMessage}
 use Rattle.trace_laws.specs.Tables.{EachHolds}

@@ -13,7 +13,7 @@ use Rattle.agent.specs.declared.ask.Wish.{Wish}
 use Rattle.agent.specs.declared.ask.Wish.TheVariants.{Get, Next, Direct, Begin, Part, Verify, Finish, Bad}
 use Rattle.agent.specs.declared.ask.Ask.{Ask}
 use Rattle.agent.specs.Asks.{ask_of}
-use Rattle.sig_types.specs.Items.{Item, Told, Came, Ticked}
+use Rattle.sig_types.specs.Items.{Item, InputTold, Came, Ticked}
 use Rattle.stage_txn.specs.Calls.{Finish as FinishCall}
 use Rattle.stage_txn.specs.Answers.{answered, staged}
 use Rattle.cabinet_history.specs.CabinetHistory.{CabinetHistory, with_item, after}
@@ -22,7 +22,7 @@ use Rattle.cabinet_history.specs.Coming.{Coming, in_force, past_of, is_flashing,
 
 -- one for a tick
 abbrev pub tick_of : Item → ℕ
-tick_of (Told field) = 0
+tick_of (InputTold field) = 0
 tick_of (Came octets) = 0
 tick_of Ticked = 1
 
@@ -68,7 +68,7 @@ heeded-frames c (Some ask) = wish-frames c ask.wish
 items-frames : (community : List ℕ) (opening : History) (items : List Item)
     → length (frames (coming_from community opening items).history) ≡ ticks_in items + length (frames opening)
 items-frames community opening [] = omega arith
-items-frames community opening (Told field ∷ items) = items-frames community opening items ∙ omega arith
+items-frames community opening (InputTold field ∷ items) = items-frames community opening items ∙ omega arith
 items-frames community opening (Came octets ∷ items) =
     let c : Coming = coming_from community opening items in
     heeded-frames c (ask_of octets community (in_force c)) ∙ items-frames community opening items ∙ omega arith
@@ -94,7 +94,7 @@ pub record OnlyLastTicks (streams : List (List Item)) : Type 0 where
   pub others : (p : ℕ) → p < 4 → NoTicks (get_or streams p [])
   pub behind : (p : ℕ) → 4 < p → length (get_or streams p []) ≡ 0
 
-told-ticks : (fields : List Field) → NoTicks (map Told fields)
+told-ticks : (fields : List Field) → NoTicks (map InputTold fields)
 told-ticks [] k low = absurd (omega (arith, low))
 told-ticks (field ∷ fields) zero low = refl
 told-ticks (field ∷ fields) (suc k) low = told-ticks fields k (omega (arith, low))
@@ -105,11 +105,11 @@ came-ticks (text ∷ texts) zero low = refl
 came-ticks (text ∷ texts) (suc k) low = came-ticks texts k (omega (arith, low))
 
 pub only-last : (fields : List Field) (a b c : List (List ℕ)) (n : ℕ)
-    → OnlyLastTicks (map Told fields ∷ map Came a ∷ map Came b ∷ map Came c ∷ replicate n Ticked ∷ [])
+    → OnlyLastTicks (map InputTold fields ∷ map Came a ∷ map Came b ∷ map Came c ∷ replicate n Ticked ∷ [])
 only-last fields a b c n = record { others = others; behind = behind }
   where
     streams : List (List Item)
-    streams = map Told fields ∷ map Came a ∷ map Came b ∷ map Came c ∷ replicate n Ticked ∷ []
+    streams = map InputTold fields ∷ map Came a ∷ map Came b ∷ map Came c ∷ replicate n Ticked ∷ []
 
     others : (p : ℕ) → p < 4 → NoTicks (get_or streams p [])
     others zero low = told-ticks fields
@@ -131,7 +131,7 @@ abbrev HasRoom : List (List Item) → List ℕ → List ℕ → Type 0
 HasRoom streams before journal = (p : ℕ) → times p before + times p journal ≤ length (get_or streams p [])
 
 one-tick : (item : Item) → tick_of item ≤ 1
-one-tick (Told field) = omega arith
+one-tick (InputTold field) = omega arith
 one-tick (Came octets) = omega arith
 one-tick Ticked = omega arith
 

@@ -2,11 +2,11 @@
 use Rattle.std.specs.Prelude.{ℕ, List}
 use Rattle.std.specs.List.{AllByRecursion}
 use Rattle.snmp_msg.specs.Shortest.{AreOctets}
-use Rattle.sig_types.specs.Items.{Item, Told, Came, Ticked}
+use Rattle.sig_types.specs.Items.{Item, InputTold, Came, Ticked}
 
 -- a frame is octets; nothing else that comes has any
 abbrev pub IsOctetItem : Item → Type 0
-IsOctetItem (Told field) = Unit {0}
+IsOctetItem (InputTold field) = Unit {0}
 IsOctetItem (Came octets) = AreOctets octets
 IsOctetItem Ticked = Unit {0}
 

@@ -11,7 +11,7 @@ ghost use Rattle.scenario_data.specs.Content.{CabinetContent, ScenarioContent};
 ghost use Rattle.scenario_data.specs.Opening.{opening_tables};
 ghost use Rattle.sig_types.specs.Replies.{Reply};
 ghost use Rattle.cabinet_history.specs.CabinetHistory.{CabinetHistory};
-ghost use Rattle.cabinet_history.specs.Told.{reply_to};
+ghost use Rattle.cabinet_history.specs.CabinetAnswers.{reply_to};
 ghost use Rattle.cabinet_laws.specs.Openings.{IsOpening};
 ghost use Rattle.master_load.specs.Downloads.{AreLoads};
 ghost use Rattle.master_rounds.specs.Rounds.{arrivals, streams_of};

@@ -8,14 +8,14 @@ use Rattle.sig_tables.specs.Decide.{decide, frames, frames_in, last_frame_of, pa
 use Rattle.sig_tables.proofs.Histories.{over-moments}
 use Rattle.trace_text.specs.declared.lines.Line.{Line}
 use Rattle.trace_text.specs.declared.lines.Line.TheVariants.{L, A}
-use Rattle.sig_types.specs.Items.{Item, Told, Came, Ticked}
+use Rattle.sig_types.specs.Items.{Item, InputTold, Came, Ticked}
 use Rattle.cabinet_history.specs.declared.Load.{Load}
 use Rattle.cabinet_history.specs.declared.Reply.{Reply}
 use Rattle.cabinet_history.specs.CabinetHistory.{CabinetHistory, with_item}
 use Rattle.cabinet_history.specs.Coming.{history_of}
 use Rattle.cabinet_history.specs.Frames.{has_line}
 use Rattle.cabinet_history.specs.Journals.{Act}
-use Rattle.cabinet_history.specs.Told.{item_replies, item_written, acts_replies, acts_written}
+use Rattle.cabinet_history.specs.CabinetAnswers.{item_replies, item_written, acts_replies, acts_written}
 use Rattle.run_definition.specs.Lines.{shown_line, frame_lines, load_lines, reply_lines, acts_lines}
 use Rattle.whole_run.specs.Counting.{total, is_frame}
 use Rattle.whole_run.proofs.Totals.{total-append}
@@ -52,7 +52,7 @@ module _ (f : Line → ℕ) (on_load : (cab id : ℕ) (result : Result ℕ Broke
 -- what counts no frame of a tick counts the replies alone
 module _ (f : Line → ℕ) (on_frame : (cab tick : ℕ) (frame : Frame) → 0 < tick → f (shown_line cab tick frame) ≡ 0) where
   written-none : (cab : ℕ) (cabinet_history : CabinetHistory) (item : Item) → total f (frame_lines cab (item_written cabinet_history item)) ≡ 0
-  written-none cab cabinet_history (Told field) = refl
+  written-none cab cabinet_history (InputTold field) = refl
   written-none cab cabinet_history (Came octets) = refl
   written-none cab cabinet_history Ticked = split (has_line (last_frame_of (history_of cabinet_history)) (decide (history_of cabinet_history)))
     where
@@ -107,6 +107,6 @@ few-replies cabinet_history (act ∷ acts) =
     omega (arith, more, own, length-append (item_replies cabinet_history act.pass act.item) (acts_replies (with_item cabinet_history act.item) acts))
   where
     one : (now : CabinetHistory) (pass : ℕ) (item : Item) → length (item_replies now pass item) ≤ 1
-    one now pass (Told field) = omega arith
+    one now pass (InputTold field) = omega arith
     one now pass (Came octets) = omega arith
     one now pass Ticked = omega arith

@@ -7,7 +7,7 @@ use Rattle.scenario_data.specs.Content.{ScenarioContent}
 use Rattle.sig_types.specs.Items.{Item}
 use Rattle.cabinet_history.specs.declared.Reply.{Reply}
 use Rattle.cabinet_history.specs.Journals.{Act, acts_of, acts_from, serial, serial_from}
-use Rattle.cabinet_history.specs.Told.{acts_replies, acts_written}
+use Rattle.cabinet_history.specs.CabinetAnswers.{acts_replies, acts_written}
 use Rattle.cab_book.specs.declared.book.Book.{Book}
 use Rattle.cab_book.specs.declared.happened.Answered.{Answered}
 use Rattle.cab_book.specs.Books.{streams_in, journal_of, written_in, answered_in}

@@ -7,7 +7,7 @@ use Rattle.trace_text.specs.declared.lines.Line.{Line}
 use Rattle.trace_text.specs.declared.lines.Line.TheVariants.{S, R, M, J, Z}
 use Rattle.scenario_data.specs.Content.{ScenarioContent}
 use Rattle.cabinet_history.specs.Journals.{serial, runs_of}
-use Rattle.cabinet_history.specs.Told.{acts_replies}
+use Rattle.cabinet_history.specs.CabinetAnswers.{acts_replies}
 use Rattle.run_definition.specs.CabinetState.{CabinetState, opened_cabinet_states, coming_streams, round_acts, each_cabinet_state}
 use Rattle.run_definition.specs.Orders.{serial_round, serial_rounds, serial_journals}
 use Rattle.run_definition.specs.Lines.{shown_line, acts_lines, cabinet_lines, head_lines, each_lines, round_lines, rounds_lines, opening_lines, front_lines, run_lines}

@@ -1,7 +1,7 @@
 use Rattle.std.proofs.Common.{ap, Option}
 use Rattle.agent.specs.declared.ask.Ask.{Ask}
 use Rattle.cabinet_history.specs.Coming.{coming, heeded, in_force}
-use Rattle.cabinet_history.specs.Told.{replied, ask_end}
+use Rattle.cabinet_history.specs.CabinetAnswers.{replied, ask_end}
 use Rattle.cabinet_laws.proofs.other_frames_change_nothing.Goals as goal
 
 pub returns-clause-nothing : goal.returns-clause-nothing

@@ -1,5 +1,5 @@
 use Rattle.sig_tables.specs.Decide.{since_opening}
-use Rattle.tick_laws.proofs.Follows.{each-follows}
+use Rattle.tick_laws.proofs.ColoursFollow.{each-follows}
 use Rattle.tick_laws.proofs.colours_follow.Goals as goal
 
 pub returns : goal.returns

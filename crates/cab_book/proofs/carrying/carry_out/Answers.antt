@@ -4,14 +4,14 @@ use Rattle.std.proofs.Math.Logic.{∥∥₁_elim}
 use Rattle.sig_tables.specs.Past.{Event, Install}
 use Rattle.sig_tables.specs.declared.tables.Tables.{Tables}
 use Rattle.stage_txn.specs.Answers.{answered, kept, stage_state}
-use Rattle.tick_context.specs.Told.{CanRun}
+use Rattle.tick_context.specs.CanRun.{CanRun}
 use Rattle.cab_book.specs.Controls.{ControlStands}
 use Rattle.cab_book.proofs.Facts.{installs-are}
 use Rattle.agent.specs.declared.ask.Order.{Order}
 use Rattle.agent.specs.Orders.{IsFit}
 use Rattle.cabinet_history.specs.Coming.{Coming, past_of, outcome, order_event, events_of, with_events, with_call, call_of}
 use Rattle.cab_book.specs.Carried.{is_accepted}
-use Rattle.cab_book.specs.Stands.{IsAnswered}
+use Rattle.cab_book.specs.CabinetStands.{IsAnswered}
 use Rattle.cabinet_history.proofs.Installing.{few-within}
 use Rattle.cab_book.proofs.Installs.{orders-fit, orders-alone, puts-staged}
 use Rattle.cab_book.proofs.carrying.carry_out.Goals as goal

@@ -11,7 +11,7 @@ use Rattle.sig_tables.specs.Counters.{counter_in}
 use Rattle.sig_tables.specs.TickState.{tick_state_of}
 use Rattle.sig_tables.specs.Decide.{next_moment, colours_of}
 use Rattle.sig_tables.specs.Seen.{mode_seen, moves_seen}
-use Rattle.coord_count.specs.Stands.{CountStands}
+use Rattle.coord_count.specs.CountStands.{CountStands}
 use Rattle.tick_context.specs.Modes.{is_coord}
 use Rattle.tick_context.proofs.Running.{coord-of}
 use Rattle.controller.proofs.Running.{runs-context}

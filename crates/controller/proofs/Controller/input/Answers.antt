@@ -3,7 +3,7 @@ use Rattle.sig_types.specs.declared.frame.Field.{Field}
 use Rattle.sig_types.specs.declared.frame.Field.TheVariants.{Veh, Ped as Button}
 use Rattle.sig_tables.specs.Past.{Past, Input}
 use Rattle.sig_tables.specs.Decide.{past_at, with_event}
-use Rattle.preempt_run.specs.Stands.{PreemptsStand}
+use Rattle.preempt_run.specs.PreemptsKeep.{PreemptsStand}
 use Rattle.preempt_run.proofs.Others.{stands-other}
 use Rattle.controller.proofs.Controller.input.Goals as goal
 

@@ -12,7 +12,7 @@ use Rattle.sig_tables.specs.Seen.{frame_seen, moment_seen, moves_seen}
 use Rattle.preempt_stages.proofs.Inputs.{seen-is}
 use Rattle.preempt_stages.proofs.OnPhases.{names-phases}
 use Rattle.sig_tables.specs.Layout.{Has}
-use Rattle.call_store.specs.Stands.{is_walking}
+use Rattle.call_store.specs.CallsStand.{is_walking}
 use Rattle.controller.specs.Shows.{ShowsColours}
 use Rattle.tick_context.specs.Shows.{is_signalling}
 use Rattle.tick_context.proofs.Rings.{each-ring, last-next, latest-next}

@@ -14,7 +14,7 @@ use Rattle.sig_tables.specs.Preempts.{preempts_on}
 use Rattle.sig_tables.specs.Decide.{next_moment, colours_of}
 use Rattle.sig_tables.specs.Priority.{active_in}
 use Rattle.sig_tables.specs.Seen.{frame_seen, moment_seen, moves_seen}
-use Rattle.call_store.specs.Stands.{is_walking}
+use Rattle.call_store.specs.CallsStand.{is_walking}
 use Rattle.preempt_stages.specs.Dwelling.{NamesPhases, is_dwell}
 use Rattle.preempt_stages.proofs.Inputs.{seen-is}
 use Rattle.preempt_stages.proofs.OnPhases.{last-wide}

@@ -2,7 +2,7 @@ use Rattle.std.proofs.Common.{◌≡◌, ◌≤◌, ◌+◌, ℕ, suc, false, re
 use Rattle.sig_tables.specs.Past.{History}
 use Rattle.sig_tables.specs.Decide.{decide, last_frame_of}
 use Rattle.tick_context.specs.Strides.{is_told, ticks_more}
-use Rattle.controller.specs.StandsFor.{ControllerStands}
+use Rattle.controller.specs.ControllerStands.{ControllerStands}
 use Rattle.tick_context.proofs.Striding.{more-more, plain-on, told-by}
 use Rattle.controller.proofs.Controller.stride_told.Goals as goal
 

@@ -2,7 +2,7 @@ use Rattle.std.proofs.Common.{◌≡◌, ◌≤◌, ◌+◌, ◌-◌, ℕ, false
 use Rattle.sig_tables.specs.Past.{History}
 use Rattle.controller.specs.declared.Controller.{Controller}
 use Rattle.tick_context.specs.Strides.{is_told, ticks_more}
-use Rattle.controller.specs.StandsFor.{ControllerStands, tick_count, install_count}
+use Rattle.controller.specs.ControllerStands.{ControllerStands, tick_count, install_count}
 use Rattle.controller.proofs.Controller.stride_told.Given as goal
 
 -- so many ticks were taken, and all of them gave plain frames

@@ -4,11 +4,11 @@ use Rattle.std.proofs.lemmas.List.{append_assoc, append-nil, drop_all}
 use Rattle.snmp_msg.specs.Reading.{message_of}
 use Rattle.sig_types.specs.Items.{texts_of}
 use Rattle.requests.specs.Requests.{messages}
-use Rattle.master_load.specs.Loading.{Told, note_of}
-use Rattle.master_load.specs.Stands.{LoaderStands}
+use Rattle.master_load.specs.Loading.{AnswerTold, note_of}
+use Rattle.master_load.specs.LoaderStands.{LoaderStands}
 use Rattle.master_poll.specs.Turns.{told}
 use Rattle.master_poll.specs.Notes.{noted, load_notes}
-use Rattle.master_poll.proofs.Told.{heard_none, heard_one, noted_front}
+use Rattle.master_poll.proofs.LoaderTold.{heard_none, heard_one, noted_front}
 use Rattle.master_poll.proofs.channel.hear.Goals as goal
 
 pub loop-octets-preserved : goal.loop-octets-preserved
@@ -23,13 +23,13 @@ loop-octets-preserved c = λ cab all past h.
     let next : messages (texts_of (drop c.loop-octets.octets-index c.args.arrived.now)) ≡ m ∷ rest =
     ap (λ xs. messages (texts_of xs)) split ∙ heard_one x (drop (c.loop-octets.octets-index + 1) c.args.arrived.now) m read in
     record {
-      past = Told m ∷ k.past;
+      past = AnswerTold m ∷ k.past;
       stands = c.in_ok-tell.ensures.stands cab all k.past k.stands;
       ending = ap (λ ms. told ms k.past) (sym next) ∙ k.ending;
       noted =
-          ap (λ xs. xs ++ load_notes (Told m ∷ k.past) rest) (c.in_ok-tell.ensures.noted cab all k.past k.stands)
-          ∙ (append_assoc notes (noted (note_of k.past m) []) (load_notes (Told m ∷ k.past) rest)
-          ∙ (ap (λ xs. notes ++ xs) (noted_front (note_of k.past m) (load_notes (Told m ∷ k.past) rest))
+          ap (λ xs. xs ++ load_notes (AnswerTold m ∷ k.past) rest) (c.in_ok-tell.ensures.noted cab all k.past k.stands)
+          ∙ (append_assoc notes (noted (note_of k.past m) []) (load_notes (AnswerTold m ∷ k.past) rest)
+          ∙ (ap (λ xs. notes ++ xs) (noted_front (note_of k.past m) (load_notes (AnswerTold m ∷ k.past) rest))
           ∙ (ap (λ ms. notes ++ load_notes k.past ms) (sym next) ∙ k.noted)));
     }
 

@@ -3,7 +3,7 @@ use Rattle.scenario_data.specs.Content.{LoadContent}
 use Rattle.sig_types.specs.Items.{texts_of}
 use Rattle.requests.specs.Requests.{messages}
 use Rattle.master_load.specs.Loading.{LoadEvent}
-use Rattle.master_load.specs.Stands.{LoaderStands}
+use Rattle.master_load.specs.LoaderStands.{LoaderStands}
 use Rattle.master_poll.specs.Turns.{told}
 use Rattle.master_poll.specs.Notes.{load_notes}
 use Rattle.master_poll.specs.Hearing.{HearingGoesOn}

@@ -1,5 +1,5 @@
 use Rattle.std.proofs.Common.{◌≡◌, length}
-use Rattle.master_rounds.specs.Stands.{cabinet_count, rounds_begun}
+use Rattle.master_rounds.specs.RoundsStand.{cabinet_count, rounds_begun}
 use Rattle.message_cases.proofs.master_rounds_cases.meets.Given as goal
 
 abbrev pub invariant-loop-place : goal.invariant-loop-place

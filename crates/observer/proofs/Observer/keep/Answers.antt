@@ -9,7 +9,7 @@ use Rattle.sig_tables.specs.Preempts.{preempts_on}
 use Rattle.sig_tables.specs.Decide.{next_moment, colours_of}
 use Rattle.sig_tables.specs.Seen.{frame_seen, moment_seen, moves_seen}
 use Rattle.sig_tables.specs.Layout.{Has}
-use Rattle.call_store.specs.Stands.{is_walking}
+use Rattle.call_store.specs.CallsStand.{is_walking}
 use Rattle.preempt_stages.proofs.Inputs.{seen-is}
 use Rattle.preempt_stages.proofs.OnPhases.{names-phases}
 use Rattle.tick_context.proofs.Seen.{opposed-green}

@@ -1,7 +1,7 @@
 use Rattle.std.proofs.Common.{◌≡◌, ◌+◌, ◌++◌}
 use Rattle.overlap_run.specs.declared.overlap.Timing.{Timing}
 use Rattle.overlap_run.specs.Overlap.{overlap_at, greens_to}
-use Rattle.overlap_run.specs.StandsFor.{OverlapStands, IsOpened}
+use Rattle.overlap_run.specs.OverlapStands.{OverlapStands, IsOpened}
 use Rattle.overlap_run.specs.Text.{changes_to}
 use Rattle.overlap_run.specs.Parents.{parents_of, green_at, IsSeen}
 use Rattle.overlap_run.proofs.changes.add_changes.Given as goal

@@ -1,6 +1,6 @@
 use Rattle.sig_tables.specs.Slots.{force_point}
 use Rattle.sig_tables.proofs.Filled.{Filled}
-use Rattle.pattern_plan.specs.Stands.{Measures}
+use Rattle.pattern_plan.specs.LayoutStands.{Measures}
 use Rattle.pattern_plan.proofs.forcing.forces.Given as goal
 
 abbrev pub invariant-loop-phase : goal.invariant-loop-phase

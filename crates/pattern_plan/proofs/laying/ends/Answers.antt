@@ -3,7 +3,7 @@ use Rattle.sig_types.specs.Phases.{is_phase}
 use Rattle.sig_tables.specs.Slots.{slot_end}
 use Rattle.sig_tables.proofs.Below.{phase-is}
 use Rattle.sig_tables.proofs.Filled.{filled-more}
-use Rattle.pattern_plan.specs.Stands.{enabled_end}
+use Rattle.pattern_plan.specs.LayoutStands.{enabled_end}
 use Rattle.pattern_plan.proofs.laying.ends.Goals as goal
 
 pub loop-phase-preserved : goal.loop-phase-preserved

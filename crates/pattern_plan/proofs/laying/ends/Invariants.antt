@@ -1,5 +1,5 @@
 use Rattle.sig_tables.proofs.Filled.{Filled}
-use Rattle.pattern_plan.specs.Stands.{enabled_end}
+use Rattle.pattern_plan.specs.LayoutStands.{enabled_end}
 use Rattle.pattern_plan.proofs.laying.ends.Given as goal
 
 abbrev pub invariant-loop-phase : goal.invariant-loop-phase

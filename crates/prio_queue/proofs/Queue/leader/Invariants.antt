@@ -5,7 +5,7 @@ use Rattle.sig_tables.specs.Slots.{is_coordinated}
 use Rattle.sig_tables.specs.Layout.{Has}
 use Rattle.sig_tables.specs.Priority.{leader, all_requests}
 use Rattle.prio_queue.specs.Places.{meant}
-use Rattle.prio_queue.specs.Stands.{QueueStands}
+use Rattle.prio_queue.specs.QueueStands.{QueueStands}
 use Rattle.prio_queue.proofs.Queue.leader.Given as goal
 
 -- of the numbers from the greatest down that were looked at, the one that comes first

@@ -1,5 +1,5 @@
 use Rattle.std.proofs.Common.{inl, ℕ, List, Err, refl, sym, ap, subst}
-use Rattle.band_report.specs.Told.{AsksOfBands, TellsBands, IsFirstBandFault}
+use Rattle.band_report.specs.BandAnswer.{AsksOfBands, TellsBands, IsFirstBandFault}
 use Rattle.scenario_data.specs.declared.refusal.Refusal.{Refusal}
 use Rattle.station.specs.Io.{Io, io_of}
 use Rattle.station.specs.Replied.{ReplyAnswer}

@@ -1,5 +1,5 @@
 use Rattle.std.proofs.Common.{◌≤◌, ◌*◌}
-use Rattle.controller.specs.StandsFor.{tick_count}
+use Rattle.controller.specs.ControllerStands.{tick_count}
 use Rattle.timing_cases.proofs.controller_cases.strides.Given as goal
 
 abbrev pub invariant-loop-k : goal.invariant-loop-k

@@ -1,5 +1,5 @@
 use Rattle.std.proofs.Common.{◌≡◌}
-use Rattle.preempt_run.specs.Stands.{step_count}
+use Rattle.preempt_run.specs.PreemptsKeep.{step_count}
 use Rattle.timing_cases.proofs.preempt_run_cases.mode_at.Given as goal
 
 abbrev pub invariant-loop-before : goal.invariant-loop-before

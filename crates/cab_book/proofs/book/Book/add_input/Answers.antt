@@ -1,7 +1,7 @@
 use Rattle.std.proofs.Common.{◌≡◌, ◌+◌, ◌∙◌, ℕ, List, length, get_or, slice_set, refl, sym, ap, subst, arith}
 use Rattle.std.proofs.Math.Logic.{∥∥₁_map}
 use Rattle.sig_types.specs.declared.streams.Streams.{Streams}
-use Rattle.sig_types.specs.Items.{Told, items_of}
+use Rattle.sig_types.specs.Items.{InputTold, items_of}
 use Rattle.cab_book.specs.declared.cabinet.Cabinet.{Cabinet}
 use Rattle.cab_book.specs.Shares.{ticks_left}
 use Rattle.cab_book.specs.Rounds.{frames_left, items_left, RoundStands}
@@ -37,20 +37,20 @@ invariant_of-self-2 c =
     let left = slice_set r.left 0 (get_or r.left 0 0 + 1) in
     let o : Taken left b.left 0 1 = subst (λ (l : List ℕ). Taken left l 0 1) same.left (added r.left 0 (omega (arith, wide))) in
     let t = input-taken left b.left o in
-    let longer : items_of streams ≡ with_last_at (items_of b.streams) 0 (Told c.args.field) =
-    c.in-Ok-push_field.ensures.items ∙ ap (λ (s : Streams). with_last_at (items_of s) 0 (Told c.args.field)) same.streams in
+    let longer : items_of streams ≡ with_last_at (items_of b.streams) 0 (InputTold c.args.field) =
+    c.in-Ok-push_field.ensures.items ∙ ap (λ (s : Streams). with_last_at (items_of s) 0 (InputTold c.args.field)) same.streams in
     record {
       placed = ∥∥₁_map r.placed (placed-more r.streams streams c.args.field c.in-Ok-push_field.ensures.fields c.requires.place);
       few = omega (arith, b.few, ap (λ (k : Cabinet). k.ticks) same.cabinet, t.ticks_are);
       room = room-less r.happened (ticks_left b.left) (frames_left b.left + 1) (items_left b.left + 1) (ticks_left left) (frames_left left) (items_left left)
           (omega (arith, t.ticks_are)) (omega (arith, t.frames_are)) (omega (arith, t.items_are)) c.in-Ok.ensures.room;
-      tallied = tallied-lengthened b.streams streams 0 (Told c.args.field) (omega arith) longer b.left left b.happened r.happened o same.happened.journal b.tallied;
-      short = short-lengthened b.streams streams 0 (Told c.args.field) (omega arith) longer b.short c.requires.few;
+      tallied = tallied-lengthened b.streams streams 0 (InputTold c.args.field) (omega arith) longer b.left left b.happened r.happened o same.happened.journal b.tallied;
+      short = short-lengthened b.streams streams 0 (InputTold c.args.field) (omega arith) longer b.short c.requires.few;
       some = ∥∥₁_map b.some (λ some. (
         some.0,
         subst (λ (k : Cabinet). RoundStands k streams r.happened some.0) (sym same.cabinet)
             (round-same b.cabinet.value b.streams streams b.happened r.happened some.0
-            (acts-stay b.streams streams 0 (Told c.args.field) (omega arith) longer b.left b.happened r.happened b.tallied same.happened.journal)
+            (acts-stay b.streams streams 0 (InputTold c.args.field) (omega arith) longer b.left b.happened r.happened b.tallied same.happened.journal)
             same.happened.written same.happened.replies some.1),
       ));
     }
@@ -98,9 +98,9 @@ returns-clause-added c =
     let same = c.reserve_one.ensures.same in
     let left = slice_set r.left 0 (get_or r.left 0 0 + 1) in
     let wide : length r.left ≡ length b.left = ap (λ (l : List ℕ). length l) same.left in
-    let e = c.in-Ok-push_field.ensures.items ∙ ap (λ (s : Streams). with_last_at (items_of s) 0 (Told c.args.field)) same.streams in
+    let e = c.in-Ok-push_field.ensures.items ∙ ap (λ (s : Streams). with_last_at (items_of s) 0 (InputTold c.args.field)) same.streams in
     let o : Taken left b.left 0 1 = subst (λ (l : List ℕ). Taken left l 0 1) same.left (added r.left 0 (omega (arith, wide))) in
-    let u = longer_by b r.cabinet.value c.push_field.new.streams left r.happened 0 (Told c.args.field) (omega arith) same.cabinet e o same.happened in
+    let u = longer_by b r.cabinet.value c.push_field.new.streams left r.happened 0 (InputTold c.args.field) (omega arith) same.cabinet e o same.happened in
     record {
       stands = u.stands;
       streams = e;

@@ -2,7 +2,7 @@ use Rattle.std.proofs.Common.{◌≡◌, ◌+◌, ◌-◌, ◌<◌, ◌∙◌, �
 use Rattle.std.proofs.Math.Logic.{∥∥₁_map}
 use Rattle.cab_book.specs.Shares.{ticks_left}
 use Rattle.cab_book.specs.declared.cabinet.Cabinet.{Cabinet}
-use Rattle.cab_book.specs.Stands.{CabinetStands}
+use Rattle.cab_book.specs.CabinetStands.{CabinetStands}
 use Rattle.cab_book.specs.Rounds.{frames_left, items_left, cabinet_history_after, RoundStands}
 use Rattle.cab_book.proofs.Bringing.{Taken, taken, tallied-more, frame-taken, room-less}
 use Rattle.cab_book.proofs.Coming.{frame-next, left-of-frames, replied, reply_of}

@@ -4,7 +4,7 @@ use Rattle.cabinet_history.specs.CabinetHistory.{CabinetHistory}
 use Rattle.cab_book.specs.Books.{BookStands}
 use Rattle.cab_book.specs.Shares.{ticks_left}
 use Rattle.cab_book.specs.declared.cabinet.Cabinet.{Cabinet}
-use Rattle.cab_book.specs.Stands.{CabinetStands}
+use Rattle.cab_book.specs.CabinetStands.{CabinetStands}
 use Rattle.cab_book.specs.Rounds.{frames_left, items_left, cabinet_history_after, RoundStands}
 use Rattle.cab_book.proofs.Bringing.{taken, tallied-more, ticks-taken, room-less, few-shared, pass-within}
 use Rattle.cab_book.proofs.Coming.{strode}

@@ -2,7 +2,7 @@ use Rattle.std.proofs.Common.{◌+◌, ◌-◌, get_or, slice_set, option_to_lis
 use Rattle.std.proofs.Math.Logic.{∥∥₁_map}
 use Rattle.cab_book.specs.Shares.{ticks_left}
 use Rattle.cab_book.specs.declared.cabinet.Cabinet.{Cabinet}
-use Rattle.cab_book.specs.Stands.{CabinetStands}
+use Rattle.cab_book.specs.CabinetStands.{CabinetStands}
 use Rattle.cab_book.specs.Rounds.{frames_left, items_left, cabinet_history_after, RoundStands}
 use Rattle.cab_book.proofs.Bringing.{taken, tallied-more, ticks-taken, room-less, few-shared}
 use Rattle.cab_book.proofs.Coming.{strode}

@@ -1,12 +1,12 @@
 use Rattle.std.proofs.Common.{◌∙◌, ◌<◌, ap, arith, is_some}
 use Rattle.std.specs.Coded.{le_prop, Coded-set, coded_bool}
 use Rattle.std.proofs.Math.Logic.{∥∥₁_elim, ∥∥₁_map}
-use Rattle.cabinet_history.specs.Told.{wish_end}
+use Rattle.cabinet_history.specs.CabinetAnswers.{wish_end}
 use Rattle.sig_types.specs.declared.notes.StageAnswer.{StageAnswer}
 use Rattle.std.specs.Prelude.{Option}
 use Rattle.stage_txn.specs.Answers.{answered, kept, stage_state}
 use Rattle.cabinet_history.specs.Coming.{Coming, past_of}
-use Rattle.cab_book.specs.Stands.{CabinetKeeps}
+use Rattle.cab_book.specs.CabinetStands.{CabinetKeeps}
 use Rattle.cabinet_history.proofs.Installing.{few-within}
 use Rattle.cab_book.proofs.Wishes.{has-outcome}
 use Rattle.cab_book.proofs.Heeding.{carried-sound}

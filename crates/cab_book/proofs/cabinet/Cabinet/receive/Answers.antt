@@ -6,9 +6,9 @@ use Rattle.agent.specs.declared.ask.Ask.{Ask}
 use Rattle.agent.specs.Asks.{ask_of}
 use Rattle.cabinet_history.specs.CabinetHistory.{CabinetHistory, with_item}
 use Rattle.cabinet_history.specs.Coming.{Coming, coming, in_force, heeded, ask_after}
-use Rattle.cabinet_history.specs.Told.{replied, ask_end, in_frame}
+use Rattle.cabinet_history.specs.CabinetAnswers.{replied, ask_end, in_frame}
 use Rattle.cab_book.specs.declared.cabinet.Cabinet.{Cabinet}
-use Rattle.cab_book.specs.Stands.{CabinetKeeps}
+use Rattle.cab_book.specs.CabinetStands.{CabinetKeeps}
 use Rattle.cab_book.proofs.cabinet.Cabinet.receive.Goals as goal
 
 -- what was read is what the cabinet history says that the frame asks

@@ -1,6 +1,6 @@
 use Rattle.std.proofs.Common.{◌≡◌, ◌-◌, ◌++◌, suc, length, sym, subst, arith}
 use Rattle.look_back.specs.declared.frame_runs.FrameRuns.{FrameRuns}
-use Rattle.look_back.specs.Keeps.{FrameRunsKeep}
+use Rattle.look_back.specs.FrameRunsKeep.{FrameRunsKeep}
 use Rattle.look_back.proofs.Again.{keeps-again}
 use Rattle.look_back.proofs.frame_runs.FrameRuns.add_again.Goals as goal
 

@@ -6,12 +6,12 @@ use Rattle.scenario_data.specs.Content.{load_content, master_content}
 use Rattle.requests.specs.Requests.{messages, status_of}
 use Rattle.master_load.specs.Downloads.{frame_text}
 use Rattle.master_load.specs.Loading.{with_frame}
-use Rattle.master_load.specs.Stands.{LoaderStands}
+use Rattle.master_load.specs.LoaderStands.{LoaderStands}
 use Rattle.master_poll.specs.Commands.{count_of, ending, frames_sent}
 use Rattle.master_poll.specs.Turns.{next_turn, load_events, told}
 use Rattle.master_poll.specs.Notes.{load_notes}
 use Rattle.master_poll.specs.Sends.{command_text}
-use Rattle.master_poll.specs.Stands.{plan_with, sent_by}
+use Rattle.master_poll.specs.CommandStands.{plan_with, sent_by}
 use Rattle.master_poll.specs.Hearing.{Hears}
 use Rattle.master_poll.proofs.Posting.{frame_is, notes_are, one_more}
 use Rattle.master_poll.proofs.channel.Channel.turn.Goals as goal

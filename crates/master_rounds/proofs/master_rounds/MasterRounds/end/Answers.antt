@@ -3,7 +3,7 @@ use Rattle.std.proofs.lemmas.List.{length-map}
 use Rattle.std.proofs.lemmas.Option.{slice_get-get_or, slice_get_within}
 use Rattle.sig_types.specs.Replies.{replied_on}
 use Rattle.scenario_data.specs.Content.{scenario_content}
-use Rattle.link_sim.specs.Stands.{LinkStands}
+use Rattle.link_sim.specs.LinkStands.{LinkStands}
 use Rattle.master_poll.specs.Masters.{arrived_in}
 use Rattle.master_rounds.specs.Rounds.{loads_sent, polls_sent}
 use Rattle.master_rounds.specs.Answered.{replied_before}

@@ -3,7 +3,7 @@ use Rattle.sig_types.specs.PhaseSet.{phases_of}
 use Rattle.sig_types.specs.Phases.{is_phase}
 use Rattle.sig_tables.specs.Sums.{greatest}
 use Rattle.sig_tables.proofs.Below.{phase-is}
-use Rattle.pattern_plan.specs.Stands.{at_phase}
+use Rattle.pattern_plan.specs.LayoutStands.{at_phase}
 use Rattle.sig_types.proofs.Members.{one-less}
 use Rattle.pattern_plan.proofs.Greatest.{greatest-one-less}
 use Rattle.pattern_plan.proofs.side.Side.greatest_in.Goals as goal

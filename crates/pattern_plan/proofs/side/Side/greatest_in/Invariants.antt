@@ -1,7 +1,7 @@
 use Rattle.std.proofs.Common.{◌≡◌, max, length}
 use Rattle.sig_types.specs.PhaseSet.{phases_of}
 use Rattle.sig_tables.specs.Sums.{greatest}
-use Rattle.pattern_plan.specs.Stands.{at_phase}
+use Rattle.pattern_plan.specs.LayoutStands.{at_phase}
 use Rattle.pattern_plan.proofs.side.Side.greatest_in.Given as goal
 
 abbrev pub invariant-members : goal.invariant-members

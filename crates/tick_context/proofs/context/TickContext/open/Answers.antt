@@ -1,6 +1,6 @@
 use Rattle.std.proofs.Common.{refl, arith}
 use Rattle.sig_tables.specs.Decide.{opened}
-use Rattle.call_store.specs.Stands.{CallsStand}
+use Rattle.call_store.specs.CallsStand.{CallsStand}
 use Rattle.tick_context.proofs.context.TickContext.open.Goals as goal
 
 pub returns-clause-stands : goal.returns-clause-stands

@@ -8,7 +8,7 @@ use Rattle.sig_tables.specs.Calls.{is_green}
 use Rattle.look_back.specs.declared.window.Seen.{Seen}
 use Rattle.look_back.specs.declared.window.Window.{Window}
 use Rattle.look_back.specs.Shown.{IsShown}
-use Rattle.look_back.specs.Keeps.{FrameRunsKeep, newest_of}
+use Rattle.look_back.specs.FrameRunsKeep.{FrameRunsKeep, newest_of}
 
 -- all that was seen are these moments: the runs keep them, and the colours and signals are those of the last frame
 pub record WindowStands (w : Window) (past : List Moment) : Type 0 where

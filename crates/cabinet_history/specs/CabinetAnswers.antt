@@ -18,7 +18,7 @@ use Rattle.agent.specs.declared.ask.Ask.{Ask}
 use Rattle.agent.specs.Groups.{bits}
 use Rattle.agent.specs.Seen.{Seen}
 use Rattle.agent.specs.Replies.{reply}
-use Rattle.sig_types.specs.Items.{Item, Told, Came, Ticked}
+use Rattle.sig_types.specs.Items.{Item, InputTold, Came, Ticked}
 use Rattle.cabinet_history.specs.declared.Load.{Load}
 use Rattle.cabinet_history.specs.declared.Reply.{Reply}
 use Rattle.cabinet_history.specs.CabinetHistory.{CabinetHistory, with_item}
@@ -92,13 +92,13 @@ in_frame (Some octets) = Some (record { items = octets })
 
 -- what is told of an item that a pass brings after a cabinet history: of a frame the reply, which may be silence, and the end of a load
 abbrev pub item_replies : CabinetHistory → ℕ → Item → List Reply
-item_replies cabinet_history pass (Told field) = []
+item_replies cabinet_history pass (InputTold field) = []
 item_replies cabinet_history pass (Came octets) = record { pass = pass; text = in_frame (reply_to cabinet_history octets); load = load_end cabinet_history octets } ∷ []
 item_replies cabinet_history pass Ticked = []
 
 -- the frame that an item gives, where it has a line
 abbrev pub item_written : CabinetHistory → Item → List (ℕ × Frame)
-item_written cabinet_history (Told field) = []
+item_written cabinet_history (InputTold field) = []
 item_written cabinet_history (Came octets) = []
 item_written cabinet_history Ticked = tick_written (history_of cabinet_history)
 

@@ -5,10 +5,10 @@ use Rattle.sig_tables.specs.Looking.{last_on, latest_on, start_run}
 use Rattle.sig_tables.specs.Decide.{past_at}
 use Rattle.sig_tables.specs.Layout.{Has}
 use Rattle.sig_tables.specs.Seen.{frame_seen}
-use Rattle.call_store.specs.Stands.{is_walking}
-use Rattle.ped_clock.specs.Stands.{SignalsStand, step_count as signal_steps}
-use Rattle.phase_clock.specs.Stands.{ClocksStand, step_count}
-use Rattle.preempt_run.specs.Stands.{PreemptsStand, step_count as preempt_steps}
+use Rattle.call_store.specs.CallsStand.{is_walking}
+use Rattle.ped_clock.specs.SignalsStand.{SignalsStand, step_count as signal_steps}
+use Rattle.phase_clock.specs.ClocksStand.{ClocksStand, step_count}
+use Rattle.preempt_run.specs.PreemptsKeep.{PreemptsStand, step_count as preempt_steps}
 use Rattle.controller.specs.Shows.{ShowsColours}
 use Rattle.tick_context.specs.Shows.{is_signalling}
 use Rattle.tick_context.specs.Context.{ContextStands, CountStandsFor, told_ticks}

@@ -15,7 +15,7 @@ use Rattle.agent.specs.declared.ask.Wish.TheVariants.{Get as GetWish}
 use Rattle.stage_txn.specs.Answers.{answered, kept, stage_state}
 use Rattle.sig_tables.specs.Putting.{EachFits}
 use Rattle.stage_txn.specs.Laws.{BeginInRange}
-use Rattle.stage_txn.specs.Stands.{StageStands}
+use Rattle.stage_txn.specs.StageKeeps.{StageStands}
 use Rattle.cabinet_history.specs.Installs.{FewInstalls}
 use Rattle.cabinet_history.specs.CabinetHistory.{CabinetHistory}
 use Rattle.cabinet_history.specs.Coming.{Coming, past_of, in_force, coming, call_of, outcome, with_call}

@@ -4,7 +4,7 @@ use Rattle.std.specs.Prelude.{ℕ, ◌+◌, ◌≡◌, ◌<◌, List, length, So
 use Rattle.std.specs.List.{slice_get}
 use Rattle.sig_types.specs.Replies.{Reply}
 use Rattle.scenario_data.specs.Content.{CabinetContent, ScenarioContent}
-use Rattle.link_sim.specs.Stands.{LinkStands}
+use Rattle.link_sim.specs.LinkStands.{LinkStands}
 use Rattle.master_poll.specs.Masters.{MasterStands, arrived_in, round_count}
 use Rattle.master_rounds.specs.Rounds.{arrivals, polls_sent, loads_sent}
 use Rattle.master_rounds.specs.declared.master_rounds.MasterRounds.{MasterRounds}
