@@ -52,7 +52,7 @@ class Moment:
 
 
 @dataclass
-class Told:
+class ToldSinceFrame:
     """What has come to a cabinet since its last frame."""
 
     command: int | None = None
@@ -70,7 +70,7 @@ class Past:
 
     def __init__(self, tables: Tables, command: int, clock: int) -> None:
         self.versions = [tables]
-        self.told = Told()
+        self.told = ToldSinceFrame()
         self.moments = [Moment(0, FIRST, tables, clock, command, 0)]
 
     @property

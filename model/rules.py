@@ -86,14 +86,14 @@ def orders_each(tables: Tables, number: int) -> bool:
 def keeps_sides(tables: Tables, number: int) -> bool:
     """Rule 9: the phases of a side come one after another, and the sides in the same order in both rings."""
 
-    def stretches(ring: int) -> list[frozenset[int]]:
+    def sides_of(ring: int) -> list[frozenset[int]]:
         found: list[frozenset[int]] = []
         for p in sequence(tables, number, ring):
             if not found or found[-1] != side(tables, p):
                 found.append(side(tables, p))
         return found
 
-    first, second = map(stretches, RINGS)
+    first, second = map(sides_of, RINGS)
     return first == second and len(set(first)) == len(first)
 
 

@@ -65,7 +65,7 @@ class Tables:
 
 
 def band(cabinets, cycle, travel, ring, inbound):
-    """The widest stretch of open times, the earliest of the widest; cabinets are (number, greens)."""
+    """The widest span of open times, the earliest of the widest; cabinets are (number, greens)."""
     n = len(cabinets)
     reached = [sum(travel[:i]) for i in range(n)]
     after = [reached[-1] - t for t in reached] if inbound else reached

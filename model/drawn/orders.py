@@ -12,7 +12,7 @@ OTHERS = [b"0", b"1", b"2", b"00", b"255", b"256", b"65536", b"4294967295", b"42
 
 
 def merged(draw: Random, due: JournalDue) -> Runs:
-    """Draws a journal that takes each item once: stretches of the passes in any order."""
+    """Draws a journal that takes each item once: runs of the passes in any order."""
     left = {number: count for number, count in enumerate(due.items) if count}
     runs: Runs = []
     while left:

@@ -83,7 +83,7 @@ def ticks(street: Street) -> list[Tick]:
     return found
 
 
-def stretches(street: Street) -> list[tuple[Tick, int]]:
+def quiet_spans(street: Street) -> list[tuple[Tick, int]]:
     """Returns each disturbance that quiet ticks follow, with the last of these ticks."""
     found: list[tuple[Tick, int]] = []
     last: Tick | None = None

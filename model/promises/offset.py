@@ -9,7 +9,7 @@ from collections.abc import Iterator
 
 from model.counter import ADD_ONLY, DWELL, SHORTWAY, Correction, correction
 from model.plan import is_defined, pattern
-from model.promises.disturbances import Tick, stretches
+from model.promises.disturbances import Tick, quiet_spans
 from model.promises.told import Seen, Street
 from model.tables import Tables, enabled, rows
 from model.words import Kind
@@ -83,5 +83,5 @@ def after(street: Street, disturbed: Tick, last: int) -> Iterator[str]:
 
 def offset(street: Street) -> Iterator[str]:
     """Tells what a street shows against this promise."""
-    for disturbed, last in stretches(street):
+    for disturbed, last in quiet_spans(street):
         yield from after(street, disturbed, last)

@@ -198,7 +198,7 @@ def streets_of(text: bytes) -> tuple[Scenario, list[Street]]:
 
 @dataclass(frozen=True)
 class Interval:
-    """A longest stretch of ticks with one colour or signal of a phase; `end` is the frame at which another is shown,
+    """A longest run of ticks with one colour or signal of a phase; `end` is the frame at which another is shown,
     None where it still runs as the trace ends, and `after` what is shown then."""
 
     phase: int

@@ -20,7 +20,7 @@ LETTER = {LEFT: "L", RIGHT: "R", TURN: "U"}
 
 
 @dataclass
-class Told:
+class LinkPhase:
     """What could be told of a link: its movement's name, and its phase, None where it is to be asked for, with why; and
     under which phase it is permissive."""
 
@@ -65,26 +65,26 @@ class Compass:
         """Returns the phase that drives a way."""
         return STRAIGHT_PHASES[(way - self.main) % 4]
 
-    def told(self) -> list[Told]:
+    def told(self) -> list[LinkPhase]:
         """Returns what can be told of each link."""
         return [self.crossing(it) if it.turn == CROSSING else self.turn(it) for it in self.links]
 
-    def turn(self, link: Link) -> Told:
+    def turn(self, link: Link) -> LinkPhase:
         """Tells of a link of vehicles."""
         way = way_of(self.network.edges[link.approach].heading)
         own = self.ways[way]
         place = "" if len(own) == 1 else str(own.index(link.approach) + 1)
         name = f"{WAYS[way]}B{place}{LETTER.get(link.turn, 'T')}"
         if len(own) > 1:
-            return Told(link, name, None, f"{' and '.join(own)} both drive {WAYS[way]}")
+            return LinkPhase(link, name, None, f"{' and '.join(own)} both drive {WAYS[way]}")
         is_left = link.turn in (LEFT, TURN)
         has_opposite = bool(self.ways.get((way + 2) % 4))
         if is_left and has_opposite and self.turns[link.start] <= {LEFT, TURN}:
             permissive = self.straight((way + 2) % 4) if self.is_permissive else None
-            return Told(link, name, LEFT_PHASES[(way - self.main) % 4], permissive=permissive)
-        return Told(link, name, self.straight(way))
+            return LinkPhase(link, name, LEFT_PHASES[(way - self.main) % 4], permissive=permissive)
+        return LinkPhase(link, name, self.straight(way))
 
-    def crossing(self, link: Link) -> Told:
+    def crossing(self, link: Link) -> LinkPhase:
         """Tells of a crossing: it is walked along with the traffic that has it on its right."""
         crossed = self.network.crossings[link.end.rpartition("_")[0]]
         edges = [self.network.edges[it] for it in crossed if it in self.network.edges]
@@ -94,16 +94,16 @@ class Compass:
         elif edges:
             arm = way_of(edges[0].leaving)
         else:
-            return Told(link, f"ped {link.index}", None, "it crosses no edge that is known")
+            return LinkPhase(link, f"ped {link.index}", None, "it crosses no edge that is known")
         beside = (arm - 1) % 4
         way = beside if self.ways.get(beside) else (beside + 2) % 4
         if not self.ways.get(way):
             why = f"no traffic drives beside the crossing on the {WAYS[arm]} side"
-            return Told(link, f"ped {WAYS[arm]}", None, why)
-        return Told(link, f"ped {WAYS[arm]}", self.straight(way))
+            return LinkPhase(link, f"ped {WAYS[arm]}", None, why)
+        return LinkPhase(link, f"ped {WAYS[arm]}", self.straight(way))
 
 
-def by_nema(network: Network, signal: str) -> list[Told]:
+def by_nema(network: Network, signal: str) -> list[LinkPhase]:
     """Tells of each link by SUMO's own NEMA logic: its phase is the one whose state gives it way. A left turn that has
     way under one phase and gives way under another is permissive there."""
     stages = [it for it in network.programs[signal].stages if it.name.isdigit()]

@@ -5,7 +5,7 @@ from collections.abc import Iterable
 from dataclasses import dataclass, field
 
 from ..shared.fault import Fault
-from .compass import Compass, Told, by_nema
+from .compass import Compass, LinkPhase, by_nema
 from .network import CROSSING, Link, Network
 
 RINGS = range(1, 9)
@@ -48,7 +48,7 @@ def may_be_on(one: int, other: int) -> bool:
     return one == other or ((one - 1) // 4 != (other - 1) // 4 and (one - 1) % 4 // 2 == (other - 1) % 4 // 2)
 
 
-def rows_of(told: list[Told]) -> list[Row]:
+def rows_of(told: list[LinkPhase]) -> list[Row]:
     """Gathers links by movement."""
     rows: dict[str, Row] = {}
     for it in told:
@@ -86,7 +86,7 @@ class Maker:
             raise Fault(f"--phase: there is no movement {unused[1]} at signal {unused[0]}")
         return "\n".join(parts)
 
-    def told(self, signal: str) -> list[Told]:
+    def told(self, signal: str) -> list[LinkPhase]:
         """Returns what can be told of a signal's links, answers put in."""
         program = self.network.programs.get(signal)
         if program is not None and program.kind == "NEMA":

@@ -8,8 +8,8 @@ from matplotlib.lines import Line2D
 from matplotlib.patches import Patch
 
 from ..look import called, coordination, pictures
-from ..shared.course import Course
 from ..shared.fault import Fault
+from ..shared.trace_reader import TraceReader
 from .pictures_seen import View
 from .records import Kind, Study, Trip
 
@@ -44,11 +44,11 @@ def corners_of(study: Study, cabinets: list[int], travel: list[int], view: View)
     """Returns the coordinated greens of the cabinets, by the trace."""
     look = coordination.View(round(10 * view.start), round(10 * view.end), sum(travel), None, called.Called())
     with open(study.trace, "rb") as stream:
-        course = Course(stream)
-        wrong = next((it for it in cabinets if not 1 <= it <= course.cabinets), None)
+        reader = TraceReader(stream)
+        wrong = next((it for it in cabinets if not 1 <= it <= reader.cabinets), None)
         if wrong is not None:
             raise Fault(f"the trace has no cabinet {wrong}")
-        return coordination.collect(course, cabinets, look)
+        return coordination.collect(reader, cabinets, look)
 
 
 def draw(study: Study, cabinets: list[int], travel: list[int], view: View, path: str) -> None:

@@ -6,9 +6,9 @@ from matplotlib.lines import Line2D
 
 from ..look import pictures
 from ..shared.cabinet import changes, mode_of, opened
-from ..shared.course import Course, Ended, Input
 from ..shared.fault import Fault
 from ..shared.lines import Frame
+from ..shared.trace_reader import Ended, Input, TraceReader
 from .pictures_seen import View, label, room
 from .records import Study
 
@@ -65,9 +65,9 @@ class Monitor:
 def collect(study: Study, number: int) -> list[Split]:
     """Returns all services of a cabinet's phases, by the trace."""
     with open(study.trace, "rb") as stream:
-        course = Course(stream)
-        monitor = Monitor(course.scenario, number)
-        for it in course.happenings():
+        reader = TraceReader(stream)
+        monitor = Monitor(reader.scenario, number)
+        for it in reader.happenings():
             if getattr(it, "cabinet", None) != number:
                 continue
             match it:

@@ -18,8 +18,8 @@ from collections.abc import Iterator
 from typing import BinaryIO
 
 from . import crates, kit, record
-from .course import Course
 from .lanes import NotProved
+from .proof_progress import ProofProgress
 
 DONE = re.compile(r"rt: (\w+) proved\n?")
 KEPT = re.compile(r"rt: (\w+) is kept: ")
@@ -79,7 +79,7 @@ def lines_of(said: BinaryIO) -> Iterator[bytes]:
             return
 
 
-def followed(said: BinaryIO, log: BinaryIO, course: Course) -> str | None:
+def followed(said: BinaryIO, log: BinaryIO, proof_progress: ProofProgress) -> str | None:
     """Tells of the crates as the kit says that they are done, and returns the first whose proof failed, if one did."""
     failed, before = None, []
     for line in lines_of(said):
@@ -89,18 +89,18 @@ def followed(said: BinaryIO, log: BinaryIO, course: Course) -> str | None:
             before.append(kept[1])
             continue
         if before:
-            course.taken(before)
+            proof_progress.taken(before)
             before = []
         if done := DONE.fullmatch(told):
-            course.done(done[1])
+            proof_progress.done(done[1])
         elif lost := FAILED.match(told):
             failed = failed or lost[1]
     if before:
-        course.taken(before)
+        proof_progress.taken(before)
     return failed
 
 
-def prove_all(rt: str, top: pathlib.Path, log: BinaryIO, course: Course, before: dict[str, str]) -> None:
+def prove_all(rt: str, top: pathlib.Path, log: BinaryIO, proof_progress: ProofProgress, before: dict[str, str]) -> None:
     """Proves sources with these checksums, and builds the program; NotProved where a crate fails. However it ends, the
     copy is gone."""
     out = top / "crates" / crates.PROGRAM / "out"
@@ -111,7 +111,7 @@ def prove_all(rt: str, top: pathlib.Path, log: BinaryIO, course: Course, before:
             [rt, "ci"], cwd=copy, stdin=subprocess.DEVNULL, stdout=subprocess.PIPE, stderr=subprocess.STDOUT
         ) as tool:
             try:
-                failed = followed(tool.stdout, log, course)
+                failed = followed(tool.stdout, log, proof_progress)
             except BaseException:
                 tool.send_signal(signal.SIGTERM)
                 raise

@@ -20,7 +20,7 @@ from dataclasses import dataclass
 from typing import BinaryIO
 
 from . import crates, kit, shares
-from .course import Course
+from .proof_progress import ProofProgress
 
 RLIB, KEPT = pathlib.Path("out/rlib"), pathlib.Path("out/incremental")
 """What the check of a library leaves: what others stand on, and what speeds the next check."""
@@ -125,9 +125,15 @@ class Lanes:
     """Crates that are proved side by side."""
 
     def __init__(
-        self, top: pathlib.Path, rt: str, log: BinaryIO, course: Course, keep: bool, machine: Machine | None = None
+        self,
+        top: pathlib.Path,
+        rt: str,
+        log: BinaryIO,
+        proof_progress: ProofProgress,
+        keep: bool,
+        machine: Machine | None = None,
     ) -> None:
-        self.top, self.rt, self.log, self.course, self.keep = top, rt, log, course, keep
+        self.top, self.rt, self.log, self.proof_progress, self.keep = top, rt, log, proof_progress, keep
         self.machine = machine or Machine.here()
         known = crates.uses(top)
         self.below = {name: crates.parts_of(name, known)[:-1] for name in crates.parts(top)[:-1]}
@@ -167,7 +173,7 @@ class Lanes:
         """Takes the crates as done that an earlier call has proved from the same sources."""
         self.ended = {it for it in self.waiting if self.is_proved(it)}
         self.waiting = [it for it in self.waiting if it not in self.ended]
-        self.course.taken(sorted(self.ended))
+        self.proof_progress.taken(sorted(self.ended))
 
     def is_proved(self, name: str) -> bool:
         """Tells whether the library is there that a call has left for the same sources. The kit tests this again as
@@ -228,7 +234,7 @@ class Lanes:
                 if self.keep:
                     self.bring_back(it, KEPT)
                 self.ended.add(it.crate)
-                self.course.done(it.crate)
+                self.proof_progress.done(it.crate)
             shutil.rmtree(it.folder, ignore_errors=True)
         return failed
 
@@ -242,6 +248,6 @@ class Lanes:
                 os.rename(made, to)
 
 
-def prove_all(rt: str, top: pathlib.Path, log: BinaryIO, course: Course, keep: bool) -> None:
+def prove_all(rt: str, top: pathlib.Path, log: BinaryIO, proof_progress: ProofProgress, keep: bool) -> None:
     """Proves all libraries that the program stands on; NotProved where one fails."""
-    Lanes(top, rt, log, course, keep).run()
+    Lanes(top, rt, log, proof_progress, keep).run()

@@ -18,7 +18,7 @@ from streettools.shared.saying import say
 from streettools.shared.status import Status
 
 from . import at_once, crates, kit, lanes, record
-from .course import Course
+from .proof_progress import ProofProgress
 
 LEAST = 15 * 10**9
 """Bytes of the disk that the proofs of all crates take while they run, and some to spare."""
@@ -130,13 +130,13 @@ def prove(rt: str, top: pathlib.Path, keep: bool) -> None:
     log = record.program_of(top).parent / "build.log"
     before = crates.sums(top)
     try:
-        with open(log, "wb", buffering=0) as out, Course(crates.parts(top), top) as course:
+        with open(log, "wb", buffering=0) as out, ProofProgress(crates.parts(top), top) as proof_progress:
             if keep or not at_once.serves(rt):
-                lanes.prove_all(rt, top, out, course, keep)
+                lanes.prove_all(rt, top, out, proof_progress, keep)
                 build(rt, top, out)
-                course.done(crates.PROGRAM)
+                proof_progress.done(crates.PROGRAM)
             else:
-                at_once.prove_all(rt, top, out, course, before)
+                at_once.prove_all(rt, top, out, proof_progress, before)
         record.write(top, before)
     except lanes.NotProved as name:
         raise Failed(

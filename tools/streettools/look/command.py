@@ -12,16 +12,16 @@ MOST = 36_000
 """A picture over time has at most an hour, in ticks: more can't be told apart on a page."""
 
 
-def cabinet_of(course, number):
+def cabinet_of(reader, number):
     """Returns a cabinet's number, which the trace must have."""
-    if not 1 <= number <= course.cabinets:
+    if not 1 <= number <= reader.cabinets:
         raise Fault(f"the trace has no cabinet {number}")
     return number
 
 
-def span(words, course, usual):
+def span(words, reader, usual):
     """Returns the first and the last tick to look at, which the trace must have."""
-    start, whole = words.first, course.rounds * course.ticks
+    start, whole = words.first, reader.rounds * reader.ticks
     end = min(whole, start + usual if words.last is None else words.last)
     if start >= whole:
         raise Fault(f"the trace ends at tick {whole}")
@@ -32,7 +32,7 @@ def span(words, course, usual):
     return start, end
 
 
-def names_of(words, course):
+def names_of(words, reader):
     """Returns what things are called; a file that names more intersections than the trace has cabinets is another's."""
     if not words.names:
         return called.Called()
@@ -43,14 +43,14 @@ def names_of(words, course):
     except (NoNames, UnicodeDecodeError) as fault:
         raise Fault(f"{words.names}: {fault}") from None
     named = len(found.names.intersections)
-    if named > course.cabinets:
-        raise Fault(f"{words.names}: it names {named} intersections, and the trace has {course.cabinets} cabinets")
+    if named > reader.cabinets:
+        raise Fault(f"{words.names}: it names {named} intersections, and the trace has {reader.cabinets} cabinets")
     return found
 
 
-def street_of(words, course):
+def street_of(words, reader):
     """Returns the cabinets of the street that is asked for, which the trace must have, in its order."""
-    cabinets = [cabinet_of(course, it) for it in words.cabinets or range(1, course.cabinets + 1)]
+    cabinets = [cabinet_of(reader, it) for it in words.cabinets or range(1, reader.cabinets + 1)]
     if len(set(cabinets)) < len(cabinets):
         raise Fault("a cabinet is named twice")
     if words.travel and len(words.travel) != len(cabinets) - 1:
@@ -58,56 +58,56 @@ def street_of(words, course):
     return cabinets
 
 
-def rings(words, course, names):
+def rings(words, reader, names):
     """Draws a cabinet's rings."""
     from . import rings
 
-    number = cabinet_of(course, words.cabinet)
-    seen = rings.collect(course, number, *span(words, course, 1800), names.partners(number))
-    course.finish()
+    number = cabinet_of(reader, words.cabinet)
+    seen = rings.collect(reader, number, *span(words, reader, 1800), names.partners(number))
+    reader.finish()
     rings.draw(seen, words.out, names, words.start)
 
 
-def coordination(words, course, names):
+def coordination(words, reader, names):
     """Draws a street."""
     from . import coordination, planned
 
-    cabinets = street_of(words, course)
+    cabinets = street_of(words, reader)
     if words.planned and not words.travel:
         raise Fault("--planned goes with --travel")
     try:
         plan = planned.read(words.planned) if words.planned else None
-        look = coordination.View(*span(words, course, 3000), sum(words.travel or ()), words.phases, names)
-        corners = coordination.collect(course, cabinets, look)
-        course.finish()
+        look = coordination.View(*span(words, reader, 3000), sum(words.travel or ()), words.phases, names)
+        corners = coordination.collect(reader, cabinets, look)
+        reader.finish()
         coordination.draw(corners, words.travel, words.out, plan, words.start)
     except planned.NoBands as fault:
         raise Fault(str(fault)) from None
 
 
-def offset(words, course, names):
+def offset(words, reader, names):
     """Draws how an offset is brought about."""
     from . import offset
 
-    seen = offset.collect(course, cabinet_of(course, words.cabinet), *span(words, course, course.rounds * course.ticks))
-    course.finish()
+    seen = offset.collect(reader, cabinet_of(reader, words.cabinet), *span(words, reader, reader.rounds * reader.ticks))
+    reader.finish()
     offset.draw(seen, words.out, names, words.start)
 
 
-def page(words, course, names):
+def page(words, reader, names):
     """Writes a page."""
     from .page import writing
 
-    writing.write(course, names, writing.Asked(street_of(words, course), words.travel, words.start), words.out)
+    writing.write(reader, names, writing.Asked(street_of(words, reader), words.travel, words.start), words.out)
 
 
-def report(words, course, names):
+def report(words, reader, names):
     """Writes the report."""
     from ..shared.saying import printed
     from . import report
 
-    value = report.collect(course, names)
-    course.finish()
+    value = report.collect(reader, names)
+    reader.finish()
     if words.out is None:
         printed(report.text(value, words.json, names))
         return
@@ -117,17 +117,17 @@ def report(words, course, names):
         out.write(report.text(value, words.json, names))
 
 
-def events(words, course, names):
+def events(words, reader, names):
     """Writes the event log."""
     from ..shared import files
     from ..shared.saying import say
     from . import events
 
-    course.answered()
+    reader.answered()
     with files.output(words.out) as out:
-        events.write(course, words.start, out, names)
-        course.finish()
-    for number in range(1, course.cabinets + 1):
+        events.write(reader, words.start, out, names)
+        reader.finish()
+    for number in range(1, reader.cabinets + 1):
         if names.left_out(number):
             say("look", f"{names.cabinet(number)}: {names.left_out(number)}")
 

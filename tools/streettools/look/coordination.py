@@ -12,9 +12,9 @@ from matplotlib.patches import Patch, Polygon
 
 from streettools.shared.bands import common, delays_of
 from streettools.shared.cabinet import mode_of, opened
-from streettools.shared.course import Ended, RoundEnd
 from streettools.shared.lines import Frame
 from streettools.shared.plans import coordinated
+from streettools.shared.trace_reader import Ended, RoundEnd
 
 from . import pictures, planned
 from .called import Called
@@ -106,11 +106,11 @@ class Corner:
         return f"{street}\nphase{'s' * any(one != other for one, other in pairs)} " + " then ".join(called)
 
 
-def collect(course, numbers, view):
+def collect(reader, numbers, view):
     """Reads the trace and returns each cabinet's coordinated greens, as far as a margin around what is looked at."""
-    corners = {number: Corner(course.scenario, number, view) for number in numbers}
+    corners = {number: Corner(reader.scenario, number, view) for number in numbers}
     last = 0
-    for happening in course.happenings():
+    for happening in reader.happenings():
         if isinstance(happening, RoundEnd):
             last = happening.tick
         elif happening.cabinet in corners:

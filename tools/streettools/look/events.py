@@ -8,8 +8,8 @@ from datetime import datetime, timedelta
 from streettools.shared import answers
 from streettools.shared.answers import Cancelled, Requested
 from streettools.shared.cabinet import changes, mode_of, opened
-from streettools.shared.course import Answered, Ended, Input, RoundEnd
 from streettools.shared.lines import Frame
+from streettools.shared.trace_reader import Answered, Ended, Input, RoundEnd
 
 HEADER = "TimeStamp,DeviceId,EventId,Parameter\n"
 
@@ -189,14 +189,14 @@ class Times:
         return self.text
 
 
-def write(course, start: datetime, out, names):
+def write(reader, start: datetime, out, names):
     """Reads the trace and writes its event log, without partner phases that a names file has; a round's events are put
     in the order of time before they are written."""
     times = Times(start)
-    logs = [Log(course.scenario, number, names.partners(number)) for number in range(1, course.cabinets + 1)]
+    logs = [Log(reader.scenario, number, names.partners(number)) for number in range(1, reader.cabinets + 1)]
     out.write(HEADER)
     touched = {}
-    for happening in course.happenings():
+    for happening in reader.happenings():
         if not isinstance(happening, RoundEnd):
             log = logs[happening.cabinet - 1]
             log.take(happening)

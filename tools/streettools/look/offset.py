@@ -8,8 +8,8 @@ from matplotlib.lines import Line2D
 from streettools.shared import answers
 from streettools.shared.answers import ClockNamed
 from streettools.shared.cabinet import DAY, mode_of, opened
-from streettools.shared.course import Answered, Ended, RoundEnd
 from streettools.shared.lines import Frame
+from streettools.shared.trace_reader import Answered, Ended, RoundEnd
 
 from . import pictures, strips
 
@@ -97,10 +97,10 @@ class Seen:
         return self
 
 
-def collect(course, number, start, end):
+def collect(reader, number, start, end):
     """Reads the trace and returns a cabinet's cycles and disturbances."""
-    seen = Seen(course.scenario, number, start, end)
-    for happening in course.happenings():
+    seen = Seen(reader.scenario, number, start, end)
+    for happening in reader.happenings():
         if isinstance(happening, RoundEnd):
             seen.last = happening.tick
         elif happening.cabinet == number:

@@ -4,9 +4,9 @@ import io
 import os
 import sys
 
-from ..shared.course import Course
 from ..shared.fault import Fault
 from ..shared.lines import NotATrace
+from ..shared.trace_reader import TraceReader
 from .checking import Check
 
 AT_ONCE = 1 << 20
@@ -38,8 +38,8 @@ def kept(source):
     return file
 
 
-class Checked(Course):
-    """A trace that is read while it is checked; without a check it is taken as far as its lines go."""
+class Checked(TraceReader):
+    """Reads a trace while it is checked; without a check the trace is taken as far as its lines go."""
 
     def __init__(self, stream, advance, check):
         self.check = check
@@ -58,8 +58,8 @@ class Checked(Course):
 
 
 def read(name, is_checked, show):
-    """Opens a trace, and lets its course be shown. A terminal shows a bar, after a second. Where the text can't be
-    shown, that it is no trace is told first."""
+    """Opens a trace, and lets it be shown. A terminal shows a bar, after a second. Where the text can't be shown, that
+    it is no trace is told first."""
     stream, called = text(name, is_checked)
     check = shown = None
     try:

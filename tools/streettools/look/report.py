@@ -7,9 +7,9 @@ their names, and partner phases are left out.
 from streettools.shared import answers, plainjson
 from streettools.shared.answers import Cancelled, ClockNamed, Requested
 from streettools.shared.cabinet import changes, mode_of, opened
-from streettools.shared.course import Answered, Ended, Input, Noted
 from streettools.shared.lines import Frame
 from streettools.shared.tables import ALL
+from streettools.shared.trace_reader import Answered, Ended, Input, Noted
 
 from .endings import ENDINGS
 
@@ -219,14 +219,14 @@ def seconds(ticks):
     return None if ticks is None else ticks / 10
 
 
-def collect(course, names):
+def collect(reader, names):
     """Reads the trace and returns its report as one value."""
-    tallies = [Tally(course.scenario, number, names) for number in range(1, course.cabinets + 1)]
-    for happening in course.happenings(ends=False):
+    tallies = [Tally(reader.scenario, number, names) for number in range(1, reader.cabinets + 1)]
+    for happening in reader.happenings(ends=False):
         tallies[happening.cabinet - 1].take(happening)
-    ticks = course.rounds * course.ticks
+    ticks = reader.rounds * reader.ticks
     head = {"title": names.title()} if names.is_given else {}
-    head |= {"rounds": course.rounds, "seconds": seconds(ticks)}
+    head |= {"rounds": reader.rounds, "seconds": seconds(ticks)}
     return head | {"cabinets": [it.value(ticks) for it in tallies]}
 
 

@@ -1,4 +1,4 @@
-"""The ring diagram of a cabinet: what both rings showed over a stretch of time, with barriers, modes and marks."""
+"""The ring diagram of a cabinet: what both rings showed over some time, with barriers, modes and marks."""
 
 from typing import NamedTuple
 
@@ -6,8 +6,8 @@ from matplotlib.lines import Line2D
 from matplotlib.patches import Patch
 
 from streettools.shared.cabinet import changes, opened
-from streettools.shared.course import Ended, Input, RoundEnd
 from streettools.shared.lines import Frame
+from streettools.shared.trace_reader import Ended, Input, RoundEnd
 
 from . import pictures, strips
 
@@ -110,10 +110,10 @@ class Seen:
         return self
 
 
-def collect(course, number, start, end, left_out):
+def collect(reader, number, start, end, left_out):
     """Reads the trace and returns what is seen of a cabinet, but for the phases that are left out."""
-    seen = Seen(course.scenario, number, start, end, left_out)
-    for happening in course.happenings():
+    seen = Seen(reader.scenario, number, start, end, left_out)
+    for happening in reader.happenings():
         if isinstance(happening, RoundEnd) or happening.cabinet == number:
             seen.take(happening)
     return seen.close()

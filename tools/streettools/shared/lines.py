@@ -1,6 +1,6 @@
 """Reads the lines of a trace, one after another, by the grammar in docs/TRACE.md.
 
-A record for each line; text that is no line stops the reading. What lines say together is told by `course`.
+A record for each line; text that is no line stops the reading. What lines say together is told by `trace_reader`.
 """
 
 import io

@@ -64,7 +64,7 @@ class Session:
         )
         self.reader = asyncio.create_task(self.read())
         try:
-            await self.post(None, json.dumps(self.scenario, separators=(",", ":")).encode())
+            await self.send(None, json.dumps(self.scenario, separators=(",", ":")).encode())
         except Over:
             raise await self.death() from None
 
@@ -73,7 +73,7 @@ class Session:
         said = await self.process.stderr.read()
         return Died(said, await self.process.wait())
 
-    def post(self, request: bytes | None, line: bytes) -> asyncio.Future[Answer]:
+    def send(self, request: bytes | None, line: bytes) -> asyncio.Future[Answer]:
         """Gives a line to be written as soon as there is room, and returns its answer to come. Lines are written in
         the order in which they are given."""
         if self.is_over or self.is_closing:
@@ -92,29 +92,29 @@ class Session:
 
     async def ask(self, request: bytes) -> Answer:
         """Returns the answer to a request that takes no ticks."""
-        return await self.post(request, request)
+        return await self.send(request, request)
 
-    def post_ticks(self, count: int) -> asyncio.Future[Answer]:
+    def send_ticks(self, count: int) -> asyncio.Future[Answer]:
         """Gives a request of ticks, at most those left in the round, and returns its answer to come."""
         now = min(count, self.left)
         request = b"tick %d" % now
-        answer = self.post(request, request)
+        answer = self.send(request, request)
         self.left, self.taken = self.left - now or self.ticks, self.taken + now
         return answer
 
-    def post_all_ticks(self, count: int) -> None:
+    def send_all_ticks(self, count: int) -> None:
         """Gives requests of ticks without waiting for their answers."""
         before = self.taken
         while self.taken - before < count and not self.is_over and not self.is_closing:
             left = count - (self.taken - before)
-            self.post_ticks(left).add_done_callback(lambda answer: answer.cancelled() or answer.exception())
+            self.send_ticks(left).add_done_callback(lambda answer: answer.cancelled() or answer.exception())
 
     async def take(self, count: int) -> None:
         """Takes ticks, over the ends of rounds where need be; a session that is over takes no more."""
         while count:
             now = min(count, self.left)
             try:
-                await self.post_ticks(now)
+                await self.send_ticks(now)
             except Over:
                 return
             count -= now

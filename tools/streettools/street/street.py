@@ -92,7 +92,7 @@ class Street:
         """Returns a cabinet's reply to a datagram, which comes behind the ticks that are due. Where time goes on by
         messages it does so behind the reply, and the next message waits."""
         if not self.after_message:
-            self.session.post_all_ticks(self.pace.due())
+            self.session.send_all_ticks(self.pace.due())
             return await self.message(cabinet, octets)
         async with self.order:
             reply = await self.message(cabinet, octets)

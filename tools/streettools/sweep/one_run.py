@@ -10,10 +10,10 @@ from pathlib import Path
 from typing import Any, BinaryIO
 
 from ..cosim.movements import Count
-from ..shared.course import Course
 from ..shared.fault import Fault
 from ..shared.lines import NotATrace
 from ..shared.status import Status
+from ..shared.trace_reader import TraceReader
 from . import bands, queued, trace_rows
 from .building import Builder, Built
 from .choice import Column
@@ -47,10 +47,10 @@ class Run:
     scenario: dict
     trace: bytes
 
-    def course(self) -> Course:
-        """Returns the trace's reader: `course().happenings()` yields what happened
-        (tools/streettools/shared/course.py)."""
-        return Course(io.BytesIO(self.trace))
+    def reader(self) -> TraceReader:
+        """Returns the trace's reader: `reader().happenings()` yields what happened
+        (tools/streettools/shared/trace_reader.py)."""
+        return TraceReader(io.BytesIO(self.trace))
 
 
 class Failed(Exception):

@@ -1,6 +1,6 @@
 """Reads the trace of a run fast: frames, ends of downloads and notes, block after block, so that memory stays flat.
 
-It reads what the program itself has written just now. Other traces are read by `shared.course`.
+It reads what the program itself has written just now. Other traces are read by `shared.trace_reader`.
 """
 
 import re

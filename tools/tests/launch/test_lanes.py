@@ -126,8 +126,8 @@ def test_a_source_that_is_another_in_the_copy_is_named(tried, tmp_path):
         at_once.copied(tried.top, tmp_path / "to", before)
 
 
-class Told:
-    """What a course is told."""
+class ProgressStub:
+    """Keeps what is told of the progress."""
 
     def __init__(self):
         self.before, self.now = [], []
@@ -148,8 +148,8 @@ def test_what_the_kit_says_is_heeded_line_by_line():
     reads, writes = os.pipe()
     os.write(writes, said.encode())
     os.close(writes)
-    log, course = io.BytesIO(), Told()
+    log, proof_progress = io.BytesIO(), ProgressStub()
     with open(reads, "rb", buffering=0) as given:
-        assert at_once.followed(given, log, course) == "right"
+        assert at_once.followed(given, log, proof_progress) == "right"
     assert log.getvalue() == said.encode()
-    assert (course.before, course.now) == (["low"], ["left"])
+    assert (proof_progress.before, proof_progress.now) == (["low"], ["left"])

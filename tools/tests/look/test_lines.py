@@ -4,8 +4,8 @@ import io
 
 import pytest
 from streettools.shared import lines
-from streettools.shared.course import Answered, Course, Ended, Input, Noted
 from streettools.shared.lines import Frame, NotATrace
+from streettools.shared.trace_reader import Answered, Ended, Input, Noted, TraceReader
 
 from .conftest import SMALL, STREET, VECTORS, run
 
@@ -38,11 +38,11 @@ def test_another_text_is_refused(line):
 def fault(text):
     """Returns the line at which a text stops being a trace, or None."""
     try:
-        course = Course(io.BytesIO(text.encode()))
-        list(course.happenings())
+        reader = TraceReader(io.BytesIO(text.encode()))
+        list(reader.happenings())
     except NotATrace as found:
         return found.line
-    return None if course.whole else course.line
+    return None if reader.whole else reader.line
 
 
 @pytest.mark.parametrize("path", [*VECTORS, STREET])
@@ -66,14 +66,14 @@ def test_each_fault_is_found_at_its_line():
 
 
 def test_what_comes_between_ticks_has_the_tick_before_it():
-    course = Course(io.BytesIO(SMALL.encode()))
-    inputs = [it for it in course.happenings() if isinstance(it, Input)]
+    reader = TraceReader(io.BytesIO(SMALL.encode()))
+    inputs = [it for it in reader.happenings() if isinstance(it, Input)]
     assert inputs == [Input(1, 60, "veh", 4, True), Input(1, 240, "veh", 4, False)]
 
 
 def test_replies_downloads_and_notes_have_their_ticks():
     with VECTORS[2].open("rb") as stream:
-        found = list(Course(stream).happenings())
+        found = list(TraceReader(stream).happenings())
     text = VECTORS[2].read_text().splitlines()
     assert sum(isinstance(it, Answered) for it in found) == sum(line.startswith("A ") for line in text)
     assert [it.tick for it in found if isinstance(it, Ended)][0] % 37 == 0
@@ -104,7 +104,7 @@ def word(happening):
 def test_any_order_of_a_journal_has_its_ticks():
     with VECTORS[3].open("rb") as stream:
         found = [
-            it for it in Course(stream).happenings() if isinstance(it, (Frame, Input, Answered, Ended)) and it.tick
+            it for it in TraceReader(stream).happenings() if isinstance(it, (Frame, Input, Answered, Ended)) and it.tick
         ]
     assert [word(it) for it in found] == MIXED.split()
 

@@ -192,7 +192,7 @@ def test_a_missing_library_is_named_with_what_installs_it(tmp_path, monkeypatch,
     )
 
 
-SIGHTS = {
+VISIONS = {
     "protanopia": ((0.152286, 1.052583, -0.204868), (0.114503, 0.786281, 0.099216), (-0.003882, -0.048116, 1.051998)),
     "deuteranopia": ((0.367322, 0.860646, -0.227968), (0.280085, 0.672501, 0.047413), (-0.011820, 0.042940, 0.968881)),
     "tritanopia": ((1.255528, -0.076749, -0.178779), (-0.078411, 0.930809, 0.147602), (0.004733, 0.691367, 0.303900)),
@@ -201,11 +201,11 @@ SIGHTS = {
 2009)."""
 
 
-def lab(colour, sight):
+def lab(colour, vision):
     """Returns a colour as it is seen, in CIE L*a*b* under D65."""
     parts = [int(colour[place : place + 2], 16) / 255 for place in (1, 3, 5)]
     light = [it / 12.92 if it <= 0.04045 else ((it + 0.055) / 1.055) ** 2.4 for it in parts]
-    red, green, blue = (min(1, max(0, sum(one * other for one, other in zip(row, light)))) for row in sight)
+    red, green, blue = (min(1, max(0, sum(one * other for one, other in zip(row, light)))) for row in vision)
     white = (0.95047, 1, 1.08883)
     rows = ((0.4124564, 0.3575761, 0.1804375), (0.2126729, 0.7151522, 0.0721750), (0.0193339, 0.1191920, 0.9503041))
     xyz = [(one * red + two * green + three * blue) / it for (one, two, three), it in zip(rows, white)]
@@ -213,11 +213,11 @@ def lab(colour, sight):
     return 116 * y - 16, 500 * (x - y), 200 * (y - z)
 
 
-@pytest.mark.parametrize("sight", SIGHTS)
+@pytest.mark.parametrize("vision", VISIONS)
 @pytest.mark.parametrize("group", ["SIGNALS", "BANDS", "MARKS"])
-def test_colours_stay_apart_for_colour_blind_readers(sight, group):
+def test_colours_stay_apart_for_colour_blind_readers(vision, group):
     """A difference of 10 in CIE L*a*b* is plain to see where two colours lie side by side."""
-    seen = {name: lab(colour, SIGHTS[sight]) for name, colour in getattr(colours, group).items()}
+    seen = {name: lab(colour, VISIONS[vision]) for name, colour in getattr(colours, group).items()}
     for one, other in combinations(seen, 2):
         difference = sum((a - b) ** 2 for a, b in zip(seen[one], seen[other])) ** 0.5
         assert difference >= 10, f"{one} and {other}"

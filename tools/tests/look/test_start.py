@@ -7,8 +7,8 @@ import subprocess
 import pytest
 from streettools.look import called, report
 from streettools.shared import lines, plainjson
-from streettools.shared.course import Course, RoundEnd
 from streettools.shared.record import kept, named
+from streettools.shared.trace_reader import RoundEnd, TraceReader
 
 from .conftest import NO_PROGRAM, SMALL, STREET, TOP, VECTORS
 
@@ -59,13 +59,13 @@ def test_values_are_written_as_python_writes_them(value):
 @pytest.mark.parametrize("path", TRACES)
 def test_a_report_is_written_as_python_writes_it(path):
     with path.open("rb") as stream:
-        value = report.collect(Course(stream), called.Called())
+        value = report.collect(TraceReader(stream), called.Called())
     assert plainjson.written(value) == json.dumps(value, indent=2)
 
 
 def happenings(octets, **more):
     """Returns what happens in a trace."""
-    return [(type(it).__name__, *it) for it in Course(io.BytesIO(octets)).happenings(**more)]
+    return [(type(it).__name__, *it) for it in TraceReader(io.BytesIO(octets)).happenings(**more)]
 
 
 @pytest.mark.parametrize("path", TRACES)

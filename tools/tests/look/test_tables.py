@@ -2,9 +2,9 @@
 
 from streettools.look.coordination import bands, common
 from streettools.shared.cabinet import Clock
-from streettools.shared.course import Course
 from streettools.shared.plans import plan
 from streettools.shared.tables import Tables
+from streettools.shared.trace_reader import TraceReader
 
 from .conftest import VECTORS
 
@@ -38,9 +38,9 @@ def test_bands_are_what_all_greens_have_in_common():
 
 def test_a_scenario_keeps_no_inputs_in_memory_twice():
     with VECTORS[1].open("rb") as stream:
-        course = Course(stream)
-    kept = [len(it) for by_cabinet in course.inputs.values() for it in by_cabinet.values()]
-    assert "inputs" not in course.scenario and sum(kept) == 301
+        reader = TraceReader(stream)
+    kept = [len(it) for by_cabinet in reader.inputs.values() for it in by_cabinet.values()]
+    assert "inputs" not in reader.scenario and sum(kept) == 301
 
 
 def test_a_disabled_phase_in_two_lists_does_not_join_their_sides():

@@ -5,7 +5,7 @@ import json
 
 import pytest
 from streettools.look import called, report
-from streettools.shared.course import Course
+from streettools.shared.trace_reader import TraceReader
 from streettools.sweep import measures, trace_rows
 from streettools.sweep.bands import StreetTally
 from streettools.sweep.choice import Column, column_of
@@ -96,7 +96,7 @@ def test_bands_of_the_trace_by_hand():
 @pytest.mark.parametrize("trace", [it for it in VECTORS if it.stem != "mixed"], ids=lambda it: it.stem)
 def test_counts_are_those_of_the_report(trace):
     text = trace.read_text()
-    counts, told = counted(text), report.collect(Course(io.BytesIO(trace.read_bytes())), called.Called())
+    counts, told = counted(text), report.collect(TraceReader(io.BytesIO(trace.read_bytes())), called.Called())
     for cabinet in told["cabinets"]:
         number = cabinet["cabinet"]
         for it in cabinet["phases"]:
@@ -162,7 +162,7 @@ def test_worked_rows_of_the_scenarios(name, program):
 
 def test_a_measure_of_ones_own_gets_the_run(program):
     text = (
-        "def greens(run):\n    return sum('G' in str(it) for it in run.course().happenings())\ndef broken(run):\n    "
+        "def greens(run):\n    return sum('G' in str(it) for it in run.reader().happenings())\ndef broken(run):\n    "
         "return 1 / 0\n"
     )
     files = {"a": (TOP / "scenarios/one-cabinet.json").read_bytes(), "mine.py": text.encode()}

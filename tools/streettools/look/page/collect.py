@@ -9,10 +9,10 @@ from typing import NamedTuple
 from streettools.shared import answers
 from streettools.shared.answers import Cancelled, ClockNamed, Requested
 from streettools.shared.cabinet import changes, mode_of, opened
-from streettools.shared.course import Answered, Course, Ended, Input, Noted, RoundEnd
 from streettools.shared.lines import Frame
 from streettools.shared.plans import coordinated
 from streettools.shared.tables import ALL
+from streettools.shared.trace_reader import Answered, Ended, Input, Noted, RoundEnd, TraceReader
 
 from .tables import FIELDS, Table, Words
 
@@ -148,11 +148,11 @@ class CabinetNumbers:
                 self.side = side
 
 
-def collect(course: Course) -> tuple[list[CabinetNumbers], Shared]:
+def collect(reader: TraceReader) -> tuple[list[CabinetNumbers], Shared]:
     """Reads the trace and returns what is kept of each cabinet, and the texts that they share."""
     shared = Shared(Words(), Words(), Words(), Words())
-    cabinets = [CabinetNumbers(course.scenario, number, shared) for number in range(1, course.cabinets + 1)]
-    for happening in course.happenings():
+    cabinets = [CabinetNumbers(reader.scenario, number, shared) for number in range(1, reader.cabinets + 1)]
+    for happening in reader.happenings():
         if not isinstance(happening, RoundEnd):
             cabinets[happening.cabinet - 1].take(happening)
     return cabinets, shared

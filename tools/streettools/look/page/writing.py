@@ -78,12 +78,12 @@ def cabinet_head(numbers: CabinetNumbers, names: Called) -> dict:
     }
 
 
-def head(course: Checked, cabinets: list[CabinetNumbers], shared: Shared, names: Called, asked: Asked) -> dict:
+def head(reader: Checked, cabinets: list[CabinetNumbers], shared: Shared, names: Called, asked: Asked) -> dict:
     """Returns all of a page that isn't a number of a table."""
     return {
-        "title": names.title() or f"A run of {course.cabinets} cabinet{'s' * (course.cabinets > 1)}",
-        "rounds": course.rounds,
-        "ticks": course.ticks,
+        "title": names.title() or f"A run of {reader.cabinets} cabinet{'s' * (reader.cabinets > 1)}",
+        "rounds": reader.rounds,
+        "ticks": reader.ticks,
         "start": asked.start,
         "street": asked.street,
         "travel": asked.travel,
@@ -114,11 +114,11 @@ def page(top: dict, data: str) -> Iterator[str]:
         yield filled[text] if place % 2 else text
 
 
-def write(course: Checked, names: Called, asked: Asked, path: str) -> None:
+def write(reader: Checked, names: Called, asked: Asked, path: str) -> None:
     """Reads the trace and writes its page."""
-    cabinets, shared = collect(course)
-    course.finish()
-    top = head(course, cabinets, shared, names, asked)
+    cabinets, shared = collect(reader)
+    reader.finish()
+    top = head(reader, cabinets, shared, names, asked)
     top["counts"], data = packed([it.tables for it in cabinets])
     with files.output(path) as out:
         out.writelines(page(top, data))

@@ -59,7 +59,7 @@ const Data = (() => {
     return found;
   }
 
-  /* The stretches of one mode: first ticks, one more than there are modes, and the modes by their numbers. */
+  /* The runs of one mode: first ticks, one more than there are modes, and the modes by their numbers. */
   function modes(frames) {
     const tick = [], mode = [];
     for (let i = 0; i < frames.tick.length; i += 1) {

@@ -12,7 +12,7 @@ from . import shares
 FIRST = "the program is proved and built: {} crates, some half an hour on four processors"
 
 
-class Course:
+class ProofProgress:
     """Tells of each crate as it is done, of the minutes that are gone, and of those that are left by the crates'
     known shares."""
 
@@ -23,7 +23,7 @@ class Course:
         self.begun = time.monotonic()
         self.over = threading.Event()
 
-    def __enter__(self) -> "Course":
+    def __enter__(self) -> "ProofProgress":
         say("arterial", FIRST.format(len(self.shares)))
         self.bar = progress.bar(100, "%", bar_format="{desc:32} {bar:40} {n:3.0f} % {postfix}")
         if self.bar is not None:

@@ -96,8 +96,8 @@ class CabinetRound:
         return way, tick
 
 
-class Course:
-    """A trace, read line by line: `scenario` is its value without the inputs, `happenings` what comes after it."""
+class TraceReader:
+    """Reads a trace line by line: `scenario` is its value without the inputs, `happenings` what comes after it."""
 
     def __init__(self, stream, advance=None):
         self.blocks = lines.blocks(stream, advance)
