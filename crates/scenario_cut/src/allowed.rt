@@ -6,6 +6,7 @@ ghost use Rattle.scenario_cut.specs.Cutting.{Event, entry_names, input_names, li
 ghost use Rattle.scenario_cut.specs.Others.{lesser};
 
 use crate::form::Form;
+use scenario_read::is_among;
 use std::alloc::Global;
 use std::cmp::Ordering;
 
@@ -13,56 +14,60 @@ use std::cmp::Ordering;
 fn is_of_scenario(name: &str) -> bool
     ensures { result ≡ is_among scenario_names name.now }
 {
-    "version" == name
-        || "rounds" == name
-        || "ticks" == name
-        || "community" == name
-        || "cabinets" == name
-        || "master" == name
-        || "inputs" == name
-        || "loads" == name
-        || "priority" == name
-        || "frames" == name
-        || "faults" == name
+    is_among(
+        &[
+            "version",
+            "rounds",
+            "ticks",
+            "community",
+            "cabinets",
+            "master",
+            "inputs",
+            "loads",
+            "priority",
+            "frames",
+            "faults",
+        ],
+        name,
+    )
 }
 
 /// Whether an input or a load may have this name.
 fn is_of_input(name: &str) -> bool
     ensures { result ≡ is_among input_names name.now }
 {
-    "round" == name
-        || "cabinet" == name
-        || "veh" == name
-        || "on" == name
-        || "ped" == name
-        || "preempt" == name
-        || "cells" == name
+    is_among(
+        &["round", "cabinet", "veh", "on", "ped", "preempt", "cells"],
+        name,
+    )
 }
 
 /// Whether a request or its cancel may have this name, beside its round and its cabinet.
 fn is_of_request(name: &str) -> bool
     ensures { result ≡ is_among request_names name.now }
 {
-    "cancel" == name
-        || "number" == name
-        || "class" == name
-        || "level" == name
-        || "phase" == name
-        || "arrival" == name
-        || "departure" == name
+    is_among(
+        &[
+            "cancel",
+            "number",
+            "class",
+            "level",
+            "phase",
+            "arrival",
+            "departure",
+        ],
+        name,
+    )
 }
 
 /// Whether a frame or a fault of the link may have this name, beside its round and its cabinet.
 fn is_of_link(name: &str) -> bool
     ensures { result ≡ is_among link_names name.now }
 {
-    "stream" == name
-        || "hex" == name
-        || "way" == name
-        || "index" == name
-        || "kind" == name
-        || "by" == name
-        || "octet" == name
+    is_among(
+        &["stream", "hex", "way", "index", "kind", "by", "octet"],
+        name,
+    )
 }
 
 /// Whether something that happens may have this name.
@@ -76,17 +81,22 @@ fn is_of_event(name: &str) -> bool
 fn is_of_entry(name: &str) -> bool
     ensures { result ≡ is_among entry_names name.now }
 {
-    "second" == name
-        || "section" == name
-        || "pattern" == name
-        || "cabinet" == name
-        || "detector" == name
-        || "phase" == name
-        || "delay" == name
-        || "extend" == name
-        || "no_activity" == name
-        || "max_presence" == name
-        || "erratic" == name
+    is_among(
+        &[
+            "second",
+            "section",
+            "pattern",
+            "cabinet",
+            "detector",
+            "phase",
+            "delay",
+            "extend",
+            "no_activity",
+            "max_presence",
+            "erratic",
+        ],
+        name,
+    )
 }
 
 /// Whether an object at this place may have this name.
@@ -97,44 +107,41 @@ pub(crate) fn allows(form: Form, name: &str) -> bool
         Form::Whole | Form::Setup => is_of_scenario(name),
         Form::Event => is_of_event(name),
         Form::Entry => is_of_entry(name),
-        Form::Street => {
-            "scenario" == name || "section" == name || "pattern" == name || "travel" == name
-        }
-        Form::Field => {
-            "scenario" == name || "bank" == name || "pulses" == name || "respond" == name
-        }
+        Form::Street => { is_among(&["scenario", "section", "pattern", "travel"], name) }
+        Form::Field => { is_among(&["scenario", "bank", "pulses", "respond"], name) }
         Form::Outer => {
-            "scenario" == name
-                || "section" == name
-                || "pattern" == name
-                || "travel" == name
-                || "bank" == name
-                || "pulses" == name
-                || "respond" == name
+            is_among(
+                &[
+                    "scenario", "section", "pattern", "travel", "bank", "pulses", "respond",
+                ],
+                name,
+            )
         }
         Form::Cabinet => {
-            "base" == name
-                || "cells" == name
-                || "pattern" == name
-                || "clock" == name
-                || "section" == name
-                || "gain" == name
-                || "lose" == name
+            is_among(
+                &[
+                    "base", "cells", "pattern", "clock", "section", "gain", "lose",
+                ],
+                name,
+            )
         }
-        Form::Pulse => {
-            "round" == name || "cabinet" == name || "detector" == name || "on" == name
-        }
+        Form::Pulse => { is_among(&["round", "cabinet", "detector", "on"], name) }
         Form::Master => {
-            "clock" == name
-                || "poll_every" == name
-                || "clock_every" == name
-                || "pattern_every" == name
-                || "retries" == name
-                || "schedule" == name
+            is_among(
+                &[
+                    "clock",
+                    "poll_every",
+                    "clock_every",
+                    "pattern_every",
+                    "retries",
+                    "schedule",
+                ],
+                name,
+            )
         }
-        Form::Respond => "period" == name || "sections" == name,
-        Form::Section => "section" == name || "base" == name || "steps" == name,
-        Form::Step => "up" == name || "down" == name || "pattern" == name,
+        Form::Respond => is_among(&["period", "sections"], name),
+        Form::Section => is_among(&["section", "base", "steps"], name),
+        Form::Step => is_among(&["up", "down", "pattern"], name),
         _ => false,
     }
 }

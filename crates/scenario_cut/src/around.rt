@@ -75,6 +75,27 @@ fn judge_inner(
     }
 }
 
+/// Judges the scenario that stands among the members up to the brace that closes an object, each so deep at most.
+fn judge_rest(
+    alloc: Global,
+    reader: &mut Reader<'_>,
+    depth: usize,
+    search: Search,
+    known: &mut Known,
+) -> Option<()>
+    ensures { IfSome result (λ _. (ms : Members) × (converted (λ js. of_members js no_members) (members (value depth) (length reader.old) reader.old) ≡ Some (ms, reader.new))
+        × (Knows search known.old (scenario_in Object (object no_members)) → Knows search known.new (scenario_in Object (object ms)))) }
+{
+    'members: loop {
+        let name = match reader.next_key() {
+            Ok(Some(name)) => name,
+            Ok(None) => return Some(()),
+            Err(_) => return None,
+        };
+        judge_inner(alloc, reader, depth, name, search, known)?;
+    }
+}
+
 /// What is known of the lists of the scenario that stands among the members up to the brace that closes an object, each nested at most
 /// so deep.
 fn judge_outer(
@@ -87,13 +108,9 @@ fn judge_outer(
         × Knows search known (scenario_in Object (object ms))) }
 {
     let mut known = all_absent(alloc);
-    'members: loop {
-        let name = match reader.next_key() {
-            Ok(Some(name)) => name,
-            Ok(None) => return Some(known),
-            Err(_) => return None,
-        };
-        judge_inner(alloc, reader, depth, name, search, &mut known)?;
+    match judge_rest(alloc, reader, depth, search, &mut known) {
+        Some(()) => Some(known),
+        None => None,
     }
 }
 

@@ -1,9 +1,9 @@
 //! The places of a value that is read, by what may open there and how much of it is kept: a scenario, and the objects around one
 //! that ask of through bands or tell of detectors.
 
-ghost use Rattle.std.specs.Prelude.{◌≡◌, ◌<◌, ◌≤◌, ◌+◌};
+ghost use Rattle.std.specs.Prelude.{◌≡◌, ◌<◌, ◌≤◌, ◌+◌, bytes_eq, if◌then◌else◌};
 ghost use Rattle.serde_json.specs.View.{view};
-ghost use Rattle.scenario_cut.specs.Cutting.{opens_array, opens_object, item_form, member_form, is_of_a_round, is_a_pulse, is_event_list, room, room_behind, drops};
+ghost use Rattle.scenario_cut.specs.Cutting.{Street, Field, Outer, Whole, Bare, opens_array, opens_object, item_form, member_form, is_of_a_round, is_a_pulse, is_event_list, room, room_behind, drops};
 
 use serde_json::Value;
 
@@ -108,72 +108,87 @@ fn is_event_list(name: &str) -> bool
         || name == "faults"
 }
 
+/// The place of the member of this name in an object that asks of bands.
+fn street_member(name: &str) -> Form
+    ensures { result ≡ member_form Street name.now }
+{
+    if name == "scenario" {
+        Form::Whole
+    } else if name == "travel" {
+        Form::Times
+    } else {
+        Form::Bare
+    }
+}
+
+/// The place of the member of this name in a field file.
+fn field_member(name: &str) -> Form
+    ensures { result ≡ member_form Field name.now }
+{
+    if name == "scenario" {
+        Form::Whole
+    } else if name == "bank" {
+        Form::Entries
+    } else if name == "pulses" {
+        Form::Pulses
+    } else if name == "respond" {
+        Form::Respond
+    } else {
+        Form::Bare
+    }
+}
+
+/// The place of the member of this name in either of these without its lists.
+fn outer_member(name: &str) -> Form
+    ensures { result ≡ member_form Outer name.now }
+{
+    if name == "scenario" {
+        Form::Setup
+    } else if name == "bank" {
+        Form::Entries
+    } else if name == "respond" {
+        Form::Respond
+    } else {
+        Form::Bare
+    }
+}
+
+/// The place of the member of this name in a scenario.
+fn whole_member(name: &str) -> Form
+    ensures { result ≡ member_form Whole name.now }
+{
+    if name == "cabinets" {
+        Form::Cabinets
+    } else if name == "master" {
+        Form::Master
+    } else if is_event_list(name) {
+        Form::Events
+    } else {
+        Form::Bare
+    }
+}
+
+/// The place of a name's member, where the object has one member that opens something.
+fn only_member(name: &str, known: &str, form: Form) -> Form
+    ensures { result ≡ (if bytes_eq name.now known.now then form else Bare) }
+{
+    if name == known { form } else { Form::Bare }
+}
+
 /// The place of the member of this name.
 pub(crate) fn member_form(form: Form, name: &str) -> Form
     ensures { result ≡ member_form form name.now }
 {
     match form {
-        Form::Street => if name == "scenario" {
-            Form::Whole
-        } else if name == "travel" {
-            Form::Times
-        } else {
-            Form::Bare
-        },
-        Form::Field => if name == "scenario" {
-            Form::Whole
-        } else if name == "bank" {
-            Form::Entries
-        } else if name == "pulses" {
-            Form::Pulses
-        } else if name == "respond" {
-            Form::Respond
-        } else {
-            Form::Bare
-        },
-        Form::Outer => if name == "scenario" {
-            Form::Setup
-        } else if name == "bank" {
-            Form::Entries
-        } else if name == "respond" {
-            Form::Respond
-        } else {
-            Form::Bare
-        },
-        Form::Whole => if name == "cabinets" {
-            Form::Cabinets
-        } else if name == "master" {
-            Form::Master
-        } else if is_event_list(name) {
-            Form::Events
-        } else {
-            Form::Bare
-        },
-        Form::Setup => if name == "master" {
-            Form::Master
-        } else {
-            Form::Bare
-        },
-        Form::Cabinet | Form::Event => if name == "cells" {
-            Form::Rows
-        } else {
-            Form::Bare
-        },
-        Form::Master => if name == "schedule" {
-            Form::Entries
-        } else {
-            Form::Bare
-        },
-        Form::Respond => if name == "sections" {
-            Form::Sections
-        } else {
-            Form::Bare
-        },
-        Form::Section => if name == "steps" {
-            Form::Steps
-        } else {
-            Form::Bare
-        },
+        Form::Street => street_member(name),
+        Form::Field => field_member(name),
+        Form::Outer => outer_member(name),
+        Form::Whole => whole_member(name),
+        Form::Setup => only_member(name, "master", Form::Master),
+        Form::Cabinet | Form::Event => only_member(name, "cells", Form::Rows),
+        Form::Master => only_member(name, "schedule", Form::Entries),
+        Form::Respond => only_member(name, "sections", Form::Sections),
+        Form::Section => only_member(name, "steps", Form::Steps),
         _ => Form::Bare,
     }
 }

@@ -141,6 +141,28 @@ fn judge_member(
     }
 }
 
+/// Judges the lists that are looked for among the members up to the brace that closes a scenario.
+fn judge_rest(
+    alloc: Global,
+    reader: &mut Reader<'_>,
+    depth: usize,
+    search: Search,
+    known: &mut Known,
+) -> Option<()>
+    ensures ok { IfSome result (λ _. (ms : Members) × (converted (λ js. of_members js no_members) (members (value depth) (length reader.old) reader.old) ≡ Some (ms, reader.new))
+        × (Knows search known.old (object no_members) → Knows search known.new (object ms))) }
+    ensures shorter { IfSome result (λ _. length reader.new < length reader.old) }
+{
+    'members: loop {
+        let name = match reader.next_key() {
+            Ok(Some(name)) => name,
+            Ok(None) => return Some(()),
+            Err(_) => return None,
+        };
+        judge_member(alloc, reader, depth, name, search, known)?;
+    }
+}
+
 /// What is known of the lists in the members up to the brace that closes a scenario, each nested at most so deep.
 pub(crate) fn judge_members(
     alloc: Global,
@@ -153,12 +175,8 @@ pub(crate) fn judge_members(
     ensures shorter { IfSome result (λ _. length reader.new < length reader.old) }
 {
     let mut known = all_absent(alloc);
-    'members: loop {
-        let name = match reader.next_key() {
-            Ok(Some(name)) => name,
-            Ok(None) => return Some(known),
-            Err(_) => return None,
-        };
-        judge_member(alloc, reader, depth, name, search, &mut known)?;
+    match judge_rest(alloc, reader, depth, search, &mut known) {
+        Some(()) => Some(known),
+        None => None,
     }
 }

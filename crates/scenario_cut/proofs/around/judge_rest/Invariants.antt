@@ -4,14 +4,14 @@ use Rattle.serde_json.specs.Data.{Members, object, no_members}
 use Rattle.serde_json.specs.Read.{of_members, converted}
 use Rattle.scenario_cut.specs.Around.{Object, scenario_in}
 use Rattle.scenario_cut.specs.Known.{Knows}
-use Rattle.scenario_cut.proofs.around.judge_outer.Given as goal
+use Rattle.scenario_cut.proofs.around.judge_rest.Given as goal
 
 -- what is known of the lists of the scenario among the members so far
 abbrev pub invariant-members : goal.invariant-members
 invariant-members l =
     (n : ℕ) × (ms : Members) × (length l.reader ≤ n)
     × (converted (λ js. of_members js no_members) (members (value l.depth) (length l.fn.reader) l.fn.reader) ≡ converted (λ js. of_members js ms) (members (value l.depth) n l.reader))
-    × Knows l.search l.known (scenario_in Object (object ms))
+    × (Knows l.search l.fn.known (scenario_in Object (object no_members)) → Knows l.search l.known (scenario_in Object (object ms)))
 
 abbrev pub decreases-members : goal.decreases-members
 decreases-members l = length l.reader
