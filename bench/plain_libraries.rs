@@ -933,6 +933,10 @@ pub mod serde_json {
         (@ $value:tt $(. $field:ident)*) => { crate::serde_json::Value::from($value $(. $field)*) };
     }
     pub(crate) use json;
+
+    pub fn push(items: &mut Vec<Value>, item: Value) -> Result<(), AllocError> {
+        items.push(item).map_err(|_| AllocError)
+    }
 }
 
 fn main() -> std::process::ExitCode {

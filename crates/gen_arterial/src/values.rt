@@ -102,69 +102,45 @@ fn lost_in(alloc: Global, fault: &Fault) -> Result<Value, AllocError>
 }
 
 /// The cabinets.
-fn cabinets_in(alloc: Global, setups: &[Setup]) -> Result<Value, NoMemory>
+fn cabinets_in(alloc: Global, setups: &[Setup]) -> Result<Value, AllocError>
     ensures { IfOk result (λ v. view v ≡ array (items_from (map setup_cabinet_value setups.now))) }
 {
     let mut values = Vec::new(alloc);
     for setup in setups {
-        let value = match cabinet_in(alloc, setup) {
-            Ok(value) => value,
-            Err(_) => return Err(NoMemory),
-        };
-        if values.push(value).is_err() {
-            return Err(NoMemory);
-        }
+        serde_json::push(&mut values, cabinet_in(alloc, setup)?)?;
     }
     Ok(Value::Array(values))
 }
 
 /// The loads.
-fn loads_in(alloc: Global, setups: &[Setup]) -> Result<Value, NoMemory>
+fn loads_in(alloc: Global, setups: &[Setup]) -> Result<Value, AllocError>
     ensures { IfOk result (λ v. view v ≡ array (items_from (map setup_load_value setups.now))) }
 {
     let mut values = Vec::new(alloc);
     for setup in setups {
-        let value = match load_in(alloc, setup) {
-            Ok(value) => value,
-            Err(_) => return Err(NoMemory),
-        };
-        if values.push(value).is_err() {
-            return Err(NoMemory);
-        }
+        serde_json::push(&mut values, load_in(alloc, setup)?)?;
     }
     Ok(Value::Array(values))
 }
 
 /// The inputs.
-fn inputs_in(alloc: Global, inputs: &[Input]) -> Result<Value, NoMemory>
+fn inputs_in(alloc: Global, inputs: &[Input]) -> Result<Value, AllocError>
     ensures { IfOk result (λ v. view v ≡ array (items_from (map input_value inputs.now))) }
 {
     let mut values = Vec::new(alloc);
     for input in inputs {
-        let value = match input_in(alloc, input) {
-            Ok(value) => value,
-            Err(_) => return Err(NoMemory),
-        };
-        if values.push(value).is_err() {
-            return Err(NoMemory);
-        }
+        serde_json::push(&mut values, input_in(alloc, input)?)?;
     }
     Ok(Value::Array(values))
 }
 
 /// The lost polls.
-fn faults_in(alloc: Global, faults: &[Fault]) -> Result<Value, NoMemory>
+fn faults_in(alloc: Global, faults: &[Fault]) -> Result<Value, AllocError>
     ensures { IfOk result (λ v. view v ≡ array (items_from (map lost_value faults.now))) }
 {
     let mut values = Vec::new(alloc);
     for fault in faults {
-        let value = match lost_in(alloc, fault) {
-            Ok(value) => value,
-            Err(_) => return Err(NoMemory),
-        };
-        if values.push(value).is_err() {
-            return Err(NoMemory);
-        }
+        serde_json::push(&mut values, lost_in(alloc, fault)?)?;
     }
     Ok(Value::Array(values))
 }
@@ -253,19 +229,19 @@ fn value_of(alloc: Global, drawn: &Drawn, rounds: u32) -> Result<Value, NoMemory
 {
     let cabinets = match cabinets_in(alloc, drawn.setups.as_slice()) {
         Ok(cabinets) => cabinets,
-        Err(NoMemory) => return Err(NoMemory),
+        Err(_) => return Err(NoMemory),
     };
     let loads = match loads_in(alloc, drawn.setups.as_slice()) {
         Ok(loads) => loads,
-        Err(NoMemory) => return Err(NoMemory),
+        Err(_) => return Err(NoMemory),
     };
     let inputs = match inputs_in(alloc, drawn.rounds.inputs.as_slice()) {
         Ok(inputs) => inputs,
-        Err(NoMemory) => return Err(NoMemory),
+        Err(_) => return Err(NoMemory),
     };
     let faults = match faults_in(alloc, drawn.rounds.faults.as_slice()) {
         Ok(faults) => faults,
-        Err(NoMemory) => return Err(NoMemory),
+        Err(_) => return Err(NoMemory),
     };
     let lists = Lists {
         cabinets,
