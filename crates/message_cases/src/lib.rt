@@ -1,5 +1,5 @@
-//! Worked cases of messages, of what a cabinet answers to them, of the lines of a trace, of the master and its line and of the
-//! reading of a scenario, each with its expected values from outside. They stand in a crate of their own, above the parts, so
+//! Worked cases of messages, of what a cabinet answers to them, of the lines of a trace, of the master and its line, of the
+//! reading of a scenario and of the lines of a session, each with its expected values from outside. They stand in a crate of their own, above the parts, so
 //! that a part is proved once and not again for its tests.
 #![tactic(auto)]
 
@@ -25,6 +25,8 @@ mod scenario_data_cases;
 mod scenario_file_cases;
 #[cfg(test)]
 mod scenario_read_cases;
+#[cfg(test)]
+mod session_words_cases;
 #[cfg(test)]
 mod snmp_msg_cases;
 #[cfg(test)]

@@ -4,8 +4,6 @@
 #![tactic(auto)]
 
 mod line;
-#[cfg(test)]
-mod tests;
 mod words;
 
 use std::io::{self, BufRead, BufReader, BufWriter, Write};

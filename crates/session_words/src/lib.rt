@@ -6,8 +6,6 @@ mod lines;
 mod places;
 mod reading;
 mod request;
-#[cfg(test)]
-mod tests;
 
 pub use line_reader::{FirstStop, LineReader, LineStop, Next};
 pub use lines::lines_are_cut;

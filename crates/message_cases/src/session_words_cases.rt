@@ -1,11 +1,12 @@
 //! Each form of a request, each word of a refusal, and lines that come in pieces.
 
-use crate::line_reader::{LineReader, Next};
-use crate::reading::{read_request, word_of};
-use crate::request::Request;
+ghost use Rattle.std.specs.Prelude.{◌<◌};
+
 use arrayvec::ArrayVec;
 use io_edge::MemSource;
+use session_words::{LineReader, Next, Request, read_request, word_of};
 use sig_types::{Field, Octets, Way};
+use std::alloc::Global;
 use std::test::Fail;
 
 /// What a line shows, the line, and the word that says why two cabinets with 100 ticks left don't take it.
@@ -38,15 +39,19 @@ const REFUSED: [(&str, &str, &str); 22] = [
     ("a letter that is no digit", "frame 1 poll 3g", "hex"),
 ];
 
-#[test]
-fn what_cannot_be_taken_has_its_word(rt: HostRuntime) -> Result<(), Fail> {
-    for (shows, line, word) in REFUSED {
-        match read_request(line.as_bytes(), 2, 100) {
-            Err(untaken) => assert_eq!(rt; word_of(untaken), word, "{shows}"),
-            Ok(_) => panic!(rt; "taken: {shows}"),
-        }
+/// The word that says why two cabinets with 100 ticks left don't take a line; none where they take it.
+fn refusal(line: &[u8]) -> Option<&'static str> {
+    match read_request(line, 2, 100) {
+        Err(untaken) => Some(word_of(untaken)),
+        Ok(_) => None,
     }
-    Ok(())
+}
+
+#[test]
+fn what_cannot_be_taken_has_its_word(rt: HostRuntime) {
+    for (shows, line, word) in REFUSED {
+        assert!(rt; refusal(line.as_bytes()) == Some(word), "{shows}");
+    }
 }
 
 /// The octets of a frame.
@@ -108,23 +113,15 @@ fn each_form_is_read(rt: HostRuntime) -> Result<(), Fail> {
 }
 
 #[test]
-fn a_line_of_4097_octets_is_no_request(rt: HostRuntime) -> Result<(), Fail> {
+fn a_line_of_4097_octets_is_no_request(rt: HostRuntime) {
     let mut line = [b'0'; 4097];
     line[..13].copy_from_slice(b"frame 1 poll ");
-    match read_request(&line, 2, 100) {
-        Err(untaken) => assert_eq!(rt; word_of(untaken), "request"),
-        Ok(_) => panic!(rt; "taken"),
-    }
-    match read_request(&line[..4095], 2, 100) {
-        Err(untaken) => assert_eq!(rt; word_of(untaken), "hex"),
-        Ok(_) => panic!(rt; "taken"),
-    }
-    Ok(())
+    assert!(rt; refusal(&line) == Some("request"));
+    assert!(rt; refusal(&line[..4095]) == Some("hex"));
 }
 
-#[test]
-fn lines_in_pieces_are_the_same_lines(rt: HostRuntime) -> Result<(), Fail> {
-    let alloc = rt.alloc();
+/// A first line, two lines, one of 4,096 octets, two longer ones, a line, and what no newline ends.
+fn text(alloc: Global) -> Result<Vec<u8>, Fail> {
     let mut text = Vec::new(alloc);
     text.extend_from_slice(b"{}\ntick 1\n\n")?;
     for length in [4096, 4097, 20000] {
@@ -134,25 +131,44 @@ fn lines_in_pieces_are_the_same_lines(rt: HostRuntime) -> Result<(), Fail> {
         text.push(b'\n')?;
     }
     text.extend_from_slice(b"veh 1 2 on\ntick 1")?;
+    Ok(text)
+}
+
+/// Whether this line comes next.
+fn comes(lines: &mut LineReader, source: &mut MemSource, due: &[u8]) -> bool {
+    lines.next(source) == Ok(Next::Line) && lines.line() == due
+}
+
+/// Whether the lines of the text behind its first come next.
+fn others_come(lines: &mut LineReader, source: &mut MemSource) -> bool {
+    comes(lines, source, b"tick 1")
+        && comes(lines, source, b"")
+        && comes(lines, source, &[b'x'; 4096])
+        && lines.next(source) == Ok(Next::Long)
+        && lines.next(source) == Ok(Next::Long)
+        && comes(lines, source, b"veh 1 2 on")
+        && lines.next(source) == Ok(Next::End)
+}
+
+/// Whether the lines of the text come where a read gives at most so many octets.
+fn come_in_pieces(alloc: Global, text: &[u8], most: usize) -> Result<bool, Fail>
+    requires { 0 < most }
+{
+    let bytes = Vec::from_slice(alloc, text)?;
+    let mut source = MemSource::in_pieces(bytes, Vec::new(alloc), most);
+    let mut lines = LineReader::new(alloc).ok().ok_or("no memory")?;
+    let first = lines
+        .first(alloc, &mut source, 2)
+        .ok()
+        .ok_or("the first line")?;
+    Ok(first.as_slice() == b"{}".as_slice() && others_come(&mut lines, &mut source))
+}
+
+#[test]
+fn lines_in_pieces_are_the_same_lines(rt: HostRuntime) -> Result<(), Fail> {
+    let text = text(rt.alloc())?;
     for most in [1, 2, 7, 4095, 4096, 4097] {
-        let bytes = Vec::from_slice(alloc, &text)?;
-        let mut source = MemSource::in_pieces(bytes, Vec::new(alloc), most);
-        let Ok(mut lines) = LineReader::new(alloc) else {
-            panic!(rt; "no memory")
-        };
-        let first = lines.first(alloc, &mut source, 2).ok().ok_or("first")?;
-        assert!(rt; first.as_slice() == b"{}".as_slice());
-        assert!(rt; lines.next(&mut source) == Ok(Next::Line));
-        assert!(rt; lines.line() == b"tick 1".as_slice());
-        assert!(rt; lines.next(&mut source) == Ok(Next::Line));
-        assert!(rt; lines.line().is_empty());
-        assert!(rt; lines.next(&mut source) == Ok(Next::Line));
-        assert!(rt; lines.line().len() == 4096);
-        assert!(rt; lines.next(&mut source) == Ok(Next::Long));
-        assert!(rt; lines.next(&mut source) == Ok(Next::Long));
-        assert!(rt; lines.next(&mut source) == Ok(Next::Line));
-        assert!(rt; lines.line() == b"veh 1 2 on".as_slice());
-        assert!(rt; lines.next(&mut source) == Ok(Next::End));
+        assert!(rt; come_in_pieces(rt.alloc(), &text, most)?, "{most}");
     }
     Ok(())
 }
