@@ -107,38 +107,32 @@ pub(crate) fn allows(form: Form, name: &str) -> bool
         Form::Whole | Form::Setup => is_of_scenario(name),
         Form::Event => is_of_event(name),
         Form::Entry => is_of_entry(name),
-        Form::Street => { is_among(&["scenario", "section", "pattern", "travel"], name) }
-        Form::Field => { is_among(&["scenario", "bank", "pulses", "respond"], name) }
-        Form::Outer => {
-            is_among(
-                &[
-                    "scenario", "section", "pattern", "travel", "bank", "pulses", "respond",
-                ],
-                name,
-            )
-        }
-        Form::Cabinet => {
-            is_among(
-                &[
-                    "base", "cells", "pattern", "clock", "section", "gain", "lose",
-                ],
-                name,
-            )
-        }
-        Form::Pulse => { is_among(&["round", "cabinet", "detector", "on"], name) }
-        Form::Master => {
-            is_among(
-                &[
-                    "clock",
-                    "poll_every",
-                    "clock_every",
-                    "pattern_every",
-                    "retries",
-                    "schedule",
-                ],
-                name,
-            )
-        }
+        Form::Street => is_among(&["scenario", "section", "pattern", "travel"], name),
+        Form::Field => is_among(&["scenario", "bank", "pulses", "respond"], name),
+        Form::Outer => is_among(
+            &[
+                "scenario", "section", "pattern", "travel", "bank", "pulses", "respond",
+            ],
+            name,
+        ),
+        Form::Cabinet => is_among(
+            &[
+                "base", "cells", "pattern", "clock", "section", "gain", "lose",
+            ],
+            name,
+        ),
+        Form::Pulse => is_among(&["round", "cabinet", "detector", "on"], name),
+        Form::Master => is_among(
+            &[
+                "clock",
+                "poll_every",
+                "clock_every",
+                "pattern_every",
+                "retries",
+                "schedule",
+            ],
+            name,
+        ),
         Form::Respond => is_among(&["period", "sections"], name),
         Form::Section => is_among(&["section", "base", "steps"], name),
         Form::Step => is_among(&["up", "down", "pattern"], name),
