@@ -1,0 +1,43 @@
+"""The wrong bodies that the gate leaves out (edits/): each can still be applied, and the script names them."""
+
+import pathlib
+import subprocess
+
+import pytest
+
+TOP = pathlib.Path(__file__).resolve().parents[3]
+TRY = TOP / "edits/try"
+EDITS = sorted(TOP.glob("edits/*/*.edit"))
+
+
+def ran(*words: str) -> subprocess.CompletedProcess[str]:
+    """Returns what the script answers."""
+    return subprocess.run([TRY, *words], capture_output=True, text=True, timeout=30)
+
+
+@pytest.mark.parametrize("edit", EDITS, ids=lambda it: f"{it.parent.name}/{it.stem}")
+def test_what_an_edit_replaces_stands_once_in_its_file(edit):
+    file, changed = None, 0
+    for line in edit.read_text(encoding="utf-8").splitlines():
+        word, _, text = line.partition(": ")
+        if word == "file":
+            file = (TOP / "crates" / edit.parent.name / text).read_text(encoding="utf-8")
+        elif word == "old":
+            assert file.count(text) == 1
+            changed += 1
+    assert changed > 0
+
+
+def test_no_edit_stands_in_both_places():
+    assert [it for it in EDITS if (TOP / "crates" / it.parent.name / "must-fail" / it.name).exists()] == []
+
+
+def test_edits_are_named_by_crate():
+    named = ran("--list").stdout.splitlines()
+    assert named == [f"{it.parent.name}/{it.name}" for it in EDITS]
+    assert ran("--list", "phase_clock").stdout.splitlines() == [it for it in named if it.startswith("phase_clock/")]
+
+
+def test_a_crate_without_edits_is_refused():
+    tried = ran("hex")
+    assert tried.returncode == 2 and "hex has no edits here" in tried.stderr
