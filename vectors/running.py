@@ -58,6 +58,20 @@ def run_behind(made, program, given, names, words=("run",)):
         return reader.read() != b"", ran.returncode, ran.stdout, ran.stderr
 
 
+def answered(program, words, given=None):
+    """Returns what the program answers to some words: its status and both outputs. Where it is given nothing to read,
+    its standard input is a folder, so that a read would fail."""
+    if given is not None:
+        ran = subprocess.run([program, *words], input=given, capture_output=True, timeout=SECONDS)
+    else:
+        folder = os.open(HERE, os.O_RDONLY)
+        try:
+            ran = subprocess.run([program, *words], stdin=folder, capture_output=True, timeout=SECONDS)
+        finally:
+            os.close(folder)
+    return ran.returncode, ran.stdout, ran.stderr
+
+
 def ended(program, given, word="run"):
     """Returns what a command answered, which may take 10 seconds and 1 GB: its status and both outputs; in words where
     it didn't end."""

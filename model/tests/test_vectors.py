@@ -116,13 +116,19 @@ def test_overlaps_are_those_worked_out():
             ), name
 
 
+def test_other_words_are_answered_as_worked_out():
+    for name, worked in listed("worked_words.jsonl"):
+        text = spelled(worked.get("text", []))
+        if len(text) <= LONGEST:
+            told = answer(worked["words"], text)
+            assert (told.status, told.output.decode(), told.said.decode()) == (
+                worked["status"],
+                worked["output"],
+                worked["said"],
+            ), name
+
+
 def test_words_that_are_no_command_get_the_line_of_usage():
-    for words in (
-        [],
-        ["run", "--workers", "9"],
-        ["run", "--workers", "01"],
-        ["check", "x"],
-        ["generate", "--seed", "1"],
-    ):
+    for words in (["check", "x"], ["generate", "--seed", "1"]):
         told = answer(words, b"")
         assert (told.status, told.said) == (1, b"usage: arterial run [--workers N] | check | generate | survey\n")

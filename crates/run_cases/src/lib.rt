@@ -1,25 +1,17 @@
-//! Worked cases of the top call over sources and sinks in memory, and of cabinets shared by threads, each with its expected answer
-//! from outside. They stand in a crate of their own, above the parts, so that a part is proved once and not again for its tests.
+//! Worked cases of the top call over sources and sinks in memory that fail or meet a gate, and of cabinets shared by
+//! threads, each with its expected answer from outside. What the top call answers else, the vectors show with the built
+//! program (vectors/README.md). The cases stand in a crate of their own, above the parts, so that a part is proved once
+//! and not again for its tests.
 #![tactic(auto)]
 
 mod acts;
 #[cfg(test)]
 mod answer_cases;
 #[cfg(test)]
-mod band_cases;
-#[cfg(test)]
-mod check_cases;
-#[cfg(test)]
 mod edge_cases;
-#[cfg(test)]
-mod overlap_cases;
-#[cfg(test)]
-mod respond_cases;
 #[cfg(test)]
 mod row_cases;
 mod tally;
-#[cfg(test)]
-mod text_cases;
 #[cfg(test)]
 mod worker_cases;
 

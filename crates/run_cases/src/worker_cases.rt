@@ -1,37 +1,12 @@
-//! Runs by workers in threads: a text that has one order alone, and two passes that wait for each
-//! other at the gate.
+//! A run by workers in threads: two passes that wait for each other at the gate. Other runs by workers are tried with
+//! the built program (vectors/workers).
 
-use crate::answer_cases::passing;
-use io_edge::{Gate, OpenGate};
+use crate::answer_cases::answer;
+use io_edge::Gate;
 use std::sync::atomic::AtomicU64;
 use std::sync::atomic::Ordering::SeqCst;
 use std::test::Fail;
 use std::thread;
-
-/// One round of ticks alone: whatever the workers, there is one order.
-const TICKS_ALONE: &str =
-    "{\"cabinets\":[{\"base\":\"max8\"}],\"rounds\":1,\"ticks\":60,\"version\":1}";
-
-const ITS_TEXT: &str =
-    "S {\"cabinets\":[{\"base\":\"max8\"}],\"rounds\":1,\"ticks\":60,\"version\":1}
-F 1 0 RRRRRRRRRRRRRRRR DDDDDDDDDDDDDDDD S 0 0 0
-R 1
-J 1 4*60
-F 1 60 RGRRRGRRRRRRRRRR DDDDDDDDDDDDDDDD F 0 0 0
-Z 1
-";
-
-#[test]
-fn any_workers_write_the_only_text(rt: HostRuntime) -> Result<(), Fail> {
-    let alloc = rt.alloc();
-    for number in ["0", "1", "2", "3", "4", "5", "6", "7", "8"] {
-        let words = ["run", "--workers", number];
-        let (said, written) = passing(&rt, alloc, &words, TICKS_ALONE, &OpenGate)?;
-        assert!(rt; said.as_str() == "done");
-        assert!(rt; written.as_slice() == ITS_TEXT.as_bytes());
-    }
-    Ok(())
-}
 
 /// A round with inputs from the street and ticks.
 const INPUTS_AND_TICKS: &str =
@@ -82,8 +57,9 @@ fn ticks_come_before_an_input_that_waits_for_them(rt: HostRuntime) -> Result<(),
         missed: AtomicU64::new(0),
     };
     let words = ["run", "--workers", "5"];
-    let (said, written) = passing(&rt, alloc, &words, INPUTS_AND_TICKS, &gate)?;
-    assert!(rt; said.as_str() == "done");
+    let input = INPUTS_AND_TICKS.as_bytes().to_vec(alloc)?;
+    let (said, written) = answer(&rt, alloc, &words, input, (0, 0), 100_000, &gate)?;
+    assert!(rt; said == "done");
     assert!(rt; gate.missed.load(SeqCst) == 0);
     assert!(rt; gate.inputs.load(SeqCst) > 0);
     assert!(rt; gate.ticks.load(SeqCst) > 0);
