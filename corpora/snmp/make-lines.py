@@ -1,9 +1,9 @@
 #!/usr/bin/env python3
-"""Turns real.jsonl and damaged.jsonl into the lines that the program message_lines reads, and those that it must write.
+"""Turns worked.jsonl, real.jsonl and damaged.jsonl into the lines that the program message_lines reads, and those that it must write.
 
 Usage: make-lines.py [FOLDER], where the files stdin and stdout are written (crates/message_lines by default).
 
-The fields are those of the files, as independent decoders gave them. The files don't give the shortest text, so it is
+The fields are those of the files, as independent decoders gave them, or worked out by hand. The files don't give the shortest text, so it is
 made here from the fields alone, by the rules of ITU-T X.690; where a file says whether the octets are the shortest text,
 that must agree. No output of message_lines is looked at."""
 
@@ -12,6 +12,7 @@ import pathlib
 import sys
 
 HERE = pathlib.Path(__file__).resolve().parent
+FILES = ("worked.jsonl", "real.jsonl", "damaged.jsonl")
 TAGS = {"get": 0xA0, "next": 0xA1, "response": 0xA2, "set": 0xA3}
 
 
@@ -95,7 +96,7 @@ def line(record):
 
 def main():
     folder = pathlib.Path(sys.argv[1]) if len(sys.argv) > 1 else HERE.parent.parent / "crates" / "message_lines"
-    records = [json.loads(text) for file in ("real.jsonl", "damaged.jsonl") for text in (HERE / file).read_text().splitlines()]
+    records = [json.loads(text) for file in FILES for text in (HERE / file).read_text().splitlines()]
     (folder / "stdin").write_text("".join(f"{record['hex']}\n" for record in records))
     (folder / "stdout").write_text("".join(f"{line(record)}\n" for record in records))
 

@@ -10,8 +10,6 @@ mod agent_set_cases;
 #[cfg(test)]
 mod ber_code_cases;
 #[cfg(test)]
-mod captured;
-#[cfg(test)]
 mod link_sim_cases;
 #[cfg(test)]
 mod master_poll_cases;

@@ -211,7 +211,7 @@ def test_every_refusal_of_the_vectors_is_the_first_that_a_check_finds():
 
 
 def test_accepted_scenarios_have_no_error():
-    """69 texts that are taken."""
+    """Seventy texts that are taken."""
     for line in (TOP / "vectors/accepted.jsonl").read_text().splitlines():
         assert first_line(json.loads(line)["text"].encode()) == ""
 
