@@ -3,7 +3,6 @@
 
 use ber_code::*;
 use sig_types::Octets;
-use std::test::*;
 
 #[test]
 fn name_is_read_over_another_and_refused_to_nothing(rt: HostRuntime) {

@@ -4,11 +4,9 @@
 ghost use Rattle.ber_code.specs.Names.{IsWritable};
 ghost use Rattle.snmp_msg.specs.Shortest.{IsWritableBind, IsWritableMessage};
 
-use crate::oid_map_cases::{Root, oid};
 use arrayvec::ArrayVec;
 use ber_code::Oid;
 use snmp_msg::*;
-use std::test::*;
 
 /// A Get of one instance, of the community `public`.
 pub(crate) fn get_of(name: Oid) -> Message
