@@ -1,11 +1,11 @@
 #!/usr/bin/env python3
-"""Turns worked.jsonl, real.jsonl and damaged.jsonl into the lines that the program message_lines reads, and those that it must write.
+"""Turns worked.jsonl, real.jsonl and damaged.jsonl into the lines that message_lines reads, and those that are due of it.
 
 Usage: make-lines.py [FOLDER], where the files stdin and stdout are written (crates/message_lines by default).
 
-The fields are those of the files, as independent decoders gave them, or worked out by hand. The files don't give the shortest text, so it is
-made here from the fields alone, by the rules of ITU-T X.690; where a file says whether the octets are the shortest text,
-that must agree. No output of message_lines is looked at."""
+The fields are those of the files, as independent decoders gave them, or worked out by hand. The files don't give the
+shortest text, so it is made here from the fields alone, by the rules of ITU-T X.690; where a file says whether the
+octets are the shortest text, that must agree. No output of message_lines is looked at."""
 
 import json
 import pathlib
