@@ -1,5 +1,5 @@
 #!/usr/bin/env python3
-"""Turns worked.jsonl, real.jsonl and damaged.jsonl into the lines that message_lines reads, and those that are due of it.
+"""Turns worked.jsonl, real.jsonl and damaged.jsonl into what message_lines reads, and what is due of it.
 
 Usage: make-lines.py [FOLDER], where the files stdin and stdout are written (crates/message_lines by default).
 
