@@ -55,6 +55,14 @@ def test_scenarios_are_refused_with_the_line_due():
         assert (told.status, told.output, told.said.decode()) == (2, b"", refusal["line"] + "\n"), name
 
 
+def test_scenarios_are_accepted_and_run_as_worked_out_by_hand():
+    for name, accepted in listed("accepted.jsonl"):
+        if "lines" in accepted:
+            told = answer(["run"], accepted["text"].encode())
+            lines = [line for line in told.output.decode().splitlines() if line[0] in accepted["kinds"]]
+            assert (told.status, told.said, lines) == (0, b"", accepted["lines"]), name
+
+
 def test_check_says_yes_to_traces_in_other_orders():
     for name in orders():
         if len(trace_of(name)) <= LONGEST // 2:

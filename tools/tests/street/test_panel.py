@@ -80,6 +80,19 @@ def awaited(browser, name, wanted):
     raise AssertionError(f"{name} says {text!r}, not {wanted}")
 
 
+def stood(browser, name):
+    """Waits until an element of the page has said the same for a second, and returns it: what was on its way when a
+    button was pressed may still come."""
+    until, text = time.monotonic() + SECONDS, text_of(browser, name)
+    while time.monotonic() < until:
+        before = text
+        time.sleep(1)
+        text = text_of(browser, name)
+        if text == before:
+            return text
+    raise AssertionError(f"{name} says {text!r} after {before!r}")
+
+
 def test_a_held_detector_brings_a_green(panel, browser):
     _, address = panel("--speed", 20)
     browser.get(f"{address}#1")
@@ -177,9 +190,7 @@ def test_time_is_paused_and_stepped(panel, browser):
     awaited(browser, "time", r"00:(?!00:00)")
     browser.find_element("id", "pause").click()
     awaited(browser, "pause", "Go on")
-    stands = browser.find_element("id", "time").text
-    time.sleep(1)
-    assert browser.find_element("id", "time").text == stands
+    stands = stood(browser, "time")
     browser.find_element("id", "second").click()
     seconds = float(stands[-4:]) + 60 * int(stands[3:5])
     awaited(browser, "time", re.escape(f"{(seconds + 1) % 60:04.1f}") + "$")
