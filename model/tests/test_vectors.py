@@ -20,6 +20,11 @@ def due_of(file):
     return TOP / "scenarios" / f"{file.stem}.json" if file.parent.name == "shown" else file.with_suffix(".json")
 
 
+def lines_of(told, kinds):
+    """Returns the lines of these kinds among those that a command wrote."""
+    return [line for line in told.output.decode().splitlines() if line[0] in kinds]
+
+
 def short_traces():
     """Returns every third trace that isn't long."""
     files = [file for file in sorted(VECTORS.glob("*/*.trace")) if file.parent.name != "live"]
@@ -35,8 +40,7 @@ def test_run_writes_the_trace_due(file):
 def test_run_writes_the_frames_worked_out_by_hand():
     for _, worked in list(listed("worked.jsonl"))[::2]:
         told = answer(["run"], json.dumps(worked["scenario"]).encode())
-        frames = [line for line in told.output.decode().splitlines() if line.startswith("F")]
-        assert (told.status, frames) == (0, worked["frames"]), worked["name"]
+        assert (told.status, lines_of(told, "F")) == (0, worked["frames"]), worked["name"]
 
 
 def test_run_writes_the_lines_worked_out_by_hand():
@@ -45,8 +49,7 @@ def test_run_writes_the_lines_worked_out_by_hand():
         if scenario["rounds"] * scenario["ticks"] * len(scenario["cabinets"]) > 4000:
             continue
         told = answer(["run"], json.dumps(scenario).encode())
-        lines = [line for line in told.output.decode().splitlines() if line[0] in worked["kinds"]]
-        assert (told.status, lines) == (0, worked["lines"]), worked["name"]
+        assert (told.status, lines_of(told, worked["kinds"])) == (0, worked["lines"]), worked["name"]
 
 
 def test_scenarios_are_refused_with_the_line_due():
@@ -59,8 +62,8 @@ def test_scenarios_are_accepted_and_run_as_worked_out_by_hand():
     for name, accepted in listed("accepted.jsonl"):
         if "lines" in accepted:
             told = answer(["run"], accepted["text"].encode())
-            lines = [line for line in told.output.decode().splitlines() if line[0] in accepted["kinds"]]
-            assert (told.status, told.said, lines) == (0, b"", accepted["lines"]), name
+            due = 0, b"", accepted["lines"]
+            assert (told.status, told.said, lines_of(told, accepted["kinds"])) == due, name
 
 
 def test_check_says_yes_to_traces_in_other_orders():

@@ -205,7 +205,7 @@ def first_line(content: bytes) -> str:
 
 
 def test_every_refusal_of_the_vectors_is_the_first_that_a_check_finds():
-    """952 texts with the lines of independent programs, and fifty worked by hand."""
+    """952 texts with the lines of independent programs, and fifty by hand or a further program."""
     for it in refusals():
         assert first_line(it["text"].encode("utf-8", "surrogatepass")) == it["line"]
 
