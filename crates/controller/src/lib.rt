@@ -1,49 +1,26 @@
-//! One cabinet's controller: what its phases show after each tick of 0.1 s. Two rings of phases are served by the rules
-//! of actuated control (NEMA TS 2, FHWA Signal Timing Manual), in free operation and in step with the patterns of a timing
-//! plan; preemption, flash, priority requests, commands, clocks and downloads come at any time. Registers stand where the
-//! definitions look back.
+//! One cabinet's controller: the engine over registers, which are stepped from frame to frame and give what looking back over all
+//! past frames would give.
 #![tactic(auto)]
 
-ghost use Rattle.std.specs.Prelude.{◌≡◌, ◌<◌, ◌≤◌, ◌+◌};
+ghost use Rattle.std.specs.Prelude.{◌≡◌, ◌+◌, ◌==◌, if◌then◌else◌, ◌∷◌, ◌<◌, get_or, ℕ, List, true};
+ghost use Rattle.sig_types.specs.Colour.{is_start};
 
 use coord_count::Count;
+use coord_gate::filled;
+use engine::{Engine, Fresh, Memory, Same};
 use ped_clock::PedClocks;
 use phase_clock::Clocks;
 use preempt_run::Preempts;
-use sig_tables::{Shown, Tables};
-use sig_types::{Field, Frame, PhaseSet, Request};
-use tick_context::{TickContext, first_frame, is_flash};
+use preempt_stages::lesser_green;
+use sig_types::{Colour, Frame, Mode, Ped, PhaseSet};
+use tick_context::{TickContext, TickInputs, TickState, is_coord};
 
-mod at_rest;
-mod by_colour;
-mod colouring;
-mod keeping;
-mod lasting;
-mod moving;
-mod passing;
-mod reasons;
-mod seeing;
-mod staying;
-mod stride;
-mod tick_state;
-mod ticking;
-mod walking;
-
-use by_colour::ByColour;
-
-/// What a controller keeps between ticks.
+/// What is kept of the frames so far.
 #[derive(Drop)]
-pub struct Controller {
-    /// The tables in force, the last frame, and what was told.
-    context: TickContext,
+pub struct Registers {
     clocks: Clocks,
     signals: PedClocks,
     preempts: Preempts,
-    /// The phases by the colour that the last frame shows.
-    shown: ByColour,
-    /// The phases on which the last frame shows Walk, and those on which it shows Walk or Flash.
-    walking: PhaseSet,
-    signalling: PhaseSet,
     /// The phase that was last on in each ring since Start, or 0.
     last: [u8; 2],
     /// A phase of the latest frame since Start that had one on, or 0.
@@ -54,33 +31,67 @@ pub struct Controller {
     count: Count,
 }
 
-impl Controller {
-    ghost use Rattle.sig_tables.specs.declared.tables.Tables.{Tables};
-    ghost use Rattle.sig_tables.specs.Past.{History, Input, Install, SetPattern, SetClock, SetDrift, Ask, Cancel};
-    ghost use Rattle.sig_tables.specs.Decide.{decide, ticked, opening, with_one, last_frame_of, past_at};
-    ghost use Rattle.sig_tables.specs.Showing.{ShownAfter};
-    ghost use Rattle.tick_context.specs.Modes.{is_flash};
-    ghost use Rattle.controller.specs.ControllerStands.{ControllerStands, tick_count, install_count};
-    ghost use Rattle.tick_context.specs.CanRun.{CanRun, NamesPlace};
+/// Whether a frame is in Start.
+fn shows_start(frame: &Frame) -> bool
+    ensures { result ≡ is_start frame.now.mode }
+{
+    frame.mode == Mode::Start
+}
 
-    /// A cabinet that is opened with these tables, in Start, with a pattern in command, 0 to 255 (254 and those that are
-    /// not defined run free, 255 flashes), and a clock in ticks of the day. The tables' limits of adding and subtracting
-    /// are at least one tick, as those of consistent tables are.
-    pub fn open(tables: Tables, command: u8, clock: u32) -> Controller
-        requires tables { CanRun tables }
-        requires of_day { clock < 864000 }
-        ensures stands { ControllerStands result (opening tables command clock) }
-        ensures ticks { tick_count result ≡ 0 }
-        ensures installs { install_count result ≡ 0 }
+/// The phase that was last on in a ring since Start, of which this one is on now (0: none).
+fn last_after(before: u8, on: u8, in_start: bool) -> u8
+    ensures { result ≡ (if in_start then 0 else if on == 0 then before else on) }
+{
+    if in_start {
+        0
+    } else if on == 0 {
+        before
+    } else {
+        on
+    }
+}
+
+/// A phase of the latest frame since Start that has one on, where these are on now.
+fn latest_after(before: u8, on: [u8; 2], in_start: bool) -> u8
+    ensures { result ≡ (if in_start then 0
+        else if get_or on 0 0 == 0 then (if get_or on 1 0 == 0 then before else get_or on 1 0) else get_or on 0 0) }
+{
+    if in_start {
+        0
+    } else if on[0] != 0 {
+        on[0]
+    } else if on[1] != 0 {
+        on[1]
+    } else {
+        before
+    }
+}
+
+/// For how many frames in a row a cabinet has been in Start, with one frame more, which is in Start or is not.
+fn start_run_after(before: u32, in_start: bool) -> u32
+    ensures { before < 4294967295 → result ≡ (if in_start then before + 1 else 0) }
+{
+    if in_start {
+        before.saturating_add(1)
+    } else {
+        0
+    }
+}
+
+impl Registers {
+    ghost use Rattle.sig_tables.specs.Decide.{past_at, opening};
+    ghost use Rattle.sig_tables.specs.declared.tables.Tables.{Tables};
+    ghost use Rattle.controller.specs.Registers.{frames};
+
+    /// Of the moment before any tick.
+    pub fn new() -> Registers
+        ensures stands { (t : Tables) (command clock : ℕ) → RegistersStand result (past_at (opening t command clock)) }
+        ensures frames { frames result ≡ 0 }
     {
-        Controller {
-            context: TickContext::open(tables, command, clock),
+        Registers {
             clocks: Clocks::new(),
             signals: PedClocks::new(),
             preempts: Preempts::new(),
-            shown: ByColour::of(&first_frame().veh),
-            walking: PhaseSet::empty(),
-            signalling: PhaseSet::empty(),
             last: [0; 2],
             latest: 0,
             start_run: 1,
@@ -88,126 +99,260 @@ impl Controller {
         }
     }
 
-    /// The frame of the next tick.
-    pub fn tick(&mut self) -> Frame
-        requires few { tick_count self.old < 4294967295 }
-        ensures decided { (h : History) → ControllerStands self.old h → result ≡ decide h }
-        ensures stands { (h : History) → ControllerStands self.old h → ControllerStands self.new (ticked h) }
-        ensures counted { tick_count self.new ≡ tick_count self.old + 1 }
-        ensures installs { install_count self.new ≡ install_count self.old }
+    ghost use Rattle.sig_tables.specs.Past.{Past};
+    ghost use Rattle.sig_tables.specs.Choosing.{is_in_step};
+    ghost use Rattle.sig_tables.specs.Decide.{with_moment, next_moment};
+    ghost use Rattle.tick_context.specs.Context.{CountsOn};
+    ghost use Rattle.tick_context.specs.Runs.{ContextRuns};
+    ghost use Rattle.controller.specs.Registers.{RegistersStand};
+    ghost use Rattle.coord_count.specs.CountStands.{CountStands};
+
+    /// The count of the cycle with one counter more.
+    fn counted(&self, counter: u32) -> Count
+        ensures kept { (last : ℕ) (before : List ℕ) → CountStands self.now.count (last ∷ before)
+            → CountStands result (counter ∷ last ∷ before) }
     {
-        let command = self.context.command_now();
-        if self.stays_free(command) {
-            self.tick_free(command)
+        let mut count = self.count;
+        count.keep(counter);
+        count
+    }
+
+    /// The count of the cycle after this frame: a tick in step with a pattern counts on, and any other frame may be a pickup.
+    fn count_after(&self, context: &TickContext, frame: &Frame, tick_state: &TickState) -> Count
+        ensures counts { (past : Past) → RegistersStand self.now past → ContextRuns context.now tick_state.now past → frame.now ≡ (next_moment past).frame
+            → (n : ℕ) → is_in_step frame.now past.version n ≡ true → CountsOn result (with_moment past (next_moment past)) n }
+    {
+        if is_coord(tick_state.mode) {
+            self.counted(frame.counter)
         } else {
-            self.tick_in_any(command)
+            Count::new()
         }
-    }
-
-    /// An input from the street: a detector or a push button of a phase, 1 to 16, or the input of a preempt, 1 to 8. The
-    /// frames show what comes of it from the next tick on.
-    pub fn input(&mut self, field: Field)
-        requires place { NamesPlace field }
-        ensures stands { (h : History) → ControllerStands self.old h → ControllerStands self.new (with_one h (Input field)) }
-        ensures counted { tick_count self.new ≡ tick_count self.old }
-        ensures installs { install_count self.new ≡ install_count self.old }
-    {
-        self.context.input(field);
-        match field {
-            Field::Veh { .. } => {}
-            Field::Ped { .. } => {}
-            Field::Preempt { number, on } => self.preempts.input(number, on),
-        }
-    }
-
-    /// Tables that a download puts in force: at once, and the next tick runs by them. Their limits of adding and
-    /// subtracting are at least one tick.
-    pub fn install(&mut self, tables: Tables)
-        requires tables { CanRun tables }
-        requires few { install_count self.old < 4294967295 }
-        ensures stands { (h : History) → ControllerStands self.old h → ControllerStands self.new (with_one h (Install tables)) }
-        ensures counted { tick_count self.new ≡ tick_count self.old }
-        ensures installs { install_count self.new ≡ install_count self.old + 1 }
-    {
-        self.context.install(tables);
-    }
-
-    /// Commands a pattern, 0 to 255; it counts from the next tick on, and of several between two ticks the last one does.
-    pub fn pattern(&mut self, command: u8)
-        ensures stands { (h : History) → ControllerStands self.old h → ControllerStands self.new (with_one h (SetPattern command)) }
-        ensures counted { tick_count self.new ≡ tick_count self.old }
-        ensures installs { install_count self.new ≡ install_count self.old }
-    {
-        self.context.pattern(command);
-    }
-
-    /// Sets the clock, in ticks of the day.
-    pub fn clock(&mut self, time: u32)
-        requires of_day { time < 864000 }
-        ensures stands { (h : History) → ControllerStands self.old h → ControllerStands self.new (with_one h (SetClock time)) }
-        ensures counted { tick_count self.new ≡ tick_count self.old }
-        ensures installs { install_count self.new ≡ install_count self.old }
-    {
-        self.context.set_clock(time);
-    }
-
-    /// Sets the drift of the clock: after how many ticks each time it gains one more, and after how many it loses one; 0
-    /// for never.
-    pub fn drift(&mut self, gain: u32, lose: u32)
-        ensures stands { (h : History) → ControllerStands self.old h → ControllerStands self.new (with_one h (SetDrift gain lose)) }
-        ensures counted { tick_count self.new ≡ tick_count self.old }
-        ensures installs { install_count self.new ≡ install_count self.old }
-    {
-        self.context.drift(gain, lose);
-    }
-
-    /// A priority request (NTCIP 1211), whose number is 1 to 10. It replaces the one of its number.
-    pub fn request(&mut self, request: Request)
-        requires above { 0 < request.number }
-        requires within { request.number ≤ 10 }
-        ensures stands { (h : History) → ControllerStands self.old h → ControllerStands self.new (with_one h (Ask request)) }
-        ensures counted { tick_count self.new ≡ tick_count self.old }
-        ensures installs { install_count self.new ≡ install_count self.old }
-    {
-        self.context.request(request);
-    }
-
-    /// Cancels the priority request of a number, 1 to 10.
-    pub fn cancel(&mut self, number: u8)
-        requires above { 0 < number }
-        requires within { number ≤ 10 }
-        ensures stands { (h : History) → ControllerStands self.old h → ControllerStands self.new (with_one h (Cancel number)) }
-        ensures counted { tick_count self.new ≡ tick_count self.old }
-        ensures installs { install_count self.new ≡ install_count self.old }
-    {
-        self.context.cancel(number);
-    }
-
-    /// The tables in force.
-    pub fn tables(&self) -> &Tables
-        ensures tables { (h : History) → ControllerStands self.now h → result.now ≡ (past_at h).tables }
-    {
-        &self.context.tables
-    }
-
-    /// The last frame; before any tick, that of Start.
-    pub fn frame(&self) -> Frame
-        ensures frame { (h : History) → ControllerStands self.now h → result ≡ last_frame_of h }
-    {
-        self.context.frame
-    }
-
-    /// Whether the cabinet flashes: its last frame is in Flash.
-    pub fn flashing(&self) -> bool
-        ensures flashing { (h : History) → ControllerStands self.now h → result ≡ is_flash (last_frame_of h).mode }
-    {
-        is_flash(self.context.frame.mode)
-    }
-
-    /// What the cabinet shows to management software.
-    pub fn shown(&self) -> Shown
-        ensures shown { (h : History) → ControllerStands self.now h → ShownAfter result (past_at h) }
-    {
-        self.context.shown()
     }
 }
+
+impl Memory for Registers {
+    ghost use Rattle.controller.specs.Registers.{RegistersStand, IsReady, frames as frame_count};
+    ghost use Rattle.controller.specs.Told.{told_leaves, installed_leaves};
+
+    ghost remembers = { RegistersStand };
+
+    ghost frames = { frame_count };
+
+    ghost ready = { IsReady };
+
+    fn runs_on(&self, context: &TickContext, phase: u8) -> Colour {
+        let shown = context.frame.veh[phase as usize - 1];
+        match shown {
+            Colour::Yellow => {
+                if self.clocks.run(phase) != self.clocks.latched_yellow(phase) {
+                    Colour::Yellow
+                } else if context.tables.phase(phase).red_clear == 0 {
+                    Colour::Red
+                } else {
+                    Colour::Clear
+                }
+            }
+            Colour::Clear => {
+                if self.clocks.run(phase) == self.clocks.latched_clear(phase) {
+                    Colour::Red
+                } else {
+                    Colour::Clear
+                }
+            }
+            Colour::Green | Colour::Red => shown,
+        }
+    }
+
+    fn signal_on(&self, context: &TickContext, phase: u8, lesser: Option<(u32, u32)>) -> Ped {
+        let shown = context.frame.ped[phase as usize - 1];
+        self.signals.next(phase, shown, lesser, &context.tables)
+    }
+
+    fn is_startable(&self, context: &TickContext, phase: u8) -> bool {
+        self.clocks.run(phase) >= u32::from(context.tables.phase(phase).red_revert.max(1))
+    }
+
+    fn is_served(&self, context: &TickContext, phase: u8) -> bool {
+        if self.clocks.run(phase) < self.clocks.latched_least(phase) {
+            false
+        } else {
+            self.signal_on(context, phase, None) == Ped::Dont
+        }
+    }
+
+    fn is_cleared(&self, context: &TickContext, tick_state: &TickState, phase: u8) -> bool {
+        let least = lesser_green(
+            &context.tables,
+            tick_state.mode,
+            self.clocks.latched_least(phase),
+        );
+        if self.clocks.run(phase) < least {
+            false
+        } else {
+            self.signal_on(context, phase, tick_state.lesser) == Ped::Dont
+        }
+    }
+
+    fn has_gap(&self, context: &TickContext, phase: u8) -> bool {
+        self.clocks.quiet(phase) >= u32::from(context.tables.phase(phase).passage.max(1)) - 1
+    }
+
+    fn has_maximum(&self, context: &TickContext, phase: u8, opposed: bool) -> bool {
+        let maximum = 10 * u32::from(context.tables.phase(phase).maximum);
+        if maximum == 0 {
+            true
+        } else if opposed {
+            self.clocks.pressed(phase) >= maximum - 1
+        } else {
+            false
+        }
+    }
+
+    fn has_filled(&self, context: &TickContext, tick_state: &TickState, phase: u8) -> bool {
+        let times = context.tables.phase(phase);
+        let clear = u32::from(times.yellow_change) + u32::from(times.red_clear);
+        filled(
+            &context.active_pattern.plan,
+            self.clocks.run(phase),
+            clear,
+            phase,
+        )
+    }
+
+    fn colour_left(&self, context: &TickContext, phase: u8) -> u32 {
+        match context.frame.veh[phase as usize - 1] {
+            Colour::Green => u32::MAX,
+            Colour::Red => u32::MAX,
+            Colour::Yellow => {
+                let time = self.clocks.latched_yellow(phase);
+                time.saturating_sub(self.clocks.run(phase))
+            }
+            Colour::Clear => {
+                let time = self.clocks.latched_clear(phase);
+                time.saturating_sub(self.clocks.run(phase))
+            }
+        }
+    }
+
+    fn signal_left(&self, context: &TickContext, phase: u8) -> u32 {
+        self.signals
+            .left(phase, context.frame.ped[phase as usize - 1])
+    }
+
+    fn least_left(&self, phase: u8) -> u32 {
+        let least = self.clocks.latched_least(phase);
+        least.saturating_sub(self.clocks.run(phase))
+    }
+
+    fn gap_left(&self, context: &TickContext, phase: u8) -> u32 {
+        let gap = u32::from(context.tables.phase(phase).passage.max(1));
+        (gap - 1).saturating_sub(self.clocks.quiet(phase))
+    }
+
+    fn maximum_left(&self, context: &TickContext, phase: u8, opposed: bool) -> u32 {
+        let maximum = 10 * u32::from(context.tables.phase(phase).maximum);
+        if maximum == 0 {
+            0
+        } else if opposed {
+            (maximum - 1).saturating_sub(self.clocks.pressed(phase))
+        } else {
+            u32::MAX
+        }
+    }
+
+    fn last_on(&self) -> [u8; 2] {
+        self.last
+    }
+
+    fn latest_on(&self) -> u8 {
+        self.latest
+    }
+
+    fn start_run(&self) -> u32 {
+        self.start_run
+    }
+
+    fn stage(&self, context: &TickContext) -> Option<Mode> {
+        self.preempts.stage(&context.tables, &context.frame)
+    }
+
+    fn is_beside(&self) -> bool {
+        self.preempts.on().is_empty()
+    }
+
+    fn count(&self) -> Count {
+        self.count
+    }
+
+    fn is_ready(&self, context: &TickContext, tick_inputs: &TickInputs) -> bool {
+        if context.frame.counter != self.count.counter() && is_coord(context.frame.mode) {
+            false
+        } else if !self.preempts.is_clear() {
+            false
+        } else {
+            self.clocks
+                .is_steady(tick_inputs.active, tick_inputs.opposed)
+        }
+    }
+
+    fn input(&mut self, number: u8, on: bool) {
+        self.preempts.input(number, on);
+    }
+
+    fn keep(
+        &mut self,
+        context: &TickContext,
+        tick_state: &TickState,
+        tick_inputs: &TickInputs,
+        frame: &Frame,
+        same: Same,
+    ) {
+        let in_start = shows_start(frame);
+        let count = self.count_after(context, frame, tick_state);
+        self.clocks.step(
+            frame,
+            same.colours,
+            tick_inputs.active,
+            tick_inputs.opposed,
+            &context.tables,
+        );
+        self.signals.step(frame, same.signals, &context.tables);
+        self.preempts.step(frame);
+        self.count = count;
+        self.last = [
+            last_after(self.last[0], frame.on[0], in_start),
+            last_after(self.last[1], frame.on[1], in_start),
+        ];
+        self.latest = latest_after(self.latest, frame.on, in_start);
+        self.start_run = start_run_after(self.start_run, in_start);
+    }
+
+    fn again(&mut self, context: &TickContext, active: PhaseSet, opposed: PhaseSet) {
+        self.clocks
+            .step(&context.frame, true, active, opposed, &context.tables);
+        self.signals.step(&context.frame, true, &context.tables);
+        self.preempts.stay();
+    }
+
+    fn pass(&mut self, context: &TickContext, tick_inputs: &TickInputs, ticks: u32) {
+        self.clocks.pass(ticks);
+        self.signals.pass(ticks);
+        self.preempts.pass(ticks);
+        if is_coord(context.frame.mode) {
+            self.count.pass(ticks);
+        }
+    }
+
+    ghost told = { told_leaves };
+
+    ghost installed = { installed_leaves };
+}
+
+impl Fresh for Registers {
+    fn fresh() -> Registers {
+        Registers::new()
+    }
+}
+
+/// The controller of a cabinet: the engine over registers. It is opened by `Controller::open`.
+pub type Controller = Engine<Registers>;

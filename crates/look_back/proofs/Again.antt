@@ -192,7 +192,7 @@ latest-on-all active pressed [] past all = refl
 latest-on-all active pressed (m ∷ ms) past all =
     latest-on-again m (ms ++ past) all.0.shows ∙ latest-on-all active pressed ms past all.1
 
--- each is in the stage of the last frame, none has a preempt input on, and none a pattern commanded
+-- each is in the stage of the last frame, and none has a preempt input on
 pub all-in-stage : (active pressed : PhaseSet) (ms past : List Moment) (i : ℕ) → i ≡ stage_of (last_frame past).mode
     → AllGoOn active pressed ms past → AllPass (λ m. stage_of m.frame.mode == i) ms
 all-in-stage active pressed [] past i e all = tt
@@ -200,11 +200,6 @@ all-in-stage active pressed (m ∷ ms) past i e all =
     let same : stage_of m.frame.mode ≡ i =
     ap (λ (mode : Mode). stage_of mode) (all.0.shows.mode ∙ (last-shows active pressed ms past all.1).mode) ∙ sym e in
     (eq-eqb (stage_of m.frame.mode) i same, all-in-stage active pressed ms past i e all.1)
-
-pub all-uncommanded : (active pressed : PhaseSet) (ms past : List Moment) → AllGoOn active pressed ms past
-    → AllPass (λ m. not m.is_commanded) ms
-all-uncommanded active pressed [] past all = tt
-all-uncommanded active pressed (m ∷ ms) past all = (rw all.0.commanded refl, all-uncommanded active pressed ms past all.1)
 
 -- no input is on
 pub input-off : (active pressed : PhaseSet) (ms past : List Moment) (row : Row) (i : ℕ) → 1 ≤ length ms → 0 < i → i ≤ 8

@@ -12,10 +12,8 @@ pub mod Latching
 pub mod Overs
 pub mod Reaches
 pub mod Numbers
-pub mod Filling
 pub mod Counters
 pub mod Stages
 pub mod Clearing
 pub mod Again
 pub mod Counted
-pub mod Steady

@@ -23,14 +23,13 @@ pub record ShowsAgain (f g : Frame) : Type 0 where
 
 -- the moment goes on with these: it shows what the last frame shows, in step with a pattern with a counter that is one more; of the
 -- phases that were Green before it those were not active that are not of the first set, and to those an incompatible phase had
--- demand that are of the second; no preempt input was on, and no pattern was commanded
+-- demand that are of the second; no preempt input was on
 pub record FrameGoesOn (active pressed : PhaseSet) (m : Moment) (past : List Moment) : Type 0 where
   pub shows : ShowsAgain m.frame (last_frame past)
   pub counter : (n : ℕ) → m.frame.mode ≡ Coord n → m.frame.counter ≡ (last_frame past).counter + 1
   pub quiet : (p : ℕ) → is_phase p ≡ true → is_in m.quiet p ≡ (is_green (last_frame past) p && not (has active p))
   pub opposed : (p : ℕ) → is_phase p ≡ true → is_in m.opposed p ≡ (is_green (last_frame past) p && has pressed p)
   pub preempts : (i : ℕ) → 0 < i → i ≤ 8 → is_in m.preempts i ≡ false
-  pub commanded : m.is_commanded ≡ false
 
 -- each of so many moments more goes on with those before it
 abbrev pub AllGoOn : PhaseSet → PhaseSet → List Moment → List Moment → Type 0

@@ -1,5 +1,5 @@
 -- The numbers are those that looking back over the moments gives.
-use Rattle.std.specs.Prelude.{ℕ, ◌≡◌, ◌<◌, ◌≤◌, ◌-◌, ◌==◌, not, List, get_or}
+use Rattle.std.specs.Prelude.{ℕ, ◌≡◌, ◌<◌, ◌≤◌, ◌-◌, ◌==◌, List, get_or}
 use Rattle.sig_types.specs.Phases.{is_in}
 use Rattle.sig_tables.specs.Past.{Moment}
 use Rattle.sig_tables.specs.Looking.{last_frame, last_on, latest_on}
@@ -8,12 +8,11 @@ use Rattle.look_back.specs.declared.long_counts.LongCounts.{LongCounts}
 use Rattle.look_back.specs.Rows.{RowStands, no_row}
 
 -- of these moments: the preempt that the last frame serves, and for how many frames in a row; for how many ticks in a row each
--- preempt input was on, and no pattern was commanded; and the phases that were last on
+-- preempt input was on; and the phases that were last on
 pub record LongCountsStands (f : LongCounts) (past : List Moment) : Type 0 where
   pub stage : f.stage ≡ stage_of (last_frame past).mode
   pub stages : RowStands f.stages (λ m. stage_of m.frame.mode == f.stage) past
   pub inputs : (i : ℕ) → 0 < i → i ≤ 8 → RowStands (get_or f.inputs (i - 1) no_row) (λ m. is_in m.preempts i) past
-  pub uncommanded : RowStands f.uncommanded (λ m. not m.is_commanded) past
   pub first : get_or f.last_on 0 0 ≡ last_on 1 past
   pub second : get_or f.last_on 1 0 ≡ last_on 2 past
   pub latest : f.latest_on ≡ latest_on past

@@ -19,7 +19,6 @@ use crate::cuts::{Cut, after_walk, is_clearance_over, is_walk_over};
 use crate::latched::Latched;
 use crate::long_counts::LongCounts;
 use crate::sample::Look;
-use crate::shown::Shown;
 use crate::times::pedestrian_clear_time;
 use crate::window::{Seen, Window};
 use sig_tables::Tables;
@@ -36,7 +35,6 @@ pub struct FrameHistory {
 }
 
 impl FrameHistory {
-    ghost use Rattle.look_back.specs.Shown.{IsShown};
     ghost use Rattle.look_back.specs.WindowStands.{WindowStands, Saw};
     ghost use Rattle.look_back.specs.Latching.{LatchedStands};
     ghost use Rattle.look_back.specs.LongCounts.{LongCountsStands};
@@ -67,23 +65,22 @@ impl FrameHistory {
         }
     }
 
-    /// One more frame and what its tick saw; the tables in force at it, the preempt inputs that were on, 1 to 8 in a set as phases
-    /// are, and whether a pattern was commanded since the frame before. It takes no memory.
-    pub fn push(&mut self, seen: &Seen, t: &Tables, preempts: PhaseSet, is_commanded: bool)
+    /// One more frame and what its tick saw; the tables in force at it, and the preempt inputs that were on, 1 to 8 in a set as
+    /// phases are. It takes no memory.
+    pub fn push(&mut self, seen: &Seen, t: &Tables, preempts: PhaseSet)
         ensures { (past : List Moment) (m : Moment) → LooksOver self.old past → Saw m seen.now past → m.tables ≡ t.now
-            → ((i : ℕ) → 0 < i → i ≤ 8 → has preempts i ≡ is_in m.preempts i) → is_commanded ≡ m.is_commanded
+            → ((i : ℕ) → 0 < i → i ≤ 8 → has preempts i ≡ is_in m.preempts i)
             → LooksOver self.new (m ∷ past) }
     {
         self.window.push(seen);
         self.latched.step(&seen.frame, t);
-        self.long_counts.step(&seen.frame, preempts, is_commanded);
+        self.long_counts.step(&seen.frame, preempts);
         self.counting = self.counting.step(&seen.frame);
     }
 
     /// So many more frames that go on with the last one, of which there is one: each shows what it shows, in step with a pattern
     /// with a counter that is one more, as far as there are numbers for it. At their ticks these phases were active, and to these an
-    /// incompatible phase had demand; no preempt input was on, and no pattern was commanded. It takes no memory, and as long for
-    /// any number.
+    /// incompatible phase had demand; no preempt input was on. It takes no memory, and as long for any number.
     pub fn push_again(&mut self, active: PhaseSet, opposed: PhaseSet, ticks: u32)
         ensures { (last : Moment) (before ms : List Moment) → LooksOver self.old (last ∷ before) → length ms ≡ ticks
             → last.frame.counter + ticks ≤ 4294967295 → AllGoOn active opposed ms (last ∷ before)
@@ -104,13 +101,6 @@ impl FrameHistory {
         self.window.push_again(active, opposed, ticks);
         self.long_counts.step_again(ticks);
         self.counting = self.counting.step_again(ticks);
-    }
-
-    /// What the last frame shows, as sets of phases.
-    pub fn shown(&self) -> Shown
-        ensures { (past : List Moment) → LooksOver self.now past → IsShown result (last_frame past).veh (last_frame past).ped }
-    {
-        self.window.shown()
     }
 
     /// The window.

@@ -1,4 +1,4 @@
-//! What decides by a time, asked of the window: a gap, a maximum, a red revert, the end of start-
+//! What decides by a time, asked of the window: a maximum, a red revert, the end of start-
 //! up, of a track clearance and of a dwell. Each time of the tables is at most 2,550 ticks, so
 //! that the reach of the window decides each.
 
@@ -11,12 +11,10 @@ ghost use Rattle.sig_tables.specs.Cells.{preempt_of};
 ghost use Rattle.sig_tables.specs.Past.{Moment};
 ghost use Rattle.sig_tables.specs.Looking.{lasts, lasts_now, shows};
 ghost use Rattle.sig_tables.specs.Preempts.{is_track_over, has_dwelt, dwell_set};
-ghost use Rattle.sig_tables.specs.Modes.{bound};
-ghost use Rattle.sig_tables.specs.Splits.{keeps_maximum};
-ghost use Rattle.sig_tables.specs.View.{View, has_gap, has_maximum};
+ghost use Rattle.sig_tables.specs.View.{View, has_maximum};
 
 use crate::sample::Look;
-use crate::times::{gap_time, maximum_time, red_revert_time, stage_time};
+use crate::times::{maximum_time, red_revert_time, stage_time};
 use crate::window::Window;
 use sig_tables::{PhaseList, Tables};
 use sig_types::{Colour, Mode};
@@ -46,21 +44,6 @@ impl Window {
             self.lasts(look, frames - 1)
         } else {
             false
-        }
-    }
-
-    /// Whether a phase, 1 to 16, that is green and not active (`quiet`) at this tick or not has a gap: it was so for its passage
-    /// time. One that is held to its maximum has none.
-    pub fn has_gap(&self, t: &Tables, phase: u8, held: bool, quiet: bool) -> bool
-        requires above { 0 < phase }
-        requires below { phase ≤ 16 }
-        ensures { (v : View) → WindowStands self.now v.past → v.tables ≡ t.now
-            → held ≡ keeps_maximum (bound v.mode) v.tables phase → quiet ≡ is_in v.quiet phase → result ≡ has_gap v phase }
-    {
-        if held {
-            false
-        } else {
-            self.lasts_now(Look::Quiet { phase }, gap_time(t, phase), quiet)
         }
     }
 

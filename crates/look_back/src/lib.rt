@@ -7,7 +7,6 @@
 mod calling;
 mod counting;
 mod cuts;
-mod following;
 mod frame_history;
 mod frame_runs;
 mod lasting;
@@ -30,8 +29,6 @@ pub use frame_runs::{FrameRun, FrameRuns};
 pub use latched::Latched;
 pub use long_counts::LongCounts;
 pub use reach::{reach_decides, times_are_in_reach};
-pub use readiness::cut_in;
 pub use row::Row;
 pub use sample::{Look, Sample};
-pub use shown::Shown;
 pub use window::{Seen, Window};

@@ -14,7 +14,6 @@ ghost use Rattle.sig_tables.specs.Modes.{stage_of};
 ghost use Rattle.sig_tables.specs.Past.{Moment};
 ghost use Rattle.sig_tables.specs.Looking.{last_on, latest_on};
 ghost use Rattle.sig_tables.specs.Preempts.{has_lasted, has_been_on};
-ghost use Rattle.sig_tables.specs.Command.{is_backed_up};
 ghost use Rattle.look_back.specs.Rows.{RowSteps, StagesStep, no_row};
 ghost use Rattle.look_back.specs.LastOn.{on_after, latest_after};
 
@@ -30,8 +29,6 @@ pub struct LongCounts {
     stages: Row,
     /// For how many last ticks in a row each preempt input was on.
     inputs: [Row; 8],
-    /// For how many last ticks in a row no pattern was commanded.
-    uncommanded: Row,
     /// The phase that was last on in each ring since start-up, and a phase of the latest frame since it that has one on.
     last_on: [u8; 2],
     latest_on: u8,
@@ -105,24 +102,21 @@ impl LongCounts {
             stage: 0,
             stages: Row::new(),
             inputs: [Row::new(); 8],
-            uncommanded: Row::new(),
             last_on: [0; 2],
             latest_on: 0,
         }
     }
 
-    /// One more frame, the preempt inputs that were on at its tick, 1 to 8 in a set as phases are, and whether a pattern was
-    /// commanded since the frame before.
-    pub fn step(&mut self, shown: &Frame, preempts: PhaseSet, is_commanded: bool)
+    /// One more frame, and the preempt inputs that were on at its tick, 1 to 8 in a set as phases are.
+    pub fn step(&mut self, shown: &Frame, preempts: PhaseSet)
         ensures { (past : List Moment) (m : Moment) → LongCountsStands self.old past → m.frame ≡ shown.now
-            → ((i : ℕ) → 0 < i → i ≤ 8 → has preempts i ≡ is_in m.preempts i) → is_commanded ≡ m.is_commanded
+            → ((i : ℕ) → 0 < i → i ≤ 8 → has preempts i ≡ is_in m.preempts i)
             → LongCountsStands self.new (m ∷ past) }
     {
         let stage = stage_of(shown.mode);
         self.stages = stages_after(self.stages, stage == self.stage);
         self.stage = stage;
         step_inputs(&mut self.inputs, preempts);
-        self.uncommanded = self.uncommanded.step(!is_commanded);
         let starts = is_start(shown.mode);
         let [first, second] = shown.on;
         self.latest_on = latest_after(self.latest_on, starts, first, second);
@@ -140,7 +134,6 @@ impl LongCounts {
     {
         self.stages = self.stages.more(ticks);
         self.inputs = [Row::new(); 8];
-        self.uncommanded = self.uncommanded.more(ticks);
     }
 
     /// Whether a preempt has been served for its least time, of so many seconds.
@@ -164,19 +157,6 @@ impl LongCounts {
             → result ≡ has_been_on ticks number inputs past }
     {
         self.inputs[number as usize - 1].lasts_now(ticks, on)
-    }
-
-    /// Whether the backup time, of so many seconds, has passed since a pattern was commanded.
-    pub fn is_backed_up(&self, seconds: u16, is_commanded: bool) -> bool
-        ensures { (t : Tables) (past : List Moment) → LongCountsStands self.now past → seconds ≡ t.unit.backup
-            → result ≡ is_backed_up t is_commanded past }
-    {
-        if seconds == 0 {
-            false
-        } else {
-            self.uncommanded
-                .lasts_now(u32::from(seconds) * 10 - 1, !is_commanded)
-        }
     }
 
     /// The phase that was last on in a ring, 1 or 2, since start-up; 0 where there is none.

@@ -105,13 +105,6 @@ impl Window {
         self.kept.add_again(sample, ticks);
     }
 
-    /// What the last frame shows, as sets of phases.
-    pub fn shown(&self) -> Shown
-        ensures { (past : List Moment) → WindowStands self.now past → IsShown result (last_frame past).veh (last_frame past).ped }
-    {
-        self.kept.newest().shown
-    }
-
     /// For how many last frames in a row it was so, at most `most`.
     pub fn look(&self, look: Look, most: u32) -> u32
         requires phase { LooksAtPhase look }

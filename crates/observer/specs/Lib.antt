@@ -1,3 +1,4 @@
-pub mod Remembers
-pub mod Runs
-pub mod Passed
+pub mod LookingBack
+pub mod Inputs
+pub mod Told
+pub mod ObserverStands

@@ -1,66 +1,30 @@
-//! The frame due at a tick of a cabinet, by looking back over the frames that were seen of it and what it was told: a second
-//! way to the frame that a controller's registers give. Only the check of a trace takes it.
+//! The observer of a cabinet: the engine over a memory that looks back over the frames that were seen of it. It keeps no clock and
+//! no register; only the check of a trace takes it.
 #![tactic(auto)]
 
-ghost use Rattle.std.specs.Prelude.{◌≡◌, ◌<◌, ◌≤◌, ◌+◌, ◌==◌, ◌∷◌, [], if◌then◌else◌, ℕ, IfOk};
-ghost use Rattle.sig_types.specs.PhaseSet.{has};
-ghost use Rattle.sig_tables.specs.declared.tables.Tables.{Tables};
-ghost use Rattle.sig_tables.specs.Past.{first_moment};
+ghost use Rattle.std.specs.Prelude.{◌≡◌, ◌==◌, ◌<◌, ◌≤◌, if◌then◌else◌, ℕ, ◌∷◌, [], IfOk};
 ghost use Rattle.look_back.specs.FrameHistories.{LooksOver};
+ghost use Rattle.sig_types.specs.PhaseSet.{has};
+ghost use Rattle.call_store.specs.Signals.{lesser_of};
+ghost use Rattle.look_back.specs.Cuts.{lesser_of as cut_of};
 
-use look_back::{FrameHistory, Seen};
-use sig_tables::{Shown, Tables};
-use sig_types::{Field, Frame, NoMemory, PhaseSet, Request};
+use coord_count::Count;
+use engine::{Engine, Memory, Same};
+use look_back::{Cut, FrameHistory, Seen};
+use sig_tables::{Tables, time_of};
+use sig_types::{Colour, Frame, Mode, NoMemory, Ped, PhaseSet};
 use std::alloc::Global;
-use tick_context::{TickContext, first_frame, is_flash};
+use tick_context::{TickContext, TickInputs, TickState, first_frame};
 
-mod framing;
-mod keeping;
-mod lasting;
-mod moving;
-mod passing;
-mod reasons;
-mod tick_inputs;
-mod tick_state;
-mod ticking;
-mod walking;
-
-/// What was told to a cabinet, and what was seen of it.
+/// What was seen of a cabinet, and the preempt inputs that are on.
 #[derive(Drop)]
-pub struct Observer {
-    /// The tables in force, the last frame, and what was told.
-    context: TickContext,
-    /// The preempts, 1 to 8 in a set as phases are, whose input is on.
-    inputs: PhaseSet,
-    /// Whether a pattern was commanded since the last frame.
-    commanded: bool,
+pub struct LookingBack {
     /// All that was seen.
     frame_history: FrameHistory,
-}
-
-/// The frame history of the moment before any tick.
-fn first_frame_history(alloc: Global, tables: &Tables) -> Result<FrameHistory, NoMemory>
-    ensures { IfOk result (λ frame_history. LooksOver frame_history (first_moment tables.now ∷ [])) }
-{
-    match FrameHistory::open(alloc) {
-        Ok(frame_history) => Ok(with_first(frame_history, tables)),
-        Err(refused) => Err(refused),
-    }
-}
-
-/// The frame history of no frame, with that before any tick.
-fn with_first(frame_history: FrameHistory, tables: &Tables) -> FrameHistory
-    requires { LooksOver frame_history [] }
-    ensures { LooksOver result (first_moment tables.now ∷ []) }
-{
-    let mut frame_history = frame_history;
-    let seen = Seen {
-        frame: first_frame(),
-        active: PhaseSet::empty(),
-        opposed: PhaseSet::empty(),
-    };
-    frame_history.push(&seen, tables, PhaseSet::empty(), false);
-    frame_history
+    /// The preempts, 1 to 8 in a set as phases are, whose input is on.
+    inputs: PhaseSet,
+    /// The number of frames that were seen.
+    frames: u32,
 }
 
 /// The preempts whose input is on, after that of one, 1 to 8, has turned on or off.
@@ -73,157 +37,251 @@ fn turned(inputs: PhaseSet, number: u8, on: bool) -> PhaseSet
     inputs.minus(lone).with_if(number, on)
 }
 
-impl Observer {
-    ghost use Rattle.sig_tables.specs.Past.{History, Input, Install, SetPattern, SetClock, SetDrift, Ask, Cancel};
-    ghost use Rattle.sig_tables.specs.Decide.{opening, with_one, last_frame_of, past_at};
-    ghost use Rattle.sig_tables.specs.Showing.{ShownAfter};
-    ghost use Rattle.tick_context.specs.Modes.{is_flash};
-    ghost use Rattle.tick_context.specs.CanRun.{CanRun, NamesPlace};
-    ghost use Rattle.observer.specs.Remembers.{ObserverStands, tick_count, install_count};
+/// Lesser times as a cut.
+fn cut_to(lesser: Option<(u32, u32)>) -> Option<Cut>
+    ensures { cut_of result ≡ lesser_of lesser }
+{
+    match lesser {
+        None => None,
+        Some((walk, clear)) => Some(Cut { walk, clear }),
+    }
+}
 
-    /// Of a cabinet that is opened with these tables, in Start, with a pattern in command, 0 to 255 (254 and those that are
-    /// not defined run free, 255 flashes), and a clock in ticks of the day. The tables' limits of adding and subtracting
-    /// are at least one tick, as those of consistent tables are.
-    pub fn open(
-        alloc: Global,
-        tables: Tables,
-        command: u8,
-        clock: u32,
-    ) -> Result<Observer, NoMemory>
-        requires tables { CanRun tables }
-        requires of_day { clock < 864000 }
-        ensures stands { IfOk result (λ observer. ObserverStands observer (opening tables command clock)) }
-        ensures ticks { IfOk result (λ observer. tick_count observer ≡ 0) }
-        ensures installs { IfOk result (λ observer. install_count observer ≡ 0) }
+impl LookingBack {
+    ghost use Rattle.sig_tables.specs.Decide.{past_at, opening};
+    ghost use Rattle.observer.specs.LookingBack.{SeesBack, frames};
+
+    /// Of the moment before any tick of a cabinet that is opened with these tables.
+    fn open(alloc: Global, tables: &Tables) -> Result<LookingBack, NoMemory>
+        ensures stands { IfOk result (λ m. (command clock : ℕ) → SeesBack m (past_at (opening tables.now command clock))) }
+        ensures frames { IfOk result (λ m. frames m ≡ 0) }
     {
-        match first_frame_history(alloc, &tables) {
-            Ok(frame_history) => Ok(Observer::over(frame_history, tables, command, clock)),
+        match FrameHistory::open(alloc) {
+            Ok(frame_history) => Ok(LookingBack::over(frame_history, tables)),
             Err(refused) => Err(refused),
         }
     }
 
-    /// The same with a frame history of the moment before any tick.
-    fn over(frame_history: FrameHistory, tables: Tables, command: u8, clock: u32) -> Observer
-        requires tables { CanRun tables }
-        requires of_day { clock < 864000 }
-        requires frame_history { LooksOver frame_history (first_moment tables ∷ []) }
-        ensures stands { ObserverStands result (opening tables command clock) }
-        ensures ticks { tick_count result ≡ 0 }
-        ensures installs { install_count result ≡ 0 }
+    /// The same with a frame history of no frame.
+    fn over(frame_history: FrameHistory, tables: &Tables) -> LookingBack
+        requires frame_history { LooksOver frame_history [] }
+        ensures stands { (command clock : ℕ) → SeesBack result (past_at (opening tables.now command clock)) }
+        ensures frames { frames result ≡ 0 }
     {
-        Observer {
-            context: TickContext::open(tables, command, clock),
-            inputs: PhaseSet::empty(),
-            commanded: true,
+        let mut frame_history = frame_history;
+        let seen = Seen {
+            frame: first_frame(),
+            active: PhaseSet::empty(),
+            opposed: PhaseSet::empty(),
+        };
+        frame_history.push(&seen, tables, PhaseSet::empty());
+        LookingBack {
             frame_history,
+            inputs: PhaseSet::empty(),
+            frames: 0,
+        }
+    }
+}
+
+impl Memory for LookingBack {
+    ghost use Rattle.observer.specs.LookingBack.{SeesBack, always, frames as frame_count};
+    ghost use Rattle.observer.specs.Told.{told_leaves, installed_leaves};
+
+    ghost remembers = { SeesBack };
+
+    ghost frames = { frame_count };
+
+    ghost ready = { always };
+
+    fn runs_on(&self, context: &TickContext, phase: u8) -> Colour {
+        self.frame_history.runs_on(
+            &context.tables,
+            phase,
+            context.frame.veh[phase as usize - 1],
+        )
+    }
+
+    fn signal_on(&self, context: &TickContext, phase: u8, lesser: Option<(u32, u32)>) -> Ped {
+        let shown = context.frame.ped[phase as usize - 1];
+        self.frame_history
+            .signal_runs_on(&context.tables, phase, shown, cut_to(lesser))
+    }
+
+    fn is_startable(&self, context: &TickContext, phase: u8) -> bool {
+        self.frame_history
+            .window()
+            .has_reverted(&context.tables, phase)
+    }
+
+    fn is_served(&self, context: &TickContext, phase: u8) -> bool {
+        let place = phase as usize - 1;
+        let shown = context.frame.veh[place];
+        self.frame_history
+            .is_served(&context.tables, phase, shown, context.frame.ped[place])
+    }
+
+    fn is_cleared(&self, context: &TickContext, tick_state: &TickState, phase: u8) -> bool {
+        let shown = context.frame.ped[phase as usize - 1];
+        self.frame_history
+            .is_cleared(&context.tables, tick_state.mode, phase, shown)
+    }
+
+    fn has_gap(&self, context: &TickContext, phase: u8) -> bool {
+        self.frame_history.window().gap_left(&context.tables, phase) == 0
+    }
+
+    fn has_maximum(&self, context: &TickContext, phase: u8, opposed: bool) -> bool {
+        self.frame_history
+            .window()
+            .has_maximum(&context.tables, phase, opposed)
+    }
+
+    fn has_filled(&self, context: &TickContext, tick_state: &TickState, phase: u8) -> bool {
+        let Mode::Coord(pattern) = tick_state.mode else {
+            return false;
+        };
+        if context.tables.unit().force_mode != 2 {
+            return false;
+        }
+        let split = time_of(context.tables.entries(pattern), phase);
+        let least = split.saturating_sub(context.tables.clearance(phase));
+        self.frame_history.window().run(phase, Colour::Green, least) >= least
+    }
+
+    fn colour_left(&self, context: &TickContext, phase: u8) -> u32 {
+        match context.frame.veh[phase as usize - 1] {
+            Colour::Green => u32::MAX,
+            Colour::Red => u32::MAX,
+            Colour::Yellow => self.frame_history.colour_left(phase, Colour::Yellow),
+            Colour::Clear => self.frame_history.colour_left(phase, Colour::Clear),
         }
     }
 
-    /// An input from the street: a detector or a push button of a phase, 1 to 16, or the input of a preempt, 1 to 8. The
-    /// frames show what comes of it from the next tick on.
-    pub fn input(&mut self, field: Field)
-        requires place { NamesPlace field }
-        ensures stands { (h : History) → ObserverStands self.old h → ObserverStands self.new (with_one h (Input field)) }
-        ensures counted { tick_count self.new ≡ tick_count self.old }
-        ensures installs { install_count self.new ≡ install_count self.old }
-    {
-        self.context.input(field);
-        match field {
-            Field::Veh { .. } => {}
-            Field::Ped { .. } => {}
-            Field::Preempt { number, on } => self.inputs = turned(self.inputs, number, on),
+    fn signal_left(&self, context: &TickContext, phase: u8) -> u32 {
+        match context.frame.ped[phase as usize - 1] {
+            Ped::Dont => u32::MAX,
+            Ped::Walk => self.frame_history.signal_left(phase, Ped::Walk),
+            Ped::Flash => self.frame_history.signal_left(phase, Ped::Flash),
         }
     }
 
-    /// Tables that a download puts in force: at once, and the next tick runs by them. Their limits of adding and
-    /// subtracting are at least one tick.
-    pub fn install(&mut self, tables: Tables)
-        requires tables { CanRun tables }
-        requires few { install_count self.old < 4294967295 }
-        ensures stands { (h : History) → ObserverStands self.old h → ObserverStands self.new (with_one h (Install tables)) }
-        ensures counted { tick_count self.new ≡ tick_count self.old }
-        ensures installs { install_count self.new ≡ install_count self.old + 1 }
-    {
-        self.context.install(tables);
+    fn least_left(&self, phase: u8) -> u32 {
+        self.frame_history.colour_left(phase, Colour::Green)
     }
 
-    /// Commands a pattern, 0 to 255; it counts from the next tick on, and of several between two ticks the last one does.
-    pub fn pattern(&mut self, command: u8)
-        ensures stands { (h : History) → ObserverStands self.old h → ObserverStands self.new (with_one h (SetPattern command)) }
-        ensures counted { tick_count self.new ≡ tick_count self.old }
-        ensures installs { install_count self.new ≡ install_count self.old }
-    {
-        self.context.pattern(command);
-        self.commanded = true;
+    fn gap_left(&self, context: &TickContext, phase: u8) -> u32 {
+        self.frame_history.window().gap_left(&context.tables, phase)
     }
 
-    /// Sets the clock, in ticks of the day.
-    pub fn clock(&mut self, time: u32)
-        requires of_day { time < 864000 }
-        ensures stands { (h : History) → ObserverStands self.old h → ObserverStands self.new (with_one h (SetClock time)) }
-        ensures counted { tick_count self.new ≡ tick_count self.old }
-        ensures installs { install_count self.new ≡ install_count self.old }
-    {
-        self.context.set_clock(time);
+    fn maximum_left(&self, context: &TickContext, phase: u8, opposed: bool) -> u32 {
+        if context.tables.phase(phase).maximum == 0 {
+            0
+        } else if opposed {
+            self.frame_history
+                .window()
+                .maximum_left(&context.tables, phase)
+        } else {
+            u32::MAX
+        }
     }
 
-    /// Sets the drift of the clock: after how many ticks each time it gains one more, and after how many it loses one; 0
-    /// for never.
-    pub fn drift(&mut self, gain: u32, lose: u32)
-        ensures stands { (h : History) → ObserverStands self.old h → ObserverStands self.new (with_one h (SetDrift gain lose)) }
-        ensures counted { tick_count self.new ≡ tick_count self.old }
-        ensures installs { install_count self.new ≡ install_count self.old }
-    {
-        self.context.drift(gain, lose);
+    fn last_on(&self) -> [u8; 2] {
+        let long_counts = self.frame_history.long_counts();
+        [long_counts.last_on(1), long_counts.last_on(2)]
     }
 
-    /// A priority request (NTCIP 1211), whose number is 1 to 10. It replaces the one of its number.
-    pub fn request(&mut self, request: Request)
-        requires above { 0 < request.number }
-        requires within { request.number ≤ 10 }
-        ensures stands { (h : History) → ObserverStands self.old h → ObserverStands self.new (with_one h (Ask request)) }
-        ensures counted { tick_count self.new ≡ tick_count self.old }
-        ensures installs { install_count self.new ≡ install_count self.old }
-    {
-        self.context.request(request);
+    fn latest_on(&self) -> u8 {
+        self.frame_history.long_counts().latest_on()
     }
 
-    /// Cancels the priority request of a number, 1 to 10.
-    pub fn cancel(&mut self, number: u8)
-        requires above { 0 < number }
-        requires within { number ≤ 10 }
-        ensures stands { (h : History) → ObserverStands self.old h → ObserverStands self.new (with_one h (Cancel number)) }
-        ensures counted { tick_count self.new ≡ tick_count self.old }
-        ensures installs { install_count self.new ≡ install_count self.old }
-    {
-        self.context.cancel(number);
+    fn start_run(&self) -> u32 {
+        self.frame_history.start_run()
     }
 
-    /// The tables in force.
-    pub fn tables(&self) -> &Tables
-        ensures tables { (h : History) → ObserverStands self.now h → result.now ≡ (past_at h).tables }
-    {
-        &self.context.tables
+    fn stage(&self, context: &TickContext) -> Option<Mode> {
+        self.frame_history
+            .stage(&context.tables, &context.frame, self.inputs)
     }
 
-    /// The last frame; before any tick, that of Start.
-    pub fn frame(&self) -> Frame
-        ensures frame { (h : History) → ObserverStands self.now h → result ≡ last_frame_of h }
-    {
-        self.context.frame
+    fn is_beside(&self) -> bool {
+        self.inputs.is_empty()
     }
 
-    /// Whether the cabinet flashes: its last frame is in Flash.
-    pub fn flashing(&self) -> bool
-        ensures flashing { (h : History) → ObserverStands self.now h → result ≡ is_flash (last_frame_of h).mode }
-    {
-        is_flash(self.context.frame.mode)
+    fn count(&self) -> Count {
+        self.frame_history.counting().count()
     }
 
-    /// What the cabinet shows to management software.
-    pub fn shown(&self) -> Shown
-        ensures shown { (h : History) → ObserverStands self.now h → ShownAfter result (past_at h) }
-    {
-        self.context.shown()
+    fn is_ready(&self, context: &TickContext, tick_inputs: &TickInputs) -> bool {
+        true
+    }
+
+    fn input(&mut self, number: u8, on: bool) {
+        self.inputs = turned(self.inputs, number, on);
+    }
+
+    fn keep(
+        &mut self,
+        context: &TickContext,
+        tick_state: &TickState,
+        tick_inputs: &TickInputs,
+        frame: &Frame,
+        same: Same,
+    ) {
+        let seen = Seen {
+            frame: *frame,
+            active: tick_inputs.active,
+            opposed: tick_inputs.opposed,
+        };
+        self.frame_history.push(&seen, &context.tables, self.inputs);
+        self.frames += 1;
+    }
+
+    fn again(&mut self, context: &TickContext, active: PhaseSet, opposed: PhaseSet) {
+        let seen = Seen {
+            frame: context.frame,
+            active,
+            opposed,
+        };
+        self.frame_history.push(&seen, &context.tables, self.inputs);
+        self.frames += 1;
+    }
+
+    fn pass(&mut self, context: &TickContext, tick_inputs: &TickInputs, ticks: u32) {
+        self.frame_history
+            .push_again(tick_inputs.active, tick_inputs.opposed, ticks);
+        self.frames += ticks;
+    }
+
+    ghost told = { told_leaves };
+
+    ghost installed = { installed_leaves };
+}
+
+/// The observer of a cabinet: the engine over a memory that looks back.
+pub type Observer = Engine<LookingBack>;
+
+ghost use Rattle.sig_tables.specs.declared.tables.Tables.{Tables};
+ghost use Rattle.sig_tables.specs.Decide.{opening};
+ghost use Rattle.tick_context.specs.CanRun.{CanRun};
+ghost use Rattle.observer.specs.ObserverStands.{ObserverStands, tick_count, install_count};
+
+/// The observer of a cabinet that is opened with these tables, in Start, with a pattern in command, 0 to 255 (254 and those that
+/// are not defined run free, 255 flashes), and a clock in ticks of the day. The tables' limits of adding and subtracting are at
+/// least one tick, as those of consistent tables are.
+pub fn open(
+    alloc: Global,
+    tables: sig_tables::Tables,
+    command: u8,
+    clock: u32,
+) -> Result<Observer, NoMemory>
+    requires tables { CanRun tables }
+    requires of_day { clock < 864000 }
+    ensures stands { IfOk result (λ observer. ObserverStands observer (opening tables command clock)) }
+    ensures ticks { IfOk result (λ observer. tick_count observer ≡ 0) }
+    ensures installs { IfOk result (λ observer. install_count observer ≡ 0) }
+{
+    match LookingBack::open(alloc, &tables) {
+        Ok(memory) => Ok(Engine::over(memory, tables, command, clock)),
+        Err(refused) => Err(refused),
     }
 }

@@ -1,7 +1,7 @@
-use Rattle.std.proofs.Common.{◌≤◌, length, ◌==◌, not, refl, sym, ◌∙◌, ap, arith}
+use Rattle.std.proofs.Common.{◌≤◌, length, ◌==◌, refl, sym, ◌∙◌, ap, arith}
 use Rattle.sig_types.specs.declared.frame.Mode.{Mode}
 use Rattle.sig_tables.specs.Modes.{stage_of}
-use Rattle.look_back.proofs.Again.{last-shows, last-on-all, latest-on-all, all-in-stage, all-uncommanded, inputs-off}
+use Rattle.look_back.proofs.Again.{last-shows, last-on-all, latest-on-all, all-in-stage, inputs-off}
 use Rattle.look_back.proofs.long_counts.LongCounts.step_again.Goals as goal
 
 pub returns : goal.returns
@@ -12,7 +12,6 @@ returns c = λ active pressed past ms stands few all.
       stages = c.more-self.ensures (λ m. stage_of m.frame.mode == c.args.self.now.stage) past ms stands.stages few
           (all-in-stage active pressed ms past c.args.self.now.stage stands.stage all);
       inputs = inputs-off active pressed ms past _ c.new-self.result refl some all c.new-self.ensures;
-      uncommanded = c.more-self-2.ensures (λ m. not m.is_commanded) past ms stands.uncommanded few (all-uncommanded active pressed ms past all);
       first = stands.first ∙ sym (last-on-all 1 active pressed ms past all);
       second = stands.second ∙ sym (last-on-all 2 active pressed ms past all);
       latest = stands.latest ∙ sym (latest-on-all active pressed ms past all);

@@ -1,6 +1,0 @@
-use Rattle.std.proofs.Common.{sym, ◌∙◌}
-use Rattle.tick_context.proofs.Again.{no-preempts}
-use Rattle.controller.proofs.Controller.is_beside.Goals as goal
-
-pub returns : goal.returns
-returns c = λ past k t. sym (c.on.ensures.preempts past k.preempts) ∙ no-preempts c.on.result (c.is_empty.ensures.empty.0 t)

@@ -1,5 +1,0 @@
-use Rattle.sig_tables.specs.Decide.{past_at}
-use Rattle.controller.proofs.Controller.shown.Goals as goal
-
-pub returns : goal.returns
-returns c = record { shown = λ h k. c.shown.ensures.shown (past_at h) k.context }

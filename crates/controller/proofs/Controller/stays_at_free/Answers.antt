@@ -1,9 +1,0 @@
-use Rattle.std.proofs.Common.{None}
-use Rattle.sig_types.specs.Phases.{is_in}
-use Rattle.tick_context.specs.Lasting.{opposed_with}
-use Rattle.controller.proofs.Controller.stays_at_free.Goals as goal
-
-pub returns-then-is_left_free : goal.returns-then-is_left_free
-returns-then-is_left_free c = λ past k fresh o t.
-    c.is_left_free.ensures.free past k.context fresh c.if-is_left_free.true
-    (λ p h. c.is_uncalled.ensures.walks past (is_in (opposed_with None past)) p k o t h)

@@ -1,0 +1,28 @@
+use Rattle.std.proofs.Common.{◌≡◌, ℕ, true, sym, ◌∙◌}
+use Rattle.std.proofs.lemmas.Bool.{false≢true}
+use Rattle.sig_types.specs.Phases.{is_phase}
+use Rattle.sig_types.specs.Colour.{signal_of}
+use Rattle.sig_tables.specs.Seen.{frame_seen}
+use Rattle.tick_context.specs.Walks.{signal_seen}
+use Rattle.engine.proofs.Alone.{of-two}
+use Rattle.sig_types.proofs.Sets.{empty-has}
+use Rattle.engine.proofs.Engine.all_walk_on.Goals as goal
+
+pub returns-then-is_empty : goal.returns-then-is_empty
+returns-then-is_empty g c = record {
+  stays = λ past p k mode t h signals.
+      absurd (false≢true (sym (empty-has c.args.self.now.signalling p h (c.is_empty.ensures.empty.0 c.if-is_empty.true))
+      ∙ (k.signalling p h ∙ signals)));
+}
+
+pub returns-then-walks_on : goal.returns-then-walks_on
+returns-then-walks_on g c = record {
+  stays = λ past p k mode t h signals.
+      of-two (λ (q : ℕ). is_phase q ≡ true → signal_seen past q ≡ signal_of (frame_seen past) q)
+      c.args.self.now.signalling c.of.result c.of-2.result c.minus.result c.minus-2.result _ _ p h
+      c.of.ensures c.of-2.ensures c.minus.ensures.has c.minus-2.ensures.has
+      (empty-has c.minus-2.result p h (c.is_empty-2.ensures.empty.0 c.if-is_empty-2.true))
+      (k.signalling p h ∙ signals)
+      (c.walks_on.ensures.stays past k mode c.if-walks_on.true)
+      (c.walks_on-then-walks_on.ensures.stays past k mode t) h;
+}

@@ -1,0 +1,14 @@
+-- The frame that a tick gives, and what of the last frame stays in it.
+use Rattle.std.specs.Prelude.{◌≡◌, true}
+use Rattle.sig_tables.specs.Past.{Past}
+use Rattle.sig_tables.specs.Decide.{next_moment}
+use Rattle.sig_tables.specs.Seen.{frame_seen}
+use Rattle.engine.specs.declared.colouring.Next.{Next}
+use Rattle.engine.specs.Shows.{ShowsColours}
+
+-- the frame is the one that comes, the sets are those of its colours, and what is said to be kept is that of the last frame
+pub record Comes (n : Next) (past : Past) : Type 0 where
+  pub frame : n.frame ≡ (next_moment past).frame
+  pub shown : ShowsColours n.shown n.frame.veh
+  pub colours : n.keeps_colours ≡ true → n.frame.veh ≡ (frame_seen past).veh
+  pub signals : n.keeps_signals ≡ true → n.frame.ped ≡ (frame_seen past).ped

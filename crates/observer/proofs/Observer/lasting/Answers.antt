@@ -1,6 +1,0 @@
-use Rattle.std.proofs.Common.{arith}
-use Rattle.observer.proofs.Observer.lasting.Goals as goal
-
-pub returns-clause-lasts : goal.returns-clause-lasts
-returns-clause-lasts c = λ past k bound fresh beside looks some.
-    c.all_left-left.ensures.lasts past c.even.result k bound fresh (c.even.ensures.even some) beside looks some (omega (arith, c.even.ensures.within))
