@@ -80,18 +80,6 @@ pub record IsTickedTo (many rest : ℕ) (old now : Book) : Type 0 where
   pub others : (pass : ℕ) → pass < 4 → left_of now pass ≡ left_of old pass
   pub by_end : ticks_by_end now ≡ ticks_by_end old
 
-pub ticked-none : (many : ℕ) (b : Book) → many ≤ left_of b 4 → IsTickedTo many many b b
-ticked-none many b within = record {
-  stands = λ cabinet_history stood. stood;
-  streams = refl;
-  acts = refl;
-  one = λ one. one;
-  own = refl;
-  within = within;
-  others = λ pass low. refl;
-  by_end = refl;
-}
-
 -- some of the rest more
 pub ticked-more : (many rest some : ℕ) (old now new : Book) → some ≤ rest → ((cabinet_history : CabinetHistory) → BookStands now cabinet_history → BookStands new cabinet_history)
     → streams_in new ≡ streams_in now → journal_of new ≡ journal_of now ++ replicate some 4 → acts_in new ≡ acts_in now ++ tick_acts 4 some
@@ -114,17 +102,6 @@ ticked-more many rest some old now new few stands streams journal acts own other
       others = λ pass low. others pass (λ e. omega (arith, e, low)) ∙ so.others pass low;
       by_end = by_end ∙ so.by_end;
     }
-
-pub ticked-whole : (many rest : ℕ) (old now : Book) → rest ≡ 0 → IsTickedTo many rest old now → IsTicked many old now
-ticked-whole many rest old now none so = record {
-  stands = so.stands;
-  streams = so.streams;
-  acts = sym (append-nil (acts_in now)) ∙ ap (λ (n : ℕ). acts_in now ++ tick_acts 4 n) (sym none) ∙ so.acts;
-  one = so.one;
-  own = omega (arith, so.own, none);
-  others = so.others;
-  by_end = so.by_end;
-}
 
 module _ (s : ScenarioContent) (cab : ℕ) (t : CabinetState) (steps : List Step) (many : ℕ) (old new : Book) (was : HasComeBy s cab t steps old)
     (is : IsTicked many old new) where

@@ -9,17 +9,17 @@ ghost use Rattle.safety_laws.specs.TraceText.{lines_text};
 ghost use Rattle.cabinet_history.specs.Journals.{runs_of};
 ghost use Rattle.cab_book.specs.Books.{journal_of};
 ghost use Rattle.cab_book.specs.Happenings.{replies_in};
-ghost use Rattle.run_definition.specs.Lines.{shown_line, frame_lines, load_lines, reply_lines};
-ghost use Rattle.round_run.specs.Lines.{answer_lines};
+ghost use Rattle.run_definition.specs.Lines.{shown_line, frame_lines, reply_lines};
 ghost use Rattle.session_laws.specs.Dialogue.{dot, answer_text};
 ghost use Rattle.session_laws.specs.Answers.{NotTaken};
 
+use crate::appender::Appender;
 use cab_book::{Answered, Book};
-use cabinet_history::{Load, Reply};
 use session_words::{Untaken, word_of};
 use sig_types::{Frame, MasterNote, NoMemory, Octets};
 use std::alloc::{AllocError, Global};
-use trace_text::{Line, Runs, hexadecimal, number, word, write_line};
+use trace_tell::{Teller, tell_frame, tell_frames, tell_notes, tell_replies};
+use trace_text::{Line, hexadecimal, number, word, write_line};
 
 /// Appends these bytes.
 fn put(out: &mut Vec<u8>, bytes: &[u8]) -> Result<(), NoMemory>
@@ -39,61 +39,6 @@ pub fn put_line(alloc: Global, out: &mut Vec<u8>, line: &Line) -> Result<(), NoM
     put(out, text.as_slice())
 }
 
-/// Appends the line of what a cabinet shows after so many ticks.
-pub fn put_frame(
-    alloc: Global,
-    out: &mut Vec<u8>,
-    cab: u32,
-    tick: u32,
-    frame: &Frame,
-) -> Result<(), NoMemory>
-    ensures { OnOk result (out.new.items ≡ out.old.items ++ line_text (shown_line cab tick frame.now)) }
-{
-    let line = Line::F {
-        cab,
-        tick,
-        veh: frame.veh,
-        ped: frame.ped,
-        mode: frame.mode,
-        counter: frame.counter,
-        target: frame.target,
-        version: frame.version,
-    };
-    put_line(alloc, out, &line)
-}
-
-/// Appends the lines of frames with the numbers of their ticks.
-pub fn put_frames(
-    alloc: Global,
-    out: &mut Vec<u8>,
-    cab: u32,
-    frames: &[(u32, Frame)],
-) -> Result<(), NoMemory>
-    ensures { OnOk result (out.new.items ≡ out.old.items ++ lines_text (frame_lines cab frames.now)) }
-{
-    for shown in frames {
-        put_frame(alloc, out, cab, shown.0, &shown.1)?;
-    }
-    Ok(())
-}
-
-/// Appends the line of the end of a download, where a frame brought one.
-fn put_load(alloc: Global, out: &mut Vec<u8>, cab: u32, load: &Option<Load>) -> Result<(), NoMemory>
-    ensures { OnOk result (out.new.items ≡ out.old.items ++ lines_text (load_lines cab load.now)) }
-{
-    match load {
-        None => Ok(()),
-        Some(load) => {
-            let line = Line::L {
-                cab,
-                id: load.id,
-                result: load.result,
-            };
-            put_line(alloc, out, &line)
-        }
-    }
-}
-
 /// Puts a space, and the octets of an answer in hexadecimal; `-` where the cabinet was silent.
 fn put_octets(alloc: Global, out: &mut Vec<u8>, text: &Option<Octets>) -> Result<(), AllocError>
     ensures { OnOk result (out.new.items ≡ out.old.items ++ 32 ∷ reply_text text.now) }
@@ -109,33 +54,70 @@ fn put_octets(alloc: Global, out: &mut Vec<u8>, text: &Option<Octets>) -> Result
 
 /// Puts the line of an answer or of silence, word by word, so that the octets are not copied into a line first.
 #[tactic(auto, using(trace_text::proofs::Endings::endings), unfolding(trace_text::specs::Line::line_text))]
-fn put_words(alloc: Global, out: &mut Vec<u8>, cab: u32, reply: &Reply) -> Result<(), AllocError>
-    ensures { OnOk result (out.new.items ≡ out.old.items ++ line_text (LineRow.A cab reply.now.pass reply.now.text)) }
+fn put_words(
+    alloc: Global,
+    out: &mut Vec<u8>,
+    cab: u32,
+    pass: u32,
+    octets: &Option<Octets>,
+) -> Result<(), AllocError>
+    ensures { OnOk result (out.new.items ≡ out.old.items ++ line_text (LineRow.A cab pass octets.now)) }
 {
     out.push(b'A')?;
     number(out, cab)?;
-    number(out, reply.pass)?;
-    put_octets(alloc, out, &reply.text)?;
+    number(out, pass)?;
+    put_octets(alloc, out, octets)?;
     out.push(b'\n')?;
     Ok(())
 }
 
 /// Appends the line of an answer or of silence.
-fn put_answer(alloc: Global, out: &mut Vec<u8>, cab: u32, reply: &Reply) -> Result<(), NoMemory>
-    ensures { OnOk result (out.new.items ≡ out.old.items ++ line_text (LineRow.A cab reply.now.pass reply.now.text)) }
+pub fn put_answer(
+    alloc: Global,
+    out: &mut Vec<u8>,
+    cab: u32,
+    pass: u32,
+    octets: &Option<Octets>,
+) -> Result<(), NoMemory>
+    ensures { OnOk result (out.new.items ≡ out.old.items ++ line_text (LineRow.A cab pass octets.now)) }
 {
-    match put_words(alloc, out, cab, reply) {
+    match put_words(alloc, out, cab, pass, octets) {
         Ok(()) => Ok(()),
         Err(_) => Err(NoMemory),
     }
 }
 
-/// Appends the lines of a reply: the end of a download, where the frame brought one, and then the answer or silence.
-fn put_reply(alloc: Global, out: &mut Vec<u8>, cab: u32, reply: &Reply) -> Result<(), NoMemory>
-    ensures { OnOk result (out.new.items ≡ out.old.items ++ lines_text (answer_lines cab reply.now)) }
+/// Appends the line of what a cabinet shows after so many ticks.
+pub fn put_frame(
+    alloc: Global,
+    out: &mut Vec<u8>,
+    cab: u32,
+    tick: u32,
+    frame: &Frame,
+) -> Result<(), NoMemory>
+    ensures { OnOk result (out.new.items ≡ out.old.items ++ line_text (shown_line cab tick frame.now)) }
 {
-    put_load(alloc, out, cab, &reply.load)?;
-    put_answer(alloc, out, cab, reply)
+    let mut appender = Appender { alloc, out };
+    match tell_frame(&mut appender, cab, tick, frame) {
+        Ok(()) => Ok(()),
+        Err(fail) => Err(fail),
+    }
+}
+
+/// Appends the lines of frames with the numbers of their ticks.
+pub fn put_frames(
+    alloc: Global,
+    out: &mut Vec<u8>,
+    cab: u32,
+    frames: &[(u32, Frame)],
+) -> Result<(), NoMemory>
+    ensures { OnOk result (out.new.items ≡ out.old.items ++ lines_text (frame_lines cab frames.now)) }
+{
+    let mut appender = Appender { alloc, out };
+    match tell_frames(&mut appender, cab, frames) {
+        Ok(()) => Ok(()),
+        Err(fail) => Err(fail),
+    }
 }
 
 /// Appends the lines of replies.
@@ -147,34 +129,33 @@ pub fn put_replies(
 ) -> Result<(), NoMemory>
     ensures { OnOk result (out.new.items ≡ out.old.items ++ lines_text (reply_lines cab (replies_in replies.now))) }
 {
-    for answered in replies {
-        put_reply(alloc, out, cab, &answered.reply)?;
+    let mut appender = Appender { alloc, out };
+    match tell_replies(&mut appender, cab, replies) {
+        Ok(()) => Ok(()),
+        Err(fail) => Err(fail),
     }
-    Ok(())
 }
 
 /// Appends the line of the journal of a book's round.
 pub fn put_journal(alloc: Global, out: &mut Vec<u8>, cab: u32, book: &Book) -> Result<(), NoMemory>
     ensures { OnOk result (out.new.items ≡ out.old.items ++ line_text (LineRow.J cab (runs_of (journal_of book.now)))) }
 {
-    let Ok(runs) = book.runs().to_vec(alloc) else {
-        return Err(NoMemory);
-    };
-    let line = Line::J {
-        cab,
-        runs: Runs::new(runs),
-    };
-    put_line(alloc, out, &line)
+    let mut appender = Appender { alloc, out };
+    match appender.tell_journal(cab, book.runs()) {
+        Ok(()) => Ok(()),
+        Err(fail) => Err(fail),
+    }
 }
 
 /// Appends the lines of the master's notes.
 pub fn put_notes(alloc: Global, out: &mut Vec<u8>, notes: &[MasterNote]) -> Result<(), NoMemory>
     ensures { OnOk result (out.new.items ≡ out.old.items ++ lines_text (map LineRow.M notes.now)) }
 {
-    for note in notes {
-        put_line(alloc, out, &Line::M { note: *note })?;
+    let mut appender = Appender { alloc, out };
+    match tell_notes(&mut appender, notes) {
+        Ok(()) => Ok(()),
+        Err(fail) => Err(fail),
     }
-    Ok(())
 }
 
 /// Appends the line that ends an answer.

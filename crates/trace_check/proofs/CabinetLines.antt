@@ -31,47 +31,9 @@ use Rattle.trace_check.specs.declared.faults.CheckFail.{CheckFail}
 use Rattle.trace_check.specs.declared.places.Place.{Place}
 use Rattle.trace_check.specs.Reading.{Leads, ReadsOn}
 use Rattle.trace_check.specs.Cabinets.{AreLeft, ReadsCabinet}
-use Rattle.trace_check.proofs.Walking.{leads-on, fails-on}
+use Rattle.trace_check.specs.Expecting.{fails-on}
+use Rattle.trace_check.proofs.Walking.{leads-on}
 use Rattle.trace_check.proofs.Taking.{said-text, texts-on}
-
--- lines and then others
-pub say-append : (xs ys : List Line) (rest : Script) → say (xs ++ ys) rest ≡ say xs (say ys rest)
-say-append [] ys rest = refl
-say-append (x ∷ xs) ys rest = ap (λ (more : Script). Says x more) (say-append xs ys rest)
-
--- the line of the next frame, and those behind it
-pub next-frame : (cab : ℕ) (frames : List (ℕ × Frame)) (i : ℕ) (d : ℕ × Frame) (rest : Script) → i < length frames
-    → say (frame_lines cab (drop i frames)) rest ≡ Says (shown_line cab (get_or frames i d).0 (get_or frames i d).1) (say (frame_lines cab (drop (i + 1) frames)) rest)
-next-frame cab frames i d rest below = at_drop_more (λ (xs : List (ℕ × Frame)). say (frame_lines cab xs) rest) frames i d below
-
--- the lines of a reply
-pub reply-said : (cab : ℕ) (r : Reply) (rest : Script) → say (answer_lines cab r) rest ≡ say (load_lines cab r.load) (Says (A cab r.pass r.text) rest)
-reply-said cab r rest = say-append (load_lines cab r.load) (A cab r.pass r.text ∷ []) rest
-
--- the frames before the next reply, the reply, and what is behind it
-pub next-reply : (cab first : ℕ) (frames : List (ℕ × Frame)) (replies : List Answered) (i : ℕ) (a : Answered) (rest : Script) → i < length replies → a ≡ get_or replies i a
-    → say (told_lines cab first frames (drop i replies)) rest
-    ≡ say (frame_lines cab (frames_between first a.behind frames)) (say (answer_lines cab a.reply) (say (told_lines cab a.behind frames (drop (i + 1) replies)) rest))
-next-reply cab first frames replies i a rest below is =
-    at_drop_more (λ (xs : List Answered). say (told_lines cab first frames xs) rest) replies i a below
-    ∙ ap (λ (x : Answered). say (told_lines cab first frames (x ∷ drop (i + 1) replies)) rest) (sym is)
-    ∙ say-append (frame_lines cab (frames_between first a.behind frames)) (answer_lines cab a.reply ++ told_lines cab a.behind frames (drop (i + 1) replies)) rest
-    ∙ ap (λ (more : Script). say (frame_lines cab (frames_between first a.behind frames)) more)
-    (say-append (answer_lines cab a.reply) (told_lines cab a.behind frames (drop (i + 1) replies)) rest)
-
--- replies in order stand behind no more frames than there are
-pub in-order-most : (before most : ℕ) (answered : List Answered) → AreInOrder before answered most → before ≤ most
-in-order-most before most [] order = order
-in-order-most before most (a ∷ answered) order =
-    let more : a.behind ≤ most = in-order-most a.behind most answered order.1 in
-    omega (arith, more, order.0)
-
-pub order-next : (first most : ℕ) (replies : List Answered) (i : ℕ) (a : Answered) → i < length replies → a ≡ get_or replies i a
-    → AreInOrder first (drop i replies) most → (first ≤ a.behind) × AreInOrder a.behind (drop (i + 1) replies) most
-order-next first most replies i a below is order =
-    let next : drop i replies ≡ a ∷ drop (i + 1) replies =
-    at_drop_more (λ (xs : List Answered). xs) replies i a below ∙ ap (λ (x : Answered). x ∷ drop (i + 1) replies) (sym is) in
-    rw next at order
 
 -- all items of a round that has just begun are left
 pub all-left : (s : ScenarioContent) (cab : ℕ) (t : CabinetState) (b : Book) → HasRun s cab t [] b → AreLeft b (coming_streams s cab t)

@@ -20,7 +20,8 @@ use Rattle.trace_check.specs.declared.places.Place.{Place}
 use Rattle.trace_check.specs.Reading.{Fails, Leads}
 use Rattle.trace_check.specs.Cabinets.{CabinetRead}
 use Rattle.trace_check.specs.Rounds.{CabinetsRead}
-use Rattle.trace_check.proofs.Walking.{leads-here, leads-on, fails-on}
+use Rattle.trace_check.specs.Expecting.{fails-on}
+use Rattle.trace_check.proofs.Walking.{leads-here, leads-on}
 use Rattle.trace_check.proofs.Taking.{said-text, texts-on, each-lines-append}
 
 -- a state in a list that has one at this place
@@ -213,11 +214,6 @@ ticks-more most now k was new within is same few = λ j b below. from j b below 
 pub head-due : (s : ScenarioContent) (round : ℕ) (ts : List CabinetState) (notes : List MasterNote) (rest : List CabinetState → Script) → map M notes ≡ notes_lines s 1 ts
     → round_script s round ts rest ≡ Says (R round) (say (map M notes) (cabinets_script s 1 [] ts rest))
 head-due s round ts notes rest same = ap (λ (lines : List Line). Says (R round) (say lines (cabinets_script s 1 [] ts rest))) (sym same)
-
--- the next note
-pub next-note : (notes : List MasterNote) (i : ℕ) (d : MasterNote) (rest : Script) → i < length notes
-    → say (map M (drop i notes)) rest ≡ Says (M (get_or notes i d)) (say (map M (drop (i + 1) notes)) rest)
-next-note notes i d rest below = at_drop_more (λ (xs : List MasterNote). say (map M xs) rest) notes i d below
 
 -- the text of a round: its head, and then its cabinets
 pub round-text : (s : ScenarioContent) (round : ℕ) (ts : List CabinetState) (journals : List (List ℕ)) (notes : List MasterNote) (at first next : Place) → map M notes ≡ notes_lines s 1 ts

@@ -39,30 +39,10 @@ use Rattle.trace_check.specs.Watching.{IsWatched}
 use Rattle.trace_check.specs.Rounds.{RoundRead, RoundsSeen}
 use Rattle.trace_check.specs.Checked.{TellsNone, Tells, RestSeen, TextSeen}
 use Rattle.trace_laws.proofs.Walking.{stops-here, whole-is-trace, fault-is-first}
-use Rattle.trace_check.proofs.Walking.{leads-here, leads-on, fails-on}
+use Rattle.trace_check.specs.Expecting.{fails-on}
+use Rattle.trace_check.proofs.Walking.{leads-here, leads-on}
 use Rattle.trace_check.proofs.Taking.{said-text, texts-on, nothing-behind, after-round, merges-round, lines-round, after-many}
 use Rattle.trace_check.proofs.Watched.{come-at, numbered-at, opened-many}
-
--- what the next cabinet shows before any tick
-pub next-opening : (books : List Book) (k : ℕ) (b : Book) (frame : Frame) (ts : List CabinetState) (rest : Script) → k < length books → b ≡ get_or books k b
-    → ((cabinet_history : CabinetHistory) → BookStands b cabinet_history → frame ≡ last_frame_of (history_of (cabinet_history_now b cabinet_history))) → AreAt books ts
-    → say (opening_lines (k + 1) (drop k ts)) rest ≡ Says (shown_line (k + 1) 0 frame) (say (opening_lines (k + 1 + 1) (drop (k + 1) ts)) rest)
-next-opening books k b frame ts rest below is shows at = from ts at
-  where
-    some : (us : List CabinetState) → k < length us → CabinetState
-    some [] less = absurd (omega (arith, less))
-    some (u ∷ us) less = u
-
-    from : (us : List CabinetState) → AreAt books us
-        → say (opening_lines (k + 1) (drop k us)) rest ≡ Says (shown_line (k + 1) 0 frame) (say (opening_lines (k + 1 + 1) (drop (k + 1) us)) rest)
-    from us so =
-        let place : k < length us = omega (arith, below, so.many) in
-        let t : CabinetState = some us place in
-        let here : IsAt b (get_or us k t) = subst (λ (x : Book). IsAt x (get_or us k t)) (sym is) (so.each k b t place) in
-        let same : last_frame_of (history_of (get_or us k t).cabinet_history) ≡ frame =
-        ap (λ (cabinet_history : CabinetHistory). last_frame_of (history_of cabinet_history)) (sym here.now) ∙ sym (shows here.began here.stands) in
-        at_drop_more (λ (xs : List CabinetState). say (opening_lines (k + 1) xs) rest) us k t place
-        ∙ ap (λ (f : Frame). Says (shown_line (k + 1) 0 f) (say (opening_lines (k + 1 + 1) (drop (k + 1) us)) rest)) same
 
 -- so many rounds were read, by journals that the text tells; what was seen is what the cabinets have come to by these
 pub record RoundsSoFar (s : ScenarioContent) (first : List CabinetState) (start at : Place) (done : ℕ) (c : ClosedLoop) (watched : ℕ) (old now : Seen) : Type 0 where
@@ -192,14 +172,6 @@ has-seen law text cab seen is = record {
 -- bytes behind the end
 pub behind-end : (at : Place) → at.left.now ≢ [] → FaultsAt Ends at.left.now at.line at.line 11
 behind-end at some = stops-here Ends at.left.now at.line 11 (Beyond at.left.now refl some)
-
--- nothing behind it
-pub at-end : (at : Place) → at.left.now ≡ [] → ReadsWhole Ends at (Ok tt)
-at-end at none = (at.line, record { taken = []; split = none; place = omega arith; goes = refl })
-
--- no scenario is in a line of another kind
-pub not-told : (line : Line) → ((json : List ℕ) → line ≡ S json → ⊥) → (s : ScenarioContent) → Opens line s → ⊥
-not-told line other s opens = other s.compact opens.0
 
 -- or in one whose text has a fault, or is not the compact text of what it tells
 pub refused-told : (json : List ℕ) → ((s : ScenarioContent) → IsScenario json s → ⊥) → (s : ScenarioContent) → Opens (S json) s → ⊥

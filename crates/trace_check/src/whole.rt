@@ -6,7 +6,8 @@ ghost use Rattle.scenario_data.specs.Content.{scenario_content};
 ghost use Rattle.runnable.specs.Runnable.{Runnable};
 ghost use Rattle.run_definition.specs.CabinetState.{CabinetState, opened_cabinet_states};
 ghost use Rattle.run_definition.specs.Lines.{opening_lines};
-ghost use Rattle.round_run.specs.CabinetStates.{AreAt};
+ghost use Rattle.cab_book.specs.declared.control.Engine.{Engine};
+ghost use Rattle.round_run.specs.CabinetStates.{AreAt, AreGivenBy};
 ghost use Rattle.round_run.specs.ClosedLoop.{Between};
 ghost use Rattle.trace_laws.specs.Traces.{Opens, IsTrace, IsCheckable};
 ghost use Rattle.trace_laws.specs.Faults.{FirstFault};
@@ -18,8 +19,8 @@ ghost use Rattle.trace_check.specs.Rounds.{RoundsSeen};
 ghost use Rattle.trace_laws.specs.Seen.{HasSeen};
 ghost use Rattle.trace_check.specs.Checked.{TellsNone, Tells, RestSeen, TextSeen};
 
-use crate::cabinets::expect_frame;
 use crate::expect::expect;
+use crate::expecter::Expecter;
 use crate::faults::{CheckFail, TraceFault};
 use crate::pieces::{cut, fault_at};
 use crate::places::Place;
@@ -35,29 +36,26 @@ use std::alloc::Global;
 use trace_laws::{
     Seen, faults_are_determined, run_texts_are_safe, traces_are_safe, traces_have_no_fault,
 };
+use trace_tell::tell_openings;
 use trace_text::{Line, read_line};
 
 /// What each cabinet shows before any tick.
 fn expect_openings<'a>(
     alloc: Global,
-    start: Place<'a>,
+    at: Place<'a>,
     books: &Vec<Book>,
 ) -> Result<Place<'a>, CheckFail>
     requires few { length books.now.items ≤ 64 }
-    ensures { (ts : List CabinetState) → AreAt books.now.items ts → (rest : Script) → ReadsOn (say (opening_lines 1 ts) rest) start.entry rest result }
+    ensures { (ts : List CabinetState) → AreAt books.now.items ts → (rest : Script) → ReadsOn (say (opening_lines 1 ts) rest) at.entry rest result }
 {
-    let mut at = start;
-    for k in 0..books.len() {
-        let frame = books[k].frame();
-        match expect_frame(alloc, at, k as u32 + 1, 0, &frame) {
-            Ok(next) => at = next,
-            Err(fail) => return Err(fail),
-        }
+    let mut expecter = Expecter { alloc, at };
+    match tell_openings(&mut expecter, books) {
+        Ok(()) => Ok(expecter.at),
+        Err(fail) => Err(fail),
     }
-    Ok(at)
 }
 
-/// All rounds, one after another.
+/// All rounds, one after another, of cabinets whose frames an observer gives.
 fn check_rounds<'a>(
     alloc: Global,
     start: Place<'a>,
@@ -68,6 +66,7 @@ fn check_rounds<'a>(
 ) -> Result<Place<'a>, CheckFail>
     requires runnable { Runnable (scenario_content s.now) }
     requires between { Between (scenario_content s.now) 0 (opened_cabinet_states (scenario_content s.now) (scenario_content s.now).cabinets) closed_loop.old }
+    requires observed { AreGivenBy Engine.Observer closed_loop.old.books.items }
     ensures reads { ReadsOn
         (rounds_script (scenario_content s.now) 1 s.now.rounds (opened_cabinet_states (scenario_content s.now) (scenario_content s.now).cabinets))
         start.entry (Script.Says (LineRow.Z s.now.rounds) Ends) result }

@@ -1,7 +1,6 @@
-pub mod Bytes
-pub mod Handing
 pub mod Orders
 pub mod Rounds
 pub mod Counting
-pub mod Tallies
-pub mod SurveyRounds
+pub mod Adding
+pub mod Pens
+pub mod PenLaws

@@ -3,84 +3,78 @@
 ghost use Rattle.std.specs.Prelude.{◌≡◌, ◌≤◌, ℕ, List, [], length, map};
 ghost use Rattle.trace_text.specs.declared.lines.Line.{Line as LineRow};
 ghost use Rattle.safety_laws.specs.TraceText.{lines_text};
-ghost use Rattle.whole_run.specs.Handing.{HandsOver, HandsWithin, Writes, WritesWithin, held_by};
+ghost use Rattle.trace_writer.specs.Handing.{HandsOver, HandsWithin, Writes, WritesWithin, held_by};
 ghost use Rattle.scenario_data.specs.Content.{ScenarioContent, scenario_content};
 ghost use Rattle.runnable.specs.Runnable.{Runnable};
 ghost use Rattle.run_definition.specs.CabinetState.{CabinetState};
 ghost use Rattle.run_definition.specs.Lines.{opening_lines, notes_lines, each_lines, round_lines, front_lines, rest_lines, run_text};
 ghost use Rattle.round_run.specs.CabinetStates.{AreAt, HaveRun};
 ghost use Rattle.round_run.specs.ClosedLoop.{Between};
+ghost use Rattle.trace_tell.specs.Telling.{TellsLines, TellsWithin};
 ghost use Rattle.whole_run.specs.Orders.{come_to, closed_text, InSomeOrder};
 
 use crate::crew::Crew;
-use crate::lines::{put_book, put_frame, put_notes};
+use crate::pen::Pen;
 use crate::rounds::run_round;
-use crate::{Stop, Writer};
 use cab_book::{Book, Engine};
 use io_edge::{Gate, Sink};
-use round_run::{ClosedLoop, books_follow_runs};
+use round_run::ClosedLoop;
 use scenario_data::Scenario;
 use sig_types::{MasterNote, NoMemory};
 use std::alloc::Global;
 use std::thread::Threads;
+use trace_tell::{Teller, tell_openings, tell_round};
 use trace_text::Line;
+use trace_writer::{Stop, Writer};
 
-/// Hands over what each cabinet shows before any tick.
-fn put_openings<K: Sink>(writer: &mut Writer, sink: &mut K, books: &Vec<Book>) -> Result<(), Stop>
-    requires few { length books.now.items ≤ 64 }
-    ensures { (ts : List CabinetState) → AreAt books.now.items ts
-        → HandsOver K.written K.faults K.counts_exactly result writer.old writer.new sink.old sink.new (lines_text (opening_lines 1 ts)) }
+/// TellsLines what each cabinet shows before any tick; then runs all rounds, and tells the lines of each when it is run.
+fn tell_front<R: Threads + Sync, G: Gate + Sync, T: Teller>(
+    crew: &Crew<R, G>,
+    alloc: Global,
+    teller: &mut T,
+    closed_loop: &mut ClosedLoop,
+    s: &Scenario,
+) -> Result<(), T::Fail>
+    requires runnable { Runnable (scenario_content s.now) }
+    requires ready { Between (scenario_content s.now) 0 (come_to (scenario_content s.now) []) closed_loop.old }
+    ensures { InSomeOrder crew.now.workers (scenario_content s.now) (λ journals.
+        TellsLines T.told T.stopped result teller.old teller.new (front_lines (scenario_content s.now) journals))
+        (λ closed left. TellsWithin T.told T.stopped result teller.old teller.new left (front_lines (scenario_content s.now) closed)) }
 {
-    for i in 0..books.len() {
-        let frame = books[i].frame();
-        match put_frame(writer, sink, i as u32 + 1, 0, &frame) {
+    match tell_openings(teller, &closed_loop.books) {
+        Ok(()) => {}
+        Err(fail) => return Err(fail),
+    }
+    for done in 0..s.rounds {
+        let notes = match run_round(crew, alloc, closed_loop, done, s) {
+            Ok(notes) => notes,
+            Err(NoMemory) => return Err(T::no_memory()),
+        };
+        match tell_round(teller, done + 1, notes.as_slice(), &closed_loop.books) {
             Ok(()) => {}
-            Err(stop) => return Err(stop),
+            Err(fail) => return Err(fail),
         }
     }
     Ok(())
 }
 
-/// Hands over the lines of the round that the books have run, cabinet after cabinet.
-fn put_books<K: Sink>(writer: &mut Writer, sink: &mut K, books: &Vec<Book>) -> Result<(), Stop>
-    requires few { length books.now.items ≤ 64 }
-    requires run { (s : ScenarioContent) × (ts : List CabinetState) × (journals : List (List ℕ)) × HaveRun s ts journals books.now.items }
-    ensures { (s : ScenarioContent) (ts : List CabinetState) (journals : List (List ℕ)) → HaveRun s ts journals books.now.items
-        → HandsOver K.written K.faults K.counts_exactly result writer.old writer.new sink.old sink.new (lines_text (each_lines s 1 ts journals)) }
-{
-    books_follow_runs();
-    for i in 0..books.len() {
-        match put_book(writer, sink, i as u32 + 1, &books[i]) {
-            Ok(()) => {}
-            Err(stop) => return Err(stop),
-        }
-    }
-    Ok(())
-}
-
-/// Hands over the lines of the round with this number: what the master noted at its start, and what the books have run.
-fn put_round<K: Sink>(
-    writer: &mut Writer,
-    sink: &mut K,
-    round: u32,
-    notes: &[MasterNote],
-    books: &Vec<Book>,
+/// TellsLines a pen what each cabinet shows before any tick; then runs all rounds, and tells the lines of each when it is run.
+fn pen_front<R: Threads + Sync, K: Sink, G: Gate + Sync>(
+    crew: &Crew<R, G>,
+    alloc: Global,
+    pen: &mut Pen<K>,
+    closed_loop: &mut ClosedLoop,
+    s: &Scenario,
 ) -> Result<(), Stop>
-    requires few { length books.now.items ≤ 64 }
-    requires run { (s : ScenarioContent) × (ts : List CabinetState) × (journals : List (List ℕ)) × HaveRun s ts journals books.now.items }
-    ensures { (s : ScenarioContent) (ts : List CabinetState) (journals : List (List ℕ)) → map LineRow.M notes.now ≡ notes_lines s 1 ts
-        → HaveRun s ts journals books.now.items
-        → HandsOver K.written K.faults K.counts_exactly result writer.old writer.new sink.old sink.new (lines_text (round_lines s round ts journals)) }
+    requires runnable { Runnable (scenario_content s.now) }
+    requires ready { Between (scenario_content s.now) 0 (come_to (scenario_content s.now) []) closed_loop.old }
+    ensures same_writer { pen.new.writer.ghost_name ≡ pen.old.writer.ghost_name }
+    ensures same_sink { pen.new.sink.ghost_name ≡ pen.old.sink.ghost_name }
+    ensures hands { InSomeOrder crew.now.workers (scenario_content s.now) (λ journals.
+        HandsOver K.written K.faults K.counts_exactly result pen.old.writer.now pen.new.writer.now pen.old.sink.now pen.new.sink.now (lines_text (front_lines (scenario_content s.now) journals)))
+        (λ closed left. HandsWithin K.written result pen.old.writer.now pen.old.sink.now pen.new.sink.now left (lines_text (front_lines (scenario_content s.now) closed))) }
 {
-    match writer.put_line(sink, &Line::R { round }) {
-        Ok(()) => {}
-        Err(stop) => return Err(stop),
-    }
-    match put_notes(writer, sink, notes) {
-        Ok(()) => {}
-        Err(stop) => return Err(stop),
-    }
-    put_books(writer, sink, books)
+    tell_front(crew, alloc, pen, closed_loop, s)
 }
 
 /// Hands over what each cabinet shows before any tick; then runs all rounds, and hands over the lines of each when it is run.
@@ -98,21 +92,8 @@ fn put_front<R: Threads + Sync, K: Sink, G: Gate + Sync>(
         HandsOver K.written K.faults K.counts_exactly result writer.old writer.new sink.old sink.new (lines_text (front_lines (scenario_content s.now) journals)))
         (λ closed left. HandsWithin K.written result writer.old sink.old sink.new left (lines_text (front_lines (scenario_content s.now) closed))) }
 {
-    match put_openings(writer, sink, &closed_loop.books) {
-        Ok(()) => {}
-        Err(stop) => return Err(stop),
-    }
-    for done in 0..s.rounds {
-        let notes = match run_round(crew, alloc, closed_loop, done, s) {
-            Ok(notes) => notes,
-            Err(NoMemory) => return Err(Stop::NoMemory),
-        };
-        match put_round(writer, sink, done + 1, notes.as_slice(), &closed_loop.books) {
-            Ok(()) => {}
-            Err(stop) => return Err(stop),
-        }
-    }
-    Ok(())
+    let mut pen = Pen { writer, sink };
+    pen_front(crew, alloc, &mut pen, closed_loop, s)
 }
 
 /// Hands over what comes behind the line of the scenario.

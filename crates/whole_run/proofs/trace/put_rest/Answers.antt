@@ -5,8 +5,8 @@ use Rattle.safety_laws.specs.TraceText.{lines_text}
 use Rattle.scenario_data.specs.Content.{scenario_content}
 use Rattle.run_definition.specs.Orders.{serial_journals}
 use Rattle.run_definition.specs.Lines.{front_lines}
-use Rattle.whole_run.specs.Handing.{HandsOver}
-use Rattle.whole_run.proofs.Handed.{hands-first, hands-then, hands-none, within-none, within-all}
+use Rattle.trace_writer.specs.Handing.{HandsOver}
+use Rattle.trace_writer.proofs.Handed.{hands-first, hands-then, hands-none, within-none, within-all}
 use Rattle.whole_run.proofs.Orders.{serial-brought, none-closed}
 use Rattle.whole_run.proofs.WholeText.{rest_spelled, rest_some}
 use Rattle.whole_run.proofs.trace.put_rest.Goals as goal

@@ -1,7 +1,7 @@
 use Rattle.std.proofs.Common.{[]}
 use Rattle.scenario_data.specs.Content.{scenario_content}
 use Rattle.run_definition.specs.Orders.{serial_journals}
-use Rattle.whole_run.proofs.Handed.{writes-all, writes-front, writes-none, wrote-all, wrote-within, wrote-none}
+use Rattle.trace_writer.proofs.Handed.{writes-all, writes-front, writes-none, wrote-all, wrote-within, wrote-none}
 use Rattle.whole_run.specs.Orders.{closed_text}
 use Rattle.whole_run.proofs.Orders.{serial-brought, none-closed}
 use Rattle.whole_run.proofs.WholeText.{trace_some}

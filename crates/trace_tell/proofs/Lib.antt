@@ -1,0 +1,4 @@
+pub mod Told
+pub mod Texts
+mod RoundLines
+mod Books

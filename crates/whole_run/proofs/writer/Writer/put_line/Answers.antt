@@ -1,7 +1,0 @@
-use Rattle.trace_text.specs.Line.{line_text}
-use Rattle.trace_text.proofs.Ends.{some_text}
-use Rattle.whole_run.proofs.Handed.{hands-none}
-use Rattle.whole_run.proofs.writer.Writer.put_line.Goals as goal
-
-pub returns-in-Err : goal.returns-in-Err
-returns-in-Err g c = hands-none g.K.Sink.written g.K.Sink.faults g.K.Sink.counts_exactly _ _ (line_text c.args.line.now) (some_text c.args.line.now)
