@@ -1,0 +1,4 @@
+pub mod Listing
+pub mod Conflicts
+pub mod Beginnings
+pub mod Overrunning

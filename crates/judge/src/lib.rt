@@ -1,0 +1,16 @@
+//! The judge of one cabinet: registers of one size that take a log line by line, and say what each line breaks. What they say is
+//! what looking back over all lines gives (`judge_laws`).
+#![tactic(auto)]
+
+mod cabinet;
+mod colours;
+mod in_force;
+mod lengths;
+mod lesser;
+mod order;
+mod phases;
+mod signals;
+
+pub use cabinet::CabinetJudge;
+pub use in_force::InForce;
+pub use phases::{CourseFound, PhaseFound, PhaseOverruns};

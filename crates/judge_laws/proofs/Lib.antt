@@ -1,0 +1,10 @@
+pub mod Runs
+pub mod Ended
+pub mod Tests
+pub mod Parts
+pub mod Findings
+pub mod Judged
+pub mod RunsRise
+pub mod OnlyShown
+pub mod Sublists
+pub mod Leaving
