@@ -3,7 +3,7 @@ use Rattle.std.proofs.Common.{◌≡◌, ◌≤◌, ◌∙◌, inl, inr, arith, 
 use Rattle.io_edge.specs.Edge.{appended, Rises}
 use Rattle.io_edge.proofs.Appending.{appended-appended}
 use Rattle.io_edge.specs.declared.Failed.{Failed}
-use Rattle.whole_run.proofs.Writing.{held_front, front_held}
+use Rattle.trace_writer.proofs.Writing.{held_front, front_held}
 use Rattle.arterial.specs.Prints.{Prints}
 
 -- a count that rose from where it had come to rose from where it was

@@ -7,7 +7,7 @@ ghost use Rattle.arterial.specs.Report.{words_line, named_line, number_then, ref
 use io_edge::{Failed, Sink};
 use itoa::Buffer;
 use station::{Refusal, Status};
-use whole_run::put_all;
+use trace_writer::put_all;
 
 /// The line for words that are no command.
 const USAGE: &str = "usage: arterial run [--workers N] | check | generate | survey\n";

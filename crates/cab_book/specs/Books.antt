@@ -9,7 +9,9 @@ use Rattle.cabinet_history.specs.Journals.{Act, times}
 use Rattle.cabinet_history.specs.Coming.{ask_after}
 use Rattle.cab_book.specs.declared.book.Book.{Book}
 use Rattle.cab_book.specs.declared.cabinet.Cabinet.{Cabinet}
+use Rattle.cab_book.specs.declared.control.Engine.{Engine}
 use Rattle.cab_book.specs.declared.happened.Answered.{Answered}
+use Rattle.cab_book.specs.CabinetStands.{cabinet_engine}
 use Rattle.cab_book.specs.Happened.{IsSameRound, behind, journal_in, written_of, answered_of}
 use Rattle.cab_book.specs.Rounds.{RoundStands, acts_so_far, cabinet_history_after}
 use Rattle.cab_book.specs.Shares.{ticks_left}
@@ -52,6 +54,10 @@ cabinet_in b = b.cabinet.value
 -- the cabinet history by now, where the round began at this one
 abbrev pub cabinet_history_now : Book → CabinetHistory → CabinetHistory
 cabinet_history_now b cabinet_history = cabinet_history_after b.streams b.happened cabinet_history
+
+-- the engine that gives the frames of its cabinet
+abbrev pub engine_of : Book → Engine
+engine_of b = cabinet_engine b.cabinet.value
 
 -- how many ticks the cabinet will have had by the end of the round
 abbrev pub ticks_by_end : Book → ℕ

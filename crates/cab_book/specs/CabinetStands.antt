@@ -4,8 +4,9 @@ use Rattle.sig_tables.specs.Past.{Past, History, Event, SetDrift}
 use Rattle.sig_tables.specs.Seen.{frame_seen}
 use Rattle.sig_tables.specs.Showing.{clock_shown}
 use Rattle.sig_tables.specs.Decide.{frames}
-use Rattle.cab_book.specs.Controls.{ControlStands, tick_count}
+use Rattle.cab_book.specs.Controls.{ControlStands, engine_of, tick_count}
 use Rattle.cab_book.specs.declared.control.Control.{Control}
+use Rattle.cab_book.specs.declared.control.Engine.{Engine}
 use Rattle.stage_txn.specs.declared.Stage.{Stage}
 use Rattle.sig_types.specs.declared.notes.StageAnswer.{StageAnswer}
 use Rattle.snmp_msg.specs.declared.message.Pdu.TheVariants.{Get}
@@ -20,6 +21,10 @@ use Rattle.cabinet_history.specs.Installs.{FewInstalls}
 use Rattle.cabinet_history.specs.CabinetHistory.{CabinetHistory}
 use Rattle.cabinet_history.specs.Coming.{Coming, past_of, in_force, coming, call_of, outcome, with_call}
 use Rattle.cab_book.specs.declared.cabinet.Cabinet.{Cabinet}
+
+-- the engine that gives the frames of a cabinet
+abbrev pub cabinet_engine : Cabinet → Engine
+cabinet_engine c = engine_of c.control
 
 -- the numbers that an answer tells are those of an INTEGER
 pub record IsShowable (past : Past) : Type 0 where

@@ -12,7 +12,7 @@ ghost use Rattle.tick_context.specs.Strides.{IsStride};
 ghost use Rattle.cabinet_history.specs.CabinetHistory.{CabinetHistory};
 ghost use Rattle.cabinet_history.specs.Coming.{history_of};
 ghost use Rattle.cabinet_history.specs.Journals.{runs_of};
-ghost use Rattle.cab_book.specs.CabinetStands.{CabinetStands};
+ghost use Rattle.cab_book.specs.CabinetStands.{CabinetStands, cabinet_engine};
 ghost use Rattle.cab_book.specs.Rounds.{ArePlaced, AreShort, AreTallied, HasRoomFor, RoundStands, frames_left, items_left, with_last};
 ghost use Rattle.cab_book.specs.Happened.{HasRoom};
 ghost use Rattle.cab_book.specs.Shares.{read_journal, ticks_left, shares};
@@ -111,7 +111,7 @@ pub struct Book {
 }
 
 impl Book {
-    ghost use Rattle.cab_book.specs.Books.{acts_in, answered_in, cabinet_history_now, journal_of, left_of, next_act, streams_in, tick_acts, ticks_by_end, written_in};
+    ghost use Rattle.cab_book.specs.Books.{acts_in, answered_in, cabinet_history_now, engine_of, journal_of, left_of, next_act, streams_in, tick_acts, ticks_by_end, written_in};
     ghost use Rattle.cab_book.specs.Books.{BookStands, CanBeTaken, IsOnePart, Replays, Shares};
     ghost use Rattle.cab_book.specs.Books.{HasOnlyRoom, IgnoresWhatAsksNothing, IsAsBefore, IsBrought, IsBroughtAtEnd, IsLengthened};
 
@@ -123,6 +123,7 @@ impl Book {
         ensures streams { IfOk result (λ book. streams_in book ≡ replicate 5 []) }
         ensures journal { IfOk result (λ book. journal_of book ≡ []) }
         ensures ticks { IfOk result (λ book. ticks_by_end book ≡ cabinet.ticks) }
+        ensures engine { IfOk result (λ book. engine_of book ≡ cabinet_engine cabinet) }
     {
         match Box::new(alloc, cabinet) {
             Ok(cabinet) => Ok(Book {

@@ -4,7 +4,7 @@ ghost use Rattle.std.specs.Prelude.{◌≡◌, ◌<◌, ◌≤◌, ◌+◌, opti
 ghost use Rattle.sig_tables.specs.Past.{History};
 ghost use Rattle.sig_tables.specs.Decide.{last_frame_of, past_at};
 ghost use Rattle.tick_context.specs.CanRun.{NamesPlace};
-ghost use Rattle.cab_book.specs.Controls.{ControlStands};
+ghost use Rattle.cab_book.specs.Controls.{ControlStands, engine_of};
 ghost use Rattle.tick_context.specs.Strides.{IsStride};
 ghost use Rattle.agent.specs.Asks.{IsAsked, CanBeCarriedOut};
 ghost use Rattle.sig_types.specs.Items.{InputTold, Came, Ticked};
@@ -73,13 +73,14 @@ fn clear(ask: &mut Ask)
 }
 
 impl Cabinet {
-    ghost use Rattle.cab_book.specs.CabinetStands.{IsNew, CabinetKeeps, CabinetStands};
+    ghost use Rattle.cab_book.specs.CabinetStands.{IsNew, CabinetKeeps, CabinetStands, cabinet_engine};
     ghost use Rattle.cab_book.specs.Ticks.{ticks_on, ticks_written};
 
     /// A cabinet whose control has just been opened, with the community of those who may ask it. Nothing was sent to its stage.
     pub fn new(control: Control, community: ArrayVec<u8, 32>) -> Cabinet
         requires new { (h : History) × ControlStands control h × IsNew h }
         ensures stands { (h : History) → ControlStands control h → IsNew h → CabinetStands result (opened community.items h) }
+        ensures engine { cabinet_engine result ≡ engine_of control }
     {
         Cabinet {
             control,

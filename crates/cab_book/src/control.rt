@@ -1,5 +1,5 @@
-//! What gives the frames of a cabinet: a controller, whose registers stand for all that came before, or an observer, who looks
-//! back over it. A run takes the one and the check of a trace the other, and by these contracts nobody can tell them apart.
+//! What gives the frames of a cabinet: a controller, which is the engine over registers, or an observer, which is the engine over a
+//! memory that looks back. A run takes the one and the check of a trace the other, and by these contracts nobody can tell them apart.
 ghost use Rattle.std.specs.Prelude.{◌≡◌, ◌<◌, ◌≤◌, ◌+◌, IfOk, IfErr};
 
 use controller::Controller;
@@ -32,7 +32,7 @@ impl Control {
     ghost use Rattle.tick_context.specs.CanRun.{CanRun, NamesPlace};
     ghost use Rattle.tick_context.specs.Strides.{IsStride, is_told, ticks_more};
     ghost use Rattle.cab_book.specs.declared.control.Engine.{Engine};
-    ghost use Rattle.cab_book.specs.Controls.{ControlStands, tick_count};
+    ghost use Rattle.cab_book.specs.Controls.{ControlStands, engine_of, tick_count};
 
     /// A cabinet that is opened with these tables, in Start, with a pattern in command, 0 to 255, and a clock in ticks of the
     /// day. Only an observer takes memory.
@@ -46,11 +46,12 @@ impl Control {
         requires tables { CanRun tables }
         requires of_day { clock < 864000 }
         ensures stands { IfOk result (λ control. ControlStands control (opening tables command clock)) }
+        ensures engine { IfOk result (λ control. engine_of control ≡ engine) }
         ensures memory { IfErr result (λ _. engine ≡ Engine.Observer) }
     {
         match engine {
             Engine::Controller => Ok(Control::Registers(Controller::open(tables, command, clock))),
-            Engine::Observer => match Observer::open(alloc, tables, command, clock) {
+            Engine::Observer => match observer::open(alloc, tables, command, clock) {
                 Ok(observer) => Ok(Control::LookingBack(observer)),
                 Err(NoMemory) => Err(NoMemory),
             },
@@ -142,6 +143,7 @@ impl Control {
     pub fn drift(&mut self, gain: u32, lose: u32)
         ensures stands { (h : History) → ControlStands self.old h → ControlStands self.new (with_one h (SetDrift gain lose)) }
         ensures counted { tick_count self.new ≡ tick_count self.old }
+        ensures engine { engine_of self.new ≡ engine_of self.old }
     {
         match self {
             Control::Registers(controller) => controller.drift(gain, lose),

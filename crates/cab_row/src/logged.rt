@@ -23,7 +23,8 @@ pub trait Logged {
         ensures others { (p : ℕ) → p ≢ pass → left_of self.new p ≡ left_of self.old p }
         ensures replays { (first : Self) → replays first self.old → replays first self.new };
 
-    /// Applies the next items of the pass, at least one and at most so many: how many these are. It takes no memory.
+    /// Applies the next items of the pass, at least one and at most so many: how many these are. It takes no memory. A
+    /// value that says nothing of it applies one.
     fn apply_some(&mut self, pass: u32, most: u32) -> u32
         requires some { 1 ≤ most }
         requires within { most ≤ left_of self.old pass }
@@ -32,7 +33,12 @@ pub trait Logged {
         ensures others { (p : ℕ) → p ≢ pass → left_of self.new p ≡ left_of self.old p }
         ensures replays { (first : Self) → replays first self.old → replays first self.new }
         ensures some { 1 ≤ result }
-        ensures most { result ≤ most };
+        ensures most { result ≤ most }
+    {
+        let _ = most;
+        self.apply(pass);
+        1
+    }
 
     // A value with an empty journal is its own replay.
     ghost fresh: { (x : Self) → journal x ≡ [] → replays x x };

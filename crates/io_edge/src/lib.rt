@@ -63,7 +63,4 @@ pub trait Sink {
 /// What a worker passes before each act on a cabinet. It tells nothing, and changes nothing that a contract names.
 pub trait Gate {
     fn at(&self, pass: u32, cab: u32);
-
-    /// Whether workers want threads of their own also in a round that brings little, as where they wait for each other here.
-    fn wants_threads(&self) -> bool;
 }

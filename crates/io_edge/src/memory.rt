@@ -208,10 +208,6 @@ pub struct OpenGate;
 
 impl Gate for OpenGate {
     fn at(&self, _pass: u32, _cab: u32) {}
-
-    fn wants_threads(&self) -> bool {
-        false
-    }
 }
 
 /// Whether the call after so many is in the list.

@@ -8,7 +8,8 @@ use Rattle.cabinet_history.specs.Journals.{Act, items_in}
 use Rattle.cabinet_history.specs.CabinetAnswers.{acts_replies}
 use Rattle.run_definition.specs.CabinetState.{CabinetState, answers_in, coming_streams}
 use Rattle.cab_book.specs.declared.book.Book.{Book}
-use Rattle.cab_book.specs.Books.{BookStands, IsOnePart, streams_in, journal_of, acts_in, cabinet_history_now, ticks_by_end}
+use Rattle.cab_book.specs.declared.control.Engine.{Engine}
+use Rattle.cab_book.specs.Books.{BookStands, IsOnePart, streams_in, journal_of, acts_in, cabinet_history_now, engine_of, ticks_by_end}
 use Rattle.round_run.specs.Replied.{replied_in}
 
 -- a book is at what its cabinet has come to
@@ -21,6 +22,10 @@ pub record IsAt (b : Book) (t : CabinetState) : Type 0 where
 pub record AreAt (books : List Book) (ts : List CabinetState) : Type 0 where
   pub many : length books ≡ length ts
   pub each : (k : ℕ) (b : Book) (t : CabinetState) → k < length ts → IsAt (get_or books k b) (get_or ts k t)
+
+-- this engine gives the frames of all cabinets
+abbrev pub AreGivenBy : Engine → List Book → Type 0
+AreGivenBy engine books = All (λ (b : Book). engine_of b ≡ engine) books
 
 -- of the round to come at the cabinet with this number, which had come to this before it, a book has run a journal, whose ticks are
 -- those of one pass

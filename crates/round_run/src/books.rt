@@ -4,11 +4,11 @@ ghost use Rattle.std.specs.Prelude.{◌≡◌, [], IfOk, map};
 ghost use Rattle.scenario_data.specs.Content.{ScenarioContent, cabinet_content};
 ghost use Rattle.runnable.specs.Runnable.{CanOpen, AllOpen};
 ghost use Rattle.runnable.specs.Cabinets.{opening_history};
-ghost use Rattle.cab_book.specs.Controls.{ControlStands};
+ghost use Rattle.cab_book.specs.Controls.{ControlStands, engine_of as control_engine};
 ghost use Rattle.cabinet_history.specs.CabinetHistory.{opened};
-ghost use Rattle.cab_book.specs.Books.{BookStands, journal_of, ticks_by_end};
+ghost use Rattle.cab_book.specs.Books.{BookStands, engine_of, journal_of, ticks_by_end};
 ghost use Rattle.run_definition.specs.CabinetState.{opened_cabinet_states};
-ghost use Rattle.round_run.specs.CabinetStates.{AreAt, TicksWithin};
+ghost use Rattle.round_run.specs.CabinetStates.{AreAt, AreGivenBy, TicksWithin};
 
 use crate::books_follow_runs;
 use arrayvec::ArrayVec;
@@ -30,7 +30,8 @@ fn same_community(community: &ArrayVec<u8, 32>) -> ArrayVec<u8, 32>
 /// The control of a cabinet to which nothing has happened, but that its clock may drift.
 fn control_of(alloc: Global, engine: Engine, setup: &Setup) -> Result<Control, NoMemory>
     requires { CanOpen (cabinet_content setup.now) }
-    ensures { IfOk result (λ control. ControlStands control (opening_history (cabinet_content setup.now))) }
+    ensures stands { IfOk result (λ control. ControlStands control (opening_history (cabinet_content setup.now))) }
+    ensures engine { IfOk result (λ control. control_engine control ≡ engine) }
 {
     let opened = Control::open(
         alloc,
@@ -60,6 +61,7 @@ fn book_by(
     ensures stands { IfOk result (λ book. BookStands book (opened community.now.items (opening_history (cabinet_content setup.now)))) }
     ensures journal { IfOk result (λ book. journal_of book ≡ []) }
     ensures ticks { IfOk result (λ book. ticks_by_end book ≡ 0) }
+    ensures engine { IfOk result (λ book. engine_of book ≡ control_engine control) }
 {
     opening_tables_in_range();
     let cabinet = Cabinet::new(control, same_community(community));
@@ -80,6 +82,7 @@ fn book_of(
     ensures stands { IfOk result (λ book. BookStands book (opened community.now.items (opening_history (cabinet_content setup.now)))) }
     ensures journal { IfOk result (λ book. journal_of book ≡ []) }
     ensures ticks { IfOk result (λ book. ticks_by_end book ≡ 0) }
+    ensures engine { IfOk result (λ book. engine_of book ≡ engine) }
 {
     match control_of(alloc, engine, setup) {
         Ok(control) => match book_by(alloc, control, setup, community) {
@@ -101,6 +104,7 @@ pub fn open_books(
     ensures at { IfOk result (λ books. (s : ScenarioContent) → s.community ≡ community.now.items
         → AreAt books.items (opened_cabinet_states s (map cabinet_content setups.now))) }
     ensures ticks { IfOk result (λ books. TicksWithin 0 books.items) }
+    ensures engine { IfOk result (λ books. AreGivenBy engine books.items) }
 {
     books_follow_runs();
     let mut books = Vec::new(alloc);

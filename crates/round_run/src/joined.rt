@@ -16,11 +16,8 @@ use sig_types::{NoMemory, Stream};
 use std::alloc::Global;
 use std::thread::Threads;
 
-/// Fewer ticks than these, of all cabinets in a round, are few: their workers would be done before all had started.
+/// Fewer ticks than these, of all cabinets in a round, are few: one pass brings them all.
 const FEW_TICKS: u64 = 16_384;
-
-/// An input or a frame counts as so many ticks, where it is asked whether a round brings little.
-const TICKS_OF_ITEM: u64 = 32;
 
 /// In how many parts so many workers share so many ticks of a round: one for up to five workers and for few ticks, two
 /// for six, and four for more.
@@ -41,71 +38,41 @@ fn parts_for(workers: u32, ticks: u64) -> u32
     }
 }
 
-/// How many items a pass has left at all these cabinets.
-fn left_in(books: &[Book], pass: u32) -> u64 {
-    let mut left: u64 = 0;
+/// How many ticks these cabinets have left in all.
+fn ticks_in(books: &[Book]) -> u64 {
+    let mut ticks: u64 = 0;
     for k in 0..books.len() {
-        left = left.wrapping_add(books[k].left(pass) as u64);
+        ticks = ticks.wrapping_add(books[k].left(Stream::Ticks.number()) as u64);
     }
-    left
+    ticks
 }
 
-/// Whether these cabinets have little to bring in a round whose ticks are not shared yet: threads would take longer to start than
-/// to bring it.
-fn is_little(books: &[Book]) -> bool {
-    let ticks = left_in(books, Stream::Ticks.number());
-    let mut items: u64 = 0;
-    for pass in 0..Stream::Ticks.number() {
-        items = items.wrapping_add(left_in(books, pass));
-    }
-    ticks < FEW_TICKS
-        && items < FEW_TICKS / TICKS_OF_ITEM
-        && ticks + items * TICKS_OF_ITEM < FEW_TICKS
-}
-
-/// Whether a pass has something to bring to one of these cabinets.
-fn has_items(books: &[Book], pass: u32) -> bool {
-    for k in 0..books.len() {
-        if books[k].left(pass) > 0 {
-            return true;
+/// Whether two passes have items for this cabinet.
+fn meets_two_passes(book: &Book) -> bool {
+    let mut meets_one = false;
+    for pass in 0..=Stream::Ticks.number() {
+        if book.left(pass) > 0 {
+            if meets_one {
+                return true;
+            }
+            meets_one = true;
         }
     }
     false
 }
 
-/// Whether at most one worker has something to bring in a round whose ticks are to be shared in so many parts.
-fn is_for_one(books: &[Book], workers: u32, parts: u32) -> bool
-    requires { 1 ≤ workers }
-{
-    if parts > 1 {
-        return false;
+/// Whether the serial order is the only one in which so many workers bring what comes: one worker brings it, or each
+/// cabinet has items of one pass only.
+fn has_one_order(books: &[Book], workers: u32) -> bool {
+    if workers == 1 {
+        return true;
     }
-    let mut bringer = None;
-    for pass in 0..=Stream::Ticks.number() {
-        if has_items(books, pass) {
-            let worker = pass % workers;
-            match bringer {
-                None => bringer = Some(worker),
-                Some(other) => {
-                    if other != worker {
-                        return false;
-                    }
-                }
-            }
+    for k in 0..books.len() {
+        if meets_two_passes(&books[k]) {
+            return false;
         }
     }
     true
-}
-
-/// Whether a round whose ticks are to be shared in so many parts goes in the serial order.
-fn goes_serially<G: Gate>(books: &[Book], workers: u32, parts: u32, gate: &G) -> bool
-    requires { 1 ≤ workers }
-{
-    if is_for_one(books, workers, parts) {
-        true
-    } else {
-        !gate.wants_threads() && is_little(books)
-    }
 }
 
 /// Shares the ticks of each book's round, to which nothing was brought yet, in so many parts.
@@ -137,10 +104,10 @@ fn join_ticks(books: &mut Vec<Book>)
 /// workers: the ticks are those of one pass for up to five workers or where they are few, of two for six, and of four
 /// for more, and there are four other passes. Worker w has the passes p with p mod workers = w, and calls the gate
 /// before each act: no clause says who brings what, or that the gate is called. What the workers leave is brought in the
-/// serial order, and so is the whole round where at most one worker has something to bring, or where there is little
-/// and the gate wants no threads. Whatever the order of the threads, each item of each stream is brought once, in its
-/// stream's order, and each book's journal tells the order that came of it, with all ticks as those of one pass. All
-/// memory is taken first: where it is wanting, the books come back as they were.
+/// serial order, and so is the whole round where no other order exists: one worker brings it, or each cabinet has items
+/// of one pass only. Whatever the order of the threads, each item of each stream is brought once, in its stream's order,
+/// and each book's journal tells the order that came of it, with all ticks as those of one pass. All memory is taken
+/// first: where it is wanting, the books come back as they were.
 pub fn joined_round<R: Threads + Sync, G: Gate + Sync>(
     rt: &R,
     alloc: Global,
@@ -159,11 +126,11 @@ pub fn joined_round<R: Threads + Sync, G: Gate + Sync>(
     ensures room { IfOk result (λ v. vec_capacity v ≡ vec_capacity books) }
     ensures refused { IfErr result (λ e. (e.0.items ≡ books.items) × (vec_capacity e.0 ≡ vec_capacity books)) }
 {
-    let parts = parts_for(workers, left_in(books.as_slice(), Stream::Ticks.number()));
-    if goes_serially(books.as_slice(), workers, parts, gate) {
+    if has_one_order(books.as_slice(), workers) {
         serial_round(&mut books);
         return Ok(books);
     }
+    let parts = parts_for(workers, ticks_in(books.as_slice()));
     share_ticks(&mut books, parts);
     match worked(rt, alloc, books, 4 + parts, workers, gate) {
         Ok(mut books) => {

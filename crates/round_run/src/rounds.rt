@@ -6,7 +6,7 @@ ghost use Rattle.scenario_data.specs.Content.{scenario_content};
 ghost use Rattle.runnable.specs.Runnable.{Runnable};
 ghost use Rattle.run_definition.specs.CabinetState.{CabinetState, opened_cabinet_states};
 ghost use Rattle.run_definition.specs.Lines.{notes_lines};
-ghost use Rattle.round_run.specs.CabinetStates.{HaveEnded, HaveRun, no_journals, TicksWithin};
+ghost use Rattle.round_run.specs.CabinetStates.{AreGivenBy, HaveEnded, HaveRun, no_journals, TicksWithin};
 ghost use Rattle.round_run.specs.Joined.{AreFresh, HaveFewLeft};
 
 use crate::books::open_books;
@@ -30,7 +30,8 @@ impl ClosedLoop {
     /// The closed loop of a scenario before its first round, in which this engine gives the frames of the cabinets.
     pub fn open(alloc: Global, engine: Engine, s: &Scenario) -> Result<ClosedLoop, NoMemory>
         requires { Runnable (scenario_content s.now) }
-        ensures { IfOk result (Between (scenario_content s.now) 0 (opened_cabinet_states (scenario_content s.now) (scenario_content s.now).cabinets)) }
+        ensures between { IfOk result (Between (scenario_content s.now) 0 (opened_cabinet_states (scenario_content s.now) (scenario_content s.now).cabinets)) }
+        ensures engine { IfOk result (λ closed_loop. AreGivenBy engine closed_loop.books.items) }
     {
         let master_rounds = match MasterRounds::open(alloc, s) {
             Ok(master_rounds) => master_rounds,

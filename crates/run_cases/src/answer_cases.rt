@@ -21,6 +21,14 @@ fn told(status: &Status) -> &'static str {
     }
 }
 
+fn words_of(alloc: Global, words: &[&str]) -> Result<Vec<String>, Fail> {
+    let mut owned = Vec::new(alloc);
+    for word in words {
+        owned.push(word.to_string(alloc)?)?;
+    }
+    Ok(owned)
+}
+
 /// The answer to some words over a source and a sink with these failing calls (0 for none) and with this gate, and what
 /// was written.
 pub fn answer<R: Threads + Sync, G: Gate + Sync>(
@@ -36,16 +44,38 @@ pub fn answer<R: Threads + Sync, G: Gate + Sync>(
     let mut sink = MemSink::new(alloc, room, vec![in alloc; failing.1]?).map_err(|_| Fail::from(
         "no room",
     ))?;
-    let mut owned = Vec::new(alloc);
-    for word in words {
-        owned.push(word.to_string(alloc)?)?;
-    }
+    let owned = words_of(alloc, words)?;
     let status = station(rt, alloc, &owned, &mut source, &mut sink, gate);
     Ok((told(&status), sink.bytes().as_slice().to_vec(alloc)?))
 }
 
 fn bytes_of(alloc: Global, text: &str) -> Result<Vec<u8>, Fail> {
     Ok(text.as_bytes().to_vec(alloc)?)
+}
+
+/// The trace of one round, in which only ticks come.
+const ITS_TRACE: &str =
+    "S {\"cabinets\":[{\"base\":\"max8\"}],\"rounds\":1,\"ticks\":60,\"version\":1}\nF 1 0 RRRRRRRRRRRRRRRR DDDDDDDDDDDDDDDD S 0 0 0\nR 1\nJ 1 4*60\nF 1 60 RGRRRGRRRRRRRRRR DDDDDDDDDDDDDDDD F 0 0 0\nZ 1\n";
+
+#[test]
+fn a_run_by_two_workers_and_byte_by_byte_has_the_same_text(rt: HostRuntime) -> Result<(), Fail> {
+    let alloc = rt.alloc();
+    let commands: [&[&str]; 2] = [&["run"], &["run", "--workers", "2"]];
+    for words in commands {
+        let input = bytes_of(alloc, ONE_ROUND)?;
+        let (said, written) = answer(&rt, alloc, words, input, (0, 0), 10_000, &OpenGate)?;
+        assert!(rt; said == "done");
+        assert!(rt; written.as_slice() == ITS_TRACE.as_bytes());
+        let mut source = MemSource::in_pieces(bytes_of(alloc, ONE_ROUND)?, Vec::new(alloc), 1);
+        let mut sink = MemSink::in_pieces(alloc, 10_000, Vec::new(alloc), 1).map_err(|_| Fail::from(
+            "no room",
+        ))?;
+        let owned = words_of(alloc, words)?;
+        let status = station(&rt, alloc, &owned, &mut source, &mut sink, &OpenGate);
+        assert!(rt; told(&status) == "done");
+        assert!(rt; sink.bytes().as_slice() == ITS_TRACE.as_bytes());
+    }
+    Ok(())
 }
 
 #[test]
@@ -148,7 +178,7 @@ fn respond_tells_a_write_fault(rt: HostRuntime) -> Result<(), Fail> {
 
 /// Words that read nothing, a room in bytes that is too small for the text they write, and the text's first words.
 const READ_NOTHING: [(&[&str], usize, &str); 4] = [
-    (&["--help"], 20, "arterial: a bench for"),
+    (&["--help"], 20, "arterial: a simulator"),
     (&["--version"], 12, "arterial 0.8\n"),
     (
         &[

@@ -69,10 +69,5 @@ impl Logged for Tally {
         self.journal.push_reserved(pass);
     }
 
-    fn apply_some(&mut self, pass: u32, _most: u32) -> u32 {
-        self.apply(pass);
-        1
-    }
-
     ghost fresh = { λ t e. none_more t.value t.journal.items e };
 }

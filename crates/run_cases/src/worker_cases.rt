@@ -42,10 +42,6 @@ impl Gate for Meeting {
             self.await_count(&self.inputs, 1);
         }
     }
-
-    fn wants_threads(&self) -> bool {
-        true
-    }
 }
 
 #[test]

@@ -3,8 +3,8 @@ use Rattle.std.proofs.Common.{◌≡◌, ◌≢◌, ◌<◌, ◌⊎◌, inl, inr
 use Rattle.std.proofs.lemmas.List.{length-replicate}
 use Rattle.io_edge.specs.Edge.{appended, Appends}
 use Rattle.io_edge.proofs.Appending.{appended-appended}
-use Rattle.whole_run.specs.Bytes.{AppendsFront}
-use Rattle.whole_run.proofs.Writing.{some_behind}
+use Rattle.trace_writer.specs.Bytes.{AppendsFront}
+use Rattle.trace_writer.proofs.Writing.{some_behind}
 use Rattle.scenario_data.specs.Content.{ScenarioContent}
 use Rattle.session_words.specs.Lines.{behind_first, whole_lines}
 use Rattle.session_words.proofs.Cuts.{whole_lines-cut, whole_lines-none}

@@ -7,7 +7,7 @@ use Rattle.scenario_data.specs.Content.{ScenarioContent}
 use Rattle.scenario_read.specs.Answers.{IsScenario, IsFirstFault}
 use Rattle.station.specs.declared.status.Status.{Status}
 use Rattle.station.specs.declared.status.Status.TheVariants.{Done, Scenario, ReadFault, WriteFault, NoMemory}
-use Rattle.whole_run.specs.Bytes.{AppendsFront, AppendsUpTo}
+use Rattle.trace_writer.specs.Bytes.{AppendsFront, AppendsUpTo}
 use Rattle.station.specs.Bytes.{AreInput, nothing_left}
 use Rattle.station.specs.Io.{Io}
 use Rattle.run_definition.specs.Lines.{run_text}

@@ -1,7 +1,7 @@
 -- What an answer tells, command by command.
 use Rattle.std.specs.Prelude.{◌≡◌, ◌⊎◌, ℕ, List, Option}
 use Rattle.io_edge.specs.Edge.{Appends}
-use Rattle.whole_run.specs.Bytes.{AppendsFront}
+use Rattle.trace_writer.specs.Bytes.{AppendsFront}
 use Rattle.command_words.specs.declared.command.Command.{Command}
 use Rattle.command_words.specs.declared.command.Command.TheVariants.{Run, Check, Generate, Survey, Band, Respond, Overlaps, Live, Help, Version}
 use Rattle.gen_arterial.specs.Written.{generated, generated_text}

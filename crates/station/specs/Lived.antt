@@ -1,7 +1,7 @@
 -- What an answer to `live` tells of the input and the output.
 use Rattle.std.specs.Prelude.{◌≡◌, ◌<◌, ◌⊎◌, ℕ, List, Option, IfSome, length}
 use Rattle.io_edge.specs.Edge.{Appends}
-use Rattle.whole_run.specs.Bytes.{AppendsFront}
+use Rattle.trace_writer.specs.Bytes.{AppendsFront}
 use Rattle.scenario_data.specs.declared.refusal.Refusal.{Refusal}
 use Rattle.scenario_data.specs.Content.{ScenarioContent}
 use Rattle.scenario_read.specs.Answers.{IsScenario, IsFirstFault}

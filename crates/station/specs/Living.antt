@@ -1,7 +1,7 @@
 -- What stands between two answers of `live`.
 use Rattle.std.specs.Prelude.{◌≡◌, ◌⊎◌, ℕ, Bool, true, false, List, ◌∷◌, ◌++◌, Option, Some, None, IfSome}
 use Rattle.io_edge.specs.Edge.{Appends}
-use Rattle.whole_run.specs.Bytes.{AppendsFront}
+use Rattle.trace_writer.specs.Bytes.{AppendsFront}
 use Rattle.scenario_data.specs.Content.{ScenarioContent}
 use Rattle.session_words.specs.Lines.{first_line, whole_lines}
 use Rattle.session_words.specs.Unread.{behind_told, GivesLine, HasNoLine}

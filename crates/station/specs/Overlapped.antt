@@ -1,7 +1,7 @@
 -- What an answer to `overlaps` tells of the input and the output.
 use Rattle.std.specs.Prelude.{◌≡◌, ◌⊎◌, ℕ, List, Option, IfSome}
 use Rattle.io_edge.specs.Edge.{Appends}
-use Rattle.whole_run.specs.Bytes.{AppendsFront}
+use Rattle.trace_writer.specs.Bytes.{AppendsFront}
 use Rattle.command_words.specs.declared.command.Overlap.{Overlap}
 use Rattle.overlap_run.specs.declared.faults.OverlapFault.{OverlapFault}
 use Rattle.overlap_report.specs.Overlaps.{TellsOverlap, BreaksRule}

@@ -2,7 +2,7 @@
 -- fault of such an input, is a matter of the command.
 use Rattle.std.specs.Prelude.{◌≡◌, ◌<◌, ◌⊎◌, ℕ, List, Option, IfSome, length}
 use Rattle.io_edge.specs.Edge.{Appends}
-use Rattle.whole_run.specs.Bytes.{AppendsFront}
+use Rattle.trace_writer.specs.Bytes.{AppendsFront}
 use Rattle.scenario_data.specs.declared.refusal.Refusal.{Refusal}
 use Rattle.station.specs.declared.status.Status.{Status}
 use Rattle.station.specs.declared.status.Status.TheVariants.{Done, Scenario, ReadFault, WriteFault, NoMemory}

@@ -1,28 +1,27 @@
 //! What the program says of itself.
 
-/// How the program is used: its commands, what each reads and writes, its exit statuses, and where to read on.
+/// How to use the program: its commands, what each reads and writes, its exit statuses, and the documents.
 pub const HELP: &str = "\
-arterial: a bench for traffic-signal timing plans. It simulates signal cabinets,
-and its trace is proved to be the one that is due.
+arterial: a simulator and test bench for traffic-signal controllers. It is
+proved that its trace is exactly the one that the definition prescribes.
 
   arterial run [--workers N] < SCENARIO > TRACE
       Reads a scenario (JSON, at most 16,777,216 bytes) from standard input and
       writes its trace to standard output: every change of indication of every
-      phase of every cabinet, with its tick (a tenth of a second), what each
-      cabinet replies to each message, and what the master notes. A scenario
-      with a mistake is refused before anything is written; one line on standard
-      error says where the first mistake stands.
-      With N from 1 to 8, so many workers bring what comes in a round, each in a
-      thread of its own where the round brings enough, in an order that they
-      settle among themselves; the trace tells it. With 0, as without N, the
-      order is always the same: what comes from the street, the messages, the
-      ticks.
+      phase of every cabinet, with its tick (a tenth of a second), each reply of
+      a cabinet to a message, and what the master records. An invalid scenario
+      is refused before anything is written; one line on standard error names
+      the first fault.
+      With N from 1 to 8, N workers process the items of a round, each in its own
+      thread, in an order that they settle among themselves; the trace shows it.
+      Workers give other orders, not more speed. With 0 (the default) the order
+      is always the same: inputs from the street, messages, ticks.
   arterial check < TRACE
-      Reads a text (at most 67,108,864 bytes) from standard input and tells
-      whether it is a trace: that of some scenario, in any order in which what
-      comes in a round can come. Nothing is written; where it is no trace, one
-      line on standard error names the first line with which no trace goes on,
-      and the rule that it breaks.
+      Reads a text (at most 67,108,864 bytes) from standard input and checks
+      whether it is a trace: that of some scenario, in any order in which the
+      items of a round can be processed. Nothing is written; if the text is not
+      a trace, one line on standard error names the first line that cannot
+      follow the lines before it, and the rule that it breaks.
   arterial overlaps --cabinet C --parents HEX --trail N --yellow N --red N < TRACE
       Reads a trace as check does, and writes when an overlap changes: an arrow
       that is green with any of its parents, 1 to 16 phases of cabinet C (1 to
@@ -30,51 +29,49 @@ and its trace is proved to be the one that is due.
       long green trails, yellow change, red clearance. An overlap that could
       still be clearing when all its parents are red is refused.
   arterial live < SESSION
-      Reads a scenario in the first line of standard input, and in each line
-      behind it a request: ticks, a detector, a push button, a preempt, a message.
+      Reads a scenario in the first line of standard input, and a request in each
+      following line: ticks, a detector, a push button, a preempt, a message.
       Each is answered, before more is read, by the lines of the trace that it
-      brings and a line with a dot. A request that can't be taken is answered by
-      one line that says which word is wrong, and changes nothing. docs/LIVE.md
-      says more.
+      causes and a line with a dot. An invalid request is answered by one line
+      that names the wrong part, and changes nothing. docs/LIVE.md has details.
   arterial band < STREET
       Reads a JSON object (at most 16,777,216 bytes) from standard input: a
       scenario, one of its sections, a pattern, and the travel time in ticks
       from each cabinet of the section to the next. Writes two lines, outbound
-      and inbound: when the greatest through band of the plan begins at the
-      cabinet that is passed first, how wide it is, both in ticks, and the two
-      cabinets that limit it; or none. A mistake is refused as a scenario's is.
+      and inbound: when the widest progression band of the plan begins at the
+      cabinet that is passed first, its width, both in ticks, and the two
+      cabinets that limit it; or none. An invalid file is refused as by run.
   arterial respond < FIELD > SCENARIO
       Reads a field file (a JSON object of at most 16,777,216 bytes) from
       standard input: a scenario, the vehicle detectors of its cabinets, when
-      each goes on or off, and at which traffic a section goes to which pattern.
-      Writes the scenario that comes of it, in one line, for run: behind its
-      inputs the calls of the detectors, by delay, extension and diagnostics,
-      and the patterns as the master's schedule. A mistake is refused as a
-      scenario's is.
+      each turns on or off, and the traffic at which a section changes its
+      pattern. Writes the resulting scenario, in one line, for run: its inputs,
+      then the calls of the detectors, by delay, extension and diagnostics, and
+      the patterns as the master's schedule. An invalid file is refused as by
+      run.
   arterial generate --seed N --cabinets K --rounds M > SCENARIO
-      Writes a scenario of K cabinets (1 to 64) and M rounds of 10 seconds (1 to
-      86,400; K times M at most 100,000): traffic, polls, lost messages and a
-      download to each cabinet, by chance, but the same for the same seed N (0 to
-      4,294,967,295), on every machine. Nothing is read.
+      Writes a random scenario of K cabinets (1 to 64) and M rounds of 10 seconds
+      (1 to 86,400; K times M at most 100,000): traffic, polls, lost messages and
+      a download to each cabinet. The same seed N (0 to 4,294,967,295) gives the
+      same scenario on every machine. Nothing is read.
   arterial survey --seed N --cabinets K --rounds M
-      Runs that scenario, and writes what it comes to: cabinets, rounds, ticks of
-      all cabinets, frames, replies, downloads put in force and refused. These are
+      Runs that scenario, and writes its totals: cabinets, rounds, ticks of all
+      cabinets, F lines, replies, accepted and refused downloads. These are
       numbers of lines of its trace. Nothing is read.
   arterial --help
       Writes this text. Nothing is read.
   arterial --version
       Writes the version. Nothing is read.
 
-Exit status: 0 done, 1 the words are no command, 2 the scenario is refused,
-3 standard input could not be read, 4 standard output could not be written,
-5 the text is no trace, 6 out of memory, 7 the overlap breaks a rule. After 4,
-after 6 of a run, and after 3 and 6 of a session, what was written is a front of
-the whole, and not all of it.
+Exit status: 0 done, 1 unknown command or wrong arguments, 2 the scenario is
+refused, 3 standard input could not be read, 4 standard output could not be
+written, 5 the text is not a trace, 6 out of memory, 7 the overlap breaks a rule.
+After 4, after 6 of a run, and after 3 and 6 of a session, the output is an
+incomplete prefix.
 
-docs/SCENARIO.md says how a scenario is written, which rules its tables must
-keep, what is asked of bands, what a field file says, and what each refusal
-means; docs/TRACE.md how a trace is read; scenarios/ has examples to run;
-README.md says what is proved.
+docs/SCENARIO.md explains scenarios, the rules of tables, and refusals;
+docs/FIELD-FILE.md field files, docs/BANDS.md bands, docs/TRACE.md traces;
+scenarios/ has examples to run; README.md says what is proved.
 ";
 
 /// Which program this is.

@@ -14,7 +14,8 @@ use io_edge::{Failed, Sink};
 use scenario_checked::scenarios_run;
 use sig_types::NoMemory;
 use std::alloc::Global;
-use whole_run::{put_all, survey_text};
+use trace_writer::put_all;
+use whole_run::survey_text;
 
 /// Writes a text.
 pub fn tell<K: Sink>(sink: &mut K, text: &[u8]) -> Status

@@ -28,7 +28,8 @@ use scenario_file::read;
 use std::alloc::Global;
 use std::thread::Threads;
 use trace_laws::run_texts_are_safe;
-use whole_run::{Crew, Stop, write_trace};
+use trace_writer::Stop;
+use whole_run::{Crew, write_trace};
 
 /// The scenario that the whole input is. The memory of the input's bytes is given back.
 fn read_scenario<S: Source>(alloc: Global, source: &mut S) -> Result<Scenario, Unread>
@@ -113,9 +114,9 @@ fn answer<R: Threads + Sync, S: Source, K: Sink, G: Gate + Sync>(
 ///
 /// The words are those after the program's name. `run --workers N`, N 0 to 8, has so many workers bring the items of each round to the
 /// cabinets, each worker in a thread of its own where one can be started; with none, as without a number, they come in the serial order.
-/// Each worker calls the gate before each act, but in a round that goes in the serial order, since one worker alone has something to
-/// bring, or since there is little and the gate wants no threads. A scenario, or what `band` or `respond` reads, has at most
-/// 16,777,216 bytes, as has the first line that `live` reads; a trace has at most 67,108,864.
+/// Each worker calls the gate before each act, but not in a round in which no other order exists: with one worker, or with items of one
+/// pass only at each cabinet. A scenario, or what `band` or `respond` reads, has at most 16,777,216 bytes, as has the first line that
+/// `live` reads; a trace has at most 67,108,864.
 /// `NoMemory` may come wherever memory is taken; of every other answer the clauses say what it tells of the input and the faults.
 pub fn station<R: Threads + Sync, S: Source, K: Sink, G: Gate + Sync>(
     rt: &R,

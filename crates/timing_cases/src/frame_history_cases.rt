@@ -28,9 +28,9 @@ fn seen(colour: Colour, mode: Mode, counter: u32) -> Seen {
     }
 }
 
-/// One frame, and so many more that go on with it, at whose ticks no preempt input was on and no pattern was commanded.
+/// One frame, and so many more that go on with it, at whose ticks no preempt input was on.
 fn push(frame_history: &mut FrameHistory, t: &Tables, seen: &Seen, more: u32) {
-    frame_history.push(seen, t, PhaseSet::empty(), false);
+    frame_history.push(seen, t, PhaseSet::empty());
     frame_history.push_again(seen.active, seen.opposed, more);
 }
 
@@ -45,7 +45,6 @@ fn alone(phase: u8) -> PhaseSet
 #[test]
 fn a_green_clears_after_its_least_and_a_red_reverts(rt: HostRuntime) -> Result<(), Fail> {
     let t = railroad();
-    let both = alone(2).with(6);
     let nothing = PhaseSet::empty();
     let green = seen(Colour::Green, Mode::Free, 0);
     let mut frame_history = FrameHistory::open(rt.alloc())?;
@@ -56,24 +55,27 @@ fn a_green_clears_after_its_least_and_a_red_reverts(rt: HostRuntime) -> Result<(
         18,
     );
     assert!(rt; frame_history.start_run() == 19);
-    assert!(rt; frame_history.startable(&t, both) == nothing);
+    assert!(rt; !frame_history.window().has_reverted(&t, 2));
     push(
         &mut frame_history,
         &t,
         &seen(Colour::Red, Mode::Start, 0),
         0,
     );
-    assert!(rt; frame_history.startable(&t, both) == both);
+    assert!(rt; frame_history.window().has_reverted(&t, 2));
+    assert!(rt; frame_history.window().has_reverted(&t, 6));
     push(&mut frame_history, &t, &green, 48);
     assert!(rt; frame_history.start_run() == 0);
-    assert!(rt; frame_history.startable(&t, both) == nothing);
-    assert!(rt; frame_history.cleared(&t, Mode::Entry(1), &green.frame) == nothing);
+    assert!(rt; !frame_history.window().has_reverted(&t, 2));
+    assert!(rt; !frame_history.is_cleared(&t, Mode::Entry(1), 2, Ped::Dont));
     push(&mut frame_history, &t, &green, 0);
-    assert!(rt; frame_history.cleared(&t, Mode::Entry(1), &green.frame) == both);
+    assert!(rt; frame_history.is_cleared(&t, Mode::Entry(1), 2, Ped::Dont));
+    assert!(rt; frame_history.is_cleared(&t, Mode::Entry(1), 6, Ped::Dont));
     frame_history.push_again(nothing, nothing, 49);
-    assert!(rt; frame_history.cleared(&t, Mode::Free, &green.frame) == nothing);
+    assert!(rt; !frame_history.is_cleared(&t, Mode::Free, 2, Ped::Dont));
     frame_history.push_again(nothing, nothing, 1);
-    assert!(rt; frame_history.cleared(&t, Mode::Free, &green.frame) == both);
+    assert!(rt; frame_history.is_cleared(&t, Mode::Free, 2, Ped::Dont));
+    assert!(rt; frame_history.is_cleared(&t, Mode::Free, 6, Ped::Dont));
     frame_history.push_again(nothing, nothing, 4_000_000_000);
     assert!(rt; frame_history.window().run(2, Colour::Green, 4096) == 4096);
     Ok(())

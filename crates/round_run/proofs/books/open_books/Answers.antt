@@ -1,4 +1,7 @@
-use Rattle.std.proofs.Common.{◌≡◌, ◌++◌, [], ◌∷◌, arith, rules}
+use Rattle.std.proofs.Common.{◌≡◌, ◌++◌, [], ◌∷◌, All, subst, sym, arith, rules}
+use Rattle.std.proofs.lemmas.List.Elements.{All-nil, All-push}
+use Rattle.cab_book.specs.declared.book.Book.{Book}
+use Rattle.cab_book.specs.Books.{engine_of}
 use Rattle.round_run.proofs.Opening.{opened_none, opened_next, opened_all, opened_ticks, next_opens, others_open}
 use Rattle.round_run.proofs.books.open_books.Goals as goal
 
@@ -6,6 +9,7 @@ pub loop-setup-init : goal.loop-setup-init
 loop-setup-init c = record {
   can_open = c.requires;
   each = rw c.new-books.ensures.items (opened_none c.args.community.now.items c.args.setups.now);
+  engine = subst (All (λ (b : Book). engine_of b ≡ c.args.engine)) (sym c.new-books.ensures.items) (All-nil (λ (b : Book). engine_of b ≡ c.args.engine));
 }
 
 pub book_of-requires : goal.book_of-requires
@@ -18,6 +22,8 @@ loop-setup-preserved c =
       can_open = others_open c.args.setups.now c.loop-setup.setup-index _ (omega arith) c.setup-item.is c.loop-setup.invariant.can_open;
       each = rw more (opened_next c.args.community.now.items _ _ c.args.setups.now c.loop-setup.setup-index _ (omega arith) c.setup-item.is
           (record { stands = c.in-Ok.ensures.stands; journal = c.in-Ok.ensures.journal; ticks = c.in-Ok.ensures.ticks }) c.loop-setup.invariant.each);
+      engine = subst (All (λ (b : Book). engine_of b ≡ c.args.engine)) (sym more) (All-push (λ (b : Book). engine_of b ≡ c.args.engine)
+          c.loop-setup.books.items c.in-Ok.book c.loop-setup.invariant.engine c.in-Ok.ensures.engine);
     }
 
 pub returns-clause-at : goal.returns-clause-at

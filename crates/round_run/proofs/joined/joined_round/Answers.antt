@@ -4,8 +4,8 @@ use Rattle.round_run.specs.Joined.{AreShared}
 use Rattle.round_run.proofs.Joining.{all-at-once, all-whole, joined-run, joined-ticks}
 use Rattle.round_run.proofs.joined.joined_round.Goals as goal
 
-pub returns-then-goes_serially-clause-run : goal.returns-then-goes_serially-clause-run
-returns-then-goes_serially-clause-run g c = λ s ts have.
+pub returns-then-has_one_order-clause-run : goal.returns-then-has_one_order-clause-run
+returns-then-has_one_order-clause-run g c = λ s ts have.
     joined-run s ts c.args.books.items c.serial_round.new.books.items (all-at-once c.args.books.items c.serial_round.new.books.items c.serial_round.ensures.many c.serial_round.ensures.finishes) have
 
 pub returns-in-Ok-clause-many : goal.returns-in-Ok-clause-many

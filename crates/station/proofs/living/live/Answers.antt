@@ -1,7 +1,7 @@
 use Rattle.std.proofs.Common.{◌≡◌, refl, sym, ap, subst, List, ℕ, Option, Err}
 use Rattle.scenario_data.specs.Content.{scenario_content}
 use Rattle.scenario_data.specs.declared.refusal.Refusal.{Refusal}
-use Rattle.whole_run.proofs.Handed.{rises_later}
+use Rattle.trace_writer.proofs.Handed.{rises_later}
 use Rattle.session_words.specs.Unread.{unread}
 use Rattle.session_laws.specs.Session.{opened_session}
 use Rattle.station.specs.Io.{Io, io_of}

@@ -9,4 +9,5 @@ returns c = record {
     blank = c.blank_ask.ensures;
     keeps = record { control = k; stage = c.new.ensures.stands; counted = new-ticks c.args.control h k new; sound = new-sound h new };
   };
+  engine = refl;
 }

@@ -14,8 +14,8 @@ open-requires c = record { served = can-be-served (scenario_content c.args.s.now
 pub open_books-requires : goal.open_books-requires
 open_books-requires c = subst (λ (setups : List Setup). AllOpen (map cabinet_content setups)) (sym c.as_slice.ensures.value) c.requires.can_open
 
-pub returns-in-Ok-open_books : goal.returns-in-Ok-open_books
-returns-in-Ok-open_books c =
+pub returns-in-Ok-open_books-clause-between : goal.returns-in-Ok-open_books-clause-between
+returns-in-Ok-open_books-clause-between c =
     let s = scenario_content c.args.s.now in
     record {
       cabinets = opened-cabinets s s.cabinets;

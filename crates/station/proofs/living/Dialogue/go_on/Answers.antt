@@ -1,6 +1,6 @@
 use Rattle.std.proofs.Common.{◌∙◌, ℕ, List, refl, sym, subst, arith}
 use Rattle.io_edge.specs.Edge.{Appends}
-use Rattle.whole_run.proofs.Handed.{rises_later}
+use Rattle.trace_writer.proofs.Handed.{rises_later}
 use Rattle.session_words.specs.Unread.{unread}
 use Rattle.station.specs.Living.{AnswersNext}
 use Rattle.station.proofs.Sessions.{answer_on, answer_whole, answer_short, short_here, since_first, still_stands, stopped_ends, told_ends}
