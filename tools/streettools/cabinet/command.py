@@ -10,14 +10,15 @@ from dataclasses import dataclass
 from typing import Any
 
 from ..shared import files, saying
-from ..shared.commandline import number
+from ..shared.commandline import Parser, add_program, add_renamed, number
+from ..shared.fault import Fault
 from ..shared.program import NoProgram, Refused, answering, trace_of
 from ..shared.session_record import SessionRecord
 from ..shared.status import Status
 from ..street import ports
 from ..street.pace import Pace
 from ..street.record import MOST_FRAMES, MOST_SCENARIO
-from ..street.session import Answer, Died
+from ..street.session import Answer
 from ..street.street import Hearer, Street, rounds_for
 from .alone import alone, compact, with_all
 
@@ -99,14 +100,14 @@ class Cabinet:
             text = with_all(
                 self.scenario, self.words.cabinet, self.sets.record.number, self.sets.record.added["frames"]
             )
-            with files.whole(self.words.record) as name:
+            with files.whole(self.words.record_scenario) as name:
                 pathlib.Path(name).write_bytes(text)
 
 
 def parser() -> argparse.ArgumentParser:
     """Returns the reader of the command's words."""
-    words = argparse.ArgumentParser(
-        prog="cabinet",
+    words = Parser(
+        "cabinet",
         description="Answers SNMP version 1 on loopback as a live cabinet, until Ctrl-C. A tick is 0.1 s.",
         epilog="`./arterial street --as ntcip1202` answers version 2c too, and what central software asks first.",
     )
@@ -119,18 +120,15 @@ def parser() -> argparse.ArgumentParser:
     words.add_argument(
         "--cabinet", type=number(1, 64), default=1, metavar="N", help="which cabinet of the scenario answers (1)"
     )
-    words.add_argument(
-        "--step",
-        type=number(0, 864_000),
-        metavar="TICKS",
-        help="ticks that go by after each datagram (those of the clock)",
-    )
-    words.add_argument(
-        "--record", metavar="FILE", help="at the end write the scenario of all that came, for arterial run"
-    )
-    words.add_argument(
-        "--program", metavar="PATH", help="the program (the one that ./arterial prove has built; the model until then)"
-    )
+    add_renamed(
+        words, "--step", "--ticks-per-message", type=number(0, 864_000), metavar="TICKS",
+        help="ticks that pass after each message (default: those of the clock)",
+    )  # fmt: skip
+    add_renamed(
+        words, "--record", "--record-scenario", metavar="FILE",
+        help="at the end write the scenario of all messages that came, for arterial run",
+    )  # fmt: skip
+    add_program(words)
     return words
 
 
@@ -147,11 +145,11 @@ def cabinet_of(words: argparse.Namespace) -> Cabinet | None:
     scenario = scenario_of(program, words.scenario)
     if words.cabinet > len(scenario["cabinets"]):
         return None
-    sets = Sets(scenario) if words.record else None
-    pace = Pace(1.0 if words.step is None else 0.0)
+    sets = Sets(scenario) if words.record_scenario else None
+    pace = Pace(1.0 if words.ticks_per_message is None else 0.0)
     street = Street(str(program), alone(scenario, words.cabinet), pace, [] if sets is None else [sets])
     street.scenario["rounds"] = rounds_for(scenario)
-    street.after_message, street.stops_at_end = words.step or 0, True
+    street.after_message, street.stops_at_end = words.ticks_per_message or 0, True
     return Cabinet(words, scenario, street, sets)
 
 
@@ -178,7 +176,7 @@ def main(arguments: list[str] | None = None) -> int:
             say(f"the scenario has no cabinet {words.cabinet}")
             return Status.REFUSED
         return answered(cabinet)
-    except (Refused, Died) as fault:
+    except (Refused, Fault) as fault:
         say(fault)
         return fault.status
     except NoProgram as fault:

@@ -6,7 +6,10 @@ Get names the clock too, with the clock's own value; only who knows the clock ca
 refused repeats its bindings, too, and they have the value Null.
 """
 
-from .record import named
+from typing import NamedTuple
+
+from .ber import INTEGER, NULL, Field, name_content, number_of
+from .snmp import Binding, bindings_of, head_of
 
 OWN = "2b0601040181fd5901"
 CLOCK, REQUEST, CANCEL = OWN + "020100", OWN + "040100", OWN + "040200"
@@ -22,99 +25,85 @@ OBJECTS = {
 ERRORS = {1: "tooBig", 2: "noSuchName", 3: "badValue", 4: "readOnly", 5: "genErr"}
 """The error statuses of RFC 1157."""
 
-INTEGER, OCTETS, NULL = 0x02, 0x04, 0x05
+
+class ClockNamed(NamedTuple):
+    """A reply names the clock with this value, in ticks since midnight."""
+
+    ticks: int
 
 
-ClockNamed = named("ClockNamed", "ticks")
-"""A reply names the clock with this value, in ticks since midnight."""
+class Requested(NamedTuple):
+    """A priority request was given: its number, and its departure in ticks from now."""
+
+    number: int
+    departure: int
 
 
-Requested = named("Requested", "number departure")
-"""A priority request was given: its number, and its departure in ticks from now."""
+class Cancelled(NamedTuple):
+    """A priority request was cancelled."""
+
+    number: int
 
 
-Cancelled = named("Cancelled", "number")
-"""A priority request was cancelled."""
+class RefusedSet(NamedTuple):
+    """A Set was refused: the error, and the object that it names with the value that was asked for; a download's
+    number if the Set has one."""
+
+    error: str
+    object: str
+    value: int | str | None
+    download: int | str | None
 
 
-RefusedSet = named("RefusedSet", "error object value download")
-"""A Set was refused: the error, and the object that it names with the value that was asked for; a download's
-number is told where the Set has one."""
+Order = ClockNamed | Requested | Cancelled
 
 
-def fields(octets):
-    """Yields the tag and the content of each value in octets that stand one after another (ITU-T X.690, definite
-    lengths)."""
-    at = 0
-    while at < len(octets):
-        tag, length = octets[at], octets[at + 1]
-        at += 2
-        if length >= 128:
-            size = length - 128
-            length = int.from_bytes(octets[at : at + size], "big")
-            at += size
-        yield tag, octets[at : at + length]
-        at += length
-
-
-def orders(digits):
-    """Returns the orders that a reply's hexadecimal digits name, in their order; none where its status isn't 0."""
+def orders(digits: str) -> list[Order]:
+    """Returns the orders that a reply's hexadecimal digits name, in their order; none if its status isn't 0, or if it
+    is no reply."""
     if not any(name in digits for name in (CLOCK, REQUEST, CANCEL)):
         return []
-    (_, message), *_ = fields(bytes.fromhex(digits))
-    _, _, (_, pdu) = fields(message)
-    _, (_, status), _, (_, bindings) = fields(pdu)
-    if int.from_bytes(status, "big"):
+    try:
+        head = head_of(bytes.fromhex(digits))
+        bindings = [] if head.first else bindings_of(head.pairs)
+    except ValueError:
         return []
-    found = (order(binding) for _, binding in fields(bindings))
+    found = (order(*it) for it in bindings)
     return [it for it in found if it is not None]
 
 
-def order(binding):
+def order(name: tuple[int, ...], value: Field) -> Order | None:
     """Returns the order in a binding of a name and a value, or None."""
-    (_, name), (_, value) = fields(binding)
-    digits = name.hex()
+    digits = name_content(name).hex()
     if digits == CLOCK:
-        return ClockNamed(int.from_bytes(value, "big"))
-    if digits == REQUEST and len(value) == 8:
-        return Requested(value[0], int.from_bytes(value[6:8], "big"))
+        return ClockNamed(number_of(value.content))
+    if digits == REQUEST and len(value.content) == 8:
+        return Requested(value.content[0], int.from_bytes(value.content[6:8], "big"))
     if digits == CANCEL:
-        return Cancelled(int.from_bytes(value, "big"))
+        return Cancelled(number_of(value.content))
     return None
 
 
-def dotted(name):
-    """Returns a name of octets as numbers with dots between them."""
-    parts, part = [], 0
-    for octet in name:
-        part = (part << 7) | octet & 127
-        if octet < 128:
-            parts.append(part)
-            part = 0
-    first = min(parts[0] // 40, 2)
-    return ".".join(map(str, (first, parts[0] - 40 * first, *parts[1:])))
+def named_object(name: tuple[int, ...]) -> str:
+    """Returns the name of an object: that of the MIB if it is listed here, else its numbers."""
+    return OBJECTS.get(name_content(name).hex()) or ".".join(map(str, name))
 
 
-def named(name):
-    """Returns the name of an object: that of the MIB where it stands here, else its numbers."""
-    return OBJECTS.get(name.hex()) or dotted(name)
-
-
-def valued(tag, value):
+def valued(value: Field) -> int | str:
     """Returns a value: a number, else its octets as hexadecimal digits."""
-    return int.from_bytes(value, "big", signed=True) if tag == INTEGER else value.hex()
+    return number_of(value.content) if value.tag == INTEGER else value.content.hex()
 
 
-def refused(digits):
-    """Returns the Set that a reply's hexadecimal digits refuse; None where they refuse none."""
-    (_, message), *_ = fields(bytes.fromhex(digits))
-    _, _, (_, pdu) = fields(message)
-    _, (_, status), (_, index), (_, listed) = fields(pdu)
-    error, place = int.from_bytes(status, "big"), int.from_bytes(index, "big")
-    bindings = [tuple(fields(binding)) for _, binding in fields(listed)] if error else []
-    if not bindings or bindings[0][1][0] == NULL:
+def refused(digits: str) -> RefusedSet | None:
+    """Returns the Set that a reply's hexadecimal digits refuse; None if they refuse none, or are no reply."""
+    try:
+        head = head_of(bytes.fromhex(digits))
+        bindings: list[Binding] = bindings_of(head.pairs) if head.first else []
+    except ValueError:
         return None
-    (_, name), (tag, value) = bindings[place - 1 if 1 <= place <= len(bindings) else 0]
-    numbers = [valued(*it) for (_, own), it in bindings if OBJECTS.get(own.hex()) == "downloadId.0"]
-    whole = None if tag == NULL else valued(tag, value)
-    return RefusedSet(ERRORS.get(error, f"error {error}"), named(name), whole, next(iter(numbers), None))
+    if not bindings or bindings[0].value.tag == NULL:
+        return None
+    name, value = bindings[head.second - 1 if 1 <= head.second <= len(bindings) else 0]
+    numbers = [valued(it) for own, it in bindings if named_object(own) == "downloadId.0"]
+    whole, error = None if value.tag == NULL else valued(value), ERRORS.get(head.first, f"error {head.first}")
+    return RefusedSet(error, named_object(name), whole, next(iter(numbers), None))

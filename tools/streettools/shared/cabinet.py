@@ -1,54 +1,70 @@
 """What a trace tells of one cabinet as it goes on: tables in force, detectors, cycles of a pattern, how each green
 ended."""
 
+from functools import lru_cache
+from typing import Any, NamedTuple
+
 from . import answers
-from .lines import NotATrace
-from .plans import plan
-from .record import kept, named
+from .trace_records import Frame, Input, Load, NotATrace
+from .plans import Plan, plan
 from .tables import ALL, Tables
 
 STAGES = {"e": "entry", "t": "track", "d": "dwell", "x": "exit"}
 WORDS = {"S": "start-up", "F": "free", "E": "ending", "X": "flash", "K": "seek", "C": "coordinated"}
 DAY = 864_000
+MOST_KEPT = 4096
+"""Of modes and frames that come over and over, so many are kept with what they say."""
+
+Changes = tuple[tuple[int, str, str], ...]
+"""Phases, each with the letter before and the letter now."""
 
 
-class Mode(named("Mode", "letter number stage")):
+class Mode(NamedTuple):
     """A mode: its letter (S, F, K, C, E, X or P), the number of its pattern or preempt, the stage of a preempt."""
 
-    __slots__ = ()
+    letter: str
+    number: int
+    stage: str
 
     @property
-    def words(self):
+    def words(self) -> str:
         """The mode in words, without its number."""
         return "preempt" if self.letter == "P" else WORDS[self.letter]
 
 
-@kept
-def mode_of(text):
+@lru_cache(MOST_KEPT)
+def mode_of(text: str) -> Mode:
     """Returns a mode as it is written in an F line."""
     letter, rest = text[0], text[1:]
     stage = rest[-1:] if letter == "P" else ""
     return Mode(letter, int(rest.removesuffix(stage) or 0), STAGES.get(stage, ""))
 
 
-def changes(before, after):
+def changes(before: str, after: str) -> Changes:
     """Returns the phases whose letters differ between two frames: phase, letter before, letter now."""
     return changed((before, after))
 
 
-@kept
-def changed(pair):
+@lru_cache(MOST_KEPT)
+def changed(pair: tuple[str, str]) -> Changes:
     """Does what `changes` does, for two frames in one value."""
     return tuple((phase, was, now) for phase, was, now in zip(ALL, *pair) if was != now)
 
 
-Cycle = named("Cycle", "tick pattern pickup target error elapsed")
-"""A cycle of a pattern begins: `pickup` says whether the pattern was taken up, `error` by how many ticks it begins late
-(above 0) or early (below 0) by the cabinet's clock; None where the pattern's cycle isn't told. `elapsed` counts the
-ticks since the local zero before, and is None at a pickup."""
+class Cycle(NamedTuple):
+    """A cycle of a pattern begins: `pickup` says whether the pattern was taken up, `error` by how many ticks it begins
+    late (above 0) or early (below 0) by the cabinet's clock; None where the pattern's cycle isn't told. `elapsed`
+    counts the ticks since the local zero before, and is None at a pickup."""
+
+    tick: int
+    pattern: int
+    pickup: bool
+    target: int
+    error: int | None
+    elapsed: int | None
 
 
-def changed_elsewhere(scenario, number):
+def changed_elsewhere(scenario: dict[str, Any], number: int) -> bool:
     """Returns whether tables may be changed by other than the scenario's downloads as they are written: by octets of
     management software, or by a fault that flips an octet of a download."""
     flips = any(
@@ -62,7 +78,7 @@ def changed_elsewhere(scenario, number):
 class Cabinet:
     """A cabinet of a trace. It is told of frames, inputs and ends of downloads in their order."""
 
-    def __init__(self, scenario, number):
+    def __init__(self, scenario: dict[str, Any], number: int) -> None:
         setup = scenario["cabinets"][number - 1]
         self.number = number
         self.tables, self.told = Tables(setup.get("base", "std8"), setup.get("cells", ())), True
@@ -70,23 +86,26 @@ class Cabinet:
         self.strange = changed_elsewhere(scenario, number)
         self.opening = setup.get("pattern", 0)
         self.clock = Clock(setup)
-        self.frame, self.plans, self.sides = None, {}, {}
-        self.occupied, self.active, self.green = set(), [0] * 17, [0] * 17
+        self.frame: Frame | None = None
+        self.plans: dict[int, Plan | None] = {}
+        self.sides: dict[int, int] = {}
+        self.occupied: set[int] = set()
+        self.active, self.green = [0] * 17, [0] * 17
         self.zero = 0
 
-    def plan(self, pattern):
+    def plan(self, pattern: int) -> Plan | None:
         """Returns the plan of a pattern by the tables in force, or None."""
         if pattern not in self.plans:
             self.plans[pattern] = plan(self.tables, pattern) if self.told else None
         return self.plans[pattern]
 
-    def side(self, phase):
+    def side(self, phase: int) -> int:
         """Returns a phase's side of the barrier by the tables in force, named by its least phase."""
         if phase not in self.sides:
             self.sides[phase] = min(self.tables.side(phase), default=phase)
         return self.sides[phase]
 
-    def ended(self, load):
+    def ended(self, load: Load) -> None:
         """Puts a download in force, where it was accepted."""
         if load.version is None:
             return
@@ -95,7 +114,7 @@ class Cabinet:
         if self.told:
             self.tables.put(self.loads[load.number - 1])
 
-    def sensed(self, item):
+    def sensed(self, item: Input) -> None:
         """Keeps for each phase the last tick at which a vehicle was near."""
         if item.kind != "veh":
             return
@@ -106,7 +125,7 @@ class Cabinet:
             self.occupied.discard(item.number)
             self.active[item.number] = max(self.active[item.number], item.tick)
 
-    def shown(self, frame):
+    def shown(self, frame: Frame) -> None:
         """Takes over a frame."""
         before = self.frame.vehicles if self.frame else "R" * 16
         for phase, _, shows in changes(before, frame.vehicles):
@@ -114,23 +133,22 @@ class Cabinet:
                 self.green[phase] = frame.tick
         self.frame = frame
 
-    def cycle(self, frame):
+    def cycle(self, frame: Frame) -> Cycle | None:
         """Returns the cycle that begins with this frame, which isn't taken over yet; None where none does."""
         mode, before = mode_of(frame.mode), self.frame
-        if mode.letter != "C" or frame.counter != 0:
+        if mode.letter != "C" or frame.counter != 0 or before is None:
             return None
         pickup = before.mode != frame.mode or before.version != frame.version
-        if not pickup and before.counter == 0 and not self.came_round(frame):
+        if not pickup and before.counter == 0 and not self.came_round(before, frame):
             return None
         elapsed = None if pickup else frame.tick - self.zero
         self.zero = frame.tick
         return Cycle(frame.tick, mode.number, pickup, frame.target, self.error(mode.number, frame.target), elapsed)
 
-    def came_round(self, frame):
+    def came_round(self, before: Frame, frame: Frame) -> bool:
         """Returns whether the counter, 0 in the frame before too, has gone round the cycle since. While it stands at 0
         a line is written for a signal that changes; it stands for less than a cycle there, and for a tick where ticks
         are skipped."""
-        before = self.frame
         if (frame.vehicles, frame.pedestrians) == (before.vehicles, before.pedestrians):
             return True
         known = self.plan(mode_of(frame.mode).number)
@@ -139,7 +157,7 @@ class Cabinet:
         dwells = self.tables.unit(1) == 2
         return frame.tick - self.zero >= (known.cycle if dwells else known.cycle // 2)
 
-    def error(self, pattern, target):
+    def error(self, pattern: int, target: int) -> int | None:
         """Returns by how many ticks a cycle begins late or early, on the side from which it is corrected: early where
         cycles are drawn out (dwell, add-only, and shortway where that takes no more cycles), else late."""
         known = self.plan(pattern)
@@ -149,7 +167,7 @@ class Cabinet:
         late = self.tables.unit(1) == 3 and -(-(known.cycle - target) // add) > -(-target // skip)
         return target if late or target == 0 else target - known.cycle
 
-    def needed(self, cycle):
+    def needed(self, cycle: Cycle) -> int | None:
         """Returns in how many cycles at most an undisturbed cabinet comes onto its offset, from a cycle that begins: as
         often as the limit of the correction mode goes into the way to the target, twice that with a clock that drifts.
         None where the pattern's cycle isn't told."""
@@ -160,28 +178,29 @@ class Cabinet:
         ahead = (length - cycle.target) % length
         mode = self.tables.unit(1)
         ways = {2: [(ahead, dwell)], 4: [(ahead, add)]}.get(mode, [(ahead, add), (cycle.target, skip)])
-        return min(-(-way // limit) for way, limit in ways) * (2 if self.clock.gain or self.clock.lose else 1)
+        least = min(-(-int(way) // int(limit)) for way, limit in ways)
+        return least * (2 if self.clock.gain or self.clock.lose else 1)
 
-    def is_met(self, cycle):
+    def is_met(self, cycle: Cycle) -> bool:
         """Returns whether a cycle begins on the offset: to within a tick where the clock drifts."""
-        if cycle.error is None:
+        known = self.plan(cycle.pattern)
+        if cycle.error is None or known is None:
             return False
-        length = self.plan(cycle.pattern).cycle
-        return min(cycle.target, length - cycle.target) <= int(self.clock.gain > 0 or self.clock.lose > 0)
+        return min(cycle.target, known.cycle - cycle.target) <= int(self.clock.gain > 0 or self.clock.lose > 0)
 
-    def recalled(self, phase, mode):
+    def recalled(self, phase: int, mode: Mode) -> bool:
         """Returns whether a phase has maximum recall, by its options or by the split of the pattern that runs."""
         split = self.tables.pattern(mode.number, 4) if mode.letter == "C" else 0
         return self.tables.option(phase, 128) or (split > 0 and self.tables.split(split, phase, 4) in (4, 6))
 
-    def gapped(self, phase, frame, mode):
+    def gapped(self, phase: int, frame: Frame, mode: Mode) -> bool:
         """Returns whether no vehicle was near a phase for its passage time, as its green ends with this frame."""
         if phase in self.occupied or self.recalled(phase, mode):
             return False
         quiet = frame.tick - max(self.active[phase], self.green[phase])
-        return quiet >= max(1, self.tables.phase(phase, 5))
+        return bool(quiet >= max(1, self.tables.phase(phase, 5)))
 
-    def ending(self, phase, frame):
+    def ending(self, phase: int, frame: Frame) -> str:
         """Returns how the green of a phase ends with this frame, which isn't taken over yet."""
         mode = mode_of(frame.mode)
         if mode.letter != "F" and mode.letter != "C":
@@ -204,7 +223,7 @@ class Cabinet:
         return "split filled" if self.tables.unit(7) == 2 and length >= split else "priority"
 
 
-def opened(scenario, number):
+def opened(scenario: dict[str, Any], number: int) -> Cabinet:
     """Returns a cabinet as it opens; a scenario that has none such isn't one of a trace."""
     try:
         return Cabinet(scenario, number)
@@ -215,11 +234,11 @@ def opened(scenario, number):
 class Clock:
     """A cabinet's clock, in ticks since midnight; it may gain or lose a tick at each so many."""
 
-    def __init__(self, setup):
-        self.value, self.tick = setup.get("clock", 0), 0
-        self.gain, self.lose = setup.get("gain", 0), setup.get("lose", 0)
+    def __init__(self, setup: dict[str, Any]) -> None:
+        self.value, self.tick = int(setup.get("clock", 0)), 0
+        self.gain, self.lose = int(setup.get("gain", 0)), int(setup.get("lose", 0))
 
-    def at(self, tick):
+    def at(self, tick: int) -> int:
         """Returns the time of day after a tick that is no earlier than the last time the clock was set."""
         drift = 0
         if self.gain:
@@ -228,7 +247,7 @@ class Clock:
             drift -= tick // self.lose - self.tick // self.lose
         return (self.value + tick - self.tick + drift) % DAY
 
-    def named(self, ticks, tick):
+    def named(self, ticks: int, tick: int) -> bool:
         """Takes over a time that a reply names; returns whether the clock was set to another than it showed."""
         if ticks == self.at(tick):
             return False

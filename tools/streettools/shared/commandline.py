@@ -1,28 +1,66 @@
-"""Words of the command line: readers of numbers for argparse."""
+"""The command line: the words that all tools share, and readers of numbers for argparse."""
 
 import argparse
-import os
-import sys
-from collections.abc import Callable
+from collections.abc import Callable, Sequence
+from typing import Any
+
+from .saying import say
+from .version import VERSION
 
 
-def columns() -> int:
-    """Returns the width of the terminal, as argparse finds it by modules whose import takes a while."""
-    try:
-        return int(os.environ.get("COLUMNS", 0)) or os.get_terminal_size(sys.__stdout__.fileno()).columns or 80
-    except (AttributeError, ValueError, OSError):
-        return 80
+class Parser(argparse.ArgumentParser):
+    """A reader of words, named `arterial TOOL ..`. Words can't be shortened. Texts before and after the words keep
+    their lines. It also has `--version` and `--traceback`."""
+
+    def __init__(self, prog: str, **more: Any) -> None:
+        more.setdefault("formatter_class", argparse.RawDescriptionHelpFormatter)
+        super().__init__(prog=f"arterial {prog.removeprefix('arterial ')}", allow_abbrev=False, **more)
+        self.add_argument("--version", action="version", version=f"arterial {VERSION}")
+        # the boundary takes this word away before words are read
+        self.add_argument("--traceback", action="store_true", help="show where a fault of this tool is")
 
 
-class Formatter(argparse.HelpFormatter):
-    """argparse's own, which is made for each word."""
+class Renamed(argparse.Action):
+    """An option by its old name, which is taken for one release: it does what the new one does, and says so."""
 
-    def __init__(self, prog: str) -> None:
-        super().__init__(prog, width=columns() - 2)
+    def __init__(self, option_strings: Sequence[str], dest: str, new: str, **more: Any) -> None:
+        super().__init__(option_strings, dest, help=argparse.SUPPRESS, **more)
+        self.new = new
+
+    def __call__(
+        self, parser: argparse.ArgumentParser, space: argparse.Namespace, values: Any, option: str | None = None
+    ) -> None:
+        say(parser.prog, f"{option} is {self.new} now; {option} is not taken any more in the next release")
+        setattr(space, self.dest, values)
 
 
-class RawFormatter(Formatter, argparse.RawDescriptionHelpFormatter):
-    """The same, where texts before and behind the words have their own lines."""
+def add_output(words: Any, text: str, **more: Any) -> None:
+    """Adds `-o` and `--output` to a reader of words or to a group of it: what is written, and where; also `--out`, the
+    old name."""
+    more.setdefault("metavar", "FILE")
+    if more.pop("required", False):
+        words = words.add_mutually_exclusive_group(required=True)
+    words.add_argument("-o", "--output", help=text, **more)
+    words.add_argument("--out", action=Renamed, new="--output", dest="output", default=argparse.SUPPRESS, **more)
+
+
+def add_renamed(words: argparse.ArgumentParser, old: str, new: str, **more: Any) -> None:
+    """Adds an option with its new and its old name."""
+    dest = new.lstrip("-").replace("-", "_")
+    words.add_argument(new, dest=dest, **more)
+    more.pop("help", None)
+    more["default"] = argparse.SUPPRESS
+    words.add_argument(old, action=Renamed, new=new, dest=dest, **more)
+
+
+def add_program(words: argparse.ArgumentParser) -> None:
+    """Adds `--program`."""
+    words.add_argument("--program", metavar="FILE", help="the program to run (default: the proved one)")
+
+
+def add_json(words: argparse.ArgumentParser) -> None:
+    """Adds `--json`."""
+    words.add_argument("--json", action="store_true", help="write the report as JSON")
 
 
 def number(least: int, most: int) -> Callable[[str], int]:

@@ -1,14 +1,11 @@
-"""What a tool can't do, in one line."""
+"""What a tool can't do, in words."""
+
+from .status import Status
 
 
 class Fault(Exception):
-    """Something that can't be done: one line, and the exit status that goes with it, that of a refusal where none is
-    given."""
+    """Something that can't be done: a line, or several, and the exit status that goes with it."""
 
-    def __init__(self, words: str, status: int | None = None) -> None:
+    def __init__(self, words: str, status: int = Status.REFUSED) -> None:
         super().__init__(words)
-        if status is None:
-            from .status import Status
-
-            status = Status.REFUSED
         self.status = status

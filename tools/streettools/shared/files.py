@@ -3,10 +3,14 @@
 import contextlib
 import os
 import sys
+from collections.abc import Iterator
+from typing import TextIO
+
+Path = str | os.PathLike[str]
 
 
 @contextlib.contextmanager
-def blamed(path, *names):
+def blamed(path: Path, *names: str) -> Iterator[None]:
     """Lets a fault in writing, which tells no file or one of these names, tell `path`."""
     try:
         yield
@@ -17,7 +21,7 @@ def blamed(path, *names):
 
 
 @contextlib.contextmanager
-def whole(path):
+def whole(path: Path) -> Iterator[str]:
     """Gives the name of a file beside `path`, which takes its place at the end; where that isn't reached nothing is
     left of it and what stood at `path` still stands. What is no file, as a pipe, is written as it goes."""
     if os.path.exists(path) and not os.path.isfile(path):
@@ -46,7 +50,7 @@ def whole(path):
 
 
 @contextlib.contextmanager
-def output(path):
+def output(path: Path | None) -> Iterator[TextIO]:
     """Gives a text to write to: a file that is written whole, or standard output where none is named. A fault in
     writing tells which."""
     if path is None:

@@ -4,9 +4,12 @@ A record for each line; text that is no line stops the reading. What lines say t
 """
 
 import io
+import json
+from collections.abc import Callable, Iterator
+from functools import lru_cache
+from typing import Protocol
 
-from .plainjson import object_of
-from .record import kept, named, new
+from .trace_records import Answer, End, Frame, Journal, Load, Note, Record, Round, Scenario, new
 
 LONGEST = 67_108_864
 """No line of a trace has more bytes than a trace may have."""
@@ -19,50 +22,18 @@ MOST_OCTETS = 1472
 STAGES = "etdx"
 AT_ONCE = 1 << 18
 """So many bytes are read at once."""
+MOST_KEPT = 4096
+"""Of words and lines that come over and over, so many are kept with what they say."""
 
 
-class NotATrace(Exception):
-    """A line that isn't one of a trace, or not at this place; `line` is its number, from 1."""
+class Stream(Protocol):
+    """What lines are read from."""
 
-    def __init__(self, line):
-        super().__init__(f"line {line} is no line of a trace")
-        self.line = line
-
-
-Scenario = named("Scenario", "value")
-"""The scenario that is run, as its JSON value."""
+    def read1(self, size: int = -1, /) -> bytes:
+        """Reads some bytes."""
 
 
-Frame = named("Frame", "cabinet tick vehicles pedestrians mode counter target version")
-"""What a cabinet shows after a tick: 16 letters of colours, 16 of pedestrian signals, the mode as it is written;
-counter and target in ticks of 0.1 s."""
-
-
-Round = named("Round", "number")
-"""A round begins."""
-
-
-Journal = named("Journal", "cabinet runs")
-"""What a cabinet did in a round: runs of a pass and a number of events, as tuples."""
-
-
-Answer = named("Answer", "cabinet way digits")
-"""A reply of a cabinet, as hexadecimal digits; None where it was silent."""
-
-
-Load = named("Load", "cabinet number version rule row")
-"""The end of a download: the version that it made, or the rule that refused it and the row."""
-
-
-Note = named("Note", "cabinet words")
-"""A note of the master, in its own words."""
-
-
-End = named("End", "rounds")
-"""The end, after so many rounds."""
-
-
-def number(digits, most=MOST):
+def number(digits: bytes, most: int = MOST) -> int:
     """Returns the number that the digits write; a number beyond its type makes the line none, and so do other digits
     than those that it is written with."""
     value = int(digits)
@@ -71,11 +42,11 @@ def number(digits, most=MOST):
     return value
 
 
-usual = kept(number)
+usual = lru_cache(MOST_KEPT)(number)
 """Does the same for numbers that come over and over."""
 
 
-def signed(digits):
+def signed(digits: bytes) -> int:
     """Returns the number of 32 bits that is written with a sign where it is below 0."""
     value = int(digits)
     if not -(2**31) <= value < 2**31 or b"%d" % value != digits:
@@ -83,8 +54,8 @@ def signed(digits):
     return value
 
 
-@kept
-def mode(word):
+@lru_cache(MOST_KEPT)
+def mode(word: bytes) -> str:
     """Returns a mode as text, once it is known to be one."""
     text = word.decode("ascii")
     letter, rest = text[:1], word[1:]
@@ -98,38 +69,40 @@ def mode(word):
     return text
 
 
-@kept
-def colours(word):
+@lru_cache(MOST_KEPT)
+def colours(word: bytes) -> str:
     """Returns 16 colours as text."""
     return letters(word, COLOURS)
 
 
-@kept
-def signals(word):
+@lru_cache(MOST_KEPT)
+def signals(word: bytes) -> str:
     """Returns 16 pedestrian signals as text."""
     return letters(word, SIGNALS)
 
 
-def letters(word, known):
+def letters(word: bytes, known: bytes) -> str:
     """Returns as text a word of 16 letters that are among those that are known."""
     if len(word) != PHASES or word.strip(known):
         raise ValueError
     return word.decode("ascii")
 
 
-def runs(words):
+def runs(words: list[bytes]) -> tuple[tuple[int, int], ...]:
     """Returns the runs of a journal, which are as long as they can be."""
-    found = tuple(tuple(map(number, word.split(b"*"))) for word in words)
+    found: list[tuple[int, int]] = []
     before = None
-    for way, count in found:
+    for word in words:
+        way, count = map(number, word.split(b"*"))
         if count == 0 or way == before:
             raise ValueError
+        found.append((way, count))
         before = way
-    return found
+    return tuple(found)
 
 
-@kept
-def journal(line):
+@lru_cache(MOST_KEPT)
+def journal(line: bytes) -> Journal:
     """Returns the record of a J line; of one cabinet's rounds most have the same."""
     letter, cabinet, *words = body(line)
     if letter != b"J" or not words:
@@ -137,14 +110,14 @@ def journal(line):
     return Journal(number(cabinet), runs(words))
 
 
-def body(line):
+def body(line: bytes) -> list[bytes]:
     """Returns the words of a line, which ends in a newline."""
     if line[-1:] != b"\n":
         raise ValueError
     return line[:-1].split(b" ")
 
 
-def round_of(line):
+def round_of(line: bytes) -> Round:
     """Returns the record of an R line."""
     letter, digits = body(line)
     if letter != b"R":
@@ -152,17 +125,16 @@ def round_of(line):
     return Round(number(digits))
 
 
-def frame(line):
+def frame(line: bytes) -> Frame:
     """Returns the record of an F line."""
     _, cabinet, tick, vehicles, pedestrians, word, counter, target, version = body(line)
-    cabinet, target, version = usual(cabinet), usual(target), usual(version)
-    tick, counter = number(tick), number(counter)
+    shown = colours(vehicles), signals(pedestrians), mode(word)
     return new(
-        Frame, (cabinet, tick, colours(vehicles), signals(pedestrians), mode(word), counter, target, version)
+        Frame, (usual(cabinet), number(tick), *shown, number(counter), usual(target), usual(version))
     )
 
 
-def load(line):
+def load(line: bytes) -> Load:
     """Returns the record of an L line."""
     _, cabinet, count, result, *words = body(line)
     if result == b"accepted":
@@ -174,7 +146,7 @@ def load(line):
     return Load(number(cabinet), number(count), None, number(rule, 255), number(row, 65535))
 
 
-def note(line):
+def note(line: bytes) -> Note:
     """Returns the record of an M line."""
     _, cabinet, *words = body(line)
     match words:
@@ -191,7 +163,7 @@ def note(line):
     return Note(number(cabinet), b" ".join(words).decode("ascii"))
 
 
-def answer(line):
+def answer(line: bytes) -> Answer:
     """Returns the record of an A line."""
     _, cabinet, way, digits = body(line)
     if digits != b"-" and (len(digits) % 2 or not 0 < len(digits) <= 2 * MOST_OCTETS or digits.strip(DIGITS)):
@@ -199,27 +171,29 @@ def answer(line):
     return Answer(number(cabinet), number(way), None if digits == b"-" else digits.decode("ascii"))
 
 
-def end(line):
+def end(line: bytes) -> End:
     """Returns the record of a Z line."""
     _, digits = body(line)
     return End(number(digits))
 
 
-KINDS = {b"F ": frame, b"R ": round_of, b"J ": journal, b"A ": answer, b"L ": load, b"M ": note, b"Z ": end}
+KINDS: dict[bytes, Callable[[bytes], Record]] = {
+    b"F ": frame, b"R ": round_of, b"J ": journal, b"A ": answer, b"L ": load, b"M ": note, b"Z ": end,
+}  # fmt: skip
 """By the letter with which it begins, what gives the record of a line."""
 
 
-def scenario(line):
+def scenario(line: bytes) -> Scenario:
     """Returns the record of an S line, which ends in a newline and holds a JSON object."""
     if line[:2] != b"S " or line[-1:] != b"\n":
         raise ValueError
-    value = object_of(line[2:-1])
+    value = json.loads(line[2:-1])
     if not isinstance(value, dict):
         raise ValueError
     return Scenario(value)
 
 
-def record(line):
+def record(line: bytes) -> Record:
     """Returns the record of a line other than the first; ValueError where it is none."""
     found = KINDS.get(line[:2])
     if found is None:
@@ -227,7 +201,7 @@ def record(line):
     return found(line)
 
 
-def blocks(stream, advance=None):
+def blocks(stream: Stream, advance: Callable[[int], object] | None = None) -> Iterator[list[bytes]]:
     """Yields the lines of a stream, each with its newline, in lists of those that were read at once. `advance` is told
     how many bytes were read."""
     parts, size = [], 0

@@ -3,14 +3,25 @@
 After the FHWA Signal Timing Manual; docs/DEFINITIONS.md says it in words (`zero_point`, `force_point`, `window`).
 """
 
-from .record import named
+from typing import NamedTuple
 
-Plan = named("Plan", "cycle offset coordinated force window shift")
-"""Cycle and offset in ticks; the coordinated phase of each ring; the force point of each phase; `window` is the last
-moment at which both coordinated phases are still green; `shift` is added to a target where offsets refer to the end."""
+from .tables import Tables
 
 
-def slots(tables, pattern):
+class Plan(NamedTuple):
+    """Cycle and offset in ticks; the coordinated phase of each ring; the force point of each phase; `window` is the
+    last moment at which both coordinated phases are still green; `shift` is added to a target if offsets refer to the
+    end."""
+
+    cycle: int
+    offset: int
+    coordinated: tuple[int, int]
+    force: dict[int, int]
+    window: int
+    shift: int
+
+
+def slots(tables: Tables, pattern: int) -> dict[int, tuple[int, int]]:
     """Returns where each phase's slot starts and ends, in ticks from the start of the sequence."""
     split, sequence = tables.pattern(pattern, 4), tables.pattern(pattern, 5)
     found = {}
@@ -23,7 +34,7 @@ def slots(tables, pattern):
     return found
 
 
-def coordinated(tables, pattern):
+def coordinated(tables: Tables, pattern: int) -> tuple[int, int] | None:
     """Returns the coordinated phases of rings 1 and 2, or None where there isn't one of each."""
     split = tables.pattern(pattern, 4)
     marked = [phase for phase in tables.enabled() if tables.split(split, phase, 5) == 1]
@@ -31,7 +42,7 @@ def coordinated(tables, pattern):
     return (by_ring[1], by_ring[2]) if set(by_ring) == {1, 2} else None
 
 
-def plan(tables, pattern):
+def plan(tables: Tables, pattern: int) -> Plan | None:
     """Returns the plan of a pattern, or None where the pattern isn't defined or can't be laid out."""
     pair = coordinated(tables, pattern) if tables.pattern(pattern, 2) else None
     laid = slots(tables, pattern)
@@ -43,8 +54,10 @@ def plan(tables, pattern):
     for phase in laid:
         side = tables.side(phase) & set(laid)
         ring = tables.phase(phase, 22)
-        side_end = max(laid[it][1] for it in side if tables.phase(it, 22) == ring)
-        greatest = max(tables.clearance(it) for it in side)
+        ends = [laid[it][1] for it in side if tables.phase(it, 22) == ring]
+        if not ends:
+            return None
+        side_end, greatest = max(ends), max(tables.clearance(it) for it in side)
         force[phase] = (min(laid[phase][1] - tables.clearance(phase), side_end - greatest) - zero) % cycle
     window = min(force[phase] for phase in pair)
     shift = window if tables.unit(8) == 2 else 0

@@ -2,6 +2,15 @@
 needed."""
 
 import os
+from typing import TYPE_CHECKING, Any
+
+from .fault import Fault
+from .status import Status
+
+if TYPE_CHECKING:
+    import pathlib
+    import subprocess
+    from collections.abc import Callable
 
 HERE = os.path.dirname(os.path.dirname(os.path.dirname(os.path.realpath(__file__))))
 """The folder that has the package: `tools` of a checkout, or the one of an installation, which has the program beside
@@ -17,24 +26,26 @@ NONE_HERE = (125,)
 """The exit status of that script where there is no program."""
 
 
-class NoProgram(Exception):
+class NoProgram(Fault):
     """There is no program that can be run, in words."""
+
+    def __init__(self, words: str) -> None:
+        super().__init__(words, Status.NO_PROGRAM)
 
 
 class NotProved(NoProgram):
     """There is no program that was proved in this checkout from the sources that stand in it."""
 
 
-class Refused(Exception):
+class Refused(Fault):
     """The program didn't write a trace: its line, and its exit status."""
 
-    def __init__(self, ran):
+    def __init__(self, ran: "subprocess.CompletedProcess[bytes]") -> None:
         words = ran.stderr.decode(errors="replace").strip()
-        super().__init__(words or f"the program ended with status {ran.returncode}")
-        self.status = ran.returncode
+        super().__init__(words or f"the program ended with status {ran.returncode}", ran.returncode)
 
 
-def found(name: str | None = None):
+def found(name: str | None = None) -> "pathlib.Path":
     """Returns the path of the program of this name; where there is no name that of the one that ARTERIAL_PROGRAM names,
     that is installed with these tools, that was proved in this checkout, or that is on the path."""
     import pathlib
@@ -50,7 +61,7 @@ def path_of(name: str | None = None) -> str:
     return path
 
 
-def answering(name: str | None, tell):
+def answering(name: str | None, tell: "Callable[[str], object]") -> "pathlib.Path":
     """Returns the path of the program as `found` does. In a checkout in which none was proved yet it is that of the
     model, which is slower; that is told by a function that takes a line."""
     try:
@@ -90,7 +101,7 @@ def usual() -> str:
     return path
 
 
-def trace_of(program, scenario, out=None):
+def trace_of(program: "pathlib.Path | str", scenario: bytes, out: Any = None) -> bytes | None:
     """Returns the trace of a scenario, both as bytes; where `out` is given it goes there."""
     import subprocess
 
@@ -98,4 +109,5 @@ def trace_of(program, scenario, out=None):
     ran = subprocess.run([program, "run"], input=scenario, stdout=out, stderr=subprocess.PIPE)
     if ran.returncode:
         raise Refused(ran)
-    return ran.stdout
+    trace: bytes | None = ran.stdout
+    return trace

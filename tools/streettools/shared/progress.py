@@ -3,9 +3,10 @@
 import contextlib
 import sys
 from collections.abc import Iterator
+from typing import Any
 
 
-def bar(total: int, unit: str, **more):
+def bar(total: int | None, unit: str, **more: Any) -> Any:
     """Returns a bar on standard error; None where no terminal shows it, or where tqdm is missing."""
     if not sys.stderr.isatty():
         return None

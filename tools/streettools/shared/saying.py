@@ -1,17 +1,25 @@
-"""A line on standard error, a text on standard output."""
+"""Lines on standard error, texts on standard output, and texts from outside that are shown."""
 
 import sys
 
 
 def say(command: str, words: object) -> None:
-    """Tells something on standard error, in the name of a command."""
-    print(f"{command}: {words}", file=sys.stderr, flush=True)
+    """Writes a line, or several, to standard error, in the name of a command."""
+    print(f"{command}: " + "\n".join(map(visible, str(words).split("\n"))), file=sys.stderr, flush=True)
+
+
+def visible(text: str) -> str:
+    """Returns a text in which each character that a terminal doesn't print (an escape, a line end) is written as
+    Python writes it."""
+    return text if text.isprintable() else "".join(it if it.isprintable() else ascii(it)[1:-1] for it in text)
 
 
 def printed(text: str) -> None:
-    """Writes a text to standard output; a fault in writing tells that it was there."""
+    """Writes a text to standard output; a fault in writing names it."""
     try:
         sys.stdout.write(text)
         sys.stdout.flush()
+    except BrokenPipeError:
+        raise
     except OSError as fault:
         raise OSError(fault.errno, fault.strerror, "standard output") from None

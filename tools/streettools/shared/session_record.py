@@ -10,12 +10,12 @@ from collections import defaultdict
 from collections.abc import Iterator
 from typing import Any, NamedTuple
 
-from .answers import fields
+from .snmp import SET, head_of
 
 LISTS = ("inputs", "loads", "priority", "frames", "faults")
 """The lists of a scenario whose items have a round."""
 PASSES = {"poll": 1, "load": 2, "priority": 3}
-INPUTS, TICKS, SET = 0, 4, 0xA3
+INPUTS, TICKS = 0, 4
 MOST_KNOWN = 4096
 """How many requests are kept as they were read."""
 OF_ITEM = 60
@@ -32,7 +32,8 @@ def compact(scenario: dict[str, Any]) -> bytes:
 
 def runs_of(line: bytes) -> Runs:
     """Returns the runs of a J line."""
-    return [tuple(map(int, run.split(b"*"))) for run in line.split(b" ")[2:]]
+    pairs = (run.split(b"*") for run in line.split(b" ")[2:])
+    return [(int(way), int(count)) for way, count in pairs]
 
 
 def joined(runs: Runs) -> Runs:
@@ -68,9 +69,7 @@ def is_read(request: bytes, answer: list[bytes]) -> bool:
 
 def is_set(octets: bytes) -> bool:
     """Tells whether a message that was answered is a Set (RFC 1157)."""
-    ((_, content),) = fields(octets)
-    _, _, (kind, _) = fields(content)
-    return kind == SET
+    return head_of(octets).kind == SET
 
 
 class Brought(NamedTuple):
@@ -79,7 +78,7 @@ class Brought(NamedTuple):
 
     cabinet: int
     number: int
-    count: int
+    items: int
     is_kept: bool
 
 
@@ -98,7 +97,7 @@ def read(request: bytes) -> Read:
         return read_again(request)
     _, cabinet, stream, digits = request.decode("ascii").split(" ")
     item = {"cabinet": int(cabinet), "stream": stream, "hex": digits.lower()}
-    return Read(Brought(item["cabinet"], PASSES[stream], 1, True), "frames", item)
+    return Read(Brought(int(cabinet), PASSES[stream], 1, True), "frames", item)
 
 
 @functools.lru_cache(MOST_KNOWN)
@@ -150,14 +149,14 @@ class SessionRecord:
             self.brought.append(brought._replace(is_kept=False))
             return False
         self.brought.append(brought)
-        if name:
+        if name and item is not None:
             self.added[name].append({"round": self.number, **item})
             self.added_size += len(request) + OF_ITEM
         return True
 
     def ticks_left(self) -> int:
         """Returns how many ticks of the round weren't taken yet."""
-        return self.scenario["ticks"] - sum(it.count for it in self.brought if it.cabinet == 0)
+        return int(self.scenario["ticks"]) - sum(it.items for it in self.brought if it.cabinet == 0)
 
     def take(self, line: bytes) -> None:
         """Takes a line of an answer."""
@@ -192,8 +191,8 @@ class SessionRecord:
     def less(self, cabinet: int) -> bytes:
         """Returns the J line of a cabinet without the reads that are left out."""
         brought = [it for it in self.brought if it.cabinet in (0, cabinet)]
-        end = joined([(it.number, it.count) for it in brought])
-        kept = [(it.number, it.count) for it in brought if it.is_kept]
+        end = joined([(it.number, it.items) for it in brought])
+        kept = [(it.number, it.items) for it in brought if it.is_kept]
         runs = joined(without_end(runs_of(self.journals[cabinet]), end) + kept)
         return b"J %d %b" % (cabinet, b" ".join(b"%d*%d" % run for run in runs))
 
@@ -211,7 +210,7 @@ class SessionRecord:
 
     def resulting(self) -> dict[str, Any]:
         """Returns the scenario that results from the rounds that there are."""
-        made = self.scenario | {"rounds": self.number}
+        made: dict[str, Any] = self.scenario | {"rounds": self.number}
         for name in LISTS:
             own = [item for item in made.get(name, ()) if item["round"] <= self.number]
             items = own + self.added.get(name, [])

@@ -4,42 +4,55 @@ A line that can't follow the lines before it stops the walk. Whether a frame is 
 say.
 """
 
+from collections.abc import Callable, Generator, Iterator, Sequence
+from functools import lru_cache
+from typing import Any
+
 from . import lines
-from .lines import Answer, End, Frame, Load, NotATrace, Note
-from .record import Kept, named, new
+from .shapes import scenario_faults
+from .trace_records import (
+    Answer,
+    Answered,
+    End,
+    Ended,
+    Frame,
+    Happening,
+    Input,
+    Journal,
+    Load,
+    NotATrace,
+    Note,
+    Noted,
+    Record,
+    RoundEnd,
+    new,
+)
 
 TICKS, INPUTS = 4, 0
-NOTHING = {}
+Sensed = tuple[str, int, bool]
+"""An input's kind, number, and whether it is on."""
+Came = dict[int, list[Sensed]]
+"""The inputs of a round, by cabinet."""
+NOTHING: Came = {}
 """The inputs of a round that has none."""
 
 
-Input = named("Input", "cabinet tick kind number on")
-"""An input from the street after a tick: `kind` is veh, ped or preempt, `number` the phase or the preempt."""
+MOST_NUMBER = {"veh": 16, "ped": 16, "preempt": 8}
+"""The kinds of inputs, with the greatest number of each: phases, preempts."""
 
 
-Answered = named("Answered", "cabinet tick way digits")
-"""A reply after a tick: `way` is 1 for polls, 2 for downloads, 3 for priority; `digits` None where silent."""
-
-
-Ended = named("Ended", "cabinet tick load")
-"""A download's end after a tick: accepted, or refused by a rule in a row."""
-
-
-Noted = named("Noted", "cabinet tick round words")
-"""A note of the master in a round, whose first tick comes after `tick`."""
-
-
-RoundEnd = named("RoundEnd", "round tick")
-"""A round is over at this tick."""
-
-
-def inputs_of(scenario):
-    """Returns the inputs of each round by cabinet, in the order of the scenario's list."""
-    found = {}
+def inputs_of(scenario: dict[str, Any]) -> dict[int, Came]:
+    """Returns the inputs of each round by cabinet, in the order of the scenario's list; ValueError where one of them is
+    none."""
+    found: dict[int, Came] = {}
     for item in scenario.pop("inputs", ()):
         number, cabinet = item["round"], item["cabinet"]
         kind = "veh" if "veh" in item else "ped" if "ped" in item else "preempt"
         it = (kind, item[kind], item.get("on", True))
+        if not (type(number) is type(cabinet) is type(it[1]) is int and 1 <= it[1] <= MOST_NUMBER[kind]):
+            raise ValueError
+        if type(it[2]) is not bool:
+            raise ValueError
         if number not in found:
             found[number] = {cabinet: [it]}
         elif cabinet in found[number]:
@@ -54,14 +67,14 @@ class CabinetRound:
 
     __slots__ = ("cabinet", "inputs", "answers", "last", "end")
 
-    def __init__(self, cabinet, start, end):
+    def __init__(self, cabinet: int, start: int, end: int) -> None:
         self.cabinet, self.last, self.end = cabinet, start, end
-        self.inputs = self.answers = ()
+        self.inputs: list[Input] = []
+        self.answers: list[tuple[int, int, int]] = []
 
-    def spread(self, runs, inputs):
+    def spread(self, runs: tuple[tuple[int, int], ...], inputs: Sequence[Sensed]) -> None:
         """Puts the inputs and the replies of a journal behind the ticks that come before them: both in lists from the
         last to the first."""
-        self.inputs, self.answers = [], []
         tick, place = self.end, 0
         for way, count in runs:
             if way == TICKS:
@@ -79,14 +92,14 @@ class CabinetRound:
         self.inputs.reverse()
         self.answers.reverse()
 
-    def before(self, tick):
+    def before(self, tick: int) -> list[Input]:
         """Returns the inputs that came before this tick, which are taken off."""
         found = []
         while self.inputs and self.inputs[-1].tick < tick:
             found.append(self.inputs.pop())
         return found
 
-    def next_answer(self):
+    def next_answer(self) -> tuple[int, int]:
         """Returns the way and the tick of the next reply due."""
         if not self.answers:
             raise ValueError
@@ -99,22 +112,26 @@ class CabinetRound:
 class TraceReader:
     """Reads a trace line by line: `scenario` is its value without the inputs, `happenings` what comes after it."""
 
-    def __init__(self, stream, advance=None):
+    def __init__(self, stream: lines.Stream, advance: Callable[[int], object] | None = None) -> None:
         self.blocks = lines.blocks(stream, advance)
         self.line = 1
         try:
-            first, *self.texts = next(self.blocks)
-            (self.scenario,) = lines.scenario(first)
+            first, *texts = next(self.blocks)
+            self.texts: list[bytes] | None = texts
+            self.scenario = lines.scenario(first).value
             self.inputs = inputs_of(self.scenario)
+            if next(scenario_faults(self.scenario), None):
+                raise ValueError
             self.cabinets = len(self.scenario["cabinets"])
             self.ticks, self.rounds = int(self.scenario["ticks"]), int(self.scenario["rounds"])
         except (StopIteration, KeyError, TypeError, ValueError, RecursionError):
             raise NotATrace(1) from None
-        self.round, self.cabinet, self.now, self.whole = 0, 0, None, False
+        self.round, self.cabinet, self.whole = 0, 0, False
+        self.now: CabinetRound | None = None
         self.opened, self.ends, self.came = 0, True, NOTHING
-        self.plain = Kept(self.journals_of)
+        self.plain = lru_cache(lines.MOST_KEPT)(self.journals_of)
 
-    def happenings(self, ends=True):
+    def happenings(self, ends: bool = True) -> Iterator[Happening]:
         """Yields what happened: frames, inputs, replies, downloads, notes and ends of rounds, in the order of the
         trace. Who has no use for the ends of rounds is faster without them."""
         self.ends, first = ends, 2
@@ -134,7 +151,7 @@ class TraceReader:
             self.texts = next(self.blocks, None)
         self.line = first - self.whole
 
-    def told(self, text):
+    def told(self, text: bytes) -> Sequence[Happening]:
         """Returns what a line tells, and what is over with it."""
         letter = text[:1]
         if self.opened < self.cabinets:
@@ -148,13 +165,13 @@ class TraceReader:
             return self.next_round(text)
         return self.placed(lines.record(text))
 
-    def opening(self, record, number):
+    def opening(self, record: Record, number: int) -> Frame:
         """Returns the frame that a cabinet opens with, which stands here."""
         if not isinstance(record, Frame) or (record.cabinet, record.tick) != (number, 0):
             raise ValueError
         return record
 
-    def journals_of(self, counts):
+    def journals_of(self, counts: tuple[int, ...]) -> list[bytes] | None:
         """Returns the journals of a round in which cabinets take so many inputs, and then each its ticks; what is given
         has the cabinets that take some, then how many each of these takes. None where a round has no number of ticks
         that a journal may have."""
@@ -165,14 +182,14 @@ class TraceReader:
             return None
         return [b"J %d %b4*%d\n" % (number, it, self.ticks) for number, it in enumerate(taken, 1)]
 
-    def plain_rounds(self, texts, at):
+    def plain_rounds(self, texts: list[bytes], at: int) -> Generator[Happening, None, int]:
         """Yields what happens in the round that has just begun, and in those behind it, as long as each cabinet takes
         its inputs and then nothing but ticks; returns the place of the line behind their journals. Of most rounds
         nothing else is told."""
         count, ticks, number, came = self.cabinets, self.ticks, self.round, self.came
         plain, inputs, start = self.plain, self.inputs, (number - 1) * ticks
-        empty = plain[()]
-        while texts[at : at + count] == (plain[(*came, *map(len, came.values()))] if came else empty):
+        empty = plain(())
+        while texts[at : at + count] == (plain((*came, *map(len, came.values()))) if came else empty):
             at += count
             if came:
                 for cabinet in range(1, count + 1):
@@ -190,7 +207,7 @@ class TraceReader:
         self.round, self.came = number, came
         return at
 
-    def begun(self, journal):
+    def begun(self, journal: Journal) -> Sequence[Happening]:
         """Takes a journal, where it may stand here, and returns what the round of the cabinet before it leaves."""
         cabinet, runs = journal
         left = self.left()
@@ -204,19 +221,21 @@ class TraceReader:
             raise ValueError
         return left
 
-    def placed(self, record):
+    def placed(self, record: Record) -> Sequence[Happening]:
         """Returns what a line tells that stands within a cabinet's round, or that notes something."""
         if self.whole:
             raise ValueError
         match record:
             case Answer(cabinet, way, digits):
-                due, tick = self.of(cabinet).next_answer()
+                now = self.of(cabinet)
+                due, tick = now.next_answer()
                 if way != due:
                     raise ValueError
-                return (*self.now.before(tick), Answered(cabinet, tick, way, digits))
+                return (*now.before(tick), Answered(cabinet, tick, way, digits))
             case Load(cabinet):
-                tick = self.of(cabinet).answers[-1][2]
-                return (*self.now.before(tick), Ended(cabinet, tick, record))
+                now = self.of(cabinet)
+                tick = now.answers[-1][2]
+                return (*now.before(tick), Ended(cabinet, tick, record))
             case Note(cabinet, words):
                 if self.round == 0 or self.cabinet or not 0 < cabinet <= self.cabinets:
                     raise ValueError
@@ -225,21 +244,23 @@ class TraceReader:
                 return self.ended(rounds)
         raise ValueError
 
-    def of(self, cabinet):
+    def of(self, cabinet: int) -> CabinetRound:
         """Returns the round of the cabinet whose lines stand here, which must be this one."""
         if self.now is None or cabinet != self.cabinet:
             raise ValueError
         return self.now
 
-    def shown(self, frame):
+    def shown(self, frame: Record) -> Sequence[Happening]:
         """Returns the inputs before a frame, and the frame."""
+        if not isinstance(frame, Frame):
+            raise ValueError
         now = self.of(frame.cabinet)
         if not now.last < frame.tick <= now.end:
             raise ValueError
         now.last = frame.tick
         return (*now.before(frame.tick), frame)
 
-    def left(self):
+    def left(self) -> Sequence[Happening]:
         """Returns the inputs that a cabinet's round leaves, which is over; no reply may be left."""
         now, self.now = self.now, None
         if now is None:
@@ -248,7 +269,7 @@ class TraceReader:
             raise ValueError
         return now.before(now.end + 1)
 
-    def next_round(self, text):
+    def next_round(self, text: bytes) -> Sequence[Happening]:
         """Takes the line of the round that is due, and returns what the one before leaves."""
         if text != b"R %d\n" % (self.round + 1):
             raise ValueError
@@ -256,12 +277,12 @@ class TraceReader:
         self.begin_round()
         return over
 
-    def begin_round(self):
+    def begin_round(self) -> None:
         """Begins the next round."""
         self.round, self.cabinet = self.round + 1, 0
         self.came = self.inputs.pop(self.round, NOTHING)
 
-    def ended(self, rounds):
+    def ended(self, rounds: int) -> Sequence[Happening]:
         """Takes the end of the trace, and returns what the last round leaves."""
         if not rounds == self.round == self.rounds:
             raise ValueError
@@ -269,7 +290,7 @@ class TraceReader:
         self.cabinet, self.whole = 0, True
         return over
 
-    def over(self):
+    def over(self) -> Sequence[Happening]:
         """Returns what a round leaves that is over, and its end, once each cabinet has had its own."""
         if self.whole or (self.round and self.cabinet != self.cabinets):
             raise ValueError

@@ -6,12 +6,14 @@ import contextlib
 import json
 import pathlib
 import signal
+import socket
 import subprocess
 import sys
-from collections.abc import Awaitable, Callable
+from dataclasses import dataclass
 from typing import Any
 
 from ..shared import saying
+from ..shared.fault import Fault
 from ..shared.program import NoProgram, answering
 from ..shared.status import Status
 from . import ports, words
@@ -22,6 +24,7 @@ from .replay import Replay
 from .session import Died
 from .street import Hearer, Street
 
+OPEN = "warning: whoever reaches {} can read and change these cabinets: the protocol has no protection"
 USUAL = {"version": 1, "rounds": 1, "ticks": 10, "cabinets": [{}]}
 """Where no scenario is named: the standard tables, rounds of a second."""
 
@@ -29,13 +32,6 @@ USUAL = {"version": 1, "rounds": 1, "ticks": 10, "cabinets": [{}]}
 def say(told: object) -> None:
     """Tells something on standard error."""
     saying.say("street", told)
-
-
-class NoPanel(Exception):
-    """A package that the panel needs is missing, in words."""
-
-
-Closing = Callable[[], Awaitable[None]]
 
 
 class Telling(Hearer):
@@ -50,32 +46,38 @@ class Telling(Hearer):
             say("the session is over; a new one begins with start-up")
 
 
-def given_scenario(program: pathlib.Path, name: str | None) -> dict[str, Any]:
-    """Returns the scenario in a file, once the program has opened a session with it."""
-    if name is None:
-        return USUAL
-    text = pathlib.Path(name).read_bytes().replace(b"\n", b" ")
+def scenario_of(program: pathlib.Path, text: bytes) -> dict[str, Any]:
+    """Returns the scenario that a text is, once the program has opened a session with it."""
     ran = subprocess.run([program, "live"], input=text, stdout=subprocess.DEVNULL, stderr=subprocess.PIPE)
     if ran.returncode:
         raise Died(ran.stderr, ran.returncode)
-    return json.loads(text)
+    scenario: dict[str, Any] = json.loads(text)
+    return scenario
+
+
+def asked_for(given: argparse.Namespace, program: pathlib.Path) -> tuple[dict[str, Any], list[bytes]]:
+    """Returns the scenario that the words ask for, and the requests that are to happen again in it."""
+    if again := given.replay or given.resume:
+        text, requests = read_requests(pathlib.Path(again))
+        return scenario_of(program, text), requests
+    if given.scenario:
+        return scenario_of(program, pathlib.Path(given.scenario).read_bytes().replace(b"\n", b" ")), []
+    return USUAL, []
 
 
 def street_of(given: argparse.Namespace, hearers: list[Hearer]) -> tuple[Street, list[bytes]]:
     """Returns the street that the words ask for, and what is to happen again in it."""
-    again = given.replay or given.resume
     program, is_step = answering(given.program, say), words.is_step(given)
-    scenario, requests = read_requests(pathlib.Path(again)) if again else (given_scenario(program, given.scenario), [])
+    scenario, requests = asked_for(given, program)
     street = Street(str(program), scenario, Pace(0.0 if is_step else given.speed), hearers)
     if is_step:
-        street.after_message = words.USUAL_STEP if given.step is None else given.step
+        street.after_message = words.USUAL_STEP if given.ticks_per_message is None else given.ticks_per_message
     return street, requests
 
 
 def tell_places(street: Street, places: list[ports.Place]) -> None:
     """Says where the cabinets answer."""
-    community = street.scenario.get("community", "public")
-    count = len(places)
+    community, count = street.community().decode(), len(places)
     where = f"{places[0]}" if count == 1 else f"{places[0]} to {places[-1]}"
     say(f"{count} cabinet{'s'[: count - 1]} answer{'s'[: count == 1]} at {where}, community {community}")
 
@@ -90,62 +92,79 @@ async def held(street: Street, requests: list[bytes], by_clock: bool) -> None:
     await street.live()
 
 
-async def opened_panel(given: argparse.Namespace, street: Street, stack: contextlib.ExitStack) -> Closing | None:
-    """Opens the panel where it is asked for; returns what closes it."""
-    found = next((hearer for hearer in street.hearers if hasattr(hearer, "pages")), None)
-    if found is None:
-        return None
-    found.street = street
-    port = stack.enter_context(ports.page_port(ports.Place(given.bind or ports.LOOPBACK, given.panel)))
-    runner = await found.open(port)
-    say(f"panel at http://{ports.place_of(port)}/")
-    return lambda: found.close(runner, "The street has ended.")
+class Opened:
+    """The panel, once it is asked for, and its server, once that is open."""
+
+    def __init__(self, given: argparse.Namespace) -> None:
+        """Reads what needs packages; one that is missing is raised in words."""
+        try:
+            from .panel.panel import Panel
+            from .panel.state import PanelState
+            from .panel.web import Server
+        except ModuleNotFoundError as fault:
+            needs = f"the panel needs Python's package {fault.name}: apt-get install -y python3-aiohttp node-d3"
+            raise Fault(needs, Status.FILE) from None
+        self.given, self.state = given, PanelState()
+        self.panel = Panel(self.state)
+        names = [given.bind or ports.LOOPBACK, *given.allow_host]
+        self.server = Server(self.panel, tuple(map(ports.bracketed, names)))
+
+    def hearers(self) -> list[Hearer]:
+        """Returns what hears of the street for it."""
+        return [self.state, self.panel]
+
+    async def open(self, street: Street, stack: contextlib.AsyncExitStack) -> None:
+        """Opens the server, and says where it is."""
+        place = ports.Place(self.given.bind or ports.LOOPBACK, self.given.panel)
+        port = stack.enter_context(ports.page_port(place))
+        await self.server.open(port)
+        stack.push_async_callback(self.server.close)
+        self.panel.begin(street)
+        stack.push_async_callback(self.panel.end, "The street has ended.")
+        where = ports.Place(words.panel_name(self.given), ports.place_of(port).port)
+        say(f"panel at {self.server.address(where)}")
 
 
-def panel_hearers(given: argparse.Namespace) -> list[Hearer]:
-    """Returns what hears for the panel, where one is asked for."""
-    if given.panel is None:
-        return []
-    try:
-        from .panel.state import PanelState
-        from .panel.web import Panel
-    except ModuleNotFoundError as fault:
-        raise NoPanel(
-            f"the panel needs Python's package {fault.name}: apt-get install -y python3-aiohttp node-d3"
-        ) from None
-    state = PanelState()
-    return [state, Panel(state, given.bind or ports.LOOPBACK)]
+@dataclass
+class Asked:
+    """What the words ask for: a street, what is to happen again in it, its ports, its panel."""
+
+    given: argparse.Namespace
+    street: Street
+    requests: list[bytes]
+    sockets: list[socket.socket]
+    panel: Opened | None
 
 
-async def served(given: argparse.Namespace, street: Street, requests: list[bytes], stack: contextlib.ExitStack) -> None:
-    """Opens all, and answers until the street is told to end, or its program dies."""
-    wanted = ports.places(words.first_place(given), len(street.scenario["cabinets"]), given.addresses is not None)
-    sockets = stack.enter_context(ports.opened(wanted))
+async def served(asked: Asked) -> None:
+    """Opens all, and answers until the street ends, or its program dies."""
+    given, street, sockets = asked.given, asked.street, asked.sockets
     await street.open()
     loop = asyncio.get_running_loop()
     for number in (signal.SIGINT, signal.SIGTERM):
         loop.add_signal_handler(number, street.end)
-    transports = await ports.listening(sockets, Fronts(street).datagram if given.front else street.datagram)
-    tell_places(street, [ports.place_of(port) for port in sockets])
-    panel = await opened_panel(given, street, stack)
-    if given.bind:
-        say(f"warning: whoever reaches {given.bind} can read and change these cabinets: the protocol has no protection")
-    try:
-        await held(street, requests, given.replay is not None)
-        await street.close()
-    finally:
-        for transport in transports:
-            transport.close()
-        if panel:
-            await panel()
+    async with contextlib.AsyncExitStack() as stack:
+        for transport in await ports.listening(sockets, Fronts(street).datagram if given.front else street.datagram):
+            stack.callback(transport.close)
+        tell_places(street, [ports.place_of(port) for port in sockets])
+        if asked.panel is not None:
+            await asked.panel.open(street, stack)
+        if given.bind:
+            say(OPEN.format(given.bind))
+        stack.push_async_callback(street.close)
+        await held(street, asked.requests, given.replay is not None)
 
 
 def checked(given: argparse.Namespace) -> str | None:
     """Returns what is wrong with the words together, None where nothing is."""
     if given.addresses and given.bind:
         return "--addresses are those of loopback; --bind names one address"
-    if given.step is not None and not words.is_step(given):
-        return "--step needs --speed step"
+    if given.ticks_per_message is not None and not words.is_step(given):
+        return "--ticks-per-message needs --speed step"
+    if given.allow_host and (given.panel is None or not given.bind):
+        return "--allow-host goes with --panel and --bind"
+    if given.panel is not None and words.is_anywhere(given.bind) and not given.allow_host:
+        return f"--panel with --bind {given.bind} needs --allow-host NAME: how browsers call this machine"
     if (given.replay or given.resume) and given.scenario:
         return "a record has its own scenario"
     return None
@@ -154,27 +173,25 @@ def checked(given: argparse.Namespace) -> str | None:
 def main(arguments: list[str] | None = None) -> int:
     """Does what the words ask for, and returns the exit status."""
     given = words.parser().parse_args(arguments)
-    if fault := checked(given):
-        say(fault)
+    if wrong := checked(given):
+        say(wrong)
         return Status.REFUSED
     try:
         hearers: list[Hearer] = [Telling()]
         if given.record:
             hearers.append(Recorder(pathlib.Path(given.record)))
-        hearers += panel_hearers(given)
-        street, requests = street_of(given, hearers)
-        with contextlib.ExitStack() as stack:
-            asyncio.run(served(given, street, requests, stack))
+        opened = None if given.panel is None else Opened(given)
+        street, requests = street_of(given, [*hearers, *(opened.hearers() if opened else ())])
+        wanted = ports.places(words.first_place(given), len(street.scenario["cabinets"]), given.addresses is not None)
+        with ports.opened(wanted) as sockets:
+            asyncio.run(served(Asked(given, street, requests, sockets, opened)))
         return Status.DONE
-    except Died as fault:
+    except Fault as fault:
         say(fault)
-        return fault.status
+        return int(fault.status)
     except NoProgram as fault:
         say(fault)
         return Status.NO_PROGRAM
-    except NoPanel as fault:
-        say(fault)
-        return Status.FILE
     except OSError as fault:
         say(f"{fault.filename}: {fault.strerror}" if fault.filename else fault.strerror)
         return Status.FILE

@@ -2,10 +2,12 @@
 
 import asyncio
 import contextlib
+import functools
 import ipaddress
 import socket
 from collections.abc import Awaitable, Callable, Iterator
 from dataclasses import dataclass
+from typing import Any, cast
 
 LOOPBACK = "127.0.0.1"
 WAITING = 64
@@ -17,6 +19,11 @@ Asked = Callable[[int, bytes], Awaitable[bytes | None]]
 """Returns the reply of a cabinet to a datagram, None where it is silent."""
 
 
+def bracketed(address: str) -> str:
+    """Returns an address as it is written before a port: one of version 6 has brackets."""
+    return f"[{address}]" if ":" in address else address
+
+
 @dataclass(frozen=True)
 class Place:
     """An address and a port."""
@@ -25,7 +32,7 @@ class Place:
     port: int
 
     def __str__(self) -> str:
-        return f"{self.address}:{self.port}"
+        return f"{bracketed(self.address)}:{self.port}"
 
 
 def places(first: Place, count: int, by_address: bool) -> list[Place]:
@@ -88,9 +95,9 @@ class Agent(asyncio.DatagramProtocol):
         self.transport: asyncio.DatagramTransport
 
     def connection_made(self, transport: asyncio.BaseTransport) -> None:
-        self.transport = transport
+        self.transport = cast(asyncio.DatagramTransport, transport)
 
-    def datagram_received(self, data: bytes, client: tuple) -> None:
+    def datagram_received(self, data: bytes, client: tuple[Any, ...]) -> None:
         if len(self.tasks) < WAITING:
             task = asyncio.create_task(self.answer(data, client))
             self.tasks.add(task)
@@ -99,7 +106,7 @@ class Agent(asyncio.DatagramProtocol):
     def error_received(self, fault: Exception) -> None:
         """A reply is lost, as where the client has gone."""
 
-    async def answer(self, data: bytes, client: tuple) -> None:
+    async def answer(self, data: bytes, client: tuple[Any, ...]) -> None:
         """Answers a datagram where the cabinet does."""
         reply = await self.asked(self.cabinet, data)
         if reply is not None:
@@ -110,7 +117,7 @@ async def listening(sockets: list[socket.socket], asked: Asked) -> list[asyncio.
     """Lets the agent of each cabinet answer at its socket."""
     loop = asyncio.get_running_loop()
     made = [
-        await loop.create_datagram_endpoint(lambda number=number: Agent(number, asked), sock=sock.dup())
+        await loop.create_datagram_endpoint(functools.partial(Agent, number, asked), sock=sock.dup())
         for number, sock in enumerate(sockets, 1)
     ]
     return [transport for transport, _ in made]

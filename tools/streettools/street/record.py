@@ -6,30 +6,41 @@ of both, since they change nothing.
 
 import errno
 import json
+import os
 import pathlib
-from typing import Any, BinaryIO
+import re
+from typing import Any
 
 from ..shared import files
+from ..shared.fault import Fault
 from ..shared.session_record import SessionRecord, compact
 from .session import Answer, Died
 from .street import Hearer
 
 MOST_INPUTS, MOST_FRAMES, MOST_SCENARIO, MOST_TRACE = 1_000_000, 100_000, 16_777_216, 67_108_864
 """The limits of a scenario and of a trace that is checked."""
+REQUESTS = ".dialogue"
+"""How the name of a file of requests ends."""
+TICKS = re.compile(rb"tick [1-9]\d{0,8}")
 FULL = 0.9
 """Which part of what a scenario leaves free is used before a session ends for its record's sake."""
 
 
 def requests_beside(trace: pathlib.Path) -> pathlib.Path:
     """Returns the file that has the requests of a trace."""
-    return trace.with_suffix(".dialogue")
+    return trace.with_suffix(REQUESTS)
 
 
-def read_requests(path: pathlib.Path) -> tuple[dict[str, Any], list[bytes]]:
-    """Returns the scenario and the requests of a record, which is named by its trace or by its requests."""
-    name = path if path.suffix == ".dialogue" else requests_beside(path)
+def read_requests(path: pathlib.Path) -> tuple[bytes, list[bytes]]:
+    """Returns the text of the scenario and the requests of a record, which is named by its trace or by its requests.
+    The program tests the scenario, and each request but those of ticks."""
+    name = path if path.suffix == REQUESTS else requests_beside(path)
     first, *requests = name.read_bytes().split(b"\n")
-    return json.loads(first), [request for request in requests[:-1] if request]
+    found = [request for request in requests[:-1] if request]
+    for number, request in enumerate(found, 2):
+        if request.startswith(b"tick") and not TICKS.fullmatch(request):
+            raise Fault(f"{name}: line {number} is not a request")
+    return first, found
 
 
 class Room:
@@ -52,16 +63,60 @@ class Room:
         )
 
 
-class Recorder(Hearer):
-    """Records the sessions of a street: the first at the path that is named, the next with a number behind its name."""
+class Requests:
+    """The file of the requests of a session. It holds whole lines at every time, those up to the last ticks."""
 
     def __init__(self, path: pathlib.Path) -> None:
+        """Makes the file; one that is there gets the same name with ~ at its end. A link is not followed."""
+        self.path = path
+        if path.is_dir():
+            raise IsADirectoryError(errno.EISDIR, "Is a directory", str(path))
+        if os.path.lexists(path):
+            path.replace(path.with_name(f"{path.name}~"))
+        self.file = os.open(path, os.O_WRONLY | os.O_CREAT | os.O_EXCL | os.O_NOFOLLOW | os.O_CLOEXEC, 0o666)
+        self.end = 0
+        self.waiting = b""
+
+    def add(self, line: bytes) -> None:
+        """Adds a line. It is written with the next ticks."""
+        self.waiting += line + b"\n"
+        if line.startswith(b"tick "):
+            self.write()
+
+    def write(self) -> None:
+        """Writes the lines that wait; where they can't be written whole none of them stays."""
+        text, self.waiting = self.waiting, b""
+        left = text
+        try:
+            while left:
+                left = left[os.write(self.file, left) :]
+        except OSError as fault:
+            os.ftruncate(self.file, self.end)
+            raise OSError(fault.errno, fault.strerror, str(self.path)) from None
+        self.end += len(text)
+
+    def close(self) -> None:
+        """Writes what waits, and closes the file."""
+        try:
+            self.write()
+        finally:
+            os.close(self.file)
+
+
+class Recorder(Hearer):
+    """Records the sessions of a street: the first at the path that is named, the next with a number after its name."""
+
+    called = "the record"
+
+    def __init__(self, path: pathlib.Path) -> None:
+        if path.suffix == REQUESTS:
+            raise Fault(f"{path}: a record has the name of its trace; its requests get the ending {REQUESTS}")
         if path.is_dir():
             raise IsADirectoryError(errno.EISDIR, "Is a directory", str(path))
         self.path = path
         self.part = 0
         self.record: SessionRecord
-        self.requests: BinaryIO
+        self.requests: Requests
         self.room: Room
 
     def trace_path(self) -> pathlib.Path:
@@ -71,23 +126,25 @@ class Recorder(Hearer):
     def began(self, scenario: dict[str, Any]) -> None:
         self.part += 1
         self.record, self.room = SessionRecord(scenario, keeps_reads=False), Room(scenario)
-        aim = requests_beside(self.trace_path())
-        if aim.exists():
-            aim.replace(aim.with_name(f"{aim.name}~"))
-        self.requests = aim.open("wb")
-        self.requests.write(json.dumps(scenario, separators=(",", ":")).encode() + b"\n")
+        self.requests = Requests(requests_beside(self.trace_path()))
+        self.requests.add(json.dumps(scenario, separators=(",", ":")).encode())
+        self.requests.write()
 
     def heard(self, request: bytes | None, answer: Answer) -> None:
         if self.record.answered(request, answer) and request is not None:
-            self.requests.write(request + b"\n")
-            if request.startswith(b"tick "):
-                self.requests.flush()
+            self.requests.add(request)
 
     def is_full(self) -> bool:
         return self.room.is_used(self.record)
 
     def ended(self, died: Died | None) -> None:
-        self.requests.close()
+        try:
+            self.requests.close()
+        finally:
+            self.write()
+
+    def write(self) -> None:
+        """Writes the trace of all rounds that are over."""
         if not self.record.is_over:
             self.record.cut()
         if self.record.number < 1:

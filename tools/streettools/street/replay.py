@@ -1,7 +1,8 @@
 """A record that happens again: its requests are asked once more, by the clock or at once."""
 
 import asyncio
-import math
+from collections.abc import Coroutine
+from typing import Any
 
 from .pace import Pace
 from .street import Street
@@ -17,7 +18,7 @@ class Replay:
         self.street = street
         self.requests = requests
         self.pace = pace
-        self.under_way: list[asyncio.Task] = []
+        self.under_way: list[asyncio.Task[Any]] = []
 
     async def play(self) -> None:
         """Asks all, or those until the street is told to end."""
@@ -30,7 +31,7 @@ class Replay:
                 await self.give(self.street.session.ask(request))
         await self.caught_up()
 
-    async def give(self, asking) -> None:
+    async def give(self, asking: Coroutine[Any, Any, Any]) -> None:
         """Asks without waiting, unless many are under way."""
         self.under_way.append(asyncio.create_task(asking))
         if len(self.under_way) >= AHEAD:
@@ -43,14 +44,17 @@ class Replay:
 
     async def ticks(self, count: int) -> None:
         """Takes ticks as they are due."""
-        left: float = 0 if self.pace else math.inf
+        if self.pace is None:
+            await self.give(self.street.session.take(count))
+            return
+        left = 0
         while count and not self.street.ended.is_set():
-            left += self.pace.due() if self.pace else 0
-            now = int(min(count, left))
+            left += self.pace.due()
+            now = min(count, left)
             if now:
                 await self.give(self.street.session.take(now))
                 count, left = count - now, left - now
             else:
                 await self.street.pause(self.pace.wait())
-        if self.pace and left:
-            self.pace.step(int(left))
+        if left:
+            self.pace.step(left)

@@ -11,6 +11,9 @@ import json
 from collections.abc import Callable
 from typing import Any, NamedTuple
 
+from ..shared.fault import Fault
+from ..shared.status import Status
+
 MOST = 16
 """How many requests may be without answer at once. A request has at most 2,962 octets, and a pipe holds 65,536."""
 LONGEST_LINE = 1 << 24
@@ -33,12 +36,11 @@ class Over(Exception):
     """The session is over, so that a request has no answer."""
 
 
-class Died(Exception):
+class Died(Fault):
     """The program ended before the session was over: its line, and its exit status."""
 
     def __init__(self, said: bytes, status: int) -> None:
-        super().__init__(said.decode(errors="replace").strip() or f"the program ended with status {status}")
-        self.status = status
+        super().__init__(said.decode(errors="replace").strip() or f"the program ended with status {status}", status)
 
 
 class Session:
@@ -52,8 +54,11 @@ class Session:
         self.taken = 0
         self.queued: collections.deque[Asked] = collections.deque()
         self.waiting: collections.deque[Asked] = collections.deque()
-        self.is_over = self.has_died = self.is_closing = False
+        self.is_over = self.is_closing = False
         self.process: asyncio.subprocess.Process
+        self.asks: asyncio.StreamWriter
+        self.answers: asyncio.StreamReader
+        self.says: asyncio.StreamReader
         self.reader: asyncio.Task[None]
 
     async def open(self) -> None:
@@ -62,16 +67,22 @@ class Session:
         self.process = await asyncio.create_subprocess_exec(
             self.program, "live", stdin=pipe, stdout=pipe, stderr=pipe, limit=LONGEST_LINE, start_new_session=True
         )
+        assert self.process.stdin and self.process.stdout and self.process.stderr
+        self.asks, self.answers, self.says = self.process.stdin, self.process.stdout, self.process.stderr
         self.reader = asyncio.create_task(self.read())
         try:
             await self.send(None, json.dumps(self.scenario, separators=(",", ":")).encode())
         except Over:
-            raise await self.death() from None
+            raise Died(*await self.end()) from None
 
-    async def death(self) -> Died:
-        """Waits for the end of the program, and returns what it said."""
-        said = await self.process.stderr.read()
-        return Died(said, await self.process.wait())
+    async def end(self) -> tuple[bytes, int]:
+        """Waits for the end of the program, and returns what it said and its status. A fault of the reader is raised
+        once the program has ended."""
+        try:
+            await self.reader
+        finally:
+            said, status = await self.says.read(), await self.process.wait()
+        return said, status
 
     def send(self, request: bytes | None, line: bytes) -> asyncio.Future[Answer]:
         """Gives a line to be written as soon as there is room, and returns its answer to come. Lines are written in
@@ -88,7 +99,7 @@ class Session:
         while self.queued and len(self.waiting) < MOST and not self.is_over:
             asked = self.queued.popleft()
             self.waiting.append(asked)
-            self.process.stdin.write(asked.line + b"\n")
+            self.asks.write(asked.line + b"\n")
 
     async def ask(self, request: bytes) -> Answer:
         """Returns the answer to a request that takes no ticks."""
@@ -120,17 +131,35 @@ class Session:
             count -= now
 
     async def read(self) -> None:
-        """Gives each answer to the request that waits for it, until the program ends."""
+        """Gives each answer to the request that waits for it, until the program ends. A fault of one who hears of an
+        answer ends the program, and is raised; no request waits any longer then."""
         lines: Answer = []
-        async for line in self.process.stdout:
-            if line != b".\n":
-                lines.append(line[:-1])
-                continue
-            self.answered(lines)
-            lines = []
-        self.has_died, self.is_over = not self.is_over, True
-        self.give_up(self.waiting)
-        self.give_up(self.queued)
+        try:
+            while line := await self.line():
+                if line != b".\n":
+                    lines.append(line[:-1])
+                    continue
+                self.answered(lines)
+                lines = []
+        except BaseException:
+            self.kill()
+            raise
+        finally:
+            self.is_over = True
+            self.give_up(self.waiting)
+            self.give_up(self.queued)
+
+    async def line(self) -> bytes:
+        """Returns the next line of the program, nothing at its end."""
+        try:
+            return await self.answers.readline()
+        except ValueError:
+            raise Fault(f"the program wrote a line of more than {LONGEST_LINE} octets", Status.FILE) from None
+
+    def kill(self) -> None:
+        """Ends the program, if it hasn't ended."""
+        with contextlib.suppress(ProcessLookupError):
+            self.process.kill()
 
     def give_up(self, asked: "collections.deque[Asked]") -> None:
         """Says of requests that the session is over."""
@@ -140,26 +169,31 @@ class Session:
                 answer.set_exception(Over())
 
     def answered(self, lines: Answer) -> None:
-        """Takes an answer."""
-        self.is_over = self.is_over or bool(lines) and lines[-1].startswith(b"Z ")
-        asked = self.waiting.popleft() if self.waiting else None
+        """Takes an answer. Its request gets it once all have heard of it."""
+        asked = self.waiting[0] if self.waiting else None
         self.heard(asked.request if asked else None, lines)
-        if asked and not asked.answer.done():
-            asked.answer.set_result(lines)
+        self.is_over = self.is_over or bool(lines) and lines[-1].startswith(b"Z ")
+        if asked:
+            self.waiting.popleft()
+            if not asked.answer.done():
+                asked.answer.set_result(lines)
         self.write()
 
     async def finish(self) -> None:
         """Ends the input, and waits for the last answer: the session is over then."""
         self.is_closing = True
         self.give_up(self.queued)
-        self.process.stdin.close()
+        self.asks.close()
         await self.reader
         with contextlib.suppress(OSError):
-            await self.process.stdin.wait_closed()
+            await self.asks.wait_closed()
 
     async def close(self) -> None:
-        """Ends the session, and waits for the end of the program; one that ended before its time is raised."""
-        await self.finish()
-        said = await self.process.stderr.read()
-        if status := await self.process.wait():
+        """Ends the session, and waits for the end of the program; one that ended before its time is raised, and so is
+        a fault of the reader."""
+        try:
+            await self.finish()
+        finally:
+            said, status = await self.end()
+        if status:
             raise Died(said, status)

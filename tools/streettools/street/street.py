@@ -5,8 +5,13 @@ record is full.
 """
 
 import asyncio
+import contextlib
+from collections.abc import Awaitable, Iterator
 from typing import Any
 
+from ..shared.fault import Fault
+from ..shared.status import Status
+from .inputs import Inputs
 from .pace import Pace
 from .session import Answer, Died, Over, Session
 
@@ -18,12 +23,15 @@ MOST_ROUNDS, MOST_TICKS = 86_400, 55_296_000
 
 def rounds_for(scenario: dict[str, Any]) -> int:
     """Returns the most rounds that a scenario of these cabinets and ticks may have."""
-    return min(MOST_ROUNDS, MOST_TICKS // (len(scenario["cabinets"]) * scenario["ticks"]))
+    of_a_round: int = len(scenario["cabinets"]) * scenario["ticks"]
+    return min(MOST_ROUNDS, MOST_TICKS // of_a_round)
 
 
 class Hearer:
     """Hears what a street is told and answers, and may bring inputs. A record and a panel are hearers."""
 
+    called = "what hears of the street"
+    """What a fault is said to be in."""
     stride = 600
     """How many ticks may be taken at once before it is asked for inputs."""
 
@@ -50,7 +58,7 @@ class Street:
 
     def __init__(self, program: str, scenario: dict[str, Any], pace: Pace, hearers: list[Hearer]) -> None:
         self.program = program
-        self.scenario = scenario | {"rounds": rounds_for(scenario)}
+        self.scenario: dict[str, Any] = scenario | {"rounds": rounds_for(scenario)}
         self.pace = pace
         self.hearers = hearers
         self.after_message = 0
@@ -59,23 +67,34 @@ class Street:
         self.order = asyncio.Lock()
         self.session: Session
         self.closed: Session | None = None
+        self.fault: Exception | None = None
+        self.inputs = Inputs()
         self.ended = asyncio.Event()
         self.woken = asyncio.Event()
         self.renewals = 0
 
     async def open(self) -> None:
         """Begins a session."""
+        self.inputs.began(self.scenario)
         for hearer in self.hearers:
-            hearer.began(self.scenario)
+            with failing(hearer):
+                hearer.began(self.scenario)
         session = Session(self.program, self.scenario, self.heard)
         await session.open()
         self.session = session
         self.pace.restart()
 
+    def community(self) -> bytes:
+        """Returns the community of the cabinets' messages."""
+        given: str = self.scenario.get("community", "public")
+        return given.encode()
+
     def heard(self, request: bytes | None, answer: Answer) -> None:
-        """Lets all hear of an answer."""
+        """Lets all hear of an answer; a fault of one of them names it."""
+        self.inputs.heard(request, answer)
         for hearer in self.hearers:
-            hearer.heard(request, answer)
+            with failing(hearer):
+                hearer.heard(request, answer)
 
     async def message(self, cabinet: int, octets: bytes, stream: str = "priority") -> bytes | None:
         """Returns a cabinet's reply to a message; None where it is silent, or where the street begins anew."""
@@ -107,7 +126,7 @@ class Street:
             return False
 
     async def live(self) -> None:
-        """Lets time go on, until the street is told to end; a program that dies is raised."""
+        """Lets time go on, until the street is told to end; a program that dies is raised, and so is a fault."""
         while not self.ended.is_set():
             await self.take(self.pace.due())
             if self.session.is_over:
@@ -117,13 +136,17 @@ class Street:
                 await self.session.finish()
             else:
                 await self.pause(self.pace.wait())
+        if self.fault:
+            raise self.fault
 
     async def take(self, count: int) -> None:
         """Takes ticks, and between them what hearers bring."""
         stride = min((hearer.stride for hearer in self.hearers), default=Hearer.stride)
         while count and not self.session.is_over and not self.ended.is_set():
             for hearer in self.hearers:
-                for request in hearer.due_inputs(self.session.taken):
+                with failing(hearer):
+                    due = hearer.due_inputs(self.session.taken)
+                for request in due:
                     await self.input(request)
             now = min(count, stride)
             await self.session.take(now)
@@ -146,6 +169,11 @@ class Street:
         self.ended.set()
         self.wake()
 
+    def fail(self, fault: Exception) -> None:
+        """Lets the street end with a fault, the first one if there are several."""
+        self.fault = self.fault or fault
+        self.end()
+
     async def renewed(self) -> bool:
         """Begins a new session where one is over, except where the street ends with it; returns whether it does."""
         await self.close()
@@ -156,15 +184,41 @@ class Street:
         return True
 
     async def close(self) -> None:
-        """Ends the session where that wasn't done, and lets all hear of it; a program that died is raised."""
+        """Ends the session, if that wasn't done, and lets all hear of it, also where one of them fails; then the first
+        fault is raised, or the death of the program."""
         if self.closed is self.session:
             return
-        self.closed, died = self.session, None
-        try:
-            await self.session.close()
-        except Died as fault:
-            died = fault
+        self.closed = self.session
+        fault = await fault_of(self.session.close())
         for hearer in self.hearers:
-            hearer.ended(died)
-        if died:
-            raise died
+            try:
+                with failing(hearer):
+                    hearer.ended(fault if isinstance(fault, Died) else None)
+            except FAULTS as its:
+                fault = fault or its
+        if fault:
+            raise fault
+
+
+FAULTS = (Fault, OSError)
+"""What ends a street before its time."""
+
+
+async def fault_of(done: Awaitable[None]) -> Exception | None:
+    """Returns the fault with which something ends, None if it ends without one."""
+    try:
+        await done
+    except FAULTS as fault:
+        return fault
+    return None
+
+
+@contextlib.contextmanager
+def failing(hearer: Hearer) -> Iterator[None]:
+    """Lets a fault of a hearer that names no file name the hearer."""
+    try:
+        yield
+    except (OSError, Fault):
+        raise
+    except Exception as fault:
+        raise Fault(f"{hearer.called} failed: {type(fault).__name__}: {fault}", Status.FILE) from fault

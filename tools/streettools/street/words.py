@@ -2,13 +2,16 @@
 
 import argparse
 import ipaddress
+import re
 
-from ..shared.commandline import number
+from ..shared.commandline import Parser, add_program, add_renamed, number
 from .ports import LOOPBACK, Place
 
 USUAL_PORT, USUAL_STEP = 10_161, 10
 SLOWEST, FASTEST = 0.01, 1000.0
 STEP = "step"
+NAME = re.compile(r"[A-Za-z0-9]([A-Za-z0-9.-]{0,251}[A-Za-z0-9])?")
+"""The name of a host."""
 
 ABOUT = (
     "Runs the cabinets of a scenario as live cabinets: each answers SNMP version 1 at its own UDP port, until Ctrl-C."
@@ -45,9 +48,19 @@ def bound(text: str) -> str:
     return str(ipaddress.ip_address(text))
 
 
+def host(text: str) -> str:
+    """Reads the name or the address by which others call this machine."""
+    try:
+        return str(ipaddress.ip_address(text.strip("[]")))
+    except ValueError:
+        if not NAME.fullmatch(text):
+            raise argparse.ArgumentTypeError(f"{text!r} is not the name of a host") from None
+        return text.lower()
+
+
 def parser() -> argparse.ArgumentParser:
     """Returns the reader of the words."""
-    words = argparse.ArgumentParser(prog="arterial street", description=ABOUT, epilog=AFTER)
+    words = Parser("street", description=ABOUT, epilog=AFTER)
     words.add_argument(
         "--scenario", metavar="FILE", help="the scenario of the street (one standard cabinet, rounds of 1 s)"
     )
@@ -71,17 +84,23 @@ def parser() -> argparse.ArgumentParser:
         metavar="N",
         help="so many times real time (1); step: time goes on by messages",
     )
-    words.add_argument(
-        "--step",
-        type=number(0, 864_000),
-        metavar="TICKS",
-        help="with --speed step: ticks that go by after each message (10)",
-    )
+    add_renamed(
+        words, "--step", "--ticks-per-message", type=number(0, 864_000), metavar="TICKS",
+        help="with --speed step: ticks that pass after each message (10)",
+    )  # fmt: skip
     words.add_argument(
         "--panel",
         type=number(0, 65_535),
         metavar="PORT",
         help="a panel for the browser at this port; 0 for one that is free",
+    )
+    words.add_argument(
+        "--allow-host",
+        action="append",
+        default=[],
+        type=host,
+        metavar="NAME",
+        help="with --panel and --bind: a name or address by which browsers call this machine; may be repeated",
     )
     words.add_argument("--record", metavar="FILE", help="write the trace of the session here, its requests beside it")
     again = words.add_mutually_exclusive_group()
@@ -94,9 +113,7 @@ def parser() -> argparse.ArgumentParser:
     words.add_argument(
         "--as", dest="front", choices=["ntcip1202"], help="answer more than the proved profile has: docs/CLIENTS.md"
     )
-    words.add_argument(
-        "--program", metavar="PATH", help="the program (the one that ./arterial prove has built; the model until then)"
-    )
+    add_program(words)
     return words
 
 
@@ -105,6 +122,17 @@ def first_place(given: argparse.Namespace) -> Place:
     return Place(given.bind or given.addresses or LOOPBACK, given.ports)
 
 
+def is_anywhere(address: str | None) -> bool:
+    """Tells whether an address stands for all of this machine's, as 0.0.0.0 does."""
+    return address is not None and ipaddress.ip_address(address).is_unspecified
+
+
+def panel_name(given: argparse.Namespace) -> str:
+    """Returns by which name or address the panel is called."""
+    first: str = given.allow_host[0] if given.allow_host else given.bind or LOOPBACK
+    return first
+
+
 def is_step(given: argparse.Namespace) -> bool:
     """Tells whether time goes on by messages."""
-    return given.speed == STEP
+    return bool(given.speed == STEP)

@@ -4,6 +4,7 @@ import functools
 import json
 import subprocess
 from pathlib import Path
+from typing import Any
 
 from ..shared.bands import Spans, common, delays_of, read_bands
 from ..shared.cabinet import Cabinet
@@ -22,7 +23,7 @@ def asked(program: Path, question: str, seconds: float) -> tuple[int | None, int
     return tuple(it.width if it else 0 for it in found) if found else (None, None)
 
 
-def planned(program: Path, scenario: dict, street: Street, seconds: float) -> tuple[int | None, int | None]:
+def planned(program: Path, scenario: dict[str, Any], street: Street, seconds: float) -> tuple[int | None, int | None]:
     """Returns the widths of the bands of a variant's plan, in ticks."""
     short = {name: scenario[name] for name in ASKED if name in scenario}
     question = {"scenario": short, "section": street.section, "pattern": street.pattern, "travel": street.travel}
@@ -58,7 +59,7 @@ class Greens:
 class StreetTally:
     """A street of a run."""
 
-    def __init__(self, street: Street, cabinets: dict[int, Cabinet], scenario: dict, start: int) -> None:
+    def __init__(self, street: Street, cabinets: dict[int, Cabinet], scenario: dict[str, Any], start: int) -> None:
         rows = enumerate(scenario["cabinets"], 1)
         numbers = [number for number, it in rows if it.get("section", 1) == street.section]
         self.start, self.street = start, street

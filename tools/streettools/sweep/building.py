@@ -29,7 +29,7 @@ class Built:
     volumes."""
 
     text: bytes
-    scenario: dict
+    scenario: dict[str, Any]
     street: Street | None
     drawn: Drawn | None = None
     queued: Queued | None = None
@@ -43,7 +43,7 @@ class Built:
         own = streams_of(self.scenario.get("inputs", ()))
         return [*own, *self.drawn.streams] if self.drawn else own
 
-    def whole(self) -> dict:
+    def whole(self) -> dict[str, Any]:
         """Returns the scenario's value with all inputs."""
         if self.drawn is None:
             return self.scenario
@@ -60,7 +60,7 @@ class Builder:
         puts += [put for it in study.parameters for option in it.values.options for put, _ in option.puts]
         self.deep = {name for name in SHARED if any(it.path and it.path.startswith(name) for it in puts)}
 
-    def read(self, base: str | None, seed: int | None) -> dict:
+    def read(self, base: str | None, seed: int | None) -> dict[str, Any]:
         """Returns a scenario to begin with: that of a file, or of the study's base with this seed for `generate`."""
         if base is not None:
             return parsed(self.fetch(base), base)
@@ -80,7 +80,7 @@ class Builder:
             raise Fault(f"{' '.join(words)}: {ran.stderr.decode(errors='replace').strip()}")
         return ran.stdout
 
-    def document(self, variant: Variant) -> dict:
+    def document(self, variant: Variant) -> dict[str, Any]:
         """Returns the scenario with what the variant puts, and the study's tables beside it."""
         other = next((it.scenario for it in variant.values if isinstance(it, Option) and it.scenario), None)
         seeded = variant.seed if self.study.base.kind is BaseKind.GENERATE else None
@@ -118,7 +118,7 @@ class Builder:
             words = ",".join(filter(None, (written(own)[1:-1], words)))
         return Built(f'{short},"inputs":[{words}]}}'.encode(), scenario, street, found)
 
-    def drawn(self, document: dict, seed: int | None) -> Drawn | None:
+    def drawn(self, document: dict[str, Any], seed: int | None) -> Drawn | None:
         """Returns the inputs that are drawn."""
         traffic, scenario = document.get("traffic", {}), document["scenario"]
         if not traffic.get("flow"):
@@ -132,7 +132,7 @@ def written(value: Any) -> str:
     return json.dumps(value, separators=(",", ":"))
 
 
-def parsed(text: bytes, name: str) -> dict:
+def parsed(text: bytes, name: str) -> dict[str, Any]:
     """Returns a scenario's value, which has to have what variants are made from."""
     try:
         scenario = json.loads(text)

@@ -11,7 +11,7 @@ from . import measures
 from .counts import RunCounts
 from .measures import Measure, Scope, Value
 
-FORM = re.compile(r"(\w+)(?: cabinet (\d+))?(?: phase (\d+))?(?: each (cabinet|phase))?")
+FORM = re.compile(r"(\w+)(?: cabinet (\d{1,3}))?(?: phase (\d{1,3}))?(?: each (cabinet|phase))?")
 
 
 @dataclass(frozen=True)

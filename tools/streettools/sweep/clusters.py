@@ -1,126 +1,135 @@
-"""Where the runs are done: processes on this machine, a cluster of Dask that is there, or one that Slurm starts."""
+"""Workers on other machines: a cluster of Dask, which one comes in to only with a certificate."""
 
 import contextlib
+import importlib
 import logging
-import os
-import signal
-import tempfile
-from collections.abc import Iterator
+import secrets
+from collections.abc import Callable, Iterator
 from dataclasses import dataclass
-from multiprocessing import resource_tracker
+from pathlib import Path
 from typing import Any
 
 from ..shared.fault import Fault
 from ..shared.status import Status
+from .carried import Parcel
+from .crew import Crew, Lost, Rows
 
-PACKAGES = "python3-dask python3-distributed"
+PACKAGES = "python3-dask python3-distributed python3-cryptography"
 ANSWER = 15
 """So many seconds a scheduler has to answer."""
 SETTINGS = {
     "distributed.comm.timeouts.connect": "60s",
     "distributed.comm.timeouts.tcp": "120s",
-    "distributed.scheduler.allowed-failures": 3,
-    "distributed.worker.memory.terminate": 0.95,
-    "distributed.worker.profile.enabled": False,
-    # what Dask looks after in itself, and how often: with its own times four workers at rest took a tenth of a
-    # processor
+    "distributed.comm.require-encryption": True,
     "distributed.admin.tick.interval": "10s",
     "distributed.admin.tick.cycle": "1m",
-    "distributed.admin.system-monitor.interval": "1m",
-    "distributed.worker.memory.monitor-interval": "2s",
-    "distributed.scheduler.work-stealing-interval": "2s",
     "distributed.client.scheduler-info-interval": "1m",
-    "distributed.scheduler.active-memory-manager.start": False,
-    "distributed.nanny.pre-spawn-environ": {"MALLOC_TRIM_THRESHOLD_": 65536, "OMP_NUM_THREADS": 1},
 }
 
-HEARTBEAT = 10.0
-"""So many seconds pass before a worker says again that it lives. That one has died is seen by its connection."""
+
+def distributed() -> Any:
+    """Returns Dask's module, which has no types."""
+    return importlib.import_module("distributed")
 
 
 @dataclass(frozen=True)
-class Cluster:
-    """A cluster: its client, its address in words, and whether the program and the tools have to travel."""
+class Papers:
+    """The files by which both ends of each connection know each other: the certificate of who signs, and the own
+    certificate with its key."""
 
-    client: Any
-    address: str
-    is_far: bool
+    authority: Path
+    certificate: Path
+    key: Path
+
+    def security(self) -> Any:
+        """Returns what Dask makes of them."""
+        for file in (self.authority, self.certificate, self.key):
+            if not file.is_file():
+                raise Fault(f"{file}: there is no such file", Status.FILE)
+        return distributed().Security(
+            require_encryption=True,
+            tls_ca_file=str(self.authority),
+            tls_client_cert=str(self.certificate),
+            tls_client_key=str(self.key),
+        )
 
 
-def processors() -> int:
-    """Returns how many processors this process may use."""
-    return len(os.sched_getaffinity(0))
+class Dask(Crew):
+    """The workers of a cluster."""
+
+    sends_program = True
+
+    def __init__(self, client: Any, address: str) -> None:
+        super().__init__()
+        self.client, self.address = client, address
+
+    def take_up(self, parcel: Parcel) -> None:
+        import cloudpickle
+
+        from . import carried
+
+        cloudpickle.register_pickle_by_value(carried)
+        self.task = carried.rows
+        try:
+            self.client.register_worker_plugin(parcel, name=self.name)
+        except Exception as fault:
+            raise Fault(f"a worker can't take up the sweep: {fault}", Status.FILE) from None
+
+    def count(self) -> int:
+        try:
+            return sum(self.client.nthreads().values())
+        except (OSError, TimeoutError, ValueError):
+            raise self.gone() from None
+
+    def submit(self, indexes: list[int], over: Callable[[Any], object]) -> Any:
+        key = f"{self.name}-{indexes[0]}-{secrets.token_hex(4)}"
+        made = self.client.submit(self.task, self.name, indexes, pure=False, key=key)
+        self.waits(made, over)
+        return made
+
+    def waits(self, ticket: Any, over: Callable[[Any], object]) -> None:
+        ticket.add_done_callback(over)
+
+    def rows(self, ticket: Any) -> Rows | None:
+        from distributed.scheduler import KilledWorker
+
+        status = ticket.status
+        if status == "finished":
+            found: Rows = ticket.result()
+            return found
+        if status in ("lost", "pending"):
+            return None
+        if status == "cancelled":
+            raise self.gone()
+        fault = ticket.exception()
+        if isinstance(fault, KilledWorker):
+            raise Lost
+        raise Fault(f"a worker failed: {type(fault).__name__}: {fault}", Status.FILE)
+
+    def gone(self) -> Fault:
+        """Returns what is said if the scheduler answers no more."""
+        words = f"the scheduler at {self.address} is gone; what was done is kept, and --resume goes on"
+        return Fault(words, Status.FILE)
+
+    def end(self, tickets: list[Any]) -> None:
+        for it in tickets:
+            it.cancel()
+        if self.client.status == "running":
+            self.client.unregister_worker_plugin(self.name)
 
 
-def seldom() -> None:
-    """Lets the scheduler of this process ask for few heartbeats. Dask has no setting for it; with its own of half a
-    second four workers at rest took four times as much of a processor."""
-    from distributed import scheduler
+@contextlib.contextmanager
+def at(address: str | None, papers: Papers, file: str | None = None) -> Iterator[Dask]:
+    """Gives a cluster of Dask whose scheduler is at an address, or is named by a file."""
+    import dask
 
-    scheduler.heartbeat_interval = lambda count: HEARTBEAT
-
-
-def quiet() -> None:
-    """Keeps Dask's own lines off the terminal: what goes wrong is told by the sweep."""
+    # what goes wrong is said by the sweep, not by Dask's own lines
     logging.disable(logging.CRITICAL)
-
-
-@contextlib.contextmanager
-def without_interrupts() -> Iterator[None]:
-    """Lets threads and processes start that take no Ctrl-C: the sweep alone does, once they have started, and ends
-    them."""
-    resource_tracker.ensure_running()
-    signal.pthread_sigmask(signal.SIG_BLOCK, [signal.SIGINT])
-    try:
-        yield
-    finally:
-        signal.pthread_sigmask(signal.SIG_UNBLOCK, [signal.SIGINT])
-
-
-@contextlib.contextmanager
-def embedded(workers: int | None, memory: int | None) -> Iterator[Cluster]:
-    """Gives processes on this machine: as many as processors, and together no more memory than the machine has."""
-    import dask
-    from distributed import Client, LocalCluster
-
-    seldom()
-    count = workers or processors()
-    limit = f"{memory}MiB" if memory else "auto"
-    with contextlib.ExitStack() as stack:
-        stack.enter_context(dask.config.set(SETTINGS))
-        folder = stack.enter_context(tempfile.TemporaryDirectory(prefix="arterial-sweep-", ignore_cleanup_errors=True))
-        with without_interrupts():
-            cluster = LocalCluster(
-                n_workers=count,
-                threads_per_worker=1,
-                processes=True,
-                memory_limit=limit,
-                host="127.0.0.1",
-                dashboard_address=None,
-                # without a dashboard the scheduler still opens a port for its health, at all addresses if it isn't told
-                scheduler_kwargs={"dashboard_address": "127.0.0.1:0"},
-                silence_logs=logging.CRITICAL,
-                local_directory=folder,
-            )
-            stack.enter_context(cluster)
-            client = stack.enter_context(Client(cluster))
-        quiet()
-        yield Cluster(client, "this machine", False)
-
-
-@contextlib.contextmanager
-def at(address: str | None = None, file: str | None = None) -> Iterator[Cluster]:
-    """Gives a cluster of Dask whose scheduler is at an address, or tells it by a file."""
-    import dask
-    from distributed import Client
-
-    quiet()
     with dask.config.set(SETTINGS):
         try:
-            client = Client(address, scheduler_file=file, timeout=ANSWER)
-        except (OSError, TimeoutError, ValueError) as fault:
-            raise Fault(
-                f"no scheduler of Dask answers at {address or file}: {type(fault).__name__}", Status.FILE
-            ) from None
+            client = distributed().Client(address, scheduler_file=file, timeout=ANSWER, security=papers.security())
+        except (OSError, TimeoutError, ValueError, RuntimeError) as fault:
+            why = type(fault).__name__
+            raise Fault(f"no scheduler of Dask answers at {address or file}: {why}", Status.FILE) from None
         with client:
-            yield Cluster(client, address or client.scheduler.address, True)
+            yield Dask(client, address or client.scheduler_info()["address"])

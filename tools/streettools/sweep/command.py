@@ -2,6 +2,7 @@
 
 import argparse
 import contextlib
+import json
 import sys
 import time
 from collections import Counter
@@ -11,11 +12,12 @@ from pathlib import Path
 from typing import Any
 
 from ..shared.fault import Fault
-from ..shared.program import NoProgram, found
+from ..shared.program import found
 from ..shared.progress import bar
 from ..shared.saying import say
 from ..shared.status import Status
-from . import asking, clusters, measures, slurm, table
+from . import asking, clusters, here, measures, slurm, table
+from .crew import Crew
 from .files import Files, study_file
 from .journal import Journal
 from .one_run import Outcome
@@ -56,16 +58,17 @@ def opened(words: argparse.Namespace) -> Sweep:
 
 
 @contextlib.contextmanager
-def cluster_of(words: argparse.Namespace) -> Iterator[clusters.Cluster]:
-    """Gives the cluster that the words ask for."""
+def crew_of(words: argparse.Namespace) -> Iterator[Crew]:
+    """Gives the workers that the words ask for."""
+    given: contextlib.AbstractContextManager[Crew]
     if words.scheduler:
-        given = clusters.at(words.scheduler)
+        given = clusters.at(words.scheduler, clusters.Papers(words.tls_ca, words.tls_cert, words.tls_key))
     elif words.slurm:
-        given = slurm.started(words.workers or clusters.processors(), words.template)
+        given = slurm.started(words.workers or here.processors(), words.interface, words.template)
     else:
-        given = clusters.embedded(words.workers, words.memory)
-    with given as cluster:
-        yield cluster
+        given = here.workers(words.workers, words.memory)
+    with given as crew:
+        yield crew
 
 
 def run(words: argparse.Namespace, sweep: Sweep, journal: Journal) -> int:
@@ -75,12 +78,12 @@ def run(words: argparse.Namespace, sweep: Sweep, journal: Journal) -> int:
     total, before = sweep.ready.variants.count(), sweep.done(journal)
     if before == total:
         return before
-    with cluster_of(words) as cluster:
+    with crew_of(words) as crew:
         shown = bar(total, "run", initial=before, smoothing=0.05)
-        engine = Engine(cluster, sweep.keys, journal, shown.update if shown is not None else lambda count: None)
+        engine = Engine(crew, sweep.keys, journal, shown.update if shown is not None else lambda count: None)
         try:
-            task = {"study": sweep.document, "files": sweep.files.read, "check": words.check, "seconds": words.seconds}
-            engine.carry(task, modules(), sweep.ready.builder.program)
+            task = {"study": sweep.document, "files": sweep.files.read, "check": words.check, "seconds": words.timeout}
+            crew.carry(task, modules(), sweep.ready.builder.program)
             engine.run(sweep.pending(journal), total - before)
         finally:
             engine.end()
@@ -89,7 +92,7 @@ def run(words: argparse.Namespace, sweep: Sweep, journal: Journal) -> int:
     return before
 
 
-def lines(sweep: Sweep, journal: Journal, outcomes: Counter, first: dict[str, str]) -> Iterator[list[Any]]:
+def lines(sweep: Sweep, journal: Journal, outcomes: Counter[str], first: dict[str, str]) -> Iterator[list[Any]]:
     """Yields the lines of the table, counts their outcomes, and keeps the first words of each outcome."""
     for index in range(sweep.ready.variants.count()):
         row = journal.row(sweep.keys.of(sweep.ready.variants.at(index)))
@@ -101,7 +104,7 @@ def lines(sweep: Sweep, journal: Journal, outcomes: Counter, first: dict[str, st
 
 def sweep_over(words: argparse.Namespace) -> int:
     """Runs a study, and writes its table."""
-    out = Path(words.out)
+    out = Path(words.output)
     table.check(out)
     sweep = opened(words)
     asking.sure(sweep.ready.variants.count(), words.yes)
@@ -119,14 +122,15 @@ def sweep_over(words: argparse.Namespace) -> int:
                 "--resume goes on",
             )
             return Status.INTERRUPTED
-        outcomes, first = Counter(), {}
+        outcomes: Counter[str] = Counter()
+        first: dict[str, str] = {}
         table.write(out, sweep.ready.names(), lines(sweep, journal, outcomes, first))
         journal.close(remove=not words.keep and not outcomes[Outcome.FAILED])
     tell(outcomes, first, before, time.monotonic() - begun, out)
     return Status.UNFINISHED if outcomes[Outcome.FAILED] else Status.DONE
 
 
-def tell(outcomes: Counter, first: dict[str, str], before: int, seconds: float, out: Path) -> None:
+def tell(outcomes: Counter[str], first: dict[str, str], before: int, seconds: float, out: Path) -> None:
     """Says what came of the runs."""
     parts = [f"{outcomes[it]:,} {it}" for it in Outcome if outcomes[it]]
     kept = f", {before:,} of them before" if before else ""
@@ -144,7 +148,10 @@ def count(words: argparse.Namespace) -> int:
     ]
     parts += [f"samples {ready.study.samples}"] if ready.study.samples > 1 else []
     parts += [f"seeds {len(ready.study.seeds)}"] if ready.study.seeds else []
-    print(f"{ready.variants.count():,} runs: {', '.join(parts)}")
+    if words.json:
+        print(json.dumps({"runs": ready.variants.count(), "of": parts}))
+    else:
+        print(f"{ready.variants.count():,} runs: {', '.join(parts)}")
     return Status.DONE
 
 
@@ -167,8 +174,8 @@ def list_measures() -> int:
     return Status.DONE
 
 
-def does(given: list[str]) -> int:
-    """Does what the words ask for."""
+def main(given: list[str]) -> int:
+    """Does what the words ask for, and returns the exit status."""
     if given == ["measures"]:
         return list_measures()
     if given[:1] == ["draw"]:
@@ -176,27 +183,19 @@ def does(given: list[str]) -> int:
 
         return draw(given[1:])
     words = parser().parse_args(given)
-    if words.scheduler and (words.slurm or words.workers or words.memory):
-        raise Fault("--scheduler stands alone: the cluster has its own workers")
+    check(words)
     return count(words) if words.count else show(words) if words.show else sweep_over(words)
 
 
-def main(given: list[str]) -> int:
-    """Does what the words ask for, and returns the exit status."""
-    try:
-        return does(given)
-    except Fault as fault:
-        say("sweep", fault)
-        return fault.status
-    except NoProgram as fault:
-        say("sweep", f"{fault}; ./arterial prove makes one, --program names another")
-        return Status.NO_PROGRAM
-    except BrokenPipeError:
-        return Status.FILE
-    except ModuleNotFoundError as fault:
-        say(
-            "sweep",
-            f"Python's package {fault.name} is missing: apt-get install {clusters.PACKAGES} python3-matplotlib "
-            "python3-pandas",
-        )
-        return Status.FILE
+def check(words: argparse.Namespace) -> None:
+    """Refuses words about the workers that don't go together."""
+    papers = (words.tls_ca, words.tls_cert, words.tls_key)
+    if words.scheduler and (words.slurm or words.workers or words.memory):
+        raise Fault("--scheduler goes without --slurm, --workers and --memory: the cluster has its own workers")
+    if words.scheduler and not words.scheduler.startswith("tls://"):
+        raise Fault(f"--scheduler {words.scheduler}: only tls://HOST:PORT is taken; anybody who reaches another one "
+                    "runs code as you")  # fmt: skip
+    if bool(words.scheduler) != all(papers) or not words.scheduler and any(papers):
+        raise Fault("--scheduler goes with --tls-ca, --tls-cert and --tls-key, the files of the cluster's certificates")
+    if words.slurm != bool(words.interface):
+        raise Fault("--slurm goes with --interface NAME, the network interface of the nodes, as eth0")

@@ -43,7 +43,7 @@ class PhaseCounts:
     green: Spread = field(default_factory=Spread)
     green_ticks: int = 0
     ticks: int = 0
-    endings: Counter = field(default_factory=Counter)
+    endings: Counter[str] = field(default_factory=Counter)
     wait: Spread = field(default_factory=Spread)
     waiting: int = 0
     walks: int = 0

@@ -3,6 +3,7 @@
 import argparse
 from pathlib import Path
 
+from ..shared.commandline import Parser, add_output
 from ..shared.fault import Fault
 from ..shared.status import Status
 
@@ -29,15 +30,14 @@ def picture(text: str) -> str:
 
 def parser() -> argparse.ArgumentParser:
     """Returns the reader of the command's words."""
-    form = {"epilog": EXAMPLES, "formatter_class": argparse.RawDescriptionHelpFormatter}
-    words = argparse.ArgumentParser(prog="sweep draw", description="Draws the table of a sweep.", **form)
+    words = Parser("sweep draw", description="Draws the table of a sweep.", epilog=EXAMPLES)
     kinds = words.add_subparsers(dest="kind", required=True, metavar="KIND")
 
     def kind(name: str, help: str) -> argparse.ArgumentParser:
         """Returns the reader of a kind of picture."""
-        found = kinds.add_parser(name, help=help, description=help, **form)
+        found = kinds.add_parser(name, help=help, description=help, epilog=EXAMPLES)
         found.add_argument("table", type=Path, help="the table that a sweep has written")
-        found.add_argument("-o", "--out", type=picture, required=True, help="the picture: .svg, .png or .pdf")
+        add_output(found, "the picture: .svg, .png or .pdf", type=picture, required=True)
         return found
 
     lines = kind("lines", "a measure over a parameter")
@@ -67,12 +67,12 @@ def main(given: list[str]) -> int:
     try:
         match words.kind:
             case "lines":
-                pictures.lines(results, words.x, words.of, words.by, words.out)
+                pictures.lines(results, words.x, words.of, words.by, words.output)
             case "map":
-                pictures.heat(results, words.x, words.y, words.of, words.out)
+                pictures.heat(results, words.x, words.y, words.of, words.output)
             case "frontier":
-                for key in pictures.frontier(results, words.wanted, words.out):
+                for key in pictures.frontier(results, words.wanted, words.output):
                     print(", ".join(f"{name} {value}" for name, value in zip(results.parameters, key)))
     except OSError as fault:
-        raise Fault(f"{fault.filename or words.out}: {fault.strerror}", Status.FILE) from None
+        raise Fault(f"{fault.filename or words.output}: {fault.strerror}", Status.FILE) from None
     return Status.DONE

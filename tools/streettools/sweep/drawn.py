@@ -11,7 +11,7 @@ from collections.abc import Iterator
 from dataclasses import dataclass
 from typing import Any
 
-from .given import NUMBER, Given
+from ..shared.given import NUMBER, Given, is_of
 from .sensed import Stream
 
 WAYS, STREAMS = ("down", "up"), ("poll", "load")
@@ -22,25 +22,29 @@ def check_traffic(given: Given) -> None:
     given.within("factor", NUMBER, 0, 1000)
     given.within("occupied", NUMBER, 0.1, 3600)
     given.take("keep", bool)
-    for row in given.each("flow", lambda it: it):
-        row.need("cabinet", (int, list))
-        row.need("phase", (int, list))
-        kind = row.only(("vehicles", "pedestrians"))
-        row.within(kind, NUMBER, 0, 3600)
-        row.end()
+    given.each("flow", check_flow)
     given.end()
+
+
+def check_flow(given: Given) -> None:
+    """Refuses a flow that can't be read."""
+    for name, most in (("cabinet", 64), ("phase", 16)):
+        numbers = each(given.need(name, (int, list)))
+        if not all(is_of(it, int) and 1 <= it <= most for it in numbers):
+            raise given.refuse(name, f"has to be a number from 1 to {most}, or a list of such")
+    given.within(given.only(("vehicles", "pedestrians")), NUMBER, 0, 3600)
 
 
 def check_line(given: Given) -> None:
     """Refuses a table `line` that can't be read."""
     given.within("lose", NUMBER, 0, 1)
     for name, known in (("ways", WAYS), ("streams", STREAMS)):
-        if not set(given.take(name, list, [])) <= set(known):
+        if not all(it in known for it in given.take(name, list, [])):
             raise given.refuse(name, f"has to be a list out of {', '.join(known)}")
     given.end()
 
 
-def each(value: Any) -> list:
+def each(value: Any) -> list[Any]:
     """Returns a list, or a value as a list of one."""
     return value if isinstance(value, list) else [value]
 
@@ -69,7 +73,9 @@ def vehicles(draw: random.Random, per_hour: float, occupied: int, rounds: int, s
     return found[1:] + [off] if 0 < off <= rounds else found[1:]
 
 
-def flow(row: dict, seed: int, place: int, traffic: dict, rounds: int, seconds: float) -> Iterator[Stream]:
+def flow(
+    row: dict[str, Any], seed: int, place: int, traffic: dict[str, Any], rounds: int, seconds: float
+) -> Iterator[Stream]:
     """Yields the inputs of a row of the traffic. Each cabinet and phase has draws of its own."""
     factor = traffic.get("factor", 1)
     occupied = max(1, math.ceil(traffic.get("occupied", 1) / seconds - 1e-9))
@@ -110,7 +116,7 @@ class Drawn:
     text: str
     streams: tuple[Stream, ...]
 
-    def values(self) -> tuple[dict, ...]:
+    def values(self) -> tuple[dict[str, Any], ...]:
         """Returns the inputs as the scenario has them."""
         return tuple(json.loads(f"[{self.text}]"))
 
@@ -125,7 +131,7 @@ def inputs_of(traffic: str, seed: int, rounds: int, ticks: int) -> Drawn:
 
 
 @functools.lru_cache(maxsize=64)
-def faults_of(line: str, seed: int, rounds: int, cabinets: int) -> tuple[dict, ...]:
+def faults_of(line: str, seed: int, rounds: int, cabinets: int) -> tuple[dict[str, Any], ...]:
     """Returns the messages that are lost by a seed: of each round, cabinet, stream and way the first."""
     table, draw = json.loads(line), random.Random(f"{seed}/line")
     share = table.get("lose", 0)

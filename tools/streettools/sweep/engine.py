@@ -2,30 +2,25 @@
 as it comes."""
 
 import contextlib
-import hashlib
 import itertools
 import math
 import queue
-import secrets
 import signal
 import sys
 import time
 from collections.abc import Callable, Iterator
 from dataclasses import dataclass
-from pathlib import Path
 from typing import Any
 
-from ..shared.fault import Fault
 from ..shared.saying import say
-from ..shared.status import Status
-from .clusters import Cluster
+from .crew import Crew, Lost
 from .journal import Journal
 from .one_run import Outcome
 from .prepared import Keys
 
 AIM, MOST, GROWTH = 5.0, 64, 4
 """A batch is to take so many seconds, and has at most so many runs, and so many times those of the batch before: to
-send one out and to take what came of it costs Dask's processes 5 to 20 ms."""
+send one out and to take what came of it costs a cluster 5 to 20 ms."""
 SHARES = 2
 """Of what is left a batch has at most this part of a worker's share, so that all workers end at about the same time."""
 LOOK, LOOK_ALONE = 10.0, 2.0
@@ -61,15 +56,8 @@ class Job:
 class Engine:
     """Sends out the variants that are not done."""
 
-    def __init__(self, cluster: Cluster, keys: Keys, journal: Journal, advance: Callable[[int], None]) -> None:
-        self.cluster, self.client, self.keys, self.journal, self.advance = (
-            cluster,
-            cluster.client,
-            keys,
-            journal,
-            advance,
-        )
-        self.name = f"arterial_sweep_{secrets.token_hex(6)}"
+    def __init__(self, crew: Crew, keys: Keys, journal: Journal, advance: Callable[[int], None]) -> None:
+        self.crew, self.keys, self.journal, self.advance = crew, keys, journal, advance
         self.jobs: dict[Any, Job] = {}
         self.over: queue.SimpleQueue[Any] = queue.SimpleQueue()
         """Batches that are over, and None for a Ctrl-C."""
@@ -77,28 +65,6 @@ class Engine:
         self.left = sys.maxsize
         """So many runs haven't been sent out."""
         self.alone: float | None = None
-
-    def carry(self, task: dict[str, Any], modules: dict[str, str], program: Path) -> None:
-        """Brings the tools, the study and the program to the workers, also to those that come later."""
-        import cloudpickle
-
-        from . import carried
-
-        cloudpickle.register_pickle_by_value(carried)
-        octets = program.read_bytes()
-        self.task = carried.rows
-        parcel = carried.Parcel(
-            self.name,
-            modules,
-            task,
-            str(program),
-            hashlib.sha256(octets).hexdigest(),
-            octets if self.cluster.is_far else None,
-        )
-        try:
-            self.client.register_worker_plugin(parcel, name=self.name)
-        except Exception as fault:
-            raise Fault(f"a worker can't take up the sweep: {fault}", Status.FILE) from None
 
     def run(self, pending: Iterator[tuple[int, str]], left: int = sys.maxsize) -> None:
         """Runs the variants with these numbers and keys, of which there are so many. A Ctrl-C ends it between two
@@ -116,13 +82,13 @@ class Engine:
             if not self.jobs:
                 return
             try:
-                future = self.over.get(timeout=PATIENCE)
+                ticket = self.over.get(timeout=PATIENCE)
             except queue.Empty:
                 continue
-            if future is None:
+            if ticket is None:
                 raise KeyboardInterrupt
-            if (job := self.jobs.pop(future, None)) is not None:
-                self.take(future, job)
+            if (job := self.jobs.pop(ticket, None)) is not None:
+                self.take(ticket, job)
 
     def batch(self, pending: Iterator[tuple[int, str]]) -> list[tuple[int, str]]:
         """Returns the next variants to send, none at the end."""
@@ -134,47 +100,28 @@ class Engine:
     def send(self, batch: list[tuple[int, str]]) -> None:
         """Sends variants to some worker."""
         indexes, keys = [index for index, _ in batch], [key for _, key in batch]
-        future = self.client.submit(
-            self.task, self.name, indexes, pure=False, key=f"{self.name}-{indexes[0]}-{secrets.token_hex(4)}"
-        )
-        self.waits(future, Job(indexes, keys, time.monotonic()))
+        job = Job(indexes, keys, time.monotonic())
+        self.jobs[self.crew.submit(indexes, self.over.put)] = job
 
-    def waits(self, future: Any, job: Job) -> None:
-        """Waits for what comes of a batch."""
-        self.jobs[future] = job
-        future.add_done_callback(self.over.put)
-
-    def take(self, future: Any, job: Job) -> None:
-        """Takes what came of a batch. One whose result was lost with its worker is waited for again; one that killed
-        its worker over and over is taken apart, to find the run that does it."""
-        from distributed.scheduler import KilledWorker
-
-        status = future.status
-        if status == "finished":
-            rows = future.result()
-            self.journal.add(zip(job.keys, rows))
-            self.paced(job)
-        elif status in ("lost", "pending"):
-            self.waits(future, job)
-            return
-        elif status == "cancelled":
-            raise self.gone()
-        elif not isinstance(fault := future.exception(), KilledWorker):
-            raise Fault(f"a worker failed: {type(fault).__name__}: {fault}", Status.FILE)
-        elif len(job.indexes) > 1:
-            for one in zip(job.indexes, job.keys):
-                self.send([one])
-            return
-        else:
+    def take(self, ticket: Any, job: Job) -> None:
+        """Takes what came of a batch. One whose result was lost with its worker is waited for again; one with which
+        workers died over and over is taken apart, to find the run that does it."""
+        try:
+            rows = self.crew.rows(ticket)
+        except Lost:
+            if len(job.indexes) > 1:
+                for one in zip(job.indexes, job.keys):
+                    self.send([one])
+                return
             blank = [None] * (len(self.keys.prepared.columns) + len(self.keys.prepared.study.own))
-            self.journal.add([(job.keys[0], [Outcome.FAILED.value, "its worker died, four times", None, *blank])])
+            rows = [[Outcome.FAILED.value, "its worker died, four times", None, *blank]]
+        if rows is None:
+            self.jobs[ticket] = job
+            self.crew.waits(ticket, self.over.put)
+            return
+        self.journal.add(zip(job.keys, rows))
+        self.paced(job)
         self.advance(len(job.indexes))
-
-    def gone(self) -> Fault:
-        """Returns what is said where the scheduler answers no more."""
-        return Fault(
-            f"the scheduler at {self.cluster.address} is gone; what was done is kept, and --resume goes on", Status.FILE
-        )
 
     def paced(self, job: Job) -> None:
         """Makes batches larger while they are done fast. Two wait for each worker that has one, so a third of the
@@ -188,21 +135,15 @@ class Engine:
         if now - self.looked < (LOOK if self.threads else LOOK_ALONE):
             return
         self.looked = now
-        try:
-            self.threads = sum(self.client.nthreads().values())
-        except (OSError, TimeoutError, ValueError):
-            raise self.gone() from None
+        self.threads = self.crew.count()
         if self.threads:
             self.alone = None
         elif self.alone is None:
             self.alone = now
         elif now - self.alone > PATIENCE_ALONE:
             self.alone = math.inf
-            say("sweep", f"{self.cluster.address} has no workers: waiting for some (Ctrl-C ends)")
+            say("sweep", f"{self.crew.address} has no workers: waiting for some (Ctrl-C ends)")
 
     def end(self) -> None:
         """Gives back what the workers were given."""
-        for future in self.jobs:
-            future.cancel()
-        if self.cluster.is_far and self.client.status == "running":
-            self.client.unregister_worker_plugin(self.name)
+        self.crew.end(list(self.jobs))

@@ -1,21 +1,14 @@
 """Reads a study's file, and the files that it names beside it."""
 
-import tomllib
 from pathlib import Path
 from typing import Any
 
-from ..shared.fault import Fault
-from ..shared.status import Status
+from ..shared.given import content_of, toml_of
 
 
 def study_file(path: Path) -> dict[str, Any]:
     """Returns what the study's file says."""
-    try:
-        return tomllib.loads(path.read_text(encoding="utf-8"))
-    except OSError as fault:
-        raise Fault(f"{path}: {fault.strerror}", Status.FILE) from None
-    except (tomllib.TOMLDecodeError, UnicodeDecodeError, RecursionError) as fault:
-        raise Fault(f"{path}: no TOML: {fault}") from None
+    return toml_of(content_of(path), path)
 
 
 class Files:
@@ -28,9 +21,5 @@ class Files:
     def __call__(self, name: str) -> bytes:
         """Returns the content of a file."""
         if name not in self.read:
-            path = self.folder / name
-            try:
-                self.read[name] = path.read_bytes()
-            except (OSError, ValueError) as fault:
-                raise Fault(f"{path}: {getattr(fault, 'strerror', None) or fault}", Status.FILE) from None
+            self.read[name] = content_of(self.folder / name)
         return self.read[name]

@@ -206,7 +206,7 @@ CABINET = [
         "coordinated_share",
         Scope.CABINET,
         "share",
-        "share of the time in which a pattern runs in step (mode C)",
+        "share of the time in coordinated mode (mode C)",
         share("coordinated", "ticks"),
     ),
     Measure("downloads_accepted", Scope.CABINET, "downloads", "downloads that came into force", count("accepted")),
@@ -250,7 +250,7 @@ STREET = [
             f"band_{name}",
             Scope.STREET,
             "s",
-            f"width of the plan's greatest band {name}, as `arterial band` tells; 0 where there is none",
+            f"width of the plan's widest {name} band, by `arterial band`; 0 if there is none",
             planned(way),
         ),
         Measure(
@@ -316,7 +316,7 @@ TRAFFIC = [
         "split_failures",
         Scope.TRAFFIC,
         "greens",
-        "greens that left somebody behind who stood there as they began",
+        "greens after which a vehicle still waits that waited when they began",
         count("failures"),
     ),
 ]

@@ -11,7 +11,7 @@ from typing import Any, BinaryIO
 
 from ..cosim.movements import Count
 from ..shared.fault import Fault
-from ..shared.lines import NotATrace
+from ..shared.trace_records import NotATrace
 from ..shared.status import Status
 from ..shared.trace_reader import TraceReader
 from . import bands, queued, trace_rows
@@ -44,7 +44,7 @@ class Outcome(enum.StrEnum):
 class Run:
     """A run, as a measure of one's own is given it."""
 
-    scenario: dict
+    scenario: dict[str, Any]
     trace: bytes
 
     def reader(self) -> TraceReader:
@@ -152,7 +152,7 @@ class Runner:
         if self.check and (told := self.ran("check", trace, subprocess.DEVNULL)).returncode:
             raise Failed(f"check: {told.stderr.decode(errors='replace').strip()}")
 
-    def ran(self, word: str, given: BinaryIO, to: BinaryIO | int) -> subprocess.CompletedProcess:
+    def ran(self, word: str, given: BinaryIO, to: BinaryIO | int) -> subprocess.CompletedProcess[bytes]:
         """Runs the program. Where it can't be started or is killed, as on a machine without memory, it is tried
         again."""
         fault = ""

@@ -5,7 +5,7 @@ from dataclasses import dataclass
 from typing import Any
 
 from ..shared.fault import Fault
-from .given import Given
+from ..shared.given import Given
 
 
 @dataclass(frozen=True)

@@ -85,7 +85,7 @@ def heat(results: Results, x: str, y: str, of: str, path: str) -> None:
     save(drawn, path)
 
 
-def frontier(results: Results, wanted: list[tuple[str, int]], path: str) -> list[tuple]:
+def frontier(results: Results, wanted: list[tuple[str, int]], path: str) -> list[tuple[Any, ...]]:
     """Draws two measures of each variant against each other, and joins those that no other is better than in both.
 
     `wanted` has each measure with 1 where the least is best and -1 where the greatest is. Returns the values of the

@@ -17,14 +17,17 @@ from .values import Kind, Option
 from .variants import Variant, Variants
 
 HERE = Path(__file__).resolve().parents[1]
-QUEUED = ("__init__", "queues_*", "movements", "records")
-"""The modules of the model of queues."""
+FOLDERS = (
+    ("shared", "*"), ("sweep", "*"), ("cosim/queues", "*"), ("cosim", "__init__"), ("cosim", "movements"),
+    ("cosim", "records"),
+)  # fmt: skip
+"""Where the modules are that a run needs, with those of the model of queues: folders and names."""
 
 
 def modules() -> dict[str, str]:
     """Returns the text of each module that a run needs, by its path within the package."""
-    folders = [("shared", "*.py"), ("sweep", "*.py"), *(("cosim", f"{name}.py") for name in QUEUED)]
-    files = [HERE / "__init__.py", *(it for folder, name in folders for it in sorted((HERE / folder).glob(name)))]
+    files = [HERE / "__init__.py"]
+    files += [it for folder, name in FOLDERS for it in sorted((HERE / folder).glob(f"{name}.py"))]
     return {str(it.relative_to(HERE)): it.read_text(encoding="utf-8") for it in files}
 
 
@@ -112,7 +115,7 @@ def prepared(document: dict[str, Any], fetch: Fetch, program: Path) -> Prepared:
     return found
 
 
-def phases_of(scenario: dict) -> dict[int, list[int]]:
+def phases_of(scenario: dict[str, Any]) -> dict[int, list[int]]:
     """Returns the phases that each cabinet of the base opens with."""
     try:
         rows = enumerate(scenario["cabinets"], 1)

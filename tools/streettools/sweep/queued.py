@@ -3,17 +3,17 @@ measures. docs/QUEUES.md says what the model does."""
 
 import json
 import time
-import tomllib
 from collections.abc import Callable
 from dataclasses import dataclass, replace
 from pathlib import Path
 from typing import Any
 
-from ..cosim import movements, queues_study
+from ..cosim import movements
+from ..cosim.queues import study as queue_study
 from ..cosim.movements import Count
-from ..cosim.queues_volumes import Volumes, volumes_of
+from ..cosim.queues.volumes import Volumes, volumes_of
 from ..shared.fault import Fault
-from .given import NUMBER, Given
+from ..shared.given import NUMBER, Given, toml_of
 
 STEPS = (1, 2, 5, 10)
 """Rounds may have so many ticks: a round is a step."""
@@ -36,10 +36,7 @@ def check_volumes(given: Given, fetch: Callable[[str], bytes]) -> None:
 
 def read(name: str, fetch: Callable[[str], bytes]) -> Volumes:
     """Reads a file of volumes."""
-    try:
-        return volumes_of(tomllib.loads(fetch(name).decode()))
-    except (tomllib.TOMLDecodeError, UnicodeDecodeError, RecursionError) as fault:
-        raise Fault(f"{name}: no TOML: {fault}") from None
+    return volumes_of(toml_of(fetch(name), name))
 
 
 def queued_of(table: dict[str, Any], seed: int | None, fetch: Callable[[str], bytes]) -> Queued:
@@ -58,9 +55,9 @@ class Terms:
     keeps_trace: bool
 
 
-def run(program: Path, scenario: dict[str, Any], queued: Queued, terms: Terms) -> queues_study.Ran:
+def run(program: Path, scenario: dict[str, Any], queued: Queued, terms: Terms) -> queue_study.Ran:
     """Runs a variant; TimeoutError where it isn't done in time."""
-    seconds, step = queues_study.seconds_of(scenario, None), scenario["ticks"]
+    seconds, step = queue_study.seconds_of(scenario, None), scenario["ticks"]
     if step not in STEPS:
         raise Fault(f"volumes go with rounds of {', '.join(map(str, STEPS))} ticks, and the scenario has {step}")
 
@@ -68,13 +65,13 @@ def run(program: Path, scenario: dict[str, Any], queued: Queued, terms: Terms) -
         if time.monotonic() > terms.until:
             raise TimeoutError
 
-    asked = queues_study.Asked(seconds, step, queued.seed, terms.start / 10, keeps_trace=terms.keeps_trace)
-    return queues_study.run(str(program), queued.volumes, scenario, asked, advance)
+    asked = queue_study.Asked(seconds, step, queued.seed, terms.start / 10, keeps_trace=terms.keeps_trace)
+    return queue_study.run(str(program), queued.volumes, scenario, asked, advance)
 
 
-def counted(ran: queues_study.Ran) -> dict[tuple[int, int], Count]:
+def counted(ran: queue_study.Ran) -> dict[tuple[int, int], Count]:
     """Returns what is counted of the vehicles of each cabinet and phase."""
-    study = queues_study.study_of(ran, Path())
+    study = queue_study.study_of(ran, Path())
     found: dict[tuple[int, int], Count] = {}
     counts = movements.counts(study, ran.signals.greens)
     for it in ran.volumes.flows:

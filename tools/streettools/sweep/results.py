@@ -53,9 +53,9 @@ class Results:
             raise Fault(f"{self.path}: the column {name} has no numbers")
         return column
 
-    def grouped(self, by: list[str], measure: str) -> dict[tuple, Spot]:
+    def grouped(self, by: list[str], measure: str) -> dict[tuple[Any, ...], Spot]:
         """Returns a measure over runs that are alike in some columns; runs without it are left out."""
-        found: dict[tuple, list[float]] = defaultdict(list)
+        found: dict[tuple[Any, ...], list[float]] = defaultdict(list)
         columns = [self.column(it, False) for it in by]
         for *key, value in zip(*columns, self.column(measure)):
             if value == value:

@@ -2,6 +2,7 @@
 
 from collections.abc import Iterable, Sequence
 from dataclasses import dataclass, field
+from typing import Any
 
 
 @dataclass(slots=True)
@@ -47,9 +48,9 @@ class Stream:
     ons: bytearray = field(default_factory=bytearray)
 
 
-def streams_of(inputs: Iterable[dict]) -> list[Stream]:
+def streams_of(inputs: Iterable[dict[str, Any]]) -> list[Stream]:
     """Returns a scenario's inputs by cabinet, kind and phase; those of preempts are left out."""
-    found: dict[tuple, Stream] = {}
+    found: dict[tuple[Any, ...], Stream] = {}
     for it in inputs:
         kind = "veh" if "veh" in it else "ped" if "ped" in it else None
         if kind is None:

@@ -1,6 +1,7 @@
 """Starts a scheduler of Dask and its workers by Slurm's sbatch, and ends them with the sweep."""
 
 import contextlib
+import os
 import shutil
 import subprocess
 import tempfile
@@ -42,10 +43,28 @@ def waited(job: str, file: Path) -> None:
         time.sleep(1)
 
 
+def papers(folder: Path) -> clusters.Papers:
+    """Makes the certificate of a cluster in a folder that is this user's alone. It signs itself: whoever has its key
+    is one of the cluster, and nobody else."""
+    made = clusters.distributed().Security.temporary()
+    found = clusters.Papers(folder / "certificate.pem", folder / "certificate.pem", folder / "key.pem")
+    for file, text in ((found.certificate, made.tls_client_cert), (found.key, made.tls_client_key)):
+        with open(os.open(file, os.O_WRONLY | os.O_CREAT | os.O_EXCL, 0o600), "w", encoding="ascii") as out:
+            out.write(text)
+    return found
+
+
+def submitted(folder: Path, workers: int, interface: str, text: str) -> str:
+    """Sends out the batch job, and returns its number."""
+    exported = f"--export=ALL,SWEEP_FOLDER={folder},SWEEP_INTERFACE={interface}"
+    words = ["sbatch", "--parsable", f"--ntasks={workers + 1}", f"--output={folder}/job.out", exported]
+    return asked(words, text).split(";")[0]
+
+
 @contextlib.contextmanager
-def started(workers: int, template: str | None) -> Iterator[clusters.Cluster]:
-    """Gives a cluster that Slurm runs. Its scheduler tells its address by a file in this folder, which all nodes
-    have to share."""
+def started(workers: int, interface: str, template: str | None) -> Iterator[clusters.Dask]:
+    """Gives a cluster that Slurm runs, at a network interface of its nodes. Its scheduler says its address by a file in
+    a folder made for the run, which all nodes have to share, and which has the certificate of the cluster too."""
     if shutil.which("sbatch") is None:
         raise Fault("there is no sbatch here: --slurm needs Slurm's commands", Status.FILE)
     try:
@@ -55,21 +74,14 @@ def started(workers: int, template: str | None) -> Iterator[clusters.Cluster]:
     folder = Path(tempfile.mkdtemp(prefix="sweep-slurm-", dir=".")).resolve()
     file, job = folder / "scheduler.json", None
     try:
-        job = asked(
-            [
-                "sbatch",
-                "--parsable",
-                f"--ntasks={workers + 1}",
-                f"--output={folder}/job.out",
-                f"--export=ALL,SWEEP_FILE={file}",
-            ],
-            text,
-        ).split(";")[0]
+        signed = papers(folder)
+        job = submitted(folder, workers, interface, text)
         say("sweep", f"Slurm's job {job} starts a scheduler and {workers} workers")
         waited(job, file)
-        with clusters.at(file=str(file)) as cluster:
+        with clusters.at(None, signed, str(file)) as cluster:
             yield cluster
         shutil.rmtree(folder, ignore_errors=True)
     finally:
+        (folder / "key.pem").unlink(missing_ok=True)
         if job:
             subprocess.run(["scancel", job], capture_output=True)

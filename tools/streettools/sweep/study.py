@@ -6,13 +6,16 @@ from dataclasses import dataclass, field
 from typing import Any
 
 from ..shared.fault import Fault
+from ..shared.given import NUMBER, Given
 from . import choice, drawn, queued
 from .choice import Column
-from .given import NUMBER, Given
 from .measures import Scope
 from .own import Own, own_of
 from .targets import Put, put_of
 from .values import Kind, Option, Values, values_of
+
+STUDY = "study"
+"""What a study's file is called in messages."""
 
 Fetch = Callable[[str], bytes]
 """Gives the content of a file that a study names."""
@@ -32,7 +35,7 @@ class Base:
 
     kind: BaseKind
     file: str | None = None
-    words: dict = field(default_factory=dict)
+    words: dict[str, Any] = field(default_factory=dict)
 
 
 @dataclass(frozen=True)
@@ -66,7 +69,7 @@ class Study:
     start: int
     columns: tuple[Column, ...]
     own: tuple[Own, ...]
-    tables: dict[str, dict]
+    tables: dict[str, dict[str, Any]]
     """The tables `traffic`, `line`, `street` and `volumes`, as far as they are there."""
 
     def is_drawn(self) -> bool:
@@ -81,7 +84,7 @@ def base_of(given: Given, fetch: Fetch) -> Base:
         name = given.need(kind.value, str)
         fetch(name)
         return Base(kind, name)
-    words = Given(given.need("generate", dict), "generate")
+    words = Given(given.need("generate", dict), given.file, "generate")
     found = {name: words.need(name, int) for name in ("cabinets", "rounds")} | {"seed": words.take("seed", int, 1)}
     words.end()
     return Base(kind, words=found)
@@ -89,30 +92,27 @@ def base_of(given: Given, fetch: Fetch) -> Base:
 
 def option_of(given: Given, fetch: Fetch) -> Option:
     """Reads a named alternative."""
-    puts = given.each("put", lambda it: (put_of(it), it.need("value", object), it.end())[:2])
+    puts = given.each("put", lambda it: (put_of(it), it.need("value", object)))
     scenario = given.take("scenario", str)
     if scenario is not None:
         fetch(scenario)
-    found = Option(given.need("name", str), tuple(puts), scenario)
-    given.end()
-    return found
+    return Option(given.need("name", str), tuple(puts), scenario)
 
 
 def parameter_of(given: Given, fetch: Fetch) -> Parameter:
     """Reads a parameter."""
     name = given.need("name", str)
     kind = Kind(given.only(tuple(it.value for it in Kind)))
-    options = tuple(given.each("option", lambda it: option_of(it, fetch)))
+    options = given.each("option", lambda it: option_of(it, fetch))
     if len({it.name for it in options}) < len(options):
         raise given.refuse("option", "has two of one name")
     values = values_of(given, name, kind, options)
     if kind is Kind.OPTION:
         puts = ()
     elif "put" in given.table:
-        puts = tuple(given.each("put", lambda it: (put_of(it), it.end())[0]))
+        puts = given.each("put", put_of)
     else:
         puts = (put_of(given),)
-    given.end()
     return Parameter(name, values, puts)
 
 
@@ -128,9 +128,9 @@ def seeds_of(given: Given) -> tuple[int, ...]:
     return tuple(seeds)
 
 
-def street_of(table: dict) -> Street:
+def street_of(table: dict[str, Any]) -> Street:
     """Reads the table `street`; times of travel are in seconds."""
-    given = Given(table, "street")
+    given = Given(table, STUDY, "street")
     travel = given.need("travel", list)
     if not all(isinstance(it, NUMBER) and 0 <= it <= 86_400 for it in travel):
         raise given.refuse("travel", "has to be a list of seconds")
@@ -143,16 +143,16 @@ def street_of(table: dict) -> Street:
     return found
 
 
-def tables_of(given: Given, fetch: Fetch) -> dict[str, dict]:
+def tables_of(given: Given, fetch: Fetch) -> dict[str, dict[str, Any]]:
     """Reads the tables beside the scenario, as they are."""
     names = ("traffic", "line", "street", "volumes")
     found = {name: table for name in names if (table := given.take(name, dict)) is not None}
-    drawn.check_traffic(Given(found.get("traffic", {}), "traffic"))
-    drawn.check_line(Given(found.get("line", {}), "line"))
+    drawn.check_traffic(given.below("traffic"))
+    drawn.check_line(given.below("line"))
     if "street" in found:
         street_of(found["street"])
     if "volumes" in found:
-        queued.check_volumes(Given(found["volumes"], "volumes"), fetch)
+        queued.check_volumes(given.below("volumes"), fetch)
         if found.get("traffic", {}).get("flow"):
             raise Fault("study: traffic.flow and volumes don't go together: each tells what the detectors see")
     return found
@@ -160,13 +160,13 @@ def tables_of(given: Given, fetch: Fetch) -> dict[str, dict]:
 
 def study_of(document: dict[str, Any], fetch: Fetch) -> Study:
     """Reads a study; `fetch` gives the files that it names."""
-    given = Given(document, "")
+    given = Given(document, STUDY)
     tables = tables_of(given, fetch)
-    own = tuple(given.each("own", lambda it: own_of(it, fetch)))
+    own = given.each("own", lambda it: own_of(it, fetch))
     found = Study(
         title=given.take("title", str, ""),
         base=base_of(given, fetch),
-        parameters=tuple(given.each("vary", lambda it: parameter_of(it, fetch))),
+        parameters=given.each("vary", lambda it: parameter_of(it, fetch)),
         seeds=seeds_of(given),
         samples=given.within("samples", int, 1, 10**9, 1),
         sample_seed=given.take("sample_seed", int, 1),

@@ -3,6 +3,7 @@ fits into memory."""
 
 import csv
 import json
+import tempfile
 from collections.abc import Iterable, Iterator
 from pathlib import Path
 from typing import Any
@@ -12,6 +13,9 @@ from ..shared.fault import Fault
 from ..shared.status import Status
 
 CHUNK = 10_000
+
+Line = list[Any]
+"""A line of a table: a value for each column."""
 
 
 def check(path: Path) -> None:
@@ -54,9 +58,9 @@ def write(path: Path, names: list[str], lines: Iterable[list[Any]]) -> None:
         ) from None
 
 
-def chunks(lines: Iterable[list[Any]]) -> Iterator[list[list[Any]]]:
-    """Yields lines by so many."""
-    found = []
+def chunks(lines: Iterable[Line]) -> Iterator[list[Line]]:
+    """Yields lines by so many; at least once."""
+    found: list[Line] = []
     for line in lines:
         found.append(line)
         if len(found) == CHUNK:
@@ -65,22 +69,39 @@ def chunks(lines: Iterable[list[Any]]) -> Iterator[list[list[Any]]]:
     yield found
 
 
-def write_parquet(name: str, names: list[str], lines: Iterable[list[Any]]) -> None:
-    """Writes Parquet. A column of numbers is one of 64-bit floats, any other is text."""
+def numeric_columns(count: int, lines: Iterable[Line]) -> list[bool]:
+    """Returns which columns of so many have numbers, and nothing else, in all lines."""
+    seen, other = [False] * count, [False] * count
+    for line in lines:
+        for place, it in enumerate(line):
+            if it is not None:
+                seen[place] = True
+                other[place] = other[place] or isinstance(it, bool) or not isinstance(it, (int, float))
+    return [has and not text for has, text in zip(seen, other)]
+
+
+def write_parquet(name: str, names: list[str], lines: Iterable[Line]) -> None:
+    """Writes Parquet. A column of numbers is one of 64-bit floats, any other is text. The lines are kept in a temporary
+    file until all are known."""
     import pyarrow
     import pyarrow.parquet
 
-    writer, numeric = None, []
-    for chunk in chunks(lines):
-        columns = list(zip(*chunk)) or [()] * len(names)
-        if writer is None:
-            numeric = [all(it is None or (isinstance(it, (int, float)) and not isinstance(it, bool)) for it in column)
-                       and any(it is not None for it in column) for column in columns]  # fmt: skip
-            kinds = [pyarrow.float64() if it else pyarrow.string() for it in numeric]
-            writer = pyarrow.parquet.ParquetWriter(name, pyarrow.schema(list(zip(names, kinds))))
-        values = [
-            [it if is_number or it is None else str(cell(it)) for it in column]
-            for is_number, column in zip(numeric, columns)
-        ]
-        writer.write_table(pyarrow.table(values, schema=writer.schema))
-    writer.close()
+    with tempfile.TemporaryFile("w+", encoding="utf-8") as kept:
+
+        def keeping() -> Iterator[Line]:
+            for line in lines:
+                kept.write(json.dumps(line) + "\n")
+                yield line
+
+        numeric = numeric_columns(len(names), keeping())
+        kept.seek(0)
+        kinds = [pyarrow.float64() if it else pyarrow.string() for it in numeric]
+        schema = pyarrow.schema(list(zip(names, kinds)))
+        with pyarrow.parquet.ParquetWriter(name, schema) as writer:
+            for chunk in chunks(map(json.loads, kept)):
+                columns = list(zip(*chunk)) or [()] * len(names)
+                values = [
+                    [it if is_number or it is None else str(cell(it)) for it in column]
+                    for is_number, column in zip(numeric, columns)
+                ]
+                writer.write_table(pyarrow.table(values, schema=schema))

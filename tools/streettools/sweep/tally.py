@@ -6,9 +6,11 @@ and ends by them alone while its signal stays the same.
 
 import functools
 from bisect import bisect_left
+from typing import Any
 
 from ..shared.cabinet import Cabinet, Cycle, mode_of
-from ..shared.lines import Frame, mode
+from ..shared.lines import mode
+from ..shared.trace_records import Frame
 from ..shared.tables import ALL, Tables
 from .bands import Greens
 from .counts import CabinetCounts, PhaseCounts
@@ -116,7 +118,7 @@ class PhaseTally:
 class CabinetTally:
     """A cabinet of a run. What happens before `start` is followed, and not counted."""
 
-    def __init__(self, scenario: dict, number: int, start: int, needs: Needs, sensed: Sensed) -> None:
+    def __init__(self, scenario: dict[str, Any], number: int, start: int, needs: Needs, sensed: Sensed) -> None:
         self.cabinet, self.needs = Cabinet(scenario, number), needs
         self.start, self.ticks, self.counts = start, scenario["ticks"], CabinetCounts()
         self.phases = {

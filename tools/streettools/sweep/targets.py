@@ -6,7 +6,7 @@ from dataclasses import dataclass
 from typing import Any
 
 from ..shared.fault import Fault
-from .given import NUMBER, Given
+from ..shared.given import NUMBER, Given
 
 STEP = re.compile(r"([a-z_]+)|\[(\d+)\]")
 PATH = re.compile(r"[a-z_]+(\[\d+\])*(\.[a-z_]+(\[\d+\])*)*")
@@ -30,7 +30,7 @@ class Put:
     """A place, and what comes there: plus + times * value, where the value is a number."""
 
     path: str | None
-    cell: tuple | None
+    cell: tuple[Any, ...] | None
     cabinets: tuple[int, ...] | None
     times: float
     plus: float
@@ -47,7 +47,7 @@ class Put:
         result = self.plus + self.times * value
         return result if isinstance(result, int) else round(result, 9)
 
-    def put(self, document: dict, value: Any) -> None:
+    def put(self, document: dict[str, Any], value: Any) -> None:
         """Puts a value into the scenario and the tables beside it."""
         if self.cell is None:
             put_at(document, self.path, self.value(value))
@@ -65,7 +65,7 @@ def steps(path: str) -> list[str | int]:
     return [name or int(place) for name, place in STEP.findall(path)]
 
 
-def put_at(document: dict, path: str, value: Any) -> None:
+def put_at(document: dict[str, Any], path: str, value: Any) -> None:
     """Puts a value at a path, which has to be there, or to be a name that may be absent."""
     way = steps(path)
     if way[0] not in PARTS:
@@ -110,11 +110,11 @@ def cabinets_of(given: Given) -> tuple[int, ...] | None:
     return tuple(numbers)
 
 
-def cell_of(given: Given) -> tuple:
+def cell_of(given: Given) -> tuple[Any, ...]:
     """Reads a cell without its value."""
     cell = given.need("cell", list)
     name, *numbers = cell or [None]
-    if name not in CELLS:
+    if not isinstance(name, str) or name not in CELLS:
         raise given.refuse("cell", f"has to begin with one of {', '.join(CELLS)}")
     if len(numbers) != CELLS[name] or not all(isinstance(it, int) for it in numbers):
         raise given.refuse("cell", f"has to be {name} and {CELLS[name]} whole numbers: the value comes from the study")

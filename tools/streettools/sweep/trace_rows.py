@@ -8,7 +8,7 @@ from collections.abc import Iterator
 from typing import BinaryIO, NamedTuple
 
 from ..shared import lines
-from ..shared.lines import Frame, Load, Note
+from ..shared.trace_records import Frame, Load, Note, Round
 
 BLOCK = 1 << 20
 """So many bytes are read at once."""
@@ -103,7 +103,7 @@ def with_notes(block: bytes, number: int) -> Iterator[Row | Said | Over]:
             yield tuple(row)
             continue
         record = lines.record(other + b"\n")
-        if isinstance(record, lines.Round):
+        if isinstance(record, Round):
             number = record.number
         elif isinstance(record, Load):
             yield Over(record.cabinet, number, record)

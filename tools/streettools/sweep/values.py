@@ -5,7 +5,7 @@ import random
 from dataclasses import dataclass, field
 from typing import Any
 
-from .given import NUMBER, Given
+from ..shared.given import NUMBER, Given
 from .targets import Put
 
 MOST = 10**6
@@ -55,7 +55,7 @@ class Values:
 
     kind: Kind
     name: str
-    listed: tuple = ()
+    listed: tuple[Any, ...] = ()
     steps: Steps | None = None
     options: tuple[Option, ...] = field(default=())
 
@@ -83,18 +83,20 @@ def steps_of(given: Given) -> Steps:
     given.end()
     if found.step <= 0 or last < first:
         raise given.refuse("to", "has to be no less than from, and step more than 0")
-    if found.count() > MOST:
-        raise given.refuse("to", f"makes {found.count():,} values, and at most {MOST:,} may stand here")
+    if not (last - first) / found.step < MOST:
+        raise given.refuse("to", f"makes too many values: at most {MOST:,} may stand here")
     return found
 
 
 def values_of(given: Given, name: str, kind: Kind, options: tuple[Option, ...]) -> Values:
     """Reads the values of a parameter, whose kind is known."""
     if kind is Kind.OPTION:
+        if not options:
+            raise given.refuse("option", "has to have one option at least")
         return Values(kind, name, options=options)
     if kind is Kind.VALUES:
         listed = given.need("values", list)
         if not 0 < len(listed) <= MOST:
             raise given.refuse("values", f"has to have 1 to {MOST:,} values")
         return Values(kind, name, tuple(listed))
-    return Values(kind, name, steps=steps_of(Given(given.need(kind.value, dict), given.at(kind.value))))
+    return Values(kind, name, steps=steps_of(Given(given.need(kind.value, dict), given.file, given.at(kind.value))))

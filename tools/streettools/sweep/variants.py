@@ -14,7 +14,7 @@ class Variant:
     """A variant: its place from 0 on, the value of each parameter in the study's order, and the seed."""
 
     index: int
-    values: tuple
+    values: tuple[Any, ...]
     seed: int | None
 
     def shown(self) -> list[Any]:

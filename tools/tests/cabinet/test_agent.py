@@ -76,7 +76,8 @@ def test_an_answer_is_that_of_the_run_of_all_that_came(program, client, tmp_path
     datagrams = [drawn(dice, number, scenario.get("community", "public").encode()) for number in range(60)]
     due = replies_due(program, scenario, cabinet, datagrams, 2)
     agent = client(
-        "--scenario", file, "--cabinet", cabinet, "--step", 2 * scenario["ticks"], "--record", tmp_path / "all.json"
+        "--scenario", file, "--cabinet", cabinet, "--ticks-per-message", 2 * scenario["ticks"],
+        "--record-scenario", tmp_path / "all.json",
     )
     answers = []
     for datagram, reply in zip(datagrams, due):
@@ -95,7 +96,7 @@ def test_an_answer_is_that_of_the_run_of_all_that_came(program, client, tmp_path
 
 def test_a_thousand_random_and_damaged_datagrams_leave_it_answering(client):
     dice = random.Random(1)
-    agent = client("--step", 0)
+    agent = client("--ticks-per-message", 0)
     hello = message(GET, 1, [(VERSION, None)])
     for number in range(1000):
         damaged = bytearray(drawn(dice, number))
@@ -110,7 +111,7 @@ def test_a_thousand_random_and_damaged_datagrams_leave_it_answering(client):
 
 
 def test_datagrams_without_octets_or_with_too_many_are_met_with_silence(client):
-    agent = client("--step", 0)
+    agent = client("--ticks-per-message", 0)
     agent.send(b"")
     agent.send(message(GET, 1, [(CLOCK, None)]).ljust(1472, b"\0"))
     agent.send(bytes(1473))
@@ -120,7 +121,7 @@ def test_datagrams_without_octets_or_with_too_many_are_met_with_silence(client):
 
 
 def test_messages_of_one_round_keep_their_order(client):
-    agent = client("--step", 0)
+    agent = client("--ticks-per-message", 0)
     for pattern in (1, 255, 254):
         agent.ask(set_of(pattern, (CONTROL, pattern)))
         assert value_in(agent.ask(message(GET, 9, [(CONTROL, None)]))) == pattern
@@ -177,7 +178,7 @@ def test_a_program_that_fails_ends_it_with_its_line_and_its_status(program, clie
 def test_it_ends_where_time_is_over(client):
     if PROGRAM == MODEL:
         pytest.skip("the model keeps all moments, and a day of them takes 2 GB")
-    agent = client("--step", 864_000)
+    agent = client("--ticks-per-message", 864_000)
     assert reply_of(agent.ask(message(GET, 1, [(CLOCK, None)]))).status == 0
     agent.send(message(GET, 2, [(CLOCK, None)]))
     assert agent.ended() == (3, "cabinet: the time is over: a scenario like this has at most 86400 rounds\n")

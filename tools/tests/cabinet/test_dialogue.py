@@ -49,7 +49,7 @@ def test_the_page_says_what_the_agent_answers(client, tools):
 
 
 def test_a_walk_meets_each_readable_instance_once(program, client, tools):
-    agent = client("--step", 0)
+    agent = client("--ticks-per-message", 0)
     words = ["snmpwalk", "-v1", "-c", "public", "-On", "-t", "10", f"127.0.0.1:{agent.port}", ".1"]
     ran = subprocess.run(words, capture_output=True, text=True, env=os.environ | {"MIBS": ""}, timeout=20 * SECONDS)
     met = re.findall(r"^\.([0-9.]+) = ", ran.stdout, re.M)

@@ -50,7 +50,7 @@ class Running:
         self.said, self.more = [], threading.Event()
         self.reader = threading.Thread(target=self.read)
         self.reader.start()
-        self.port = int(self.told(r"answers? at [0-9.]+:(\d+)")[1])
+        self.port = int(self.told(r"answers? at \S+:(\d+)")[1])
         self.socket = socket.socket(socket.AF_INET, socket.SOCK_DGRAM)
         self.socket.settimeout(SECONDS)
 

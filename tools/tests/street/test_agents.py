@@ -61,7 +61,8 @@ def test_an_answer_is_that_of_the_run_of_all_that_came(street, tmp_path):
     ]
     trace = trace_of(PROGRAM, json.dumps(TWO | {"rounds": 120, "frames": frames}).encode()).decode()
     due = [line.split(" ")[3] for line in trace.splitlines() if line.startswith("A ")]
-    running = street("--scenario", written(tmp_path, TWO), "--ports", free_ports(2), "--speed", "step", "--step", 10)
+    words = ("--speed", "step", "--ticks-per-message", 10)
+    running = street("--scenario", written(tmp_path, TWO), "--ports", free_ports(2), *words)
     assert [running.ask(octets, cabinet).hex() for cabinet, octets in came] == due
     assert running.end() == 0
 
@@ -96,7 +97,7 @@ def test_each_cabinet_may_have_an_address_of_its_own(street, tmp_path):
         port,
         "--speed",
         "step",
-        "--step",
+        "--ticks-per-message",
         0,
     )
     for cabinet, clock in ((1, 100), (2, 200)):
@@ -106,7 +107,7 @@ def test_each_cabinet_may_have_an_address_of_its_own(street, tmp_path):
 
 
 def test_random_and_long_datagrams_leave_it_answering(street):
-    dice, running = random.Random(2), street("--ports", 0, "--speed", "step", "--step", 0)
+    dice, running = random.Random(2), street("--ports", 0, "--speed", "step", "--ticks-per-message", 0)
     for number in range(300):
         running.send(
             dice.choice([b"", bytes(65_507), bytes(1473), dice.randbytes(dice.randrange(200)), drawn(dice, number)])
@@ -145,7 +146,7 @@ def test_what_is_wrong_is_told(tmp_path):
     assert refused("--record", tmp_path) == (1, f"street: {tmp_path}: Is a directory")
     assert refused("--addresses", "10.0.0.1+")[0] == 2
     assert refused("--speed", "0")[0] == 2
-    assert refused("--step", 5) == (2, "street: --step needs --speed step")
+    assert refused("--ticks-per-message", 5) == (2, "street: --ticks-per-message needs --speed step")
     assert refused("--program", tmp_path / "none") == (125, f"street: no program at {tmp_path / 'none'}")
     with socket.socket(socket.AF_INET, socket.SOCK_DGRAM) as other:
         other.bind(("127.0.0.1", 0))

@@ -14,6 +14,7 @@ from streettools.cabinet.messages import reply_of
 
 from .conftest import SECONDS, TOP, VERSION, free_ports
 from .test_agents import get, written
+from .test_panel import feed_of
 
 THREE = {"version": 1, "rounds": 1, "ticks": 10, "cabinets": [{}, {"pattern": 1}, {"base": "max8"}]}
 ASKS = ("get", "next", "set")
@@ -22,7 +23,7 @@ ASKS = ("get", "next", "set")
 @pytest.fixture
 def three(street, tmp_path):
     """A street of three cabinets whose time stands."""
-    words = ("--ports", free_ports(3), "--speed", "step", "--step", 0)
+    words = ("--ports", free_ports(3), "--speed", "step", "--ticks-per-message", 0)
     return street("--scenario", written(tmp_path, THREE), *words)
 
 
@@ -87,8 +88,8 @@ class Page(threading.Thread):
     async def look(self) -> None:
         """Reads the news of the panel."""
         aiohttp = pytest.importorskip("aiohttp")
-        feed, origin = f"{self.address}feed", self.address.rstrip("/")
-        async with aiohttp.ClientSession() as session, session.ws_connect(feed, origin=origin) as news:
+        feed, headers = feed_of(self.address)
+        async with aiohttp.ClientSession() as session, session.ws_connect(feed, headers=headers) as news:
             async for _ in news:
                 self.told += 1
 
@@ -116,9 +117,9 @@ def test_every_message_of_the_corpora_is_answered_or_met_with_silence(three):
 
 
 def test_the_corpora_change_nothing_for_a_panel_that_is_looked_at(street, tmp_path):
-    words = ("--ports", free_ports(3), "--speed", "step", "--step", 0, "--panel", 0)
+    words = ("--ports", free_ports(3), "--speed", "step", "--ticks-per-message", 0, "--panel", 0)
     running = street("--scenario", written(tmp_path, THREE), *words)
-    page = Page(running.told(r"panel at (http://[0-9.:]+/)")[1])
+    page = Page(running.told(r"panel at (http://\S+)")[1])
     assert tell_all(running) > 150
     before = page.told
     until = time.monotonic() + SECONDS

@@ -1,15 +1,23 @@
 """The front for centrals as they are: version 2c, the system group, transactions, calls and preempts as objects."""
 
+import asyncio
 import json
 import os
 import shutil
+import socket
 import subprocess
+from types import SimpleNamespace
 
 import pytest
+from streettools.shared import ber, snmp
+from streettools.street.inputs import Inputs
+from streettools.street.ntcip.front import Cabinet
 from streettools.street.ntcip.objects import OBJECTS
+from streettools.street.ntcip.pdus import GEN_ERR, Fault
 
-from .conftest import SECONDS, TOP
+from .conftest import SECONDS
 from .test_agents import written
+from .test_panel import feed_of
 
 ASC, GLOBAL, OWN = "1.3.6.1.4.1.1206.4.2.1", "1.3.6.1.4.1.1206.4.2.6", "1.3.6.1.4.1.32473.1"
 CREATE, STATUS, ERROR = f"{GLOBAL}.2.1.0", f"{GLOBAL}.2.6.0", f"{GLOBAL}.2.7.0"
@@ -22,7 +30,8 @@ def front(street, tmp_path):
     """A street behind the front, whose time stands."""
     if shutil.which("snmpget") is None:
         pytest.skip("no net-snmp here")
-    words = ("--addresses", "127.0.1.1+", "--ports", 20_000 + os.getpid() % 9000, "--speed", "step", "--step", 0)
+    words = ("--addresses", "127.0.1.1+", "--ports", 20_000 + os.getpid() % 9000, "--speed", "step",
+             "--ticks-per-message", 0)  # fmt: skip
     words += ("--as", "ntcip1202", "--record", tmp_path / "kept.trace")
     return street("--scenario", written(tmp_path, TRAIN), *words)
 
@@ -140,3 +149,115 @@ def test_another_community_and_another_version_meet_silence(front, tmp_path):
             command, env=os.environ | {"MIBS": "", "SNMP_PERSISTENT_DIR": str(tmp_path)}, capture_output=True, text=True
         )
         assert "imeout" in ran.stderr
+
+
+def raw(front, octets, seconds=SECONDS):
+    """Returns the answer of cabinet 1 to a datagram; None if it is silent for so long."""
+    with socket.socket(socket.AF_INET, socket.SOCK_DGRAM) as made:
+        made.settimeout(seconds)
+        made.sendto(octets, ("127.0.1.1", front.port))
+        try:
+            return snmp.message_of(made.recv(65_536))
+        except TimeoutError:
+            return None
+
+
+def arcs(name):
+    """Returns the arcs of a name with dots."""
+    return tuple(map(int, name.split(".")))
+
+
+def a_set(name, tag, content):
+    """Returns a Set of an object in version 2c."""
+    bound = snmp.Binding(arcs(name), ber.Field(tag, content))
+    return snmp.octets_of(snmp.Message(snmp.V2C, b"public", snmp.SET, 1, 0, 0, [bound]))
+
+
+def read(front, name):
+    """Returns the value of an object."""
+    asked = snmp.Message(snmp.V2C, b"public", snmp.GET, 2, 0, 0, [snmp.Binding(arcs(name), ber.Field(ber.NULL, b""))])
+    return raw(front, snmp.octets_of(asked)).bindings[0].value
+
+
+TIME = f"{GLOBAL}.3.1.0"
+
+
+def test_a_set_that_is_cut_off_is_met_with_silence_and_changes_nothing(front):
+    before, octets = read(front, TIME), a_set(TIME, ber.INTEGER, ber.number_content(1000))
+    for cut in (1, 2, 5, 9):
+        assert raw(front, octets[:-cut], 1) is None
+    assert raw(front, octets + b"\0", 1) is None
+    assert read(front, TIME) == before
+    assert raw(front, octets).first == 0
+    assert ber.unsigned_of(read(front, TIME).content) == 1000
+
+
+WRONG_VALUE = 10
+
+
+@pytest.mark.parametrize(
+    ("tag", "content", "status"),
+    [
+        (ber.NULL, b"", WRONG_VALUE),
+        (ber.OCTETS, b"\1\2", WRONG_VALUE),
+        (ber.TIME_TICKS, b"\1", WRONG_VALUE),
+        (ber.INTEGER, ber.number_content(-1), WRONG_VALUE),
+        (ber.INTEGER, b"", None),
+        (ber.COUNTER, ber.number_content(1 << 32), None),
+        (ber.COUNTER, ber.number_content(2**1000), None),
+    ],
+)
+def test_the_global_clock_takes_numbers_of_32_bits_alone(front, tag, content, status):
+    before = read(front, TIME)
+    answer = raw(front, a_set(TIME, tag, content), 1)
+    assert (answer and answer.first) == status
+    assert read(front, TIME) == before
+
+
+def test_a_transaction_keeps_no_more_cells_than_a_download_may_have(front, tool):
+    """768 cells and one more; each Set has 20, and one that is set again counts once."""
+    tool("snmpset", "2c", CREATE, "i", 2)
+    names = [f"{ASC}.4.9.1.{column}.{split}.{phase}" for column in (3, 4, 5) for split in range(1, 33)
+             for phase in range(1, 17)]  # fmt: skip
+    assert len(names) > 768
+    for first in range(0, 780, 20):
+        binds = [snmp.Binding(arcs(name), ber.Field(ber.INTEGER, b"\1")) for name in names[first : first + 20]]
+        made = snmp.octets_of(snmp.Message(snmp.V2C, b"public", snmp.SET, 1, 0, 0, binds))
+        assert raw(front, made).first == raw(front, made).first == (0 if first + 20 <= 768 else GEN_ERR)
+    assert raw(front, made).second == 768 - 760 + 1
+
+
+def test_inputs_of_the_panel_and_of_management_software_are_the_same(street, tmp_path):
+    aiohttp = pytest.importorskip("aiohttp")
+    words = ("--addresses", "127.0.1.1+", "--ports", 30_000 + os.getpid() % 9000, "--as", "ntcip1202", "--panel", 0)
+    running = street("--scenario", written(tmp_path, TRAIN), *words)
+    feed, headers = feed_of(running.told(r"panel at (http://\S+)")[1])
+    name = f"{ASC}.6.3.1.2.1"
+
+    async def held():
+        async with aiohttp.ClientSession() as session, session.ws_connect(feed, headers=headers) as page:
+            await page.send_json({"do": "input", "kind": "preempt", "cabinet": 1, "place": 1, "on": True})
+            while "preempt 1 1" not in (await page.receive_json()).get("inputs", ()):
+                pass
+            told = await asyncio.to_thread(read, running, name)
+            await asyncio.to_thread(raw, running, a_set(name, ber.INTEGER, b"\0"))
+            while (await page.receive_json()).get("inputs") != []:
+                pass
+            await asyncio.to_thread(raw, running, a_set(f"{ASC}.1.5.1.6.1", ber.INTEGER, b"\x08"))
+            while (await page.receive_json()).get("inputs") != ["veh 1 4"]:
+                pass
+            return told
+
+    told = asyncio.run(asyncio.wait_for(held(), SECONDS))
+    assert ber.number_of(told.content) == 1
+    assert ber.number_of(read(running, name).content) == 0
+
+
+def test_an_input_that_the_street_refuses_is_an_error():
+    async def refuses(request):
+        return False
+
+    cabinet = Cabinet(SimpleNamespace(input=refuses, inputs=Inputs()), 1)
+    with pytest.raises(Fault) as raised:
+        asyncio.run(cabinet.do(3, snmp.Binding(arcs(f"{ASC}.6.3.1.2.1"), ber.Field(ber.INTEGER, b"\1"))))
+    assert (raised.value.status, raised.value.index) == (GEN_ERR, 3)

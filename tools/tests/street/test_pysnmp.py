@@ -70,7 +70,7 @@ def unknown(name):
 @pytest.fixture
 def version1(street, tmp_path):
     """Software of version 1, and three cabinets whose time stands but for a tick after each message."""
-    words = ("--ports", free_ports(3), "--speed", "step", "--step", 1)
+    words = ("--ports", free_ports(3), "--speed", "step", "--ticks-per-message", 1)
     running = street("--scenario", written(tmp_path, THREE), *words)
     return Software(lambda cabinet: ("127.0.0.1", running.port + cabinet - 1), 1)
 
@@ -78,7 +78,8 @@ def version1(street, tmp_path):
 @pytest.fixture
 def version2(street, tmp_path):
     """Software of version 2c, and three cabinets behind the front whose time stands."""
-    words = ("--addresses", "127.0.1.1+", "--ports", 20_000 + os.getpid() % 9000, "--speed", "step", "--step", 0)
+    words = ("--addresses", "127.0.1.1+", "--ports", 20_000 + os.getpid() % 9000, "--speed", "step",
+             "--ticks-per-message", 0)  # fmt: skip
     running = street("--scenario", written(tmp_path, THREE), *words, "--as", "ntcip1202")
     return Software(lambda cabinet: (f"127.0.1.{cabinet}", running.port), 2)
 

@@ -30,7 +30,7 @@ def set_clock(number, clock):
 
 def recorded(street, file, *words):
     """Lets a street live for some messages, and ends it."""
-    running = street("--ports", 0, "--speed", "step", "--step", 7, "--record", file, *words)
+    running = street("--ports", 0, "--speed", "step", "--ticks-per-message", 7, "--record", file, *words)
     for number in range(1, 30):
         running.ask(set_clock(number, 1000 * number) if number % 3 == 0 else get(number, COUNTER))
     assert running.end() == 0
@@ -48,7 +48,7 @@ def test_a_record_is_a_trace_with_every_set_and_no_read(street, tmp_path):
 
 def test_a_record_that_happens_again_gives_the_same_cabinet(street, tmp_path):
     recorded(street, tmp_path / "session.trace")
-    running = street("--ports", 0, "--speed", "step", "--step", 0, "--resume", tmp_path / "session.trace")
+    running = street("--ports", 0, "--speed", "step", "--ticks-per-message", 0, "--resume", tmp_path / "session.trace")
     assert running.told(r"(\d+) ticks have happened again")[1] == str(7 * 29)
     # the clock was last set behind 7 * 26 ticks to 27,000; 21 ticks went by since
     assert value_in(running.ask(get(1, CLOCK))) == 27_000 + 21
@@ -62,7 +62,7 @@ def test_a_record_is_resumed_into_itself(street, tmp_path):
         0,
         "--speed",
         "step",
-        "--step",
+        "--ticks-per-message",
         7,
         "--resume",
         tmp_path / "session.trace",
@@ -97,7 +97,7 @@ def test_the_requests_of_a_killed_street_are_there(street, tmp_path):
     time.sleep(1)
     running.street.kill()
     running.ended()
-    again = street("--ports", 0, "--speed", "step", "--step", 0, "--resume", tmp_path / "session.trace")
+    again = street("--ports", 0, "--speed", "step", "--ticks-per-message", 0, "--resume", tmp_path / "session.trace")
     assert int(again.told(r"(\d+) ticks have happened again")[1]) >= 20
     assert value_in(again.ask(get(1, CONTROL))) == 1
 

@@ -1,45 +1,42 @@
-"""The engine with stand-ins for Dask's futures: a Ctrl-C in the middle of a batch, a result that is lost with its
-worker."""
+"""The engine with stand-ins for workers: a Ctrl-C in the middle of a batch, a result that is lost with its worker, a
+batch with which workers die."""
 
 import os
 import signal
 from types import SimpleNamespace
 
 import pytest
+from streettools.sweep.crew import Lost
 from streettools.sweep.engine import Engine, Job
-
-pytest.importorskip("distributed")
-
-
-class StandIn:
-    """A future: its status, and what is called when it is over."""
-
-    def __init__(self, rows, status="finished"):
-        self.rows, self.status, self.waiting = rows, status, []
-
-    def result(self):
-        return self.rows
-
-    def add_done_callback(self, call):
-        self.waiting.append(call)
 
 
 class AtOnce:
-    """A client that is done with each batch as soon as it is sent; with the second one a Ctrl-C comes."""
+    """Workers that are done with each batch as soon as it is sent; with the second one a Ctrl-C comes."""
+
+    address = "here"
 
     def __init__(self):
-        self.sent = 0
+        self.sent = []
+        self.deadly = None
 
-    def nthreads(self):
-        return {"a worker": 1}
+    def count(self):
+        return 1
 
-    def submit(self, task, name, indexes, **more):
-        self.sent += 1
-        future = StandIn([["done", index] for index in indexes])
-        future.add_done_callback = lambda call: call(future)
-        if self.sent == 2:
+    def submit(self, indexes, over):
+        self.sent.append(indexes)
+        ticket = tuple(indexes)
+        over(ticket)
+        if len(self.sent) == 2 and self.deadly is None:
             os.kill(os.getpid(), signal.SIGINT)
-        return future
+        return ticket
+
+    def waits(self, ticket, over):
+        self.sent.append(ticket)
+
+    def rows(self, ticket):
+        if self.deadly in ticket:
+            raise Lost
+        return [["done", index] for index in ticket]
 
 
 class Kept:
@@ -52,11 +49,10 @@ class Kept:
         self.rows += rows
 
 
-def engine(client):
-    """Returns an engine over a client, with a journal in memory."""
-    made = Engine(SimpleNamespace(client=client, address="here"), None, Kept(), lambda count: None)
-    made.task = None
-    return made
+def engine(crew):
+    """Returns an engine over workers, with a journal in memory."""
+    keys = SimpleNamespace(prepared=SimpleNamespace(columns=[0], study=SimpleNamespace(own=[])))
+    return Engine(crew, keys, Kept(), lambda count: None)
 
 
 def test_a_ctrl_c_ends_between_two_batches_and_each_row_that_was_taken_is_kept():
@@ -68,11 +64,19 @@ def test_a_ctrl_c_ends_between_two_batches_and_each_row_that_was_taken_is_kept()
     assert signal.getsignal(signal.SIGINT) is before
 
 
-@pytest.mark.parametrize("status", ["lost", "pending"])
-def test_a_result_that_was_lost_with_its_worker_is_waited_for_again(status):
-    one, future = engine(AtOnce()), StandIn([["done", 7]], status)
-    one.take(future, Job([7], ["key 7"], 0.0))
-    assert one.journal.rows == [] and future in one.jobs and len(future.waiting) == 1
-    future.status = "finished"
-    one.take(future, one.jobs.pop(future))
-    assert one.journal.rows == [("key 7", ["done", 7])]
+def test_a_result_that_was_lost_with_its_worker_is_waited_for_again():
+    one = engine(AtOnce())
+    one.crew.rows = lambda ticket: None
+    one.take("a ticket", Job([7], ["key 7"], 0.0))
+    assert one.journal.rows == [] and one.jobs == {"a ticket": Job([7], ["key 7"], 0.0)}
+    assert one.crew.sent == ["a ticket"]
+
+
+def test_a_batch_with_which_workers_die_is_taken_apart_to_find_the_run():
+    one = engine(AtOnce())
+    one.crew.deadly = 5
+    one.run(iter([(index, f"key {index}") for index in range(8)]), 8)
+    rows = dict(one.journal.rows)
+    assert len(rows) == 8
+    assert rows.pop("key 5") == ["failed", "its worker died, four times", None, None]
+    assert all(row[0] == "done" for row in rows.values())

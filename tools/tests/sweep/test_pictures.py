@@ -3,7 +3,7 @@
 import xml.etree.ElementTree as xml
 
 import pytest
-from streettools.sweep.command import main
+from streettools.words import run
 from streettools.sweep.pictures import frontier
 from streettools.sweep.results import Results
 
@@ -44,7 +44,7 @@ def test_means_are_over_runs_that_are_alike(table):
 ], ids=lambda it: it[0])  # fmt: skip
 def test_each_kind_of_picture_is_drawn_and_comes_out_the_same(words, table):
     for name in ("one.svg", "two.svg"):
-        assert main(["draw", words[0], "t.csv", *words[1:], "-o", name]) == 0
+        assert run(["sweep", "draw", words[0], "t.csv", *words[1:], "-o", name]) == 0
     assert xml.parse(table / "one.svg").getroot().tag.endswith("svg")
     assert (table / "one.svg").read_bytes() == (table / "two.svg").read_bytes()
 
@@ -56,6 +56,6 @@ def test_each_kind_of_picture_is_drawn_and_comes_out_the_same(words, table):
     (["lines", "none.csv", "--x", "a", "--of", "b", "-o", "a.svg"], "none.csv: No such file or directory"),
 ])  # fmt: skip
 def test_what_can_not_be_drawn_is_one_line(words, said, table, capsys):
-    assert main(["draw", *words]) in (1, 2)
+    assert run(["sweep", "draw", *words]) in (1, 2)
     err = capsys.readouterr().err
     assert said in err and err.count("\n") == 1

@@ -4,8 +4,9 @@ import json
 import resource
 
 import pytest
-from streettools.sweep.command import main
+from streettools.words import run
 from streettools.shared.fault import Fault
+from streettools.sweep import slurm
 from streettools.sweep.journal import Journal
 from streettools.sweep.study import study_of
 from streettools.sweep.targets import Put
@@ -70,7 +71,7 @@ def test_a_fault_of_the_study_is_one_line_and_status_2(why, folder, monkeypatch,
     before, after, words = BAD[why]
     assert before in STUDY
     (folder / "study.toml").write_text(STUDY.replace(before, after, 1))
-    status = main(["study.toml", "--count"])
+    status = run(["sweep", "study.toml", "--count"])
     said = capsys.readouterr().err
     assert (status, said.count("\n"), words in said) == (2, 1, True), said
 
@@ -78,16 +79,18 @@ def test_a_fault_of_the_study_is_one_line_and_status_2(why, folder, monkeypatch,
 def test_a_file_that_is_missing_has_status_1(folder, monkeypatch, capsys):
     monkeypatch.chdir(folder)
     (folder / "two.json").unlink()
-    assert main(["study.toml", "--count"]) == 1
+    assert run(["sweep", "study.toml", "--count"]) == 1
     assert capsys.readouterr().err == "sweep: two.json: No such file or directory\n"
-    assert main(["none.toml", "--count"]) == 1
+    assert run(["sweep", "none.toml", "--count"]) == 1
 
 
 def test_a_scheduler_that_is_not_there_is_told(folder, monkeypatch, capsys):
     monkeypatch.chdir(folder)
     monkeypatch.setattr("streettools.sweep.clusters.ANSWER", 1)
-    assert main(["study.toml", "-o", "out.csv", "--scheduler", "tcp://127.0.0.1:9"]) == 1
-    assert capsys.readouterr().err.startswith("sweep: no scheduler of Dask answers at tcp://127.0.0.1:9")
+    made = slurm.papers(folder)
+    papers = ["--tls-ca", str(made.authority), "--tls-cert", str(made.certificate), "--tls-key", str(made.key)]
+    assert run(["sweep", "study.toml", "-o", "out.csv", "--scheduler", "tls://127.0.0.1:9", *papers]) == 1
+    assert capsys.readouterr().err.startswith("sweep: no scheduler of Dask answers at tls://127.0.0.1:9")
 
 
 def test_a_study_of_a_milliard_runs_is_not_begun_unasked(folder, monkeypatch, capsys):
@@ -96,15 +99,15 @@ def test_a_study_of_a_milliard_runs_is_not_begun_unasked(folder, monkeypatch, ca
         "values = [2, 3, 4]", "range = {from = 1, to = 2000}"
     )
     (folder / "study.toml").write_text(text)
-    assert main(["study.toml", "-o", "out.csv"]) == 2
+    assert run(["sweep", "study.toml", "-o", "out.csv"]) == 2
     assert capsys.readouterr().err == "sweep: the study makes 1,000,000,000 runs: --yes makes more than 100,000\n"
     assert not (folder / "out.csv.runs").exists()
 
 
 def test_a_table_of_another_form_is_refused_before_anything_runs(folder, monkeypatch, capsys):
     monkeypatch.chdir(folder)
-    assert main(["study.toml", "-o", "out.xlsx"]) == 2
-    assert main(["study.toml", "-o", "nowhere/out.csv"]) == 1
+    assert run(["sweep", "study.toml", "-o", "out.xlsx"]) == 2
+    assert run(["sweep", "study.toml", "-o", "nowhere/out.csv"]) == 1
     assert "no such folder" in capsys.readouterr().err
 
 

@@ -9,14 +9,14 @@ import time
 from collections.abc import Awaitable, Callable
 from dataclasses import dataclass, field
 
-from ...cabinet.messages import NAME, name_of
+from ...shared.ber import COUNTER, NAME, TIME_TICKS, Arcs, Field, name_content
+from ...shared.version import VERSION
 from ..street import Street
-from .pdus import Arcs, Value, fields, text, whole
+from .pdus import text, whole
 from .side import Side
 
 ASC, GLOBAL, OWN = (1, 3, 6, 1, 4, 1, 1206, 4, 2, 1), (1, 3, 6, 1, 4, 1, 1206, 4, 2, 6), (1, 3, 6, 1, 4, 1, 32473, 1)
 SYSTEM = (1, 3, 6, 1, 2, 1, 1)
-TIME_TICKS, COUNTER = 0x43, 0x41
 CONTROL, STATUS, CLOCK = ASC + (4, 14, 0), ASC + (4, 10, 0), OWN + (2, 1, 0)
 COUNTER_OF_CYCLE, MODE = OWN + (2, 2, 0), OWN + (2, 4, 0)
 GLOBAL_TIME, TRANSACTION = GLOBAL + (3, 1, 0), GLOBAL + (2, 1, 0)
@@ -26,15 +26,7 @@ VEH_CALL, PED_CALL = PHASE_CONTROL + (6,), PHASE_CONTROL + (7,)
 PREEMPT_STATE = PREEMPT_CONTROL + (2,)
 FLASH, COORD, SEEK = 6, 4, 3
 DAY = 86_400
-
-
-@dataclass
-class Inputs:
-    """What management software has put in at a cabinet: the bits of calls by group, and the preempts that are on."""
-
-    vehicles: list[int] = field(default_factory=lambda: [0, 0])
-    people: list[int] = field(default_factory=lambda: [0, 0])
-    preempts: set[int] = field(default_factory=set)
+COUNTER_END = 1 << 32
 
 
 @dataclass
@@ -43,53 +35,55 @@ class Front:
 
     street: Street
     side: Side
+    cabinet: int
     midnight: int = field(default_factory=lambda: calendar.timegm(time.gmtime()) // DAY * DAY)
     """The seconds at which the cabinet's day began, as globalTime counts them."""
-    inputs: Inputs = field(default_factory=Inputs)
+    people: list[int] = field(default_factory=lambda: [0, 0])
+    """The bits of the calls of people that were set last, by group."""
     state: int = 1
     verified: int = 1
     error: bytes = b""
 
 
-Read = Callable[[Front], Awaitable[Value]]
+Read = Callable[[Front], Awaitable[Field]]
 
 
-def constant(value: Value) -> Read:
+def constant(value: Field) -> Read:
     """Returns what reads a value that doesn't change."""
 
-    async def read(front: Front) -> Value:
+    async def read(front: Front) -> Field:
         return value
 
     return read
 
 
-def kept(told: Callable[[Front], Value]) -> Read:
+def kept(told: Callable[[Front], Field]) -> Read:
     """Returns what reads a value that the front keeps."""
 
-    async def read(front: Front) -> Value:
+    async def read(front: Front) -> Field:
         return told(front)
 
     return read
 
 
-async def up_time(front: Front) -> Value:
+async def up_time(front: Front) -> Field:
     """Returns the hundredths of a second since the session began."""
-    return Value(TIME_TICKS, whole(10 * front.street.session.taken).content)
+    return whole(10 * front.street.session.taken, TIME_TICKS)
 
 
-async def global_time(front: Front) -> Value:
+async def global_time(front: Front) -> Field:
     """Returns the cabinet's clock as seconds since 1970."""
     (clock,) = await front.side.numbers(CLOCK)
-    return Value(COUNTER, whole(front.midnight + clock // 10).content)
+    return whole((front.midnight + clock // 10) % COUNTER_END, COUNTER)
 
 
-async def flash_status(front: Front) -> Value:
+async def flash_status(front: Front) -> Field:
     """Returns notFlash (2) or automatic (3)."""
     (mode,) = await front.side.numbers(MODE)
     return whole(3 if mode == FLASH else 2)
 
 
-async def free_status(front: Front) -> Value:
+async def free_status(front: Front) -> Field:
     """Returns notFree (2), commandFree (3), transitionFree (4) or other (1)."""
     mode, command = await front.side.numbers(MODE, CONTROL)
     if mode == COORD:
@@ -99,13 +93,13 @@ async def free_status(front: Front) -> Value:
     return whole(3 if command in (0, 254) else 1)
 
 
-async def sync_status(front: Front) -> Value:
+async def sync_status(front: Front) -> Field:
     """Returns the whole seconds since local zero."""
     (counter,) = await front.side.numbers(COUNTER_OF_CYCLE)
     return whole(counter // 10)
 
 
-async def cycle_status(front: Front) -> Value:
+async def cycle_status(front: Front) -> Field:
     """Returns the whole seconds that are left of the cycle, 0 where no pattern runs."""
     pattern, counter = await front.side.numbers(STATUS, COUNTER_OF_CYCLE)
     if not 1 <= pattern <= 48:
@@ -118,7 +112,7 @@ def scalars() -> dict[Arcs, Read]:
     """Returns the scalar objects."""
     words = {
         SYSTEM + (1, 0): text(b"arterial, a simulated signal cabinet"),
-        SYSTEM + (2, 0): Value(NAME, name_content(OWN)),
+        SYSTEM + (2, 0): Field(NAME, name_content(OWN)),
         SYSTEM + (4, 0): text(b""),
         SYSTEM + (5, 0): text(b"cabinet"),
         SYSTEM + (6, 0): text(b""),
@@ -145,16 +139,26 @@ def scalars() -> dict[Arcs, Read]:
     return made
 
 
-def name_content(arcs: Arcs) -> bytes:
-    """Returns the content of a name."""
-    ((_, content),) = fields(name_of(arcs))
-    return content
-
-
 def modules() -> dict[Arcs, Read]:
     """Returns the row of the one module: number, node, make, model, version, type (software)."""
-    row = [whole(1), Value(NAME, name_content(ASC)), text(b"arterial"), text(b"bench"), text(b"0.8"), whole(3)]
+    own = text(VERSION.encode())
+    row = [whole(1), Field(NAME, name_content(ASC)), text(b"arterial"), text(b"bench"), own, whole(3)]
     return {GLOBAL + (1, 3, 1, column, 1): constant(value) for column, value in enumerate(row, 1)}
+
+
+def detectors(group: int) -> Read:
+    """Returns what reads which vehicle detectors of a group are on, as bits."""
+    return kept(lambda front: whole(front.street.inputs.bits(front.cabinet, group - 1)))
+
+
+def people(group: int) -> Read:
+    """Returns what reads the bits of the calls of people that were set last."""
+    return kept(lambda front: whole(front.people[group - 1]))
+
+
+def preempt(number: int) -> Read:
+    """Returns what reads whether the input of a preempt is on."""
+    return kept(lambda front: whole(int(front.street.inputs.is_on("preempt", front.cabinet, number))))
 
 
 def calls() -> dict[Arcs, Read]:
@@ -162,10 +166,10 @@ def calls() -> dict[Arcs, Read]:
     made: dict[Arcs, Read] = {}
     for group in (1, 2):
         made[PHASE_CONTROL + (1, group)] = constant(whole(group))
-        made[VEH_CALL + (group,)] = kept(lambda front, at=group - 1: whole(front.inputs.vehicles[at]))
-        made[PED_CALL + (group,)] = kept(lambda front, at=group - 1: whole(front.inputs.people[at]))
+        made[VEH_CALL + (group,)] = detectors(group)
+        made[PED_CALL + (group,)] = people(group)
         made[DETECTOR_GROUP + (1, group)] = constant(whole(group))
-        made[DETECTOR_GROUP + (2, group)] = kept(lambda front, at=group - 1: whole(front.inputs.vehicles[at]))
+        made[DETECTOR_GROUP + (2, group)] = detectors(group)
         made[DETECTOR_GROUP + (3, group)] = constant(whole(0))
     return made
 
@@ -174,13 +178,13 @@ def preempts() -> dict[Arcs, Read]:
     """Returns the states of the inputs of preempts."""
     made: dict[Arcs, Read] = {PREEMPT_CONTROL + (1, n): constant(whole(n)) for n in range(1, 9)}
     for n in range(1, 9):
-        made[PREEMPT_STATE + (n,)] = kept(lambda front, n=n: whole(int(n in front.inputs.preempts)))
+        made[PREEMPT_STATE + (n,)] = preempt(n)
     return made
 
 
 OBJECTS: dict[Arcs, Read] = {**scalars(), **modules(), **calls(), **preempts()}
 ORDER = sorted(OBJECTS)
-WRITABLE = {GLOBAL_TIME, TRANSACTION}
+WRITABLE: set[Arcs] = {GLOBAL_TIME, TRANSACTION}
 WRITABLE |= {column + (group,) for column in (VEH_CALL, PED_CALL) for group in (1, 2)}
 WRITABLE |= {PREEMPT_STATE + (n,) for n in range(1, 9)}
 TABLES = [ASC + it for it in ((1, 2, 1), (4, 7, 1), (4, 9, 1), (6, 2, 1), (7, 3, 1))]

@@ -5,11 +5,12 @@ So a page is right after any download, whoever has brought it.
 
 import itertools
 from collections.abc import Awaitable, Callable
+from typing import Any
 
 from ...shared.tables import ALL, Tables
 
 Name = tuple[int, ...]
-Cell = tuple[str | int, ...]
+Cell = tuple[Any, ...]
 Values = list[int | tuple[int, ...]]
 Asked = Callable[[list[Name]], Awaitable[Values | None]]
 """Gets some objects: their numbers, or octets; None where the cabinet is silent."""

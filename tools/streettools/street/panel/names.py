@@ -4,8 +4,10 @@ import functools
 import pathlib
 import re
 
-from ...cabinet.messages import GET, GET_NEXT, INTEGER, NULL, OCTETS, RESPONSE, SET, Reply, fields, reply_of
+from ...cabinet.messages import reply_of
 from ...shared.answers import ERRORS
+from ...shared.ber import INTEGER, NULL, OCTETS, Arcs, Field, Malformed, number_of
+from ...shared.snmp import BULK, GET, GET_NEXT, RESPONSE, SET, Binding, message_of
 
 HERE = pathlib.Path(__file__).resolve()
 MIB = "ARTERIAL-PROFILE-MIB"
@@ -14,20 +16,20 @@ PLACES = [HERE.parents[4] / "mibs" / MIB, *(it / "share/snmp/mibs" / MIB for it 
 ROOTS = {"enterprises": (1, 3, 6, 1, 4, 1)}
 KIND = r"(?:OBJECT-TYPE|OBJECT IDENTIFIER|MODULE-IDENTITY)"
 ASSIGNED = re.compile(r"^([a-z]\w*)\s+" + KIND + r"\b.*?::= \{ (\w+) (\d+) \}", re.M | re.S)
-KINDS = {GET: "Get", GET_NEXT: "GetNext", SET: "Set", RESPONSE: "Response"}
-MOST_SHOWN = 6
-"""How many bindings of a message are told."""
+KINDS = {GET: "Get", GET_NEXT: "GetNext", SET: "Set", RESPONSE: "Response", BULK: "GetBulk"}
+MOST_SHOWN, MOST_ARCS, MOST_TEXT = 6, 20, 160
+"""How many bindings of a message are shown, how many arcs of a name, and how many signs of a value."""
 
 
 @functools.cache
-def names() -> dict[tuple[int, ...], str]:
+def names() -> dict[Arcs, str]:
     """Returns the names of objects by their arcs; none where the MIB is missing."""
     file = next((place for place in PLACES if place.is_file()), None)
     text = re.sub(r'"[^"]*"|--.*', "", file.read_text(encoding="utf-8")) if file else ""
     told = {name: (parent, int(number)) for name, parent, number in ASSIGNED.findall(text)}
-    known: dict[str, tuple[int, ...]] = dict(ROOTS)
+    known: dict[str, Arcs] = dict(ROOTS)
 
-    def arcs(name: str) -> tuple[int, ...] | None:
+    def arcs(name: str) -> Arcs | None:
         if name not in known and name in told:
             parent = arcs(told[name][0])
             if parent is not None:
@@ -37,52 +39,59 @@ def names() -> dict[tuple[int, ...], str]:
     return {found: name for name in told if (found := arcs(name)) is not None}
 
 
-def named(arcs: tuple[int, ...]) -> str:
-    """Returns the name of an instance: that of its object and what follows, else its arcs with dots."""
-    for length in range(len(arcs), 7, -1):
-        if name := names().get(arcs[:length]):
-            return ".".join([name, *map(str, arcs[length:])])
-    return ".".join(map(str, arcs))
+def named(arcs: Arcs) -> str:
+    """Returns the name of an instance: that of its object and what follows, else its arcs with dots. What is longer
+    than any name of the MIB is clipped."""
+    shown, rest = arcs[:MOST_ARCS], "…" if len(arcs) > MOST_ARCS else ""
+    for length in range(len(shown), 7, -1):
+        if name := names().get(shown[:length]):
+            return ".".join([name, *map(str, shown[length:])]) + rest
+    return ".".join(map(str, shown)) + rest
 
 
-def value_text(tag: int, content: bytes) -> str:
+def clipped(text: str) -> str:
+    """Returns a text, or the beginning of one that is long."""
+    return text if len(text) <= MOST_TEXT else text[: MOST_TEXT - 1] + "…"
+
+
+def value_text(value: Field) -> str:
     """Returns a value as text."""
+    tag, content = value
     if tag == INTEGER:
-        return str(int.from_bytes(content, "big", signed=True))
+        return str(number_of(content))
     if tag == OCTETS:
-        return content.hex(" ") or "no octets"
-    return "" if tag == NULL else f"type {tag}, {content.hex()}"
+        return clipped(content[:MOST_TEXT].hex(" ")) or "no octets"
+    return "" if tag == NULL else clipped(f"type {tag}, {content[:MOST_TEXT].hex()}")
 
 
-def bindings_text(found: Reply, with_values: bool) -> str:
+def bindings_text(bindings: list[Binding], with_values: bool) -> str:
     """Returns the bindings of a message as text."""
-    told = []
-    for arcs, tag, content in found.bindings[:MOST_SHOWN]:
-        value = value_text(tag, content) if with_values else ""
-        told.append(f"{named(arcs)} = {value}" if value else named(arcs))
-    more = len(found.bindings) - MOST_SHOWN
-    return ", ".join(told) + (f" and {more} more" if more > 0 else "")
+    shown = []
+    for arcs, it in bindings[:MOST_SHOWN]:
+        value = value_text(it) if with_values else ""
+        shown.append(f"{named(arcs)} = {value}" if value else named(arcs))
+    more = len(bindings) - MOST_SHOWN
+    return ", ".join(shown) + (f" and {more} more" if more > 0 else "")
 
 
 def asked_text(octets: bytes) -> str:
     """Returns a message of management software in words."""
     try:
-        ((_, content),) = fields(octets)
-        _, _, (kind, _) = fields(content)
-        return f"{KINDS[kind]} {bindings_text(reply_of(octets), kind == SET)}"
-    except (ValueError, IndexError, KeyError, TypeError):
+        found = message_of(octets)
+    except Malformed:
         return f"{len(octets)} octets that are no message"
+    return f"{KINDS[found.kind]} {bindings_text(found.bindings, found.kind == SET)}"
 
 
 def answered_text(octets: bytes | None) -> str:
     """Returns a reply in words."""
     if octets is None:
         return "silence"
-    found = reply_of(octets)
-    if found.status:
-        error = ERRORS.get(found.status, f"error {found.status}")
-        return f"{error} at {found.index}"
-    return bindings_text(found, True)
+    found = message_of(octets)
+    if found.first:
+        error = ERRORS.get(found.first, f"error {found.first}")
+        return f"{error} at {found.second}"
+    return bindings_text(found.bindings, True)
 
 
 def numbers_of(octets: bytes) -> list[int]:

@@ -1,7 +1,6 @@
 """What a page may ask of the street, read strictly."""
 
 import json
-import re
 from dataclasses import dataclass
 from typing import Any
 
@@ -83,7 +82,7 @@ def speed(value: Any) -> float:
 def input_of(told: dict[str, Any], cabinets: int) -> Input:
     """Returns an input from the street."""
     kind = told.get("kind")
-    if kind not in PLACES:
+    if not isinstance(kind, str) or kind not in PLACES:
         raise Wrong
     cabinet, place = whole(told.get("cabinet"), 1, cabinets), whole(told.get("place"), 1, PLACES[kind])
     request = f"{kind} {cabinet} {place}"
@@ -117,10 +116,3 @@ def order_of(text: str, cabinets: int) -> Order:
     if do == "view":
         return View(whole(told.get("cabinet"), 0, cabinets))
     raise Wrong
-
-
-def is_here(header: str | None, allowed: str) -> bool:
-    """Tells whether a Host header names this machine, or the address that was named: a page of another site can't then
-    speak to the panel in the browser's name."""
-    name = re.sub(r":\d+$", "", header or "")
-    return name in ("localhost", "127.0.0.1", "[::1]", allowed, f"[{allowed}]")

@@ -1,6 +1,8 @@
 """What a street shows, kept for pages: each cabinet's last frame, its greens, the master's notes, the messages."""
 
+import asyncio
 import collections
+import json
 from dataclasses import dataclass, field
 from typing import Any
 
@@ -17,6 +19,9 @@ KEPT_LINES = 200
 """How many notes and messages are kept."""
 NOTES = {"fail": "fails", "good": "is good again"}
 
+Green = tuple[int, int, int]
+"""A green that is over: its phase, its first tick, the tick after its last."""
+
 
 @dataclass
 class Shown:
@@ -31,8 +36,7 @@ class Shown:
     version: int = 0
     since: list[int] = field(default_factory=lambda: [0] * 16)
     ped_since: list[int] = field(default_factory=lambda: [0] * 16)
-    greens: collections.deque = field(default_factory=lambda: collections.deque(maxlen=4000))
-    """Greens that are over: phase, first tick, tick behind the last."""
+    greens: collections.deque[Green] = field(default_factory=lambda: collections.deque(maxlen=4000))
     changed: int = 0
 
     def take(self, words: list[str]) -> None:
@@ -41,12 +45,18 @@ class Shown:
         for at in range(16):
             if vehicles[at] != self.vehicles[at]:
                 if self.vehicles[at] == "G":
-                    self.greens.append((at + 1, self.since[at], tick))
+                    self.over(at + 1, tick)
                 self.since[at] = tick
             if pedestrians[at] != self.pedestrians[at]:
                 self.ped_since[at] = tick
         self.tick, self.vehicles, self.pedestrians, self.mode = tick, vehicles, pedestrians, words[3]
         self.counter, self.target, self.version = map(int, words[4:7])
+
+    def over(self, phase: int, tick: int) -> None:
+        """Keeps a green that is over, and forgets those that were over long before."""
+        self.greens.append((phase, self.since[phase - 1], tick))
+        while self.greens[0][2] <= tick - KEPT_TICKS:
+            self.greens.popleft()
 
     def row(self) -> list[Any]:
         """Returns what a page is told of it."""
@@ -73,14 +83,17 @@ def note_text(line: str) -> str:
 class PanelState(Hearer):
     """All that pages show. What changes gets the next number, so that a page can be told what it doesn't know yet."""
 
+    called = "the panel"
+
     def __init__(self) -> None:
         self.scenario: dict[str, Any] = {}
         self.facts: list[dict[str, Any]] = []
         self.cabinets: list[Shown] = []
         self.ticks = self.round = self.change = self.sessions = 0
-        self.notes: collections.deque = collections.deque(maxlen=KEPT_LINES)
-        self.messages: collections.deque = collections.deque(maxlen=KEPT_LINES)
-        self.inputs: dict[str, bool] = {}
+        self.notes: collections.deque[tuple[int, int, str]] = collections.deque(maxlen=KEPT_LINES)
+        self.messages: collections.deque[tuple[int, list[Any]]] = collections.deque(maxlen=KEPT_LINES)
+        self.asked: collections.deque[tuple[int, bytes, bytes]] = collections.deque(maxlen=KEPT_LINES)
+        """Messages that aren't in words yet: the tick, the request, and the line of the reply."""
         self.ending: str | None = None
         self.own: set[bytes] = set()
         """Requests of the panel's own that are under way: they aren't shown as messages."""
@@ -90,25 +103,24 @@ class PanelState(Hearer):
         self.scenario, self.facts = scenario, street_facts(scenario)
         self.cabinets = [Shown() for _ in scenario["cabinets"]]
         self.ticks = self.round = 0
-        self.inputs = {}
 
     def heard(self, request: bytes | None, answer: Answer) -> None:
         if request is not None and request.startswith(b"tick "):
             self.ticks += int(request[5:])
-        elif request is not None and not answer_refuses(answer):
-            self.asked(request, answer)
+        elif request is not None and request.startswith(b"frame ") and request not in self.own:
+            if not answer_refuses(answer):
+                self.asked.append((self.ticks, request, answer[-1]))
         for line in answer:
             self.take(line.decode("ascii"))
 
-    def asked(self, request: bytes, answer: Answer) -> None:
-        """Keeps a message or an input."""
-        words = request.decode("ascii").split(" ")
-        if words[0] in ("veh", "preempt"):
-            self.inputs[" ".join(words[:3])] = words[3] == "on"
-        elif words[0] == "frame" and request not in self.own:
-            digits = answer[-1].rsplit(b" ", 1)[1].decode()
+    async def put_in_words(self) -> None:
+        """Puts the messages that came into words, one after another: whatever else is to be done goes before the
+        next."""
+        while self.asked:
+            row = message_row(*self.asked.popleft())
             self.change += 1
-            self.messages.append((self.change, self.ticks, int(words[1]), words[3], digits))
+            self.messages.append((self.change, row))
+            await asyncio.sleep(0)
 
     def take(self, line: str) -> None:
         """Takes a line of an answer."""
@@ -135,7 +147,7 @@ class PanelState(Hearer):
             "session": self.sessions,
             "cabinets": {n: it.row() for n, it in enumerate(self.cabinets, 1) if it.changed > known or not known},
             "notes": [it[1:] for it in self.notes if it[0] > known],
-            "messages": [message_row(it) for it in self.messages if it[0] > known],
+            "messages": [row for change, row in self.messages if change > known],
         }
 
     def outdated(self) -> list[int]:
@@ -143,13 +155,16 @@ class PanelState(Hearer):
         pairs = zip(self.cabinets, self.facts)
         return [number for number, (shown, facts) in enumerate(pairs, 1) if shown.version != facts["version"]]
 
-    def greens(self) -> dict[int, list[tuple[int, int, int]]]:
-        """Returns the greens of each cabinet's coordinated phases that are over and not long ago."""
-        found = {}
+    async def greens(self) -> str:
+        """Returns the greens of each cabinet's coordinated phases that are over and not long ago, as JSON. They are put
+        together cabinet by cabinet: whatever else is to be done goes before the next."""
+        parts = []
         for number, (shown, facts) in enumerate(zip(self.cabinets, self.facts), 1):
             wanted = {p for laid in facts["patterns"].values() for p in laid["coordinated"]}
-            found[number] = [it for it in shown.greens if it[0] in wanted and it[2] > self.ticks - KEPT_TICKS]
-        return found
+            found = [it for it in shown.greens if it[0] in wanted and it[2] > self.ticks - KEPT_TICKS]
+            parts.append(f'"{number}":{json.dumps(found, separators=(",", ":"))}')
+            await asyncio.sleep(0)
+        return "{" + ",".join(parts) + "}"
 
 
 def answer_refuses(answer: Answer) -> bool:
@@ -157,8 +172,9 @@ def answer_refuses(answer: Answer) -> bool:
     return bool(answer) and answer[0].startswith(b"? ")
 
 
-def message_row(it: tuple[int, int, int, str, str]) -> list[Any]:
+def message_row(tick: int, request: bytes, answer: bytes) -> list[Any]:
     """Returns a message in words: tick, cabinet, what was asked, what was answered."""
-    _, tick, cabinet, asked, digits = it
-    reply = None if digits == "-" else bytes.fromhex(digits)
-    return [tick, cabinet, asked_text(bytes.fromhex(asked)), answered_text(reply)]
+    _, cabinet, _, digits = request.decode("ascii").split(" ")
+    reply = answer.rsplit(b" ", 1)[1].decode("ascii")
+    replied = answered_text(None if reply == "-" else bytes.fromhex(reply))
+    return [tick, int(cabinet), asked_text(bytes.fromhex(digits)), replied]

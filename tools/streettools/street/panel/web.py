@@ -1,241 +1,65 @@
-"""The panel's server: its pages, what it tells them, and what they may ask."""
+"""The panel's server: its pages and their web sockets, for those who bring the token."""
 
 import asyncio
-import contextlib
-import json
+import functools
 import pathlib
 import socket
-from typing import Any
+from collections.abc import Awaitable, Callable
 
-from aiohttp import WSMsgType, web
+from aiohttp import web
 
-from ...cabinet.messages import GET, message
-from ..street import Hearer, Street
-from . import in_force, orders
-from .layout import facts
-from .names import numbers_of, values_of
-from .state import PanelState
-from .streams import STAYS, Streams
+from ..ports import Place
+from .doors import Connection, Crowd, Door, room, said_once
+from .panel import Panel
 
 PAGES = pathlib.Path(__file__).resolve().parent / "pages"
 DRAWING = [pathlib.Path(it) for it in ("/usr/share/nodejs/d3/dist/d3.min.js", "/usr/share/javascript/d3/d3.min.js")]
 """Where Debian's packages node-d3 and libjs-d3 have the library that draws."""
-EVERY, DETAILS_EVERY, GREENS_EVERY = 0.2, 0.5, 2.0
-"""How often, in seconds, pages are told news, details of the cabinet that they look at, and greens."""
-MOST_PAGES, MOST_WAITING = 250, 40
-"""How many pages may be open; how many texts may wait for a page before it is dropped."""
-NTCIP, OWN = (1, 3, 6, 1, 4, 1, 1206, 4, 2, 1), (1, 3, 6, 1, 4, 1, 32473, 1)
-DETAILS = {
-    "command": (*NTCIP, 4, 14, 0),
-    "status": (*NTCIP, 4, 10, 0),
-    "clock": (*OWN, 2, 1, 0),
-    "counter": (*OWN, 2, 2, 0),
-    "target": (*OWN, 2, 3, 0),
-    "version": (*OWN, 1, 10, 0),
-    "vehicles1": (*NTCIP, 1, 4, 1, 8, 1),
-    "vehicles2": (*NTCIP, 1, 4, 1, 8, 2),
-    "people1": (*NTCIP, 1, 4, 1, 9, 1),
-    "people2": (*NTCIP, 1, 4, 1, 9, 2),
-}
-"""What a page is told of the cabinet that it looks at, read as management software reads it."""
+FILES = ("index.html", "panel.css", "panel.js", "diagram.js")
+OPEN = [f"/{name}" for name in (*FILES[1:], "d3.min.js")]
+"""What is given without a token: it is the same everywhere, and says nothing of the street."""
+MOST_PAGES, MOST_ASKED, BACKLOG = 250, 4096, 16
+"""How many pages may be open; the octets of the longest text of a page; how many connections may wait."""
 POLICY = (
-    "default-src 'none'; script-src 'self'; style-src 'self'; connect-src 'self'; img-src 'self' data:; base-uri 'none'"
+    "default-src 'none'; script-src 'self'; style-src 'self'; connect-src 'self'; img-src 'self' data:; "
+    "base-uri 'none'; form-action 'none'; frame-ancestors 'none'"
 )
-HEADERS = {"Content-Security-Policy": POLICY, "X-Content-Type-Options": "nosniff", "Cache-Control": "no-store"}
+HEADERS = {
+    "Content-Security-Policy": POLICY,
+    "X-Content-Type-Options": "nosniff",
+    "X-Frame-Options": "DENY",
+    "Referrer-Policy": "no-referrer",
+    "Cross-Origin-Resource-Policy": "same-origin",
+    "Cache-Control": "no-store",
+}
+PAUSE, PAUSE_OF_A_PAGE = 0.005, 0.02
+"""How long, in seconds, the panel does nothing before it answers a request, and before it opens a page: the cabinets'
+messages come first, also if many pages are opened."""
+NO_TOKEN = "Open the address that the street has printed: it has a token that this one lacks.\n"
+
+Handler = Callable[[web.Request], Awaitable[web.StreamResponse]]
 
 
-class Page:
-    """A page that is open: its socket, the texts that wait for it, the cabinet that it looks at."""
+class Server:
+    """Serves a panel."""
 
-    def __init__(self, socket: web.WebSocketResponse) -> None:
-        self.socket = socket
-        self.waiting: asyncio.Queue[str] = asyncio.Queue(MOST_WAITING)
-        self.cabinet = 0
-        self.known = (0, 0)
-        self.dropping: asyncio.Task[bool] | None = None
-
-    def tell(self, text: str) -> None:
-        """Lets a text wait for the page; one that doesn't read is dropped."""
-        try:
-            self.waiting.put_nowait(text)
-        except asyncio.QueueFull:
-            self.dropping = self.dropping or asyncio.create_task(self.socket.close())
-
-    async def write(self) -> None:
-        """Sends what waits, until the page goes away."""
-        with contextlib.suppress(ConnectionError, RuntimeError):
-            while True:
-                await self.socket.send_str(await self.waiting.get())
-
-
-class Panel(Hearer):
-    """The panel of a street."""
-
-    stride = 4
-
-    def __init__(self, state: PanelState, allowed: str) -> None:
-        self.shown = state
-        self.allowed = allowed
-        self.street: Street
-        self.pages: set[Page] = set()
-        self.streams = Streams()
-        self.pulses: list[tuple[int, bytes]] = []
-
-    # what pages are told
-
-    def head(self) -> dict[str, Any]:
-        """Returns what a page is told as it opens."""
-        return {"facts": self.shown.facts, "ticks": self.shown.scenario["ticks"], "all": True, **self.shown.news(0)}
-
-    def state(self) -> dict[str, Any]:
-        """Returns what every text tells: the speed, the switches, the streams, and how the street ended."""
-        return {
-            "speed": self.street.pace.speed,
-            "step": self.street.after_message,
-            "inputs": [name for name, is_on in self.shown.inputs.items() if is_on],
-            "rates": self.streams.rates(),
-            "ending": self.shown.ending,
-        }
-
-    def broadcast(self, told: dict[str, Any]) -> None:
-        """Tells all pages."""
-        text = json.dumps(told, separators=(",", ":"))
-        for page in list(self.pages):
-            page.tell(text)
-
-    async def news(self) -> None:
-        """Tells pages what has changed since they were told last, again and again."""
-        while True:
-            await asyncio.sleep(EVERY)
-            texts: dict[tuple[int, int], str] = {}
-            for page in list(self.pages):
-                if page.known not in texts:
-                    texts[page.known] = json.dumps(self.news_behind(page.known) | self.state(), separators=(",", ":"))
-                page.tell(texts[page.known])
-                page.known = self.known()
-
-    def known(self) -> tuple[int, int]:
-        """Returns up to what a page knows all that is told now: the session, and the last change."""
-        return self.shown.sessions, self.shown.change
-
-    def news_behind(self, known: tuple[int, int]) -> dict[str, Any]:
-        """Returns what a page is told that knows so much; of another session all."""
-        return self.shown.news(known[1]) if known[0] == self.shown.sessions else self.head()
-
-    async def details(self) -> None:
-        """Tells pages of the cabinets that they look at."""
-        while True:
-            await asyncio.sleep(DETAILS_EVERY)
-            for cabinet in sorted({page.cabinet for page in self.pages} - {0}):
-                text = json.dumps({"details": await self.details_of(cabinet)})
-                for page in list(self.pages):
-                    if page.cabinet == cabinet:
-                        page.tell(text)
-
-    async def details_of(self, cabinet: int) -> dict[str, Any]:
-        """Returns what management software reads of a cabinet."""
-        reply = await self.got(cabinet, list(DETAILS.values()))
-        return {"cabinet": cabinet} | (dict(zip(DETAILS, numbers_of(reply))) if reply else {})
-
-    async def got(self, cabinet: int, names: list[in_force.Name]) -> bytes | None:
-        """Returns a cabinet's reply to a Get of the panel's own; None where it is silent."""
-        octets = message(GET, 1, [(name, None) for name in names], self.community())
-        request = b"frame %d priority %b" % (cabinet, octets.hex().encode())
-        self.shown.own.add(request)
-        try:
-            return await self.street.message(cabinet, octets)
-        finally:
-            self.shown.own.discard(request)
-
-    async def tables(self) -> None:
-        """Lays cabinets out anew that have other tables in force, and tells pages."""
-        while True:
-            await asyncio.sleep(EVERY)
-            for cabinet in self.shown.outdated() if self.pages else ():
-                with contextlib.suppress(in_force.Changed):
-                    await self.lay_out(cabinet)
-
-    async def lay_out(self, cabinet: int) -> None:
-        """Lays a cabinet out by the tables in force, and tells pages."""
-
-        async def asked(names: list[in_force.Name]) -> in_force.Values | None:
-            reply = await self.got(cabinet, names)
-            return values_of(reply) if reply else None
-
-        version, session = self.shown.cabinets[cabinet - 1].version, self.shown.sessions
-        tables = await in_force.read(asked, version)
-        if session == self.shown.sessions:
-            self.shown.facts[cabinet - 1] = facts(cabinet, tables, version)
-            self.broadcast({"laid": self.shown.facts[cabinet - 1]})
-
-    def community(self) -> bytes:
-        """Returns the community of the street."""
-        return self.shown.scenario.get("community", "public").encode()
-
-    async def greens(self) -> None:
-        """Tells pages the greens of the coordination diagram."""
-        while True:
-            await asyncio.sleep(GREENS_EVERY)
-            if any(page.cabinet == 0 for page in self.pages):
-                text = json.dumps({"greens": self.shown.greens()}, separators=(",", ":"))
-                for page in list(self.pages):
-                    if page.cabinet == 0:
-                        page.tell(text)
-
-    # what pages ask
-
-    async def obey(self, page: Page, order: orders.Order) -> None:
-        """Does what a page asks for."""
-        if isinstance(order, orders.Input):
-            await self.street.input(order.request)
-        elif isinstance(order, orders.Pulse):
-            place = b"veh %d %d " % (order.cabinet, order.phase)
-            await self.street.input(place + b"on")
-            self.pulses.append((self.street.session.taken + STAYS, place + b"off"))
-        elif isinstance(order, orders.Rate):
-            self.streams.set(order.cabinet, order.phase, order.rate, self.street.session.taken)
-        elif isinstance(order, orders.Speed):
-            self.street.pace.set(order.speed)
-            self.street.wake()
-        elif isinstance(order, orders.Step):
-            self.street.pace.step(order.ticks)
-            self.street.wake()
-        else:
-            page.cabinet = order.cabinet
-
-    def due_inputs(self, ticks: int) -> list[bytes]:
-        due = [it for it in self.pulses if it[0] <= ticks]
-        self.pulses = [it for it in self.pulses if it[0] > ticks]
-        return self.streams.due(ticks) + [request for _, request in due]
-
-    def began(self, scenario: dict[str, Any]) -> None:
-        self.pulses = []
-        self.streams.restart()
-
-    # the server
+    def __init__(self, panel: Panel, names: tuple[str, ...]) -> None:
+        self.panel = panel
+        self.door = Door(names)
+        self.crowd = Crowd()
+        self.most = room(MOST_PAGES)
+        self.turn = asyncio.Lock()
 
     async def feed(self, request: web.Request) -> web.StreamResponse:
         """Holds the socket of a page."""
-        origin = request.headers.get("Origin", "")
-        if origin.split("//", 1)[-1] != request.headers.get("Host") or len(self.pages) >= MOST_PAGES:
+        host, origin = request.headers.get("Host"), request.headers.get("Origin")
+        if not self.door.is_its_own(origin, host) or len(self.panel.pages) >= self.most:
             raise web.HTTPForbidden
-        socket = web.WebSocketResponse(max_msg_size=4096, heartbeat=20)
-        await socket.prepare(request)
-        page = Page(socket)
-        page.tell(json.dumps(self.head() | self.state()))
-        page.known = self.known()
-        page.tell(json.dumps({"greens": self.shown.greens()}))
-        self.pages.add(page)
-        writer = asyncio.create_task(page.write())
-        try:
-            async for came in socket:
-                if came.type is WSMsgType.TEXT:
-                    with contextlib.suppress(orders.Wrong):
-                        await self.obey(page, orders.order_of(came.data, len(self.shown.cabinets)))
-        finally:
-            self.pages.discard(page)
-            writer.cancel()
-        return socket
+        made = web.WebSocketResponse(max_msg_size=MOST_ASKED, heartbeat=20, compress=False)
+        await made.prepare(request)
+        self.crowd.left(request.protocol)
+        await self.panel.held(made)
+        return made
 
     async def file(self, request: web.Request) -> web.StreamResponse:
         """Gives a file of the pages."""
@@ -244,35 +68,47 @@ class Panel(Hearer):
             drawing = next((it for it in DRAWING if it.is_file()), None)
             if drawing is None:
                 raise web.HTTPNotFound
-            return web.FileResponse(drawing, headers=HEADERS)
-        if name not in ("index.html", "panel.css", "panel.js", "diagram.js"):
+            return web.FileResponse(drawing)
+        if name not in FILES:
             raise web.HTTPNotFound
-        return web.FileResponse(PAGES / name, headers=HEADERS)
+        return web.FileResponse(PAGES / name)
 
     @web.middleware
-    async def only_here(self, request: web.Request, handler) -> web.StreamResponse:
-        """Refuses requests that name another host."""
-        if not orders.is_here(request.headers.get("Host"), self.allowed):
+    async def only_here(self, request: web.Request, handler: Handler) -> web.StreamResponse:
+        """Refuses requests that name another host, and those for a page or its socket that lack the token."""
+        if not self.door.is_here(request.headers.get("Host")):
             raise web.HTTPForbidden
+        if request.path not in OPEN and not self.door.has_token(request.query.get("token", "")):
+            raise web.HTTPForbidden(text=NO_TOKEN)
+        async with self.turn:
+            await asyncio.sleep(PAUSE_OF_A_PAGE if request.path == "/feed" else PAUSE)
         return await handler(request)
 
-    async def open(self, port: socket.socket) -> web.AppRunner:
-        """Serves pages at an open port."""
-        app = web.Application(middlewares=[self.only_here])
-        app.add_routes([web.get("/feed", self.feed), web.get("/", self.file), web.get("/{name}", self.file)])
-        runner = web.AppRunner(app, access_log=None)
-        await runner.setup()
-        await web.SockSite(runner, port, shutdown_timeout=1).start()
-        self.tasks = [asyncio.create_task(it()) for it in (self.news, self.details, self.greens, self.tables)]
-        return runner
+    async def with_headers(self, request: web.Request, response: web.StreamResponse) -> None:
+        """Gives each answer the headers of all."""
+        response.headers.update(HEADERS)
 
-    async def close(self, runner: web.AppRunner, ending: str) -> None:
-        """Tells pages that the street has ended, and ends."""
-        for task in self.tasks:
-            task.cancel()
-        self.shown.ending = self.shown.ending or ending
-        self.broadcast(self.state())
-        await asyncio.sleep(EVERY)
-        for page in list(self.pages):
-            await page.socket.close()
-        await runner.cleanup()
+    async def open(self, port: socket.socket) -> None:
+        """Serves at an open port."""
+        loop = asyncio.get_running_loop()
+        app = web.Application(middlewares=[self.only_here])
+        app.on_response_prepare.append(self.with_headers)
+        app.add_routes([web.get("/feed", self.feed), web.get("/", self.file), web.get("/{name}", self.file)])
+        self.runner = web.AppRunner(app)
+        await self.runner.setup()
+        manager = self.runner.server
+        assert manager is not None
+        self.manager = manager
+        made = functools.partial(Connection, self.crowd, manager, loop=loop, access_log=None)
+        loop.set_exception_handler(said_once)
+        self.server = await loop.create_server(made, sock=port, backlog=BACKLOG)
+
+    def address(self, place: Place) -> str:
+        """Returns the address of the panel at a place, with the token that a page must bring."""
+        return f"http://{place}/?token={self.door.token}"
+
+    async def close(self) -> None:
+        """Ends all connections."""
+        self.server.close()
+        await self.manager.shutdown(1)
+        await self.runner.cleanup()

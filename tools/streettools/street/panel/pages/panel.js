@@ -352,7 +352,7 @@ function look() {
 }
 
 function connect() {
-  socket = new WebSocket(`${location.protocol === "https:" ? "wss" : "ws"}://${location.host}/feed`);
+  socket = new WebSocket(`${location.protocol === "https:" ? "wss" : "ws"}://${location.host}/feed${location.search}`);
   socket.addEventListener("open", () => {
     by("ending").hidden = true;
     ask({ do: "view", cabinet: viewed });
