@@ -1,7 +1,7 @@
 """Runs a command of the tools: `python3 -m streettools look ..`, or `python3 tools/streettools look ..` with no
 installation."""
 
-import pathlib
+import os
 import signal
 import sys
 
@@ -9,8 +9,7 @@ import sys
 signal.signal(signal.SIGINT, signal.SIG_DFL)
 
 if __name__ == "__main__" and not __package__:
-    sys.dont_write_bytecode = True
-    sys.path[0] = str(pathlib.Path(__file__).resolve().parent.parent)
+    sys.path[0] = os.path.dirname(os.path.dirname(os.path.realpath(__file__)))
 
 from streettools import words  # noqa: E402
 from streettools.shared.status import Status  # noqa: E402
@@ -23,22 +22,13 @@ def main(given: list[str] | None = None) -> int:
         print("usage: streettools COMMAND ..\n")
         for word in words.tools():
             print(f"    {word.name:10} {word.does}")
-        return 0
+        return Status.DONE
     if not words.is_word(given[0]):
         near = words.meant(given[0])
         print(f"streettools: no command {given[0]}" + (f": {near}?" if near else ""), file=sys.stderr)
         return Status.REFUSED
     signal.signal(signal.SIGINT, signal.default_int_handler)
-    try:
-        return words.run(given)
-    except KeyboardInterrupt:
-        return Status.INTERRUPTED
-    except ModuleNotFoundError as fault:
-        print(
-            f"{given[0]}: Python's package {fault.name} is missing: README.md has the line that installs all of them",
-            file=sys.stderr,
-        )
-        return Status.FILE
+    return words.run(given)
 
 
 if __name__ == "__main__":

@@ -1,19 +1,20 @@
 """The words of the launcher: the one place where a command of the tools is named.
 
-A new command is one line in TOOLS, and a module `streettools/NAME/command.py` with `main(words: list[str]) -> int`.
-It is shown in help and taken as a word only if that module is there.
+A new command is one line in TOOLS, and a module `streettools/NAME/command.py` with `main(words: list[str]) -> int`,
+which raises what it can't do: `run` is the boundary of all of them. A command is shown in help and taken as a word only
+if that module is there.
 """
 
-import difflib
 import importlib
-import pathlib
-from dataclasses import dataclass
+import os
+from typing import NamedTuple
 
-HERE = pathlib.Path(__file__).resolve().parent
+from .shared.boundary import bounded
+
+HERE = os.path.dirname(os.path.realpath(__file__))
 
 
-@dataclass(frozen=True)
-class Word:
+class Word(NamedTuple):
     """A word, and what it does in half a line."""
 
     name: str
@@ -21,7 +22,7 @@ class Word:
 
     def is_there(self) -> bool:
         """Tells whether this checkout has the command."""
-        return (HERE / self.name / "command.py").is_file()
+        return os.path.isfile(os.path.join(HERE, self.name, "command.py"))
 
 
 TOOLS = (
@@ -35,6 +36,7 @@ TOOLS = (
 """Commands of the tools, which are not proved."""
 
 PROVE = Word("prove", "proves the program here, and builds it")
+TAKE = Word("take", "takes over a proof that its maker published, for a checkout of the same sources")
 """What the launcher itself does."""
 
 LAUNCH = Word("launch", "what the launcher's shell hands over to Python; no word for users")
@@ -50,7 +52,9 @@ def tools() -> list[Word]:
 
 def meant(word: str) -> str | None:
     """Returns the command that is nearest to a word that is none, None if no command is near."""
-    known = [*PROGRAM, PROVE.name, *(it.name for it in tools()), "--help", "--version"]
+    import difflib  # takes a while
+
+    known = [*PROGRAM, PROVE.name, TAKE.name, *(it.name for it in tools()), "--help", "--version"]
     return next(iter(difflib.get_close_matches(word, known, 1)), None)
 
 
@@ -62,4 +66,5 @@ def is_word(word: str) -> bool:
 def run(words: list[str]) -> int:
     """Runs the command of the tools that the first word names with the other words, and returns its exit status."""
     name, *rest = words
-    return importlib.import_module(f"streettools.{name}.command").main(rest)
+    tool = "arterial" if name == LAUNCH.name else name
+    return bounded(tool, lambda given: importlib.import_module(f"streettools.{name}.command").main(given), rest)

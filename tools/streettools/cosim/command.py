@@ -2,10 +2,7 @@
 
 import importlib
 import pathlib
-from collections.abc import Callable
 
-from ..shared.fault import Fault
-from ..shared.program import NoProgram
 from ..shared.saying import say
 from ..shared.status import Status
 
@@ -14,8 +11,8 @@ WORDS = {
     "run": ("run_command", "SUMO drives the detectors, the cabinets drive SUMO's signals"),
     "map": ("map_command", "writes which link of a network has which phase"),
     "compare": ("compare_command", "several plans over the same seeds, side by side"),
-    "queues": ("queues_command", "traffic by volumes and queues, without SUMO"),
-    "draw": ("pictures_command", "pictures of a run: arrivals, paths over bands, splits, queues"),
+    "queues": ("queues.command", "traffic by volumes and queues, without SUMO"),
+    "draw": ("pictures.command", "pictures of a run: arrivals, paths over bands, splits, queues"),
 }
 """The words of the command: the module of each, which has `main(words) -> int`, and what it does in half a line."""
 
@@ -24,7 +21,7 @@ USAGE = "usage: arterial cosim WORD .. (--help of each word says more; docs/COSI
 
 def known() -> dict[str, str]:
     """Returns the words that this checkout has, with what they do."""
-    return {name: does for name, (module, does) in WORDS.items() if (HERE / f"{module}.py").is_file()}
+    return {name: does for name, (module, does) in WORDS.items() if (HERE / f"{module.replace('.', '/')}.py").is_file()}
 
 
 def usage() -> str:
@@ -32,23 +29,6 @@ def usage() -> str:
     lines = [f"    {name:8} {does}" for name, does in known().items()]
     about = "Traffic in the loop: vehicles and persons meet the cabinets of a session."
     return "\n".join([USAGE, "", about, "", *lines])
-
-
-def guarded(does: Callable[[list[str]], int], words: list[str]) -> int:
-    """Does what the words ask for; a fault is one line and its status."""
-    try:
-        return does(words)
-    except Fault as fault:
-        say("cosim", fault)
-        return fault.status
-    except NoProgram as fault:
-        say("cosim", f"{fault}; ./arterial prove makes one, --program names another")
-        return Status.NO_PROGRAM
-    except BrokenPipeError:
-        return Status.FILE
-    except OSError as fault:
-        say("cosim", f"{fault.filename}: {fault.strerror}" if fault.filename else fault)
-        return Status.FILE
 
 
 def main(words: list[str]) -> int:
@@ -60,4 +40,4 @@ def main(words: list[str]) -> int:
         say("cosim", f"no word {words[0]}: {', '.join(known())}")
         return Status.REFUSED
     module = importlib.import_module(f".{WORDS[words[0]][0]}", __package__)
-    return guarded(module.main, words[1:])
+    return module.main(words[1:])

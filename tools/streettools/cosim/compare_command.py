@@ -3,9 +3,9 @@
 import argparse
 import json
 import pathlib
+from typing import Any
 
-from ..shared.commandline import number
-
+from ..shared.commandline import Parser, add_json, add_output, add_program, number
 from ..shared.progress import bar
 from ..shared.saying import say
 from ..shared.status import Status
@@ -25,18 +25,17 @@ HEADS = ("plan", "trips", "delay", "stops", "more delay", "more stops")
 
 def parser() -> argparse.ArgumentParser:
     """Returns the reader of the words."""
-    words = argparse.ArgumentParser(
-        prog="cosim compare",
+    words = Parser(
+        "cosim compare",
         description="Runs several plans over the same seeds, and tells delay and stops side by side.",
         epilog=EXAMPLES,
-        formatter_class=argparse.RawDescriptionHelpFormatter,
-        allow_abbrev=False,
     )
     words.add_argument("comparison", type=pathlib.Path, help="the file that names the plans, in TOML")
-    words.add_argument("-o", "--out", type=pathlib.Path, required=True, metavar="FOLDER", help="where all is written")
+    add_output(words, "where all is written", type=pathlib.Path, required=True, metavar="FOLDER")
     words.add_argument("--workers", type=number(1, 64), default=1, metavar="N", help="so many runs at once (1)")
     words.add_argument("--keep", action="store_true", help="keeps each run's folder: trace, trips, study, report")
-    words.add_argument("--program", metavar="FILE", help="the program to run in place of the proved one")
+    add_json(words)
+    add_program(words)
     return words
 
 
@@ -65,7 +64,7 @@ def text_of(comparison: Comparison, rows: list[Row]) -> str:
     return "\n".join(lines) + "\n"
 
 
-def document_of(comparison: Comparison, rows: list[Row]) -> dict:
+def document_of(comparison: Comparison, rows: list[Row]) -> dict[str, Any]:
     """Returns the table as JSON has it."""
 
     def pair(mean: Mean | None) -> list | None:
@@ -96,8 +95,8 @@ def main(given: list[str]) -> int:
     """Runs a comparison, and returns the exit status."""
     words = parser().parse_args(given)
     comparison = read_comparison(words.comparison)
-    jobs = jobs_of(comparison, words.program, words.out, words.keep)
-    words.out.mkdir(parents=True, exist_ok=True)
+    jobs = jobs_of(comparison, words.program, words.output, words.keep)
+    words.output.mkdir(parents=True, exist_ok=True)
     progress = bar(len(jobs), "run")
     try:
         results = do_all(jobs, words.workers, progress.update if progress is not None else lambda count: None)
@@ -106,10 +105,10 @@ def main(given: list[str]) -> int:
             progress.close()
     rows = rows_of(comparison, jobs, results)
     text = text_of(comparison, rows)
-    (words.out / "comparison.txt").write_text(text, encoding="utf-8")
+    (words.output / "comparison.txt").write_text(text, encoding="utf-8")
     document = json.dumps(document_of(comparison, rows), indent=1)
-    (words.out / "comparison.json").write_text(document + "\n", encoding="utf-8")
-    print(text, end="")
+    (words.output / "comparison.json").write_text(document + "\n", encoding="utf-8")
+    print(document if words.json else text, end="\n" if words.json else "")
     tell(comparison, jobs, results)
     return Status.DONE
 

@@ -1,8 +1,8 @@
 """A comparison: several plans over the same seeds, as a TOML file says it, and how they differ."""
 
 import pathlib
-import shutil
 import statistics
+import tempfile
 from collections.abc import Callable
 from concurrent.futures import ProcessPoolExecutor
 from concurrent.futures.process import BrokenProcessPool
@@ -10,11 +10,11 @@ from dataclasses import dataclass
 from typing import Any
 
 from ..shared.fault import Fault
+from ..shared.given import NUMBER, Given, read_toml
 from ..shared.program import found
 from ..shared.status import Status
 from . import drive, network, run, yardsticks
 from .drive import read_config
-from .given import NUMBER, Given, read_toml
 from .loop import Given as RunGiven
 from .loop import Times
 from .mapping import read_map
@@ -151,24 +151,32 @@ def given_of(comparison: Comparison, plan: Plan, seed: int | None) -> RunGiven:
 
 
 def do(job: Job) -> Result:
-    """Does a run, and returns what it came to; one that ended before its time is a fault."""
+    """Does a run in its folder, which it makes; one that isn't kept has a name that nothing else has."""
+    job.out.parent.mkdir(parents=True, exist_ok=True)
+    if job.keep:
+        job.out.mkdir()
+        return done_in(job, job.out)
+    with tempfile.TemporaryDirectory(prefix=f"{job.out.name}-", dir=job.out.parent) as folder:
+        return done_in(job, pathlib.Path(folder))
+
+
+def done_in(job: Job, out: pathlib.Path) -> Result:
+    """Does a run in a folder, and returns what it came to; one that ended before its time is a fault."""
     given = given_of(job.comparison, job.plan, job.seed)
-    job.out.mkdir(parents=True, exist_ok=True)
     if job.program is None:
-        trips, times = yardsticks.run(given, job.plan.controller, job.out, lambda count: None)
+        trips, times = yardsticks.run(given, job.plan.controller, out, lambda count: None)
     else:
-        done = run.run(given, job.program, job.out, lambda count: None)
+        done = run.run(given, job.program, out, lambda count: None)
         if done.fault or done.study is None:
             raise Fault(f"plan {job.plan.name}, seed {job.seed}: {done.fault or 'nothing was recorded'}")
         trips, times = done.study.trips, done.times
-    if not job.keep:
-        shutil.rmtree(job.out)
     kept = counted(trips, given.warm, given.seconds)
     return Result(totals_of(kept, job.comparison.routes), times)
 
 
 def jobs_of(comparison: Comparison, program: str | None, out: pathlib.Path, keep: bool) -> list[Job]:
-    """Returns all runs of a comparison, seed by seed; what is wrong with one of them is told before anything runs."""
+    """Returns all runs of a comparison, seed by seed; what is wrong with one of them is said before anything runs, also
+    that the folder of one that is to be kept is there."""
     drive.module()
     path = found(program)
     for plan in comparison.plans:
@@ -176,11 +184,15 @@ def jobs_of(comparison: Comparison, program: str | None, out: pathlib.Path, keep
         run.preflight(given, path)
         if plan.controller != CABINETS:
             yardsticks.programs(given, plan.controller)
-    return [
+    jobs = [
         Job(comparison, plan, seed, path if plan.controller == CABINETS else None, out / f"{number:02}-{seed}", keep)
         for seed in comparison.seeds
         for number, plan in enumerate(comparison.plans, 1)
     ]
+    there = next((job.out for job in jobs if keep and job.out.exists()), None)
+    if there is not None:
+        raise Fault(f"{there} is there from an earlier comparison: name another folder, or take it away", Status.FILE)
+    return jobs
 
 
 def do_all(jobs: list[Job], workers: int, progress: Callable[[int], object]) -> list[Result]:

@@ -4,6 +4,7 @@ import argparse
 import pathlib
 
 from ..shared import files
+from ..shared.commandline import Parser, add_output
 from ..shared.saying import say
 from ..shared.status import Status
 from . import network
@@ -33,15 +34,13 @@ def answer(text: str) -> tuple[tuple[str, str], int]:
 
 def parser() -> argparse.ArgumentParser:
     """Returns the reader of the words."""
-    words = argparse.ArgumentParser(
-        prog="cosim map",
+    words = Parser(
+        "cosim map",
         description="Writes a map from a network of SUMO: which link has which phase, detectors before stop lines.",
         epilog=EXAMPLES,
-        formatter_class=argparse.RawDescriptionHelpFormatter,
-        allow_abbrev=False,
     )
     words.add_argument("network", type=pathlib.Path, help="the network (*.net.xml), or a configuration that names it")
-    words.add_argument("-o", "--out", metavar="MAP", help="the map to write (standard output)")
+    add_output(words, "the map to write (default: standard output)", metavar="MAP")
     words.add_argument("--main", choices=list(WAYS), help="the way in which phase 2 drives, at each signal")
     words.add_argument("--phase", type=answer, action="append", default=[], metavar="'SIGNAL MOVEMENT=N'")
     words.add_argument(
@@ -58,7 +57,7 @@ def main(given: list[str]) -> int:
     main_way = None if words.main is None else WAYS.index(words.main)
     maker = Maker(network.read(path), main_way, dict(words.phase), words.length, words.permissive)
     text = maker.text(path.name)
-    with files.output(words.out) as out:
+    with files.output(words.output) as out:
         out.write(text)
     for it in maker.questions:
         how = f"--phase '{it.signal} {it.movement}=N'"

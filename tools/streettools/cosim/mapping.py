@@ -6,7 +6,7 @@ A TOML file (docs/COSIM.md). Links are named by their lanes, so that a map of an
 import pathlib
 from dataclasses import dataclass, field
 
-from .given import NUMBER, Given, read_toml
+from ..shared.given import NUMBER, Given, read_toml
 
 MOST_CABINETS, MOST_PHASE, MOST_PREEMPT = 64, 16, 8
 

@@ -8,7 +8,7 @@ from collections import defaultdict
 from collections.abc import Iterable
 from dataclasses import dataclass, field
 
-from .queues_signals import Spans
+from .queues.signals import Spans
 from .records import Kind, Movement, Passage, QueueSample, Study, Trip
 
 Key = tuple[int, str]

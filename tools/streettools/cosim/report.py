@@ -8,7 +8,7 @@ from collections.abc import Iterable
 from typing import Any
 
 from .movements import Count, Greens, RouteCount, counts, is_of_persons, kinds, routes
-from .queues_signals import Signals
+from .queues.signals import Signals
 from .records import Kind, Study
 
 SERVICE = ((10, "A"), (20, "B"), (35, "C"), (55, "D"), (80, "E"))

@@ -96,7 +96,7 @@ def run(given: Given, program: pathlib.Path, out: pathlib.Path, progress: Callab
 
 
 def done(
-    given: Given, loop: Loop, session: Session, types: dict, out: pathlib.Path, fault: Fault | None
+    given: Given, loop: Loop, session: Session, types: dict[str, Any], out: pathlib.Path, fault: Fault | None
 ) -> Done:
     """Writes what was recorded."""
     if not session.save(out / TRACE):

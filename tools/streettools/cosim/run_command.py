@@ -3,9 +3,8 @@
 import argparse
 import pathlib
 
-from ..shared.commandline import number
+from ..shared.commandline import Parser, add_output, add_program, number
 from ..shared.fault import Fault
-
 from ..shared.program import found
 from ..shared.progress import bar
 from ..shared.saying import say
@@ -36,25 +35,23 @@ def step_of(text: str) -> float:
 
 def parser() -> argparse.ArgumentParser:
     """Returns the reader of the words."""
-    words = argparse.ArgumentParser(
-        prog="cosim run",
+    words = Parser(
+        "cosim run",
         description="Runs SUMO under the cabinets of a scenario: its detectors, persons, buses and trains call them.",
         epilog=EXAMPLES,
-        formatter_class=argparse.RawDescriptionHelpFormatter,
-        allow_abbrev=False,
     )
     path = {"type": pathlib.Path, "required": True}
     words.add_argument("--sumo", **path, metavar="CONFIG", help="SUMO's configuration (*.sumocfg)")
     words.add_argument("--map", **path, metavar="MAP", help="the map: which link has which phase")
     words.add_argument("--scenario", **path, metavar="FILE", help="the cabinets")
-    words.add_argument("-o", "--out", **path, metavar="FOLDER", help="where all is written")
+    add_output(words, "where all is written", **path, metavar="FOLDER")
     words.add_argument("--step", type=step_of, default=0.1, metavar="S", help="a step of SUMO: 0.1 or 1 second (0.1)")
     of_day = number(0, 86_400)
     words.add_argument("--seconds", type=number(1, 86_400), metavar="S", help="the length (SUMO's, or the scenario's)")
     words.add_argument("--seed", type=number(0, 2**31 - 1), metavar="N", help="SUMO's seed (that of its configuration)")
     words.add_argument("--warm", type=of_day, default=0, metavar="S", help="trips that start sooner don't count (0)")
     words.add_argument("--no-priority", action="store_true", help="buses don't ask")
-    words.add_argument("--program", metavar="FILE", help="the program to run in place of the proved one")
+    add_program(words)
     return words
 
 
@@ -92,7 +89,7 @@ def main(words: list[str]) -> int:
     given_words = parser().parse_args(words)
     program = found(given_words.program)
     given = given_of(given_words)
-    out = given_words.out
+    out = given_words.output
     out.mkdir(parents=True, exist_ok=True)
     shown = bar(int(given.seconds), "s", smoothing=0.05)
     try:

@@ -30,14 +30,21 @@ RUNS = ("args", "stdin", "stdout", "status", "data")
 """What the kit runs the program on, once it is proved."""
 
 
+PLACE = "rattle-kept"
+"""The folder next to the kit in which it keeps crates that passed, if it is a kit that keeps any."""
+
+
 def serves(rt: str) -> bool:
-    """Tells whether the kit has the command, and a place beside itself in which it can keep what passed."""
+    """Returns whether the kit has the command, keeps what passed, and has a place for it that can be written. Older
+    kits     prove everything again at each call: their command names the place nowhere."""
     folder = kit.folder()
     if folder is None:
         return False
-    kept = folder.parent / "rattle-kept"
-    told = subprocess.run([rt, "--help"], stdin=subprocess.DEVNULL, capture_output=True, text=True)
-    return "rt ci " in told.stdout + told.stderr and os.access(kept if kept.exists() else folder.parent, os.W_OK)
+    kept = folder.parent / PLACE
+    asked = subprocess.run([rt, "--help"], stdin=subprocess.DEVNULL, capture_output=True, text=True)
+    keeps = any(PLACE in it.read_text(errors="replace") for it in kit.scripts())
+    place = kept if kept.exists() else folder.parent
+    return "rt ci " in asked.stdout + asked.stderr and keeps and os.access(place, os.W_OK)
 
 
 def copied(top: pathlib.Path, to: pathlib.Path, before: dict[str, str]) -> None:

@@ -1,5 +1,5 @@
-"""What the launcher's shell hands over to Python: `launch prove`, `unproved`, `help`, `meant`, `due`, `sums`,
-`record`."""
+"""What the launcher's shell hands over to Python: `launch prove`, `take`, `release`, `unproved`, `help`, `meant`,
+`due`, `sums`, `record`, `where`."""
 
 import json
 import pathlib
@@ -8,7 +8,7 @@ import sys
 from streettools.shared.saying import say
 from streettools.shared.status import Status
 
-from . import crates, due, help, hint, prove, record, unproved
+from . import crates, due, help, hint, keeping, prove, record, release, take, unproved
 
 
 def meant(words: list[str]) -> int:
@@ -24,23 +24,34 @@ def sums(words: list[str]) -> int:
 
 
 def recorded(words: list[str]) -> int:
-    """Records the program that was proved since a file with the sums was written."""
+    """Records the program that was proved since a file with the sums was written; a second file may have what the kit
+    printed."""
+    verdict = pathlib.Path(words[1]).read_text(errors="replace") if words[1:] else ""
     try:
-        record.write(crates.TOP, json.loads(pathlib.Path(words[0]).read_text()))
+        record.write(crates.TOP, json.loads(pathlib.Path(words[0]).read_text()), verdict)
     except record.Changed as name:
         say("arterial", f"{name} changed while it was proved, so the program is not recorded as proved")
         return Status.NO_PROGRAM
     return Status.DONE
 
 
+def where(words: list[str]) -> int:
+    """Prints the function in which a run-time check of the unproved program failed, by the offsets of its frames."""
+    print(keeping.place(words[0], [int(it, 16) for it in words[1:]]))
+    return Status.DONE
+
+
 DOES = {
     "prove": prove.main,
+    "take": take.main,
+    "release": release.main,
     "unproved": unproved.main,
     "help": help.main,
     "meant": meant,
     "due": due.main,
     "sums": sums,
     "record": recorded,
+    "where": where,
 }
 
 

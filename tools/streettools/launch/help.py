@@ -23,7 +23,7 @@ def of_command(text: str, name: str) -> str | None:
 
 def beside() -> str:
     """Returns what the help says of the words that are not the program's."""
-    listed = [*[words.PROVE] * (crates.TOP / crates.LISTS[0]).is_file(), *words.tools()]
+    listed = [*[words.PROVE, words.TAKE] * (crates.TOP / crates.LISTS[0]).is_file(), *words.tools()]
     lines = [f"  arterial {word.name:8} {word.does}\n" for word in listed]
     head = "\nBeside the program, and not proved (arterial COMMAND --help tells more of each command):\n\n"
     return (

@@ -15,6 +15,15 @@ def folder() -> pathlib.Path | None:
     return pathlib.Path(found).resolve().parent.parent if found else None
 
 
+def scripts() -> list[pathlib.Path]:
+    """Returns the files of the command rt: itself and the modules next to it."""
+    found = command()
+    if not found:
+        return []
+    own = pathlib.Path(found).resolve()
+    return [own, *sorted(own.parent.glob("rtlib*.py"))]
+
+
 def identity(folder: pathlib.Path) -> str:
     """Returns the kit's own account of what it was made of, with checksums; nothing where it has none."""
     what = folder / "WHAT"

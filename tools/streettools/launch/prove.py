@@ -53,6 +53,11 @@ def is_proved(top: pathlib.Path) -> bool:
     return subprocess.run([top / "tools/proved"], capture_output=True).returncode == 0
 
 
+def is_taken(top: pathlib.Path) -> bool:
+    """Returns whether the proof that is there was made elsewhere and taken over."""
+    return (record.program_of(top).parent / "proved/maker").exists()
+
+
 def size_of(folder: pathlib.Path) -> int:
     """Returns how many bytes the files below a folder take."""
     found = 0
@@ -137,7 +142,7 @@ def prove(rt: str, top: pathlib.Path, keep: bool) -> None:
                 proof_progress.done(crates.PROGRAM)
             else:
                 at_once.prove_all(rt, top, out, proof_progress, before)
-        record.write(top, before)
+        record.write(top, before, log.read_text(errors="replace"))
     except lanes.NotProved as name:
         raise Failed(
             f"the program could not be built, since {name} failed:\n{why_of(log)}\narterial: all that was said is in "
@@ -164,19 +169,31 @@ def tidy(top: pathlib.Path) -> None:
             os.close(held)
 
 
+def confirm(top: pathlib.Path, makers: str) -> None:
+    """Reports whether the program that was proved here is the one that was taken over, by their checksums."""
+    own = crates.sum_of(record.program_of(top))
+    if own == makers:
+        say("arterial", "confirmed: the program that was proved here is its maker's, byte for byte")
+    else:
+        say("arterial", f"the program that was proved here ({own}) differs from its maker's ({makers}): it is used now")
+
+
 def main(given: list[str]) -> int:
     """Proves the program, and returns the exit status."""
     words = parser().parse_args(given)
     top, begun = crates.TOP, time.monotonic()
     signal.signal(signal.SIGTERM, lambda number, _: sys.exit(128 + number))
     try:
-        if is_proved(top):
+        if is_proved(top) and not is_taken(top):
             say("arterial", f"proved already, and nothing has changed since: {record.program_of(top)}")
             return Status.DONE
         rt = look_around(top)
         with alone(top):
-            if not is_proved(top):
+            if not is_proved(top) or is_taken(top):
+                makers = crates.sum_of(record.program_of(top)) if is_taken(top) and is_proved(top) else None
                 prove(rt, top, words.keep)
+                if makers:
+                    confirm(top, makers)
                 if not words.keep:
                     tidy(top)
     except Failed as fault:

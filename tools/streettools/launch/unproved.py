@@ -1,8 +1,8 @@
-"""Carries a command out by the program without its proofs, which the kit compiles with run-time checks, runs, and
-throws away.
+"""Carries a command out by the unproved program, which the kit builds with run-time checks. The first call builds and
+keeps it (keeping.py). If it can't be kept, the kit builds and runs it at each call.
 
-Such a run has limits of the kit: 64 MiB of input, 1 MiB of output, a minute of time. An answer comes whole or not at
-all.
+Such a run has limits of the kit: 64 MiB of input, 1 MiB of output, a minute of time. An answer is complete, or there is
+none.
 """
 
 import os
@@ -18,7 +18,7 @@ from streettools.shared.progress import waiting
 from streettools.shared.saying import say
 from streettools.shared.status import Status
 
-from . import crates, due, help, hint, kit, source
+from . import crates, due, help, hint, keeping, kit, source
 
 READERS = ("run", "check", "overlaps", "band", "respond")
 """Commands that read standard input."""
@@ -154,10 +154,17 @@ def main(given: list[str]) -> int:
         return Status.NO_PROGRAM
     say(
         "arterial",
-        f"{why}: the program without its proofs answers, in about a minute (./arterial prove or ./test proves it here)",
+        f"{why}: the unproved program answers; building it takes about a minute (./arterial prove proves it here)",
     )
     try:
+        if not os.environ.get("ARTERIAL_BUILT") and keeping.keep(rt):
+            os.environ["ARTERIAL_BUILT"] = "1"
+            os.execv(crates.TOP / "arterial", [str(crates.TOP / "arterial"), *arguments])
         return answer(rt, arguments)
+    except keeping.NotBuilt as fault:
+        words_of_it, status = why_not(fault.args[0])
+        say("arterial", words_of_it)
+        return status
     except Unfinished as fault:
         say("arterial", fault)
         return fault.status

@@ -3,6 +3,8 @@
 The file also tells the partners: phases that were entered only because the rings need them. They are left out.
 """
 
+from ..shared.fault import Fault
+
 
 def plain(name: str) -> str:
     """Returns a name in one line."""
@@ -59,7 +61,10 @@ class Called:
 
 def read(path: str) -> Called:
     """Returns the names that a file has."""
-    from ..plan import names
+    from ..plan import names  # takes a while
 
-    with open(path, encoding="utf-8") as file:
-        return Called(names.read(file.read()))
+    try:
+        with open(path, encoding="utf-8") as file:
+            return Called(names.read(file.read()))
+    except (names.NoNames, UnicodeDecodeError) as fault:
+        raise Fault(f"{path}: {fault}") from None

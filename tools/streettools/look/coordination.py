@@ -12,9 +12,8 @@ from matplotlib.patches import Patch, Polygon
 
 from streettools.shared.bands import common, delays_of
 from streettools.shared.cabinet import mode_of, opened
-from streettools.shared.lines import Frame
 from streettools.shared.plans import coordinated
-from streettools.shared.trace_reader import Ended, RoundEnd
+from streettools.shared.trace_records import Ended, Frame, RoundEnd
 
 from . import pictures, planned
 from .called import Called

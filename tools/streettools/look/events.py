@@ -8,8 +8,7 @@ from datetime import datetime, timedelta
 from streettools.shared import answers
 from streettools.shared.answers import Cancelled, Requested
 from streettools.shared.cabinet import changes, mode_of, opened
-from streettools.shared.lines import Frame
-from streettools.shared.trace_reader import Answered, Ended, Input, RoundEnd
+from streettools.shared.trace_records import Answered, Ended, Frame, Input, RoundEnd
 
 HEADER = "TimeStamp,DeviceId,EventId,Parameter\n"
 

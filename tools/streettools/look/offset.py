@@ -8,8 +8,7 @@ from matplotlib.lines import Line2D
 from streettools.shared import answers
 from streettools.shared.answers import ClockNamed
 from streettools.shared.cabinet import DAY, mode_of, opened
-from streettools.shared.lines import Frame
-from streettools.shared.trace_reader import Answered, Ended, RoundEnd
+from streettools.shared.trace_records import Answered, Ended, Frame, RoundEnd
 
 from . import pictures, strips
 

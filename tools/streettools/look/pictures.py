@@ -7,6 +7,7 @@ import warnings
 from matplotlib.ticker import FuncFormatter, MultipleLocator
 
 # the other pictures take these from here
+from streettools.shared.clock import clock_text, day_text
 from streettools.shared.pictures import FAINT, INK, STYLE, plt, save  # noqa: F401
 
 GREEN, YELLOW, CLEARANCE, RED = "#2f9e53", "#f4c20d", "#c9302c", "#e9ecef"
@@ -14,21 +15,6 @@ WALK, FLASHING = "#ffffff", "#f58220"
 MODES = {"S": "#ced4da", "F": "#a5d8ff", "K": "#ffe066", "C": "#b2f2bb", "E": "#ffc9c9", "X": "#ff8787", "P": "#d0bfff"}
 STEPS = (0.1, 0.2, 0.5, 1, 2, 5, 10, 15, 20, 30, 60, 120, 300, 600, 900, 1800, 3600, 7200, 10800, 21600)
 """How many seconds may lie between two marks of a time axis."""
-
-
-def clock_text(seconds, _=None):
-    """Returns a time since the start of the run as minutes and seconds, from an hour on with hours before them."""
-    tenths = round(10 * seconds)
-    rest = f"{tenths // 10 % 60:02d}" + (f".{tenths % 10}" if tenths % 10 else "")
-    minutes = tenths // 600
-    return f"{minutes // 60}:{minutes % 60:02d}:{rest}" if minutes >= 60 else f"{minutes}:{rest}"
-
-
-def day_text(seconds):
-    """Returns a time of day by its seconds from midnight, of whatever day, as hours, minutes and seconds."""
-    tenths = round(10 * seconds) % 864_000
-    whole, rest = divmod(tenths, 10)
-    return f"{whole // 3600:02d}:{whole // 60 % 60:02d}:{whole % 60:02d}" + (f".{rest}" if rest else "")
 
 
 def day_axis(axes, start, end, step, began):

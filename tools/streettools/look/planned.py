@@ -7,8 +7,10 @@ which is the clock less the offset; where offsets refer to the end of green, the
 from typing import NamedTuple
 
 from streettools.shared.bands import read_bands
+from streettools.shared.fault import Fault
 
-class NoBands(Exception):
+
+class NoBands(Fault):
     """A text isn't what `arterial band` writes, or not for this street."""
 
 

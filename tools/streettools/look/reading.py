@@ -5,7 +5,7 @@ import os
 import sys
 
 from ..shared.fault import Fault
-from ..shared.lines import NotATrace
+from ..shared.trace_records import NotATrace
 from ..shared.trace_reader import TraceReader
 from .checking import Check
 
@@ -91,7 +91,7 @@ def bar_of(stream):
 def text(name, is_twice):
     """Opens a text, and returns it with what it is called: one that can be read twice where that is asked for."""
     try:
-        source = Source(name)
+        source = Source(None if name == "-" else name)
     except OSError as fault:
         from ..shared.status import Status
 

@@ -4,23 +4,18 @@ The numbers are collected as the trace is read; times are given in seconds. With
 their names, and partner phases are left out.
 """
 
-from streettools.shared import answers, plainjson
+import json
+from collections import Counter
+
+from streettools.shared import answers
 from streettools.shared.answers import Cancelled, ClockNamed, Requested
 from streettools.shared.cabinet import changes, mode_of, opened
-from streettools.shared.lines import Frame
 from streettools.shared.tables import ALL
-from streettools.shared.trace_reader import Answered, Ended, Input, Noted
+from streettools.shared.trace_records import Answered, Ended, Frame, Input, Noted
 
 from .endings import ENDINGS
 
 WAYS = {1: "polls", 2: "downloads", 3: "priority"}
-
-
-class Counts(dict):
-    """How often each thing came; what never came has 0."""
-
-    def __missing__(self, _):
-        return 0
 
 
 class Service:
@@ -28,7 +23,7 @@ class Service:
 
     def __init__(self):
         self.begun, self.ended, self.total, self.least, self.greatest = 0, 0, 0, None, 0
-        self.endings, self.walks = Counts(), 0
+        self.endings, self.walks = Counter(), 0
 
     def end(self, length, ending):
         """Counts a green that ended."""
@@ -102,10 +97,10 @@ class Tally:
     def __init__(self, scenario, number, names):
         self.cabinet, self.names = opened(scenario, number), names
         self.services = {phase: Service() for phase in ALL}
-        self.modes, self.mode, self.since = Counts(), None, 0
+        self.modes, self.mode, self.since = Counter(), None, 0
         self.patterns = {}
-        self.replies = {way: Counts() for way in WAYS}
-        self.orders, self.loads = Counts(), []
+        self.replies = {way: Counter() for way in WAYS}
+        self.orders, self.loads = Counter(), []
         self.refused, self.notes = {}, {}
 
     def take(self, happening):
@@ -116,7 +111,7 @@ class Tally:
             case Input():
                 self.cabinet.sensed(happening)
             case Answered(way=way, digits=digits):
-                self.replies.setdefault(way, Counts())["silent" if digits is None else "answered"] += 1
+                self.replies.setdefault(way, Counter())["silent" if digits is None else "answered"] += 1
                 if digits:
                     self.answered(digits, happening.tick)
             case Ended(tick=tick, load=load):
@@ -233,7 +228,7 @@ def collect(reader, names):
 def text(value, as_json, names):
     """Returns the report as text for a terminal, or as JSON."""
     if as_json:
-        return plainjson.written(value) + "\n"
+        return json.dumps(value, indent=2) + "\n"
     from . import report_text
 
     return report_text.text(value, names)

@@ -6,8 +6,7 @@ from matplotlib.lines import Line2D
 from matplotlib.patches import Patch
 
 from streettools.shared.cabinet import changes, opened
-from streettools.shared.lines import Frame
-from streettools.shared.trace_reader import Ended, Input, RoundEnd
+from streettools.shared.trace_records import Ended, Frame, Input, RoundEnd
 
 from . import pictures, strips
 

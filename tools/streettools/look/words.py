@@ -3,11 +3,12 @@
 import argparse
 import os
 
-from ..shared.commandline import Formatter, RawFormatter
+from ..shared.clock import daytime, moment, run_ticks
+from ..shared.commandline import Parser, add_json, add_output
 
 EPILOG = """examples:
   ./look report trace                                      each phase's greens and how they ended, replies, downloads
-  ./look rings --from 900 --to 2100 -o rings.svg trace     both rings of cabinet 1 over two minutes
+  ./look rings --from 90 --to 210 -o rings.svg trace       both rings of cabinet 1 over two minutes
   ./look rings --names street.names.json -o rings.svg trace        with names, and without partner phases
   ./look coordination --start 06:30:00 --travel 20,20,20 -o street.svg trace
   ./look page --travel 20,20,20 -o street.html trace       one file to move about in: any second of any cabinet
@@ -42,37 +43,6 @@ def travel(text):
     return ticks
 
 
-def tick(text):
-    """Reads the number of a tick."""
-    value = int(text)
-    if value < 0:
-        raise ValueError
-    return value
-
-
-def moment(text):
-    """Reads a time of day with its date, in no zone."""
-    import datetime
-
-    value = datetime.datetime.fromisoformat(text)
-    if value.tzinfo or value.year > 9990:
-        raise ValueError
-    return value
-
-
-def daytime(text):
-    """Reads a time of day, with a date or without one, in no zone; returns it as seconds from midnight."""
-    import datetime
-
-    try:
-        value = datetime.time.fromisoformat(text)
-    except ValueError:
-        value = moment(text).time()
-    if value.tzinfo:
-        raise ValueError
-    return value.hour * 3600 + value.minute * 60 + value.second + value.microsecond / 1_000_000
-
-
 def picture(text):
     """Reads the name of a picture, which tells its form."""
     if os.path.splitext(text)[1] not in (".svg", ".png", ".pdf"):
@@ -89,8 +59,8 @@ def page(text):
 
 def add_reader(commands, name, text):
     """Returns a command's reader, with the words that all share."""
-    found = commands.add_parser(name, help=text, description=text, formatter_class=Formatter)
-    found.add_argument("trace", nargs="?", help="the trace's file; standard input where it isn't named")
+    found = commands.add_parser(name, help=text, description=text, formatter_class=argparse.HelpFormatter)
+    found.add_argument("trace", nargs="?", help="the trace's file (default: standard input, as with -)")
     found.add_argument("--names", metavar="FILE", help="names of cabinets and phases, as `arterial plan scenario` "
                        "writes them; partner phases are left out")  # fmt: skip
     found.add_argument("--no-check", action="store_true", help="don't let `arterial check` read the text too")
@@ -107,9 +77,10 @@ def add_street(found):
 def add_picture(commands, name, text):
     """Returns the reader of a command that draws, with the words that these share."""
     found = add_reader(commands, name, text)
-    found.add_argument("-o", "--out", type=picture, required=True, help="the picture: .svg, .png or .pdf")
-    found.add_argument("--from", dest="first", type=tick, default=0, metavar="TICK", help="first tick (0)")
-    found.add_argument("--to", dest="last", type=tick, metavar="TICK", help="last tick")
+    add_output(found, "the picture: .svg, .png or .pdf", type=picture, required=True)
+    found.add_argument("--from", dest="first", type=run_ticks, default=0, metavar="TIME",
+                       help="where to begin: seconds, as 90; or 1:30, or ticks, as 900t (0)")  # fmt: skip
+    found.add_argument("--to", dest="last", type=run_ticks, metavar="TIME", help="where to end, in the same forms")
     found.add_argument("--start", type=daytime, metavar="TIME", help=STARTED)
     return found
 
@@ -117,14 +88,14 @@ def add_picture(commands, name, text):
 def add_text(commands, name, text):
     """Returns the reader of a command that writes a text."""
     found = add_reader(commands, name, text)
-    found.add_argument("-o", "--out", help="the file to write; standard output where it isn't named")
+    add_output(found, "the file to write (default: standard output)")
     return found
 
 
 def add_rings(commands):
     """Adds the command that draws a cabinet's rings."""
     found = add_picture(
-        commands, "rings", "both rings of a cabinet: greens, clearances, walks, barriers, modes (to: 1800 ticks on)"
+        commands, "rings", "both rings of a cabinet: greens, clearances, walks, barriers, modes (to: 180 s on)"
     )
     found.add_argument("--cabinet", type=int, default=1, metavar="N", help="the cabinet (1)")
 
@@ -133,7 +104,7 @@ def add_coordination(commands):
     """Adds the command that draws a street."""
     found = add_picture(
         commands, "coordination",
-        "the coordinated greens of several cabinets over time, with through bands (to: 3000 ticks on)",
+        "the coordinated greens of several cabinets over time, with through bands (to: 300 s on)",
     )  # fmt: skip
     add_street(found)
     found.add_argument("--planned", metavar="FILE",
@@ -154,7 +125,7 @@ def add_page(commands):
         "one file that a browser opens without a network: all cabinets, the street and any rings, to zoom and "
         "search in",
     )  # fmt: skip
-    found.add_argument("-o", "--out", type=page, required=True, help="the page: .html")
+    add_output(found, "the page: .html", type=page, required=True)
     found.add_argument("--start", type=daytime, metavar="TIME", help=STARTED)
     add_street(found)
 
@@ -165,7 +136,7 @@ def add_report(commands):
         commands, "report",
         "services, greens and how they ended, walks, modes, offsets, replies, refused Sets, downloads, notes",
     )  # fmt: skip
-    found.add_argument("--json", action="store_true", help="JSON in place of tables")
+    add_json(found)
 
 
 def add_events(commands):
@@ -175,20 +146,13 @@ def add_events(commands):
                        help="the time of tick 0, as 2026-11-27T06:00:00")  # fmt: skip
 
 
-COMMANDS = {
-    "rings": add_rings, "coordination": add_coordination, "offset": add_offset,
-    "page": add_page, "report": add_report, "events": add_events,
-}  # fmt: skip
+COMMANDS = (add_rings, add_coordination, add_offset, add_page, add_report, add_events)
 
 
-def parser(first=()):
-    """Returns the reader of the words, of which these come first; of those of one command alone where they name it,
-    since each takes a while."""
-    words = argparse.ArgumentParser(
-        prog="look", description="Shows a trace that `arterial run` wrote. Ticks are 0.1 s.",
-        epilog=EPILOG, formatter_class=RawFormatter,
-    )  # fmt: skip
-    commands = words.add_subparsers(dest="command", required=True, metavar="COMMAND", prog="look")
-    for name in COMMANDS.keys() & first or COMMANDS:
-        COMMANDS[name](commands)
+def parser():
+    """Returns the reader of the words."""
+    words = Parser("look", description="Shows a trace that `arterial run` wrote. Ticks are 0.1 s.", epilog=EPILOG)
+    commands = words.add_subparsers(dest="command", required=True, metavar="COMMAND", prog="arterial look")
+    for add in COMMANDS:
+        add(commands)
     return words

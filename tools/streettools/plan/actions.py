@@ -5,10 +5,11 @@ import json
 import pathlib
 import sys
 from dataclasses import replace
-
-from tqdm import tqdm
+from typing import Any
 
 from ..shared import files
+from ..shared.fault import Fault
+from ..shared.progress import bar
 from ..shared.saying import say
 from ..shared.status import Status
 from ..shared.tables import Tables
@@ -27,7 +28,7 @@ from . import (
     walk,
     writing,
 )
-from .cells import cells_between, tables_of
+from ..shared.cells import cells_between, tables_of
 from .findings import Level, counted
 from .given import Unreadable
 from .reading import Street, street_of
@@ -36,7 +37,7 @@ from .sources import Source
 BOOK, PICTURES = ".xlsx", (".svg", ".png", ".pdf")
 
 
-class Refused(Exception):
+class Refused(Fault):
     """A file or words can't be taken, in lines."""
 
 
@@ -60,12 +61,12 @@ def write(path: str | None, text: str) -> None:
         out.write(text)
 
 
-def write_scenario(path: str | None, value: dict) -> None:
+def write_scenario(path: str | None, value: dict[str, Any]) -> None:
     """Writes a scenario, or another object, in one line."""
     write(path, json.dumps(value, separators=(",", ":"), ensure_ascii=False) + "\n")
 
 
-def write_sheet(path: str | None, sheet: dict) -> None:
+def write_sheet(path: str | None, sheet: dict[str, Any]) -> None:
     """Writes a sheet as TOML, or as a workbook where the file's name says so."""
     if path and path.endswith(BOOK):
         from . import book  # here, since openpyxl takes a while
@@ -224,8 +225,12 @@ def from_live(words: argparse.Namespace) -> int:
     if not port.isdecimal() or not 0 < int(port) < 65_536:
         raise Refused(f"{words.host}: a host and a port are wanted, as 127.0.0.1:10161")
     agent = live.Agent(live.address(host, words.anywhere), int(port), words.community)
-    with tqdm(total=len(live.COLUMNS), desc="columns", disable=None, leave=False) as bar:
-        objects = live.walk(agent, bar.update)
+    shown = bar(len(live.COLUMNS), "column")
+    try:
+        objects = live.walk(agent, shown.update if shown is not None else lambda count: None)
+    finally:
+        if shown is not None:
+            shown.close()
     street = walk.street_of([objects], [words.host])
     tell(street.notes)
     write_sheet(words.output, writing.sheet_of(street))
@@ -248,9 +253,5 @@ def do_loads(words: argparse.Namespace) -> int:
     if words.sets is None:
         write_scenario(words.output, {"loads": found})
         return Status.DONE
-    lines = []
-    for number, load in enumerate(found, words.id):
-        lines.append(f"# download {number}, {new.names.called(load['cabinet'])}: {len(load['cells'])} cells")
-        lines += loads.sets(load, number, words.sets, words.community)
-    write(words.output, "\n".join(["set -e", *lines]) + "\n")
+    write(words.output, loads.script(new, found, words.id, words.sets, words.community))
     return Status.DONE

@@ -6,7 +6,7 @@ import subprocess
 from collections.abc import Iterator
 
 from ..shared.program import NoProgram, found
-from .cells import tables_of
+from ..shared.cells import tables_of
 from .findings import Finding, Level
 from .reading import Street
 

@@ -5,6 +5,7 @@ import datetime
 import json
 import re
 from collections.abc import Iterator
+from typing import Any, BinaryIO
 
 import openpyxl
 from openpyxl.styles import Alignment, Font, PatternFill
@@ -26,7 +27,7 @@ FILL = PatternFill("solid", fgColor="DDE6F0")
 BAD_IN_TITLE = re.compile(r"[\[\]:*?/\\']")
 
 
-def flat(row: dict, front: str = "") -> Iterator[tuple[str, object]]:
+def flat(row: dict[str, Any], front: str = "") -> Iterator[tuple[str, object]]:
     """Yields the values of a row by their names; those of a table in it by both names, as splits 3."""
     for name, value in row.items():
         if isinstance(value, dict):
@@ -75,12 +76,12 @@ class Page:
             if value is not None:
                 set_cell(self.page, self.row, column, value, font)
 
-    def pairs(self, table: dict) -> None:
+    def pairs(self, table: dict[str, Any]) -> None:
         """Writes a line for each name of a table."""
         for name, value in table.items():
             self.line(name, shown(name, value))
 
-    def block(self, title: str, table: dict) -> None:
+    def block(self, title: str, table: dict[str, Any]) -> None:
         """Writes a block: its title; then columns by number, with a line for each name, or a line for each name and
         value."""
         self.row += 1
@@ -105,8 +106,8 @@ def title_for(name: str, number: int, taken: set[str]) -> str:
     return title
 
 
-def write(sheet: dict, path: str) -> None:
-    """Writes a sheet as a workbook."""
+def write(sheet: dict[str, Any], path: str | BinaryIO) -> None:
+    """Writes a sheet as a workbook, to a file of this name or to one that is open."""
     book = openpyxl.Workbook()
     street = Page(book.active)
     book.active.title = STREET
@@ -134,7 +135,7 @@ def write(sheet: dict, path: str) -> None:
     book.save(path)
 
 
-def write_intersection(page: Page, table: dict) -> None:
+def write_intersection(page: Page, table: dict[str, Any]) -> None:
     """Writes the page of an intersection."""
     page.line(FIRST, table.get("name", ""), font=HEADING)
     page.pairs({name: it for name, it in table.items() if name not in (*BLOCKS, "name", "rings")})

@@ -1,40 +1,102 @@
-"""A workbook as a sheet: the pages that `book` writes, also where people have changed them."""
+"""A workbook as a sheet: the pages that `book` writes, also where people have changed them.
+
+Pages are read row by row, as far as there are cells: a cell far outside takes no memory for those before it.
+"""
 
 import io
 import json
 import re
+import warnings
 import zipfile
 from collections.abc import Iterator
+from dataclasses import dataclass, field
 
 import openpyxl
-from openpyxl.utils.exceptions import InvalidFileException
+from typing import Any
 
 from .book import BLOCKS, FIRST, LISTS, PHASE_LISTS, STREET, WORD_LISTS
 from .given import Fault, Unreadable
 
 TITLES = {title: name for name, title in BLOCKS.items()}
+MOST_OCTETS = 64 * 2**20
+"""A workbook has at most so many octets when it is unpacked: 64 intersections with all tables have 12 MiB."""
+MOST_PAGES, MOST_ROWS, MOST_COLUMNS = 200, 2**21, 256
+"""Of a workbook so many pages are read, of these together so many rows, and of a row so many cells. A page of a street
+has at most 65 columns; Excel has at most so many rows on a page."""
 
 
-def read(content: bytes) -> dict:
-    """Returns the sheet that a workbook is."""
+@dataclass
+class Page:
+    """A page: its title, its rows up to the last cell in each, and what was left out, in words."""
+
+    title: str
+    rows: list[list] = field(default_factory=list)
+    left_out: str = ""
+
+
+def opened(content: bytes) -> openpyxl.Workbook:
+    """Returns a workbook that is opened for reading."""
+    with zipfile.ZipFile(io.BytesIO(content)) as packed:
+        if sum(it.file_size for it in packed.infolist()) > MOST_OCTETS:
+            raise Unreadable([Fault("", f"the workbook has more than {MOST_OCTETS >> 20} MiB when it is unpacked")])
+    return openpyxl.load_workbook(io.BytesIO(content), read_only=True, data_only=True, keep_links=False)
+
+
+def pages(content: bytes) -> Iterator[Page]:
+    """Yields the pages of a workbook. Whatever openpyxl says of a file that is damaged comes to one refusal."""
+    warnings.filterwarnings("ignore", module="openpyxl")
     try:
-        book = openpyxl.load_workbook(io.BytesIO(content), data_only=True)
-    except (zipfile.BadZipFile, InvalidFileException, KeyError, ValueError, OSError):
+        book, left = opened(content), MOST_ROWS
+        if len(book.worksheets) > MOST_PAGES:
+            raise Unreadable([Fault("", f"the workbook has more than {MOST_PAGES} pages")])
+        for sheet in book.worksheets:
+            page, count = page_of(sheet, left)
+            left -= count
+            yield page
+    except (Unreadable, MemoryError):
+        raise
+    except Exception:
         raise Unreadable([Fault("", "no workbook (.xlsx)")]) from None
-    sheet: dict = {"intersection": []}
-    for page in book.worksheets:
-        rows = [list(row) for row in page.iter_rows(values_only=True)]
-        first = str(rows[0][0] or "").strip() if rows and rows[0] else ""
+
+
+def page_of(sheet, most: int) -> tuple[Page, int]:
+    """Returns a page, and how many rows were read for it, which are so many at most. Rows without cells are dropped."""
+    sheet.reset_dimensions()
+    page, count = Page(sheet.title), 0
+    for row in sheet.iter_rows(max_row=most + 1, values_only=True):
+        count += 1
+        if count > most:
+            page.left_out = f"rows after {most}"
+            break
+        cells = list(row[:MOST_COLUMNS])
+        if len(row) > MOST_COLUMNS and any(it is not None for it in row[MOST_COLUMNS:]):
+            page.left_out = f"columns after {MOST_COLUMNS}"
+        while cells and (cells[-1] is None or cells[-1] == ""):
+            cells.pop()
+        if cells:
+            page.rows.append(cells)
+    return page, count
+
+
+def read(content: bytes) -> tuple[dict, list[str]]:
+    """Returns the sheet that a workbook is, and what was left out of it, in words."""
+    sheet: dict[str, Any] = {"intersection": []}
+    notes = []
+    for page in list(pages(content)):
+        rows = page.rows
+        first = str(rows[0][0] or "").strip() if rows else ""
+        if page.left_out:
+            notes.append(f"page {page.title!r}: there is more, and {page.left_out} are left out")
         if page.title in LISTS:
             sheet.setdefault("events", {})[page.title] = list(read_list(rows))
         elif first == FIRST:
             sheet["intersection"].append(read_intersection(rows, page.title))
         elif first == STREET:
             read_street(rows, sheet)
-        elif any(any(it is not None for it in row) for row in rows):
+        elif rows:
             words = f'page {page.title!r} is none of this kind: its first cell says neither "{STREET}" nor "{FIRST}"'
             raise Unreadable([Fault("", words)])
-    return sheet
+    return sheet, notes
 
 
 def from_json(value: object, name: str) -> object:
@@ -59,21 +121,17 @@ def read_value(name: str, value: object) -> object:
 
 
 def filled(rows: list[list]) -> Iterator[list]:
-    """Yields the rows, each with its name as text; of empty ones nothing stands in them."""
+    """Yields the rows, each with its name as text."""
     for row in rows:
-        while row and (row[-1] is None or row[-1] == ""):
-            row.pop()
-        yield [str(row[0]).strip() if row[0] is not None else "", *row[1:]] if row else []
+        yield [str(row[0]).strip() if row[0] is not None else "", *row[1:]]
 
 
-def read_intersection(rows: list[list], title: str) -> dict:
+def read_intersection(rows: list[list], title: str) -> dict[str, Any]:
     """Returns the intersection of a page."""
-    table: dict = {}
+    table: dict[str, Any] = {}
     block: str | None = None
     numbers: list = []
     for row in filled(rows):
-        if not row:
-            continue
         name, values = row[0], row[1:]
         if name == FIRST:
             if values:
@@ -90,7 +148,7 @@ def read_intersection(rows: list[list], title: str) -> dict:
     return table
 
 
-def read_pair(table: dict, name: str, values: list) -> None:
+def read_pair(table: dict[str, Any], name: str, values: list) -> None:
     """Takes up a name and its value; the lines of rings are a list."""
     if re.fullmatch("ring [12]", name):
         table.setdefault("rings", []).append(str(values[0]) if values else "")
@@ -98,12 +156,12 @@ def read_pair(table: dict, name: str, values: list) -> None:
         table[name] = read_value(name, values[0])
 
 
-def read_row(block: dict, kind: str, name: str, numbers: list, values: list) -> None:
+def read_row(block: dict[str, Any], kind: str, name: str, numbers: list, values: list) -> None:
     """Takes up a line of a block: a value for each number."""
     for number, value in zip(numbers, values):
         if value is None or number is None:
             continue
-        key = str(int(number)) if isinstance(number, float) else str(number)
+        key = str(int(number)) if isinstance(number, float) and number.is_integer() else str(number)
         row = block.setdefault(key, {})
         front, _, phase = name.rpartition(" ")
         if front in ("splits", "modes"):
@@ -112,12 +170,10 @@ def read_row(block: dict, kind: str, name: str, numbers: list, values: list) -> 
             row[name] = read_value(name, value) if kind != "sequence" else value
 
 
-def read_street(rows: list[list], sheet: dict) -> None:
+def read_street(rows: list[list], sheet: dict[str, Any]) -> None:
     """Takes up the page of the street."""
     block, header = None, False
     for row in filled(rows):
-        if not row:
-            continue
         name, values = row[0], row[1:]
         if name == STREET:
             if values:

@@ -4,7 +4,7 @@ from collections.abc import Iterator
 
 from ..shared.tables import Tables
 from . import bands, rules, warnings
-from .cells import tables_of
+from ..shared.cells import tables_of
 from .findings import Finding, Level
 from .pattern_sentences import sentences
 from .reading import Street

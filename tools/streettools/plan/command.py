@@ -1,15 +1,9 @@
 """The command `./arterial plan`: its words."""
 
 import argparse
-import os
-import sys
 
-from ..shared.commandline import number
-
-from ..shared.saying import say
-from ..shared.status import Status
-from . import actions, explain, loads, names
-from .given import Unreadable
+from ..shared.commandline import Parser, add_json, add_output, add_program, number
+from . import actions
 
 EPILOG = """examples:
   ./arterial plan scenario street.toml > street.json       a sheet as a scenario
@@ -28,6 +22,7 @@ A FILE is a sheet (.toml, .xlsx), a scenario or a field file (.json). docs/PLANS
 Exit status: 0 done, 1 a file can't be read or written, 2 the words or a file can't be taken, or a check found an
 error.
 """
+OUTPUT = "where to write (standard output)"
 FILE = "a sheet (.toml, .xlsx), a scenario or a field file (.json); - is standard input"
 
 
@@ -50,23 +45,18 @@ def add_file(part: argparse.ArgumentParser) -> None:
     part.add_argument("--names", metavar="NAMES", help="the names of a scenario (street.names.json beside street.json)")
 
 
-def add_output(part: argparse.ArgumentParser, text: str = "where to write (standard output)") -> None:
-    """Adds the file that is written."""
-    part.add_argument("-o", "--output", metavar="OUTPUT", help=text)
-
-
 def add_conversions(parts) -> None:
     """Adds the parts that turn sheets into scenarios and back."""
     part = add(parts, "scenario", actions.to_scenario, "writes the scenario of a sheet")
     add_file(part)
-    add_output(part, "where to write (standard output); the names go beside it")
+    add_output(part, "where to write (standard output); the names go to a file next to it", metavar="OUTPUT")
     part.add_argument("--field", action="store_true", help="write a field file, with the detectors")
     part.add_argument("--names-out", metavar="NAMES", help="where to write the names (beside the output)")
     part = add(
         parts, "sheet", actions.to_sheet, "writes the sheet of a scenario; a workbook where OUTPUT ends in .xlsx"
     )
     add_file(part)
-    add_output(part)
+    add_output(part, OUTPUT, metavar="OUTPUT")
 
 
 def add_products(parts) -> None:
@@ -78,7 +68,7 @@ def add_products(parts) -> None:
         "draws a pattern of an intersection: rings, barriers, splits, what each phase needs, what is wrong",
     )
     add_file(part)
-    part.add_argument("-o", "--output", metavar="OUTPUT", required=True, help="the picture: .svg, .png or .pdf")
+    add_output(part, "the picture: .svg, .png or .pdf", metavar="OUTPUT", required=True)
     part.add_argument(
         "--intersection", type=number(1, 64), default=1, metavar="N", help="which intersection of the file (1)"
     )
@@ -102,7 +92,7 @@ def add_products(parts) -> None:
         help="the id of the first download, greater than all before it (1)",
     )
     part.add_argument("--community", default="public", help="the community for --sets (public)")
-    add_output(part)
+    add_output(part, OUTPUT, metavar="OUTPUT")
 
 
 def add_checks(parts) -> None:
@@ -114,16 +104,14 @@ def add_checks(parts) -> None:
         "tells all that is wrong with a plan, in words; status 2 where the program refuses it",
     )
     add_file(part)
-    part.add_argument("--json", action="store_true", help="tell it as JSON")
+    add_json(part)
     part.add_argument(
         "--fix",
         action="store_true",
         help="propose the least change of splits for patterns that break rule 17, 18 or 19",
     )
-    part.add_argument(
-        "--program", metavar="PATH", help="the built program, for bands (the one that ./arterial runs, if it is built)"
-    )
-    add_output(part, "with --fix: where to write the plan as it is then, .json, .toml or .xlsx")
+    add_program(part)
+    add_output(part, "with --fix: where to write the plan as it is then, .json, .toml or .xlsx", metavar="OUTPUT")
     part = add(parts, "explain", actions.do_explain, "tells what a line of the program says of a plan")
     part.add_argument(
         "line",
@@ -146,7 +134,7 @@ def add_exchange(parts) -> None:
         "writes the sheet of a UTDF file of Synchro, version 6 to 8; what isn't taken is named",
     )
     part.add_argument("file", metavar="FILE", help="the file, comma-separated")
-    add_output(part)
+    add_output(part, OUTPUT, metavar="OUTPUT")
     part = add(
         origins,
         "walk",
@@ -154,7 +142,7 @@ def add_exchange(parts) -> None:
         "writes the sheet of controllers after NTCIP 1202 from texts of snmpwalk -On",
     )
     part.add_argument("files", metavar="FILE", nargs="+", help="a text for each intersection")
-    add_output(part)
+    add_output(part, OUTPUT, metavar="OUTPUT")
     part = add(origins, "live", actions.from_live, "walks over an agent by SNMP version 1, and writes its sheet")
     part.add_argument(
         "host",
@@ -165,21 +153,19 @@ def add_exchange(parts) -> None:
     )
     part.add_argument("--community", default="public", help="the community (public)")
     part.add_argument("--anywhere", action="store_true", help="let a host be asked that is another machine")
-    add_output(part)
+    add_output(part, OUTPUT, metavar="OUTPUT")
     text = "writes a plan for other software"
     aims = parts.add_parser("to", help=text, description=text).add_subparsers(dest="aim", metavar="AIM", required=True)
     part = add(aims, "utdf", actions.to_utdf, "writes nodes, phases and a timing plan as UTDF, version 8")
     add_file(part)
     part.add_argument("--pattern", type=number(1, 48), default=1, help="the pattern that is the timing plan (1)")
-    add_output(part)
+    add_output(part, OUTPUT, metavar="OUTPUT")
 
 
 def parser() -> argparse.ArgumentParser:
     """Returns the reader of the command's words."""
-    whole = argparse.ArgumentParser(
-        prog="arterial plan", description="Timing sheets as scenarios and back, and what is wrong with them in words.",
-        epilog=EPILOG, formatter_class=argparse.RawDescriptionHelpFormatter,
-    )  # fmt: skip
+    about = "Timing sheets as scenarios and back, and what is wrong with them in words."
+    whole = Parser("plan", description=about, epilog=EPILOG)
     parts = whole.add_subparsers(dest="part", metavar="PART", required=True)
     add_conversions(parts)
     add_products(parts)
@@ -188,29 +174,7 @@ def parser() -> argparse.ArgumentParser:
     return whole
 
 
-REFUSALS = (actions.Refused, Unreadable, names.NoNames, explain.NotKnown, loads.NoWay)
-
-
-def main(words: list[str] | None = None) -> int:
+def main(words: list[str]) -> int:
     """Does what the words ask for, and returns the exit status."""
-    try:
-        given = parser().parse_args(words)
-        return int(given.does(given))
-    except REFUSALS as fault:
-        for line in str(fault).splitlines():
-            say("plan", line)
-        return Status.REFUSED
-    except BrokenPipeError:
-        os.dup2(os.open(os.devnull, os.O_WRONLY), sys.stdout.fileno())
-        return Status.DONE
-    except ImportError as fault:
-        say(
-            "plan",
-            f"Python's package {fault.name} is missing: apt-get install -y python3-{str(fault.name).replace('_', '-')}",
-        )
-        return Status.FILE
-    except OSError as fault:
-        say("plan", f"{fault.filename}: {fault.strerror}" if fault.filename else fault.strerror)
-        return Status.FILE
-    except KeyboardInterrupt:
-        return Status.INTERRUPTED
+    given = parser().parse_args(words)
+    return int(given.does(given))

@@ -6,7 +6,7 @@ A side with no phase in a ring (`-`) gets a partner there: a phase that the ring
 from dataclasses import dataclass
 
 from ..shared.tables import ALL, LISTS, Tables, standard
-from .cells import put, unset, value
+from ..shared.cells import put, unset, value
 from .fields import ENABLED, Wrong, with_bits
 from .layout import sides_by_phase
 
@@ -42,7 +42,7 @@ def phases_in(text: str) -> tuple[int, ...]:
     """Returns the phases that a part of a line names."""
     words = [] if text.strip() in ("", "-") else text.split()
     for word in words:
-        if not word.isdecimal() or int(word) not in ALL:
+        if not word.isdecimal() or len(word) > 2 or int(word) not in ALL:
             raise Wrong(f"{word!r} in {text.strip()!r} is no phase from 1 to 16")
     return tuple(map(int, words))
 

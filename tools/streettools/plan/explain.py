@@ -3,8 +3,9 @@
 import re
 from collections.abc import Callable
 
+from ..shared.fault import Fault
 from . import rules
-from .cells import tables_of, with_cells
+from ..shared.cells import tables_of, with_cells
 from .pattern_sentences import sentences
 from .sources import Source
 
@@ -54,7 +55,7 @@ OTHERS = {
 }  # fmt: skip
 
 
-class NotKnown(Exception):
+class NotKnown(Fault):
     """A line isn't one of the program's, or doesn't fit the file, in words."""
 
 

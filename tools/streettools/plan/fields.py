@@ -4,10 +4,11 @@ A field turns what a sheet says into the value of a cell and back. What it can't
 """
 
 import enum
-import math
+import sys
 from dataclasses import dataclass, field
+from typing import Any, TypeGuard
 
-from .cells import BYTE, PHASE, PREEMPT, UNIT, Lists, Numbers
+from ..shared.cells import BYTE, PHASE, PREEMPT, UNIT, Lists, Numbers
 
 
 class Wrong(Exception):
@@ -22,9 +23,20 @@ class Unit(enum.Enum):
     COUNT = 0
 
 
-def is_number(given: object) -> bool:
-    """Tells whether something is a number, and a finite one."""
-    return isinstance(given, (int, float)) and not isinstance(given, bool) and math.isfinite(given)
+def is_number(given: object) -> TypeGuard[int | float]:
+    """Tells whether something is a number, and one that a float can hold."""
+    return isinstance(given, (int, float)) and not isinstance(given, bool) and abs(given) <= sys.float_info.max
+
+
+def one_line(given: object) -> str:
+    """Returns a name in one line, with one blank for all blanks and line ends between its words. A name with other
+    characters that aren't shown, as an escape of a terminal, is refused."""
+    if not isinstance(given, str):
+        raise Wrong(f"{given!r} is no text")
+    found = " ".join(given.split())
+    if not found.isprintable():
+        raise Wrong(f"{given!r} has characters that can't be shown")
+    return found
 
 
 def shown(number: float) -> str:
@@ -113,17 +125,17 @@ class Phases:
         return list(value)
 
 
-def seconds(column: int, of: dict) -> Time:
+def seconds(column: int, of: dict[int, Any]) -> Time:
     """Returns a time that a cell holds in seconds."""
     return Time(column, Unit.SECONDS, of[column])
 
 
-def tenths(column: int, of: dict) -> Time:
+def tenths(column: int, of: dict[int, Any]) -> Time:
     """Returns a time that a cell holds in tenths of a second."""
     return Time(column, Unit.TENTHS, of[column])
 
 
-def count(column: int, of: dict) -> Time:
+def count(column: int, of: dict[int, Any]) -> Time:
     """Returns a number that is no time."""
     return Time(column, Unit.COUNT, of[column])
 
@@ -181,7 +193,7 @@ def words_of(given: object, words: dict[int, str]) -> int:
     named = given if isinstance(given, list) else [] if given == "none" else [given]
     bits = {word: bit for bit, word in words.items()}
     for it in named:
-        if it not in bits:
+        if not isinstance(it, str) or it not in bits:
             raise Wrong(f"{it!r} is none of " + ", ".join(f'"{word}"' for word in ("none", *bits)))
     return sum({bits[it] for it in named})
 

@@ -3,6 +3,9 @@ vain."""
 
 import enum
 from dataclasses import asdict, dataclass
+from typing import Any
+
+from ..shared.saying import visible
 
 
 class Level(enum.Enum):
@@ -30,9 +33,9 @@ class Finding:
     def __str__(self) -> str:
         head = ", ".join(filter(None, (self.place, self.where)))
         level = self.level.value + (f", rule {self.rule}" if self.rule else "")
-        return f"{head}: {level}: {self.words}" if head else f"{level}: {self.words}"
+        return visible(f"{head}: {level}: {self.words}" if head else f"{level}: {self.words}")
 
-    def as_json(self) -> dict:
+    def as_json(self) -> dict[str, Any]:
         """Returns the finding as an object of JSON."""
         return {name: it.value if isinstance(it, Level) else it for name, it in asdict(self).items() if it is not None}
 

@@ -12,7 +12,7 @@ import numpy as np
 
 from ..shared.tables import Tables
 from . import rules
-from .cells import put, value
+from ..shared.cells import put, value
 from .layout import Layout, least_service
 from .names import Intersection
 from .pattern_rules import has_pair

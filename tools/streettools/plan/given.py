@@ -5,10 +5,11 @@ import datetime
 import difflib
 from collections.abc import Callable, Iterable, Iterator
 from dataclasses import dataclass, field
+from typing import Any
 
+from ..shared import clock, fault
+from ..shared.clock import DAY_TICKS
 from .fields import Wrong, is_number
-
-DAY_TICKS = 864_000
 
 
 @dataclass(frozen=True)
@@ -22,7 +23,7 @@ class Fault:
         return f"{self.where}: {self.words}" if self.where else self.words
 
 
-class Unreadable(Exception):
+class Unreadable(fault.Fault):
     """A file can't be taken, for some reasons."""
 
     def __init__(self, faults: Iterable[Fault]):
@@ -30,11 +31,16 @@ class Unreadable(Exception):
         super().__init__("\n".join(map(str, self.faults)))
 
 
+def is_place(word: str, most: int) -> bool:
+    """Tells whether a word is a number from 1 to the greatest."""
+    return word.isdecimal() and len(word) <= 9 and 1 <= int(word) <= most
+
+
 @dataclass
 class Given:
     """A table of a sheet, the place where it stands, and all faults that were found so far."""
 
-    table: dict
+    table: dict[str, Any]
     where: str = ""
     faults: list[Fault] = field(default_factory=list)
 
@@ -50,7 +56,7 @@ class Given:
                 near = difflib.get_close_matches(name, known, 1)
                 self.fault("no such name" + (f": {near[0]}?" if near else ""), name)
 
-    def take(self, name: str, read: Callable, default: object = None) -> object:
+    def take(self, name: str, read: Callable[[Any], Any], default: Any = None) -> Any:
         """Returns what stands at a name, as it is read; the default where nothing stands there or it can't be taken."""
         if name not in self.table:
             return default
@@ -72,7 +78,7 @@ class Given:
         """Yields the tables below a name that are named by numbers from 1, as `phase.2`; "2 6" stands for both."""
         for key, it in self.below(name).table.items():
             numbers = key.replace(",", " ").split()
-            if not numbers or not all(word.isdecimal() and 1 <= int(word) <= most for word in numbers):
+            if not numbers or not all(is_place(word, most) for word in numbers):
                 self.fault(f"{key!r} is no {name} from 1 to {most}", name)
             elif not isinstance(it, dict):
                 self.fault("a table is wanted here", f"{name} {key}")
@@ -86,7 +92,7 @@ class Given:
         table: dict[str, object] = {}
         for key, value in found.table.items():
             words = key.replace(",", " ").split()
-            if len(words) < 2 or not all(word.isdecimal() and 1 <= int(word) <= most for word in words):
+            if len(words) < 2 or not all(is_place(word, most) for word in words):
                 words = [key]
             for word in words:
                 if word in table:
@@ -145,28 +151,17 @@ def day_ticks(given: object) -> int:
     if isinstance(given, datetime.datetime):
         given = given.time()
     if isinstance(given, datetime.time):
-        ticks = (given.hour * 3600 + given.minute * 60 + given.second) * 10 + given.microsecond / 100_000
+        seconds: float | None = clock.seconds_of(given)
     elif isinstance(given, str):
-        ticks = 10 * clock_seconds(given)
-    elif is_number(given):
-        ticks = 10 * given
+        seconds = clock.of_day(given)
     else:
+        seconds = given if is_number(given) else None
+    if seconds is None:
         raise Wrong(f"{given!r} is no time of day, as 07:30:00")
+    ticks = 10 * seconds
     if abs(ticks - round(ticks)) > 1e-6 or not 0 <= ticks < DAY_TICKS:
         raise Wrong(f"{given!r} is no time of day in tenths of a second")
     return round(ticks)
-
-
-def clock_seconds(given: str) -> float:
-    """Returns the seconds since midnight of a time that is written with colons."""
-    parts = given.strip().split(":")
-    try:
-        hours, minutes, seconds = int(parts[0]), int(parts[1]), float(parts[2]) if len(parts) == 3 else 0.0
-    except (ValueError, IndexError):
-        raise Wrong(f"{given!r} is no time of day, as 07:30:00") from None
-    if len(parts) > 3 or not (0 <= hours < 24 and 0 <= minutes < 60 and 0 <= seconds < 60):
-        raise Wrong(f"{given!r} is no time of day, as 07:30:00")
-    return 3600 * hours + 60 * minutes + seconds
 
 
 def day_seconds(given: object) -> int:
@@ -175,12 +170,6 @@ def day_seconds(given: object) -> int:
     if ticks % 10:
         raise Wrong(f"{given!r} is no whole second")
     return ticks // 10
-
-
-def day_time(ticks: int) -> datetime.time:
-    """Returns a time of day."""
-    seconds, tenths = divmod(ticks, 10)
-    return datetime.time(seconds // 3600, seconds // 60 % 60, seconds % 60, tenths * 100_000)
 
 
 COMMANDS = {"free": 254, "flash": 255}

@@ -1,9 +1,12 @@
 """An intersection of a sheet as a cabinet of a scenario: the standard table, the rings as drawn, and what the sheet
 says besides."""
 
+from typing import Any
+
 from ..shared.tables import Tables
 from . import drawing, fields, given, names
-from .cells import cells_between, put, value
+from ..shared.cells import cells_between, put, value
+from .fields import one_line
 from .given import Given
 from .pattern_reading import SPLIT_NAMES, read_pattern, read_split
 from .started import Read, started, word_of
@@ -32,7 +35,7 @@ def read_phase(it: Given, number: int, found: Read) -> None:
             it.take(name, lambda said, name=name, options=options: fields.read_option(name, said, options), options),
         )
     about = names.Phase(
-        name=it.take("name", given.text, ""), kind=it.take("kind", word_of("vehicle", "pedestrian"), "vehicle"),
+        name=it.take("name", one_line, ""), kind=it.take("kind", word_of("vehicle", "pedestrian"), "vehicle"),
         speed=it.take("speed", given.measure), grade=it.take("grade", given.percent),
         crossing=it.take("crossing", given.measure),
     )  # fmt: skip
@@ -69,7 +72,7 @@ def read_rows(it: Given, found: Read) -> None:
             new = row.take(name, each.read)
             if new is not None:
                 put(found.tables, ("preempt", number, each.column), new)
-        called = row.take("name", given.text, "")
+        called = row.take("name", one_line, "")
         if called:
             found.names.preempts[number] = called
 
@@ -104,7 +107,7 @@ def read(it: Given) -> tuple[Read, dict]:
     """Returns an intersection, and the cabinet that it is in a scenario."""
     it.allow(NAMES)
     found = started(it)
-    found.names.name = it.take("name", given.text, "")
+    found.names.name = it.take("name", one_line, "")
     found.names.note = it.take("note", given.text, "")
     found.names.travel = it.take("travel", given.measure)
     unit = it.below("coordination")
@@ -117,7 +120,7 @@ def read(it: Given) -> tuple[Read, dict]:
     read_rows(Given({name: row for name, row in it.table.items() if name != "sequence"}, it.where, it.faults), found)
     if sequences is not None:
         read_sequences(it, found)
-    cabinet: dict = {"base": found.base}
+    cabinet: dict[str, Any] = {"base": found.base}
     for name, taken in (
         ("pattern", it.take("command", given.command)), ("clock", it.take("clock", given.day_ticks)),
         ("section", it.take("section", given.number(1, 8))), ("gain", it.take("gain", given.number(0, 864_000))),

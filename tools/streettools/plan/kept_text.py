@@ -6,7 +6,7 @@ from collections.abc import MutableMapping
 
 from ..shared.tables import Tables
 from . import reading, toml_text
-from .cells import tables_of
+from ..shared.cells import tables_of
 from .fix import Change
 from .reading import Street
 

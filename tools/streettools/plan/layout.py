@@ -7,7 +7,7 @@ from dataclasses import dataclass
 from functools import cached_property
 
 from ..shared.tables import ALL, Tables
-from .cells import value
+from ..shared.cells import value
 
 NONE, OMITTED = 2, 7
 

@@ -1,10 +1,16 @@
-"""A walk over a live agent by SNMP version 1: the tables of plans, several columns in one question."""
+"""A walk over a live agent by SNMP version 1: the tables of plans, several columns in one question.
+
+The agent isn't trusted. Each question has a deadline, names have to rise, and there are limits to what is kept and to
+how long a walk takes: whatever the agent answers, the walk ends.
+"""
 
 import ipaddress
+import secrets
 import socket
+import time
 from collections.abc import Callable
 
-from ..cabinet.messages import GET_NEXT, INTEGER, OCTETS, message, reply_of
+from ..cabinet.messages import GET_NEXT, INTEGER, OCTETS, RESPONSE, Reply, kind_of, message, reply_of
 from .given import Fault, Unreadable
 from .walk import ASC, OWN, Name
 
@@ -22,41 +28,64 @@ COLUMNS = [
 
 AT_ONCE = 24
 SECONDS, TRIES = 3.0, 3
+"""How long one try waits for its answer, and how often a question is asked."""
+MOST_SECONDS = 900.0
+"""How long a whole walk may take."""
+MOST_OBJECTS = 20_000
+"""So many objects a walk keeps at most: a controller with 255 rows in each table has fewer in these columns."""
 TOO_BIG, NO_SUCH_NAME = 1, 2
 """Error statuses of RFC 1157."""
 
 
 class Agent:
-    """An agent that answers at a port of a host."""
+    """An agent that answers at a port of a host. Datagrams from elsewhere don't come in."""
 
     def __init__(self, host: str, port: int, community: str):
-        self.host, self.port, self.community = host, port, community.encode()
+        self.where, self.community = f"{host}:{port}", community.encode(errors="surrogateescape")
         self.socket = socket.socket(socket.AF_INET, socket.SOCK_DGRAM)
-        self.socket.settimeout(SECONDS)
-        self.number = 0
+        self.socket.connect((host, port))
+        self.number = secrets.randbelow(2**30)
+        self.strange = 0
+        """How many datagrams came that were no answers to the questions."""
 
-    def next_of(self, asked: list[Name]) -> tuple[int, int, list]:
-        """Returns status, index and bindings of what stands behind some names."""
+    def next_of(self, asked: list[Name]) -> Reply:
+        """Returns the answer to a GetNext with some names; Unreadable where none comes."""
         self.number += 1
         octets = message(GET_NEXT, self.number, [(name, None) for name in asked], self.community)
         for _ in range(TRIES):
-            self.socket.sendto(octets, (self.host, self.port))
             try:
-                while (reply := reply_of(self.socket.recv(65_536))).number != self.number:
-                    pass
-                return reply.status, reply.index, reply.bindings
+                self.socket.send(octets)
+                return self.answer(time.monotonic() + SECONDS)
             except (TimeoutError, ConnectionRefusedError):
                 continue
-        raise Unreadable(
-            [Fault(f"{self.host}:{self.port}", f"no answer in {TRIES} tries; is it the port, and the community?")]
-        )
+        more = f" ({self.strange} datagrams came that are no answers)" if self.strange else ""
+        raise self.refusal(f"no answer in {TRIES} tries{more}; is it the port, and the community?")
+
+    def answer(self, deadline: float) -> Reply:
+        """Returns the answer to the question that was asked last; TimeoutError where it doesn't come in time."""
+        while True:
+            self.socket.settimeout(max(0.001, deadline - time.monotonic()))
+            octets = self.socket.recv(65_536)
+            try:
+                reply = reply_of(octets)
+                if reply.number == self.number and kind_of(octets) == RESPONSE:
+                    return reply
+            except (ValueError, IndexError):
+                pass
+            self.strange += 1
+            if time.monotonic() >= deadline:
+                raise TimeoutError
+
+    def refusal(self, words: str) -> Unreadable:
+        """Returns the refusal of what this agent says."""
+        return Unreadable([Fault(self.where, words)])
 
 
 def address(host: str, anywhere: bool) -> str:
     """Returns the address of a host, which must be this machine where nothing else is said."""
     try:
         found = socket.gethostbyname(host)
-    except OSError:
+    except (OSError, UnicodeError):
         raise Unreadable([Fault(host, "no such host")]) from None
     if not anywhere and not ipaddress.ip_address(found).is_loopback:
         raise Unreadable([Fault(host, "not on this machine: --anywhere lets other hosts be asked")])
@@ -65,31 +94,49 @@ def address(host: str, anywhere: bool) -> str:
 
 def walk(agent: Agent, advance: Callable[[int], object] = lambda count: None) -> dict[Name, int | bytes]:
     """Returns the objects of the tables of plans that an agent has. Where an answer would be too big for it, less is
-    asked at once. `advance` is told how many columns are over."""
+    asked at once. `advance` is given how many columns are done."""
     found: dict[Name, int | bytes] = {}
-    waiting, reached, at_once = list(COLUMNS), {}, AT_ONCE
+    reached: dict[Name, Name] = {}
+    waiting, at_once, end = list(COLUMNS), AT_ONCE, time.monotonic() + MOST_SECONDS
     while waiting:
+        if time.monotonic() > end:
+            raise agent.refusal(f"the walk takes more than {MOST_SECONDS / 60:g} minutes")
         batch = waiting[:at_once]
-        status, index, bindings = agent.next_of([reached.get(column, column) for column in batch])
-        if status == TOO_BIG and len(batch) > 1:
+        reply = agent.next_of([reached.get(column, column) for column in batch])
+        if reply.status == TOO_BIG and len(batch) > 1:
             at_once = len(batch) // 2
             continue
-        over = ended(agent, batch, status, index, bindings)
-        for column, (name, tag, content) in zip(batch, bindings):
-            if not status and column not in over:
-                reached[column] = name
-                if tag in (INTEGER, OCTETS):
-                    found[name] = content if tag == OCTETS else int.from_bytes(content, "big", signed=True)
+        over = ended(agent, batch, reply)
+        if not reply.status:
+            keep(agent, [it for it in zip(batch, reply.bindings) if it[0] not in over], reached, found)
         waiting = [column for column in waiting if column not in over]
         advance(len(over))
     return found
 
 
-def ended(agent: Agent, batch: list[Name], status: int, index: int, bindings: list) -> list[Name]:
-    """Returns the columns that are over: those behind which another begins, or the one behind which nothing comes."""
-    if status == NO_SUCH_NAME and 1 <= index <= len(batch):
-        return [batch[index - 1]]
-    if status or len(bindings) != len(batch):
-        words = f"it answers GetNext with status {status}, index {index}"
-        raise Unreadable([Fault(f"{agent.host}:{agent.port}", words)])
-    return [column for column, (name, _, __) in zip(batch, bindings) if name[: len(column)] != column]
+def keep(agent: Agent, bindings: list, reached: dict[Name, Name], found: dict[Name, int | bytes]) -> None:
+    """Keeps the objects of some columns, each with its binding. A name that isn't greater than the one that was asked
+    for is refused, since a walk would never end."""
+    for column, (name, tag, content) in bindings:
+        if name <= reached.get(column, column):
+            raise agent.refusal(f"its names don't rise: {dotted(name)} after {dotted(reached.get(column, column))}")
+        reached[column] = name
+        if tag in (INTEGER, OCTETS):
+            found[name] = content if tag == OCTETS else int.from_bytes(content, "big", signed=True)
+        if len(found) > MOST_OBJECTS:
+            raise agent.refusal(f"it has more than {MOST_OBJECTS} objects of plans")
+
+
+def dotted(name: Name) -> str:
+    """Returns a name as numbers with dots between them, a long one shortened."""
+    text = ".".join(map(str, name))
+    return text if len(text) <= 80 else text[:77] + "..."
+
+
+def ended(agent: Agent, batch: list[Name], reply: Reply) -> list[Name]:
+    """Returns the columns that are over: those after which another begins, or the one after which nothing comes."""
+    if reply.status == NO_SUCH_NAME and 1 <= reply.index <= len(batch):
+        return [batch[reply.index - 1]]
+    if reply.status or len(reply.bindings) != len(batch):
+        raise agent.refusal(f"it answers GetNext with status {reply.status}, index {reply.index}")
+    return [column for column, (name, _, __) in zip(batch, reply.bindings) if name[: len(column)] != column]

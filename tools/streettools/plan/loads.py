@@ -1,11 +1,14 @@
 """The downloads that bring cabinets from one plan to another, each of which keeps the rules; and the SNMP Sets that
 carry them."""
 
+import shlex
 from collections.abc import Iterator
+from typing import Any
 
+from ..shared.fault import Fault
 from ..shared.tables import Tables
 from . import rules
-from .cells import Cell, differing, tables_of, value, written
+from ..shared.cells import Cell, differing, tables_of, value, written
 from .pattern_sentences import sentences
 from .reading import Street
 from .walk import ASC, OWN, TABLES, UNIT, Name
@@ -17,7 +20,7 @@ OBJECTS = {name: front for front, name in TABLES.items()}
 BEGIN, ID, PARTS, TOTAL, FINISH = ((*OWN, 1, number, 0) for number in range(2, 7))
 
 
-class NoWay(Exception):
+class NoWay(Fault):
     """Cabinets can't be brought from one plan to the other, in words."""
 
 
@@ -110,21 +113,37 @@ def object_of(cell: Cell) -> Name:
     return (*ASC, *OBJECTS[table], column, *row)
 
 
-def binding(name: Name, new: int | str) -> str:
-    """Returns a name and a value as `snmpset` has them."""
-    digits = ".".join(map(str, name))
-    return f'{digits} x "{new}"' if isinstance(new, str) else f"{digits} i {new}"
+Binding = tuple[Name, int | str]
+"""The name of an object and its new value: a number, or octets as hexadecimal digits."""
 
 
-def sets(load: dict, number: int, host: str, community: str) -> Iterator[str]:
+def command(host: str, community: str, bindings: list[Binding]) -> str:
+    """Returns the command of snmpset, as a shell reads it, that sets some objects."""
+    words = ["snmpset", "-v1", "-c", community, host]
+    for name, new in bindings:
+        words += [".".join(map(str, name)), "x" if isinstance(new, str) else "i", str(new)]
+    return shlex.join(words)
+
+
+def sets(load: dict[str, Any], number: int, host: str, community: str) -> Iterator[str]:
     """Yields the commands of snmpset that carry a download with this id: begin, parts, the total upon which the tables
     are tested, finish."""
-    head = f"snmpset -v1 -c {community} {host}"
-    yield f"{head} {binding(BEGIN, number)}"
     cells = load["cells"]
     parts = [cells[at : at + PART] for at in range(0, len(cells), PART)]
+    messages: list[list[Binding]] = [[(BEGIN, number)]]
     for count, part in enumerate(parts, 1):
-        bindings = (binding(object_of(tuple(cell)), new) for *cell, new in part)
-        yield f"{head} {binding(ID, number)} {binding(PARTS, count)} {' '.join(bindings)}"
-    yield f"{head} {binding(ID, number)} {binding(TOTAL, len(parts))}"
-    yield f"{head} {binding(ID, number)} {binding(FINISH, 1)}"
+        messages.append([(ID, number), (PARTS, count), *((object_of(tuple(cell)), new) for *cell, new in part)])
+    messages += [[(ID, number), (TOTAL, len(parts))], [(ID, number), (FINISH, 1)]]
+    for bindings in messages:
+        yield command(host, community, bindings)
+
+
+def script(new: Street, found: list[dict], first: int, host: str, community: str) -> str:
+    """Returns the shell script that carries downloads, numbered from `first`, and ends where one of them fails."""
+    lines = ["set -e"]
+    for number, load in enumerate(found, first):
+        called = " ".join(new.names.called(load["cabinet"]).split())
+        shown = "".join(sign for sign in called if sign.isprintable())
+        lines.append(f"# download {number}, {shown}: {len(load['cells'])} cells")
+        lines += sets(load, number, host, community)
+    return "\n".join(lines) + "\n"

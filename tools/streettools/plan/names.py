@@ -6,9 +6,16 @@ It also says which phases were entered only because the rings need a partner. Pi
 import dataclasses
 import json
 import pathlib
-from dataclasses import dataclass, field
+from dataclasses import dataclass, field, replace
+from typing import Any
 
-from .fields import is_number
+from ..shared.fault import Fault
+from .fields import Wrong, is_number, one_line
+
+KINDS = ("vehicle", "pedestrian")
+"""What a phase may serve."""
+UNITS = ("us", "metric")
+"""The units of speeds and lengths."""
 
 
 @dataclass
@@ -63,7 +70,7 @@ class Names:
         return self.intersection(number).name or f"cabinet {number}"
 
 
-def bare(it: object) -> dict:
+def bare(it: object) -> dict[str, Any]:
     """Returns the fields of a dataclass that differ from their defaults, as JSON has them."""
     blank = type(it)()
     found = {}
@@ -84,7 +91,7 @@ def text(names: Names) -> str:
     return json.dumps(bare(names), indent=2, ensure_ascii=False) + "\n"
 
 
-def of_intersection(given: dict) -> Intersection:
+def of_intersection(given: dict[str, Any]) -> Intersection:
     """Returns an intersection as a names file has it."""
     phases = {int(number): Phase(**it) for number, it in given.get("phases", {}).items()}
     numbered = {
@@ -94,7 +101,7 @@ def of_intersection(given: dict) -> Intersection:
     return Intersection(**rest, **numbered, phases=phases)
 
 
-class NoNames(Exception):
+class NoNames(Fault):
     """A file isn't a names file, in words."""
 
 
@@ -103,38 +110,39 @@ def is_measure(value: object) -> bool:
     return value is None or is_number(value)
 
 
-def refuse_kinds(found: Names) -> None:
-    """Refuses names that are no texts, measures that are no numbers, and partners that are no phases."""
-    for it in found.intersections:
-        measures = [
-            it.travel,
-            *(value for phase in it.phases.values() for value in (phase.speed, phase.grade, phase.crossing)),
-        ]
-        texts = [
-            it.name,
-            it.note,
-            *it.preempts.values(),
-            *it.detectors.values(),
-            *(phase.name for phase in it.phases.values()),
-        ]
-        if not all(map(is_measure, measures)) or not all(isinstance(text, str) for text in texts):
-            raise TypeError(f"intersection {it.name!r} has a name that is no text, or a measure that is no number")
-        if not all(isinstance(phase, int) for phase in it.partners):
-            raise TypeError(f"intersection {it.name!r} has partners that are no phases")
+def taken(found: Intersection) -> Intersection:
+    """Returns an intersection whose names are in one line each. What is no name, no measure or no phase is refused."""
+    phases = {number: replace(it, name=one_line(it.name)) for number, it in found.phases.items()}
+    measures = [found.travel, *(value for it in phases.values() for value in (it.speed, it.grade, it.crossing))]
+    if not all(map(is_measure, measures)):
+        raise Wrong(f"intersection {found.name!r} has a measure that is no number")
+    if any(it.kind not in KINDS for it in phases.values()):
+        raise Wrong(f"intersection {found.name!r} has a phase whose kind is none of {', '.join(KINDS)}")
+    if not isinstance(found.note, str):
+        raise Wrong(f"intersection {found.name!r} has a note that is no text")
+    if not isinstance(found.partners, list) or not all(type(it) is int and 1 <= it <= 16 for it in found.partners):
+        raise Wrong(f"intersection {found.name!r} has partners that are no phases")
+    preempts, detectors = (
+        {number: one_line(it) for number, it in names.items()} for names in (found.preempts, found.detectors)
+    )
+    return replace(found, name=one_line(found.name), phases=phases, preempts=preempts, detectors=detectors)
 
 
 def read(content: str) -> Names:
     """Returns what a names file says."""
     try:
         given = json.loads(content)
-        intersections = [of_intersection(it) for it in given.get("intersections", ())]
-        sections = {int(number): it for number, it in given.get("sections", {}).items()}
+        intersections = [taken(of_intersection(it)) for it in given.get("intersections", ())]
+        sections = {int(number): one_line(it) for number, it in given.get("sections", {}).items()}
         rest = {name: it for name, it in given.items() if name not in ("intersections", "sections")}
         found = Names(**rest, intersections=intersections, sections=sections)
-        refuse_kinds(found)
-        return found
-    except (ValueError, TypeError, AttributeError) as fault:
+        if found.units not in UNITS:
+            raise Wrong(f"units are none of {', '.join(UNITS)}")
+        return replace(found, title=one_line(found.title))
+    except (ValueError, TypeError, AttributeError, Wrong) as fault:
         raise NoNames(f"no names file: {fault}") from None
+    except RecursionError:
+        raise NoNames("no names file: lists and objects are nested too deep") from None
 
 
 def beside(path: pathlib.Path) -> pathlib.Path:

@@ -2,7 +2,7 @@
 
 from ..shared.tables import ALL
 from . import fields
-from .cells import SPLITS, put, value
+from ..shared.cells import SPLITS, put, value
 from .fields import Wrong
 from .given import Given
 from .started import Read

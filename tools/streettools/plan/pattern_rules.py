@@ -3,7 +3,7 @@
 from collections.abc import Iterator
 
 from ..shared.tables import Tables
-from .cells import RINGS, SEQUENCES, value
+from ..shared.cells import RINGS, SEQUENCES, value
 from .layout import Layout
 
 

@@ -3,7 +3,7 @@ time to spare."""
 
 from ..shared.tables import Tables
 from . import pattern_rules, rules
-from .cells import value
+from ..shared.cells import value
 from .layout import Layout, least_service
 from .names import Intersection
 from .sentences import Sentences, clearance_words, many, seconds, service_words

@@ -10,7 +10,7 @@ from ..look.pictures import CLEARANCE, GREEN, YELLOW
 from ..shared.pictures import FAINT, INK, STYLE, save
 from ..shared.tables import Tables
 from . import drawing, fields, rules
-from .cells import value
+from ..shared.cells import value
 from .layout import Layout, least_service
 from .names import Intersection
 from .pattern_sentences import sentences

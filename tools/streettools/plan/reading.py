@@ -4,9 +4,10 @@ detectors."""
 import json
 from collections.abc import Callable
 from dataclasses import dataclass, field
+from typing import Any
 
 from . import given, intersection, names, started
-from .fields import Wrong
+from .fields import Wrong, one_line
 from .given import Given, Unreadable
 
 TOP = ("title", "units", "run", "master", "schedule", "sections", "intersection", "events", "respond")
@@ -21,14 +22,14 @@ LISTS = ("inputs", "loads", "priority", "frames", "faults")
 class Street:
     """What a sheet comes to: a scenario, the names, what was entered for it, and what only a field file can hold."""
 
-    scenario: dict
+    scenario: dict[str, Any]
     names: names.Names
     notes: list[str] = field(default_factory=list)
     bank: list[dict] = field(default_factory=list)
     pulses: list | None = None
-    respond: dict | None = None
+    respond: dict[str, Any] | None = None
 
-    def field_file(self) -> dict:
+    def field_file(self) -> dict[str, Any]:
         """Returns the field file around the scenario."""
         found = {"scenario": self.scenario, "bank": self.bank}
         found |= {name: it for name, it in (("pulses", self.pulses), ("respond", self.respond)) if it is not None}
@@ -39,7 +40,7 @@ class Street:
         return bool(self.bank) or self.pulses is not None or self.respond is not None
 
 
-def read_run(it: Given, drifts: bool) -> dict:
+def read_run(it: Given, drifts: bool) -> dict[str, Any]:
     """Returns the head of the scenario: how long it is run, and the community."""
     it.allow((*RUN, "community"))
     found = {name: it.take(name, given.number(*limits), USUAL_RUN[name]) for name, limits in RUN.items()}
@@ -49,10 +50,10 @@ def read_run(it: Given, drifts: bool) -> dict:
     return found if community is None else found | {"community": community}
 
 
-def read_master(it: Given, schedule: list[dict] | None) -> dict | None:
+def read_master(it: Given, schedule: list[dict] | None) -> dict[str, Any] | None:
     """Returns the master, None where the sheet says nothing of it."""
     it.allow(("clock", *EVERY, "retries"))
-    found: dict = {}
+    found: dict[str, Any] = {}
     clock = it.take("clock", given.day_ticks)
     if clock is not None:
         found["clock"] = clock
@@ -106,7 +107,7 @@ def read_detectors(it: Given, cabinet: int, ticks: int, found: names.Intersectio
             "cabinet": cabinet, "detector": number, "phase": row.take("phase", given.number(1, 16), 1), **times,
             "erratic": row.take("erratic", given.number(0, 255), 0),
         })  # fmt: skip
-        called = row.take("name", given.text, "")
+        called = row.take("name", one_line, "")
         if called:
             found.detectors[number] = called
     return bank
@@ -116,9 +117,9 @@ def read_names(top: Given) -> names.Names:
     """Returns the names that stand at the top of a sheet."""
     sections = top.below("sections")
     sections.allow(map(str, range(1, 9)))
-    called = {number: sections.take(str(number), given.text) for number in range(1, 9)}
+    called = {number: sections.take(str(number), one_line) for number in range(1, 9)}
     return names.Names(
-        title=top.take("title", given.text, ""), units=top.take("units", started.word_of("us", "metric"), "us"),
+        title=top.take("title", one_line, ""), units=top.take("units", started.word_of("us", "metric"), "us"),
         sections={number: name for number, name in called.items() if name},
     )  # fmt: skip
 
@@ -139,13 +140,13 @@ def listed(said: object) -> list:
     return plain(said)
 
 
-def respond_of(top: Given) -> dict | None:
+def respond_of(top: Given) -> dict[str, Any] | None:
     """Returns by what rule patterns follow the traffic, as a field file has it."""
     top.below("respond").allow(("period", "sections"))
     return top.take("respond", plain)
 
 
-def read_events(top: Given, scenario: dict) -> list | None:
+def read_events(top: Given, scenario: dict[str, Any]) -> list | None:
     """Takes up what comes in round by round, which a sheet has as a scenario has it; returns the pulses of
     detectors."""
     it = top.below("events")
@@ -157,7 +158,7 @@ def read_events(top: Given, scenario: dict) -> list | None:
     return it.take("pulses", listed)
 
 
-def read_sheet(sheet: dict) -> tuple[Street, list[given.Fault]]:
+def read_sheet(sheet: dict[str, Any]) -> tuple[Street, list[given.Fault]]:
     """Returns what a sheet comes to, and all faults that were found in it."""
     top = Given(sheet)
     top.allow(TOP)
@@ -185,7 +186,7 @@ def read_sheet(sheet: dict) -> tuple[Street, list[given.Fault]]:
     return street, top.faults
 
 
-def street_of(sheet: dict) -> Street:
+def street_of(sheet: dict[str, Any]) -> Street:
     """Returns what a sheet comes to; Unreadable where it has faults."""
     street, faults = read_sheet(sheet)
     if faults:

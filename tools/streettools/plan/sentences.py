@@ -3,7 +3,7 @@ downloads."""
 
 from ..shared.tables import ALL, Tables
 from . import rules, street_rules
-from .cells import RINGS, value
+from ..shared.cells import RINGS, value
 from .fields import STARTUPS, UNIT_FIELDS, Unit
 from .layout import concurrent, least_green, least_service, sides_by_phase
 from .names import Intersection

@@ -3,13 +3,15 @@ their first letters."""
 
 import pathlib
 import sys
+from collections.abc import Callable
 from dataclasses import dataclass, field
 
-from . import jsontext, names, reading, shapes, toml_text
+from ..shared import shapes
+from . import jsontext, names, reading, toml_text
 from .findings import Finding, Level
 from .given import Unreadable
 from .reading import Street
-from .values import MOST_BYTES
+from ..shared.values import MOST_BYTES
 
 
 @dataclass
@@ -41,16 +43,20 @@ def content_of(path: str) -> bytes:
 def load(path: str, named: str | None = None) -> Source:
     """Reads a file. `named` is the file with the names of a scenario; where it isn't said, that beside the scenario, if
     there is one."""
+    return source_of(path, content_of(path), lambda: names_of(path, named))
+
+
+def source_of(path: str, content: bytes, known: Callable[[], names.Names]) -> Source:
+    """Returns what a file of this name and content comes to; `known` gives the names of a scenario."""
     source = Source(path)
-    content = content_of(path)
     if path.endswith(".xlsx") or content[:4] == b"PK\x03\x04":
         from . import book_reading  # here, since openpyxl takes a while
 
         read_sheet(source, lambda: book_reading.read(content))
     elif path.endswith(".json") or (not path.endswith(".toml") and content.lstrip()[:1] == b"{"):
-        read_json(source, content, names_of(path, named))
+        read_json(source, content, known())
     else:
-        read_sheet(source, lambda: toml_text.read(sheet_of(source, content)))
+        read_sheet(source, lambda: (toml_text.read(sheet_of(source, content)), []))
     return source
 
 
@@ -76,15 +82,16 @@ def names_of(path: str, named: str | None) -> names.Names:
     return names.read(beside.read_text(encoding="utf-8")) if path != "-" and beside.is_file() else names.Names()
 
 
-def read_sheet(source: Source, read) -> None:
-    """Takes up a sheet."""
+def read_sheet(source: Source, read: Callable[[], tuple[dict, list[str]]]) -> None:
+    """Takes up a sheet, with what was left out of it."""
     try:
-        sheet = read()
+        sheet, notes = read()
     except Unreadable as unreadable:
         for fault in unreadable.faults:
             source.error(fault.words, fault.where)
         return
     street, faults = reading.read_sheet(sheet)
+    street.notes = notes + street.notes
     for fault in faults:
         source.error(fault.words, fault.where)
     if not faults:
@@ -116,6 +123,8 @@ def read_json(source: Source, content: bytes, known: names.Names) -> None:
     for fault in shapes.scenario_faults(scenario):
         place = jsontext.place_of(source.text, front + fault.path if fault.path != "." else front.rstrip(".") or ".")
         source.error(fault.words, fault.path, line=fault.line, place=str(place))
+    for fault in shapes.field_faults(value) if is_field else ():
+        source.error(fault.words, fault.path, line=fault.line, place=str(jsontext.place_of(source.text, fault.path)))
     if isinstance(scenario, dict) and not any(
         fault.startswith(("cabinets", ".", "version")) for fault in (it.where for it in source.errors)
     ):

@@ -4,7 +4,7 @@ from dataclasses import dataclass, field
 
 from ..shared.tables import Tables
 from . import drawing, fields, names
-from .cells import put, value
+from ..shared.cells import put, value
 from .fields import Wrong
 from .given import Given
 

@@ -4,7 +4,7 @@ that break it."""
 from collections.abc import Callable, Iterator
 
 from ..shared.tables import ALL, Tables
-from .cells import PREEMPTS, RINGS, SEQUENCES, value
+from ..shared.cells import PREEMPTS, RINGS, SEQUENCES, value
 from .layout import concurrent, least_service, sides, sides_by_phase
 
 LEAST_YELLOW = 30

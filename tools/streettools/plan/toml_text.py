@@ -2,11 +2,12 @@
 
 import datetime
 import re
-import tomllib
 from collections.abc import Iterator
 
 import tomli_w
+from typing import Any
 
+from ..shared.given import plain
 from .given import Fault, Unreadable
 
 HEAD = "# A timing sheet, in seconds. What isn't said is that of the standard table; docs/PLANS.md has all names.\n"
@@ -45,7 +46,7 @@ def key(name: str) -> str:
     return name if re.fullmatch(r"[A-Za-z0-9_-]+", name) else scalar(name)
 
 
-def pairs(table: dict) -> Iterator[str]:
+def pairs(table: dict[str, Any]) -> Iterator[str]:
     """Yields a line for each name of a table."""
     for name, value in table.items():
         yield f"{key(name)} = {scalar(value)}"
@@ -62,7 +63,7 @@ def rows(name: str, items: list) -> Iterator[str]:
     yield "]"
 
 
-def intersection(table: dict) -> Iterator[str]:
+def intersection(table: dict[str, Any]) -> Iterator[str]:
     """Yields the lines of an intersection."""
     yield "[[intersection]]"
     for name, value in table.items():
@@ -80,7 +81,7 @@ def intersection(table: dict) -> Iterator[str]:
             yield from ("", f"[intersection.{name}.{number}]", *pairs(row))
 
 
-def lines(sheet: dict) -> Iterator[str]:
+def lines(sheet: dict[str, Any]) -> Iterator[str]:
     """Yields the lines of a sheet."""
     for name, value in sheet.items():
         if name == "schedule":
@@ -101,16 +102,16 @@ def lines(sheet: dict) -> Iterator[str]:
             yield from rows(name, items)
 
 
-def text(sheet: dict) -> str:
+def text(sheet: dict[str, Any]) -> str:
     """Returns the text of a sheet."""
     return HEAD + "\n".join(lines(sheet)) + "\n"
 
 
-def read(content: str) -> dict:
+def read(content: str) -> dict[str, Any]:
     """Returns the sheet that a text is; Unreadable, with line and column, where it is no TOML."""
     try:
-        return tomllib.loads(content)
-    except tomllib.TOMLDecodeError as fault:
+        return plain(content)
+    except ValueError as fault:
         found = AT.fullmatch(str(fault))
         if not found:
             raise Unreadable([Fault("", f"no TOML: {fault}")]) from None

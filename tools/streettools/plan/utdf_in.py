@@ -2,6 +2,7 @@
 taken is named."""
 
 import re
+from typing import Any
 
 from .utdf_node import WAYS, Node
 from .utdf_plan import pair_of, pattern, plans
@@ -91,7 +92,7 @@ def detectors(node: Node) -> dict[str, dict]:
     for lanes, phase in node.lanes.get("DetectPhase1", {}).items():
         if not LANES.fullmatch(lanes) or not number(phase):
             continue
-        row: dict = {"name": lanes, "phase": int(number(phase))}
+        row: dict[str, Any] = {"name": lanes, "phase": int(number(phase))}
         for record, name in (("DetectDelay1", "delay"), ("DetectExtend1", "extend")):
             value = number(node.lanes.get(record, {}).get(lanes, ""))
             if value:
@@ -100,9 +101,9 @@ def detectors(node: Node) -> dict[str, dict]:
     return found
 
 
-def phase_row(node: Node, phase: int) -> dict:
+def phase_row(node: Node, phase: int) -> dict[str, Any]:
     """Returns the row of a phase."""
-    row: dict = {}
+    row: dict[str, Any] = {}
     for record, name in SECONDS.items():
         value = node.at(record, phase)
         if value is not None:
@@ -134,7 +135,7 @@ def left_out(node: Node) -> None:
             node.note(f"not taken from [{section.capitalize()}]: " + ", ".join(names))
 
 
-def intersection(node: Node) -> dict:
+def intersection(node: Node) -> dict[str, Any]:
     """Returns an intersection of the sheet."""
     drawn = rings(node)
     rows = {str(phase): phase_row(node, phase) for phase in node.used}
@@ -142,7 +143,7 @@ def intersection(node: Node) -> dict:
     pair = pair_of(node, drawn)
     for phase in node.used:
         rows[str(phase)]["startup"] = "green" if phase in pair or (not pair and phase in (2, 6)) else "red"
-    sheet: dict = {"name": node.name(), "rings": drawn, "phase": rows}
+    sheet: dict[str, Any] = {"name": node.name(), "rings": drawn, "phase": rows}
     laid = pattern(node, drawn)
     patterns = {"1": laid} if laid else plans(node)
     called = detectors(node)
@@ -157,7 +158,7 @@ def sheet_of(utdf: Utdf) -> tuple[dict, list[str]]:
     """Returns a UTDF file as a sheet, and what wasn't taken as it stands."""
     nodes = [Node(utdf, it) for it in dict.fromkeys(it.get("INTID", "") for it in utdf.records("phases")) if it]
     nodes = [it for it in nodes if it.used]
-    sheet: dict = {"units": "metric"} if number(utdf.setting("Metric")) == 1 else {}
+    sheet: dict[str, Any] = {"units": "metric"} if number(utdf.setting("Metric")) == 1 else {}
     sheet["intersection"] = [intersection(it) for it in nodes]
     notes = [note for it in nodes for note in it.all_notes()]
     unknown = [

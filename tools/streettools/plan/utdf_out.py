@@ -5,7 +5,7 @@ import io
 
 from ..shared.tables import Tables
 from . import drawing, fields
-from .cells import tables_of, value
+from ..shared.cells import tables_of, value
 from .layout import Layout
 from .names import Intersection
 from .reading import Street

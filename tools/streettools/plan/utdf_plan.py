@@ -1,5 +1,7 @@
 """Patterns of a UTDF file: splits, coordinated phases, and offsets by the point that they refer to."""
 
+from typing import Any
+
 from .utdf_node import Node
 from .utdf_text import number
 
@@ -59,7 +61,7 @@ def offset(node: Node, drawn: list[str], splits: dict[int, int], pair: list[int]
     return round(exact) % cycle
 
 
-def pattern(node: Node, drawn: list[str]) -> dict | None:
+def pattern(node: Node, drawn: list[str]) -> dict[str, Any] | None:
     """Returns pattern 1, None where the intersection runs free."""
     cycle = node.setting("Cycle Length")
     pair = pair_of(node, drawn)

@@ -3,17 +3,22 @@
 import re
 from collections.abc import Iterable, Iterator
 from dataclasses import dataclass, field
+from typing import Any
 
 from ..shared.tables import Tables
 from . import names
-from .cells import Lists, cells_between, kinds, put, unset
-from .given import DAY_TICKS, Fault, Unreadable
+from ..shared.cells import Lists, cells_between, kinds, put, unset
+from ..shared.clock import DAY_TICKS
+from .given import Fault, Unreadable
 from .reading import USUAL_RUN, Street
 
 Name = tuple[int, ...]
 ASC, OWN = (1, 3, 6, 1, 4, 1, 1206, 4, 2, 1), (1, 3, 6, 1, 4, 1, 32473, 1)
 FRONTS = {"iso": "1", "SNMPv2-SMI::enterprises": "1.3.6.1.4.1", "enterprises": "1.3.6.1.4.1"}
-LINE = re.compile(r"(\.?(?:iso|SNMPv2-SMI::enterprises|enterprises|\d+)(?:\.\d+)+) = ?(.*)", re.DOTALL)
+ARC = r"[0-9]{1,10}"
+LINE = re.compile(rf"(\.?(?:iso|SNMPv2-SMI::enterprises|enterprises|{ARC})(?:\.{ARC}){{1,127}}) = ?(.*)", re.DOTALL)
+NUMBER = re.compile(r"\((-?[0-9]{1,19})\)|(?<![0-9])(-?[0-9]{1,19})(?![0-9])")
+"""A number in a value: that in parentheses, as in `shortway(3)`, or the first one."""
 TABLES = {(1, 2, 1): "phase", (4, 7, 1): "pattern", (4, 9, 1): "split", (6, 2, 1): "preempt"}
 COORD_MODE, COMMAND, FORCE_MODE, BACKUP = (4, 2, 0), (4, 14, 0), (4, 4, 0), (3, 3, 0)
 SEQUENCE, DETECTOR = (7, 3, 1, 3), (2, 2, 1)
@@ -67,7 +72,7 @@ def value_of(text: str) -> int | bytes | None:
     """Returns a number or octets; None of what is neither."""
     kind, colon, rest = text.partition(":")
     if kind in ("INTEGER", "Gauge32", "Counter32", "Unsigned32") and colon:
-        found = re.search(r"\((-?\d+)\)|(-?\d+)", rest)
+        found = NUMBER.search(rest)
         return int(found[1] or found[2]) if found else None
     if kind == "Hex-STRING" and colon:
         digits = "".join(rest.split())
@@ -234,7 +239,7 @@ def street_of(walks: list[dict[Name, int | bytes]], called: list[str]) -> Street
             raise Unreadable(
                 [Fault(called[number - 1], "nothing of the phase, split and pattern tables of NTCIP 1202 is in it")]
             )
-        cabinet: dict = {"base": "std8", "cells": cells_between(Tables("std8"), walked.tables)}
+        cabinet: dict[str, Any] = {"base": "std8", "cells": cells_between(Tables("std8"), walked.tables)}
         cabinet |= {name: it for name, it in (("pattern", walked.command), ("clock", walked.clock)) if it}
         street.scenario["cabinets"].append(cabinet)
         street.names.intersections.append(names.Intersection(name=called[number - 1]))

@@ -5,7 +5,7 @@ from collections.abc import Iterator
 
 from ..shared.tables import Tables
 from . import street_facts
-from .cells import PATTERNS, PREEMPTS, value
+from ..shared.cells import PATTERNS, PREEMPTS, value
 from .findings import Finding, Level
 from .layout import Layout
 from .names import Names

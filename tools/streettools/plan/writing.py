@@ -1,16 +1,18 @@
 """A scenario, or a field file, as a sheet: what differs from the standard table, by its names, and nothing else."""
 
 from collections.abc import Collection, Iterator
+from typing import Any
 
 from ..shared.tables import ALL, Tables
+from ..shared import clock
 from . import drawing, fields, given, intersection, names
-from .cells import PATTERNS, SEQUENCES, SPLITS, differing, tables_of, value
+from ..shared.cells import PATTERNS, SEQUENCES, SPLITS, differing, tables_of, value
 from .given import Given
 from .reading import EVERY, LISTS, Street
 from .started import Read
 
 
-def read_back(sheet: dict) -> Read | None:
+def read_back(sheet: dict[str, Any]) -> Read | None:
     """Returns what an intersection of a sheet comes to, None where it has faults."""
     it = Given(sheet)
     found, _ = intersection.read(it)
@@ -31,9 +33,9 @@ def drawings(tables: Tables, known: names.Intersection) -> Iterator[drawing.Draw
     yield None
 
 
-def about(known: names.Intersection) -> dict:
+def about(known: names.Intersection) -> dict[str, Any]:
     """Returns what a sheet says of phases and preempts beside their times."""
-    found: dict = {}
+    found: dict[str, Any] = {}
     for number, it in sorted(known.phases.items()):
         row = names.bare(it)
         if row:
@@ -43,19 +45,19 @@ def about(known: names.Intersection) -> dict:
     return found
 
 
-def say(sheet: dict, *path: str) -> dict:
+def say(sheet: dict[str, Any], *path: str) -> dict[str, Any]:
     """Returns the table at a path of a sheet, made where it isn't there."""
     for name in path:
         sheet = sheet.setdefault(name, {})
     return sheet
 
 
-def named(of: dict, column: int) -> tuple[str, object]:
+def named(of: dict[int, Any], column: int) -> tuple[str, object]:
     """Returns the field of a column, with its name."""
     return next((name, it) for name, it in of.items() if it.column == column)
 
 
-def say_cell(sheet: dict, tables: Tables, cell: tuple) -> None:
+def say_cell(sheet: dict[str, Any], tables: Tables, cell: tuple) -> None:
     """Says what stands in a cell, other than of splits, patterns and sequences."""
     match cell:
         case ("phase", phase, 21):
@@ -71,7 +73,7 @@ def say_cell(sheet: dict, tables: Tables, cell: tuple) -> None:
             say(sheet, "preempt", str(number))[name] = each.show(value(tables, cell))
 
 
-def say_options(row: dict, options: int, usual: int) -> None:
+def say_options(row: dict[str, Any], options: int, usual: int) -> None:
     """Says those options of a phase that differ from the usual ones; all of them where there is nothing to differ
     from."""
     for name in fields.OPTIONS:
@@ -80,7 +82,7 @@ def say_options(row: dict, options: int, usual: int) -> None:
             row[name] = now
 
 
-def say_split(row: dict, usual: Tables, tables: Tables, number: int, partners: Collection[int]) -> None:
+def say_split(row: dict[str, Any], usual: Tables, tables: Tables, number: int, partners: Collection[int]) -> None:
     """Says a split: the times of all enabled phases where one differs, the coordinated phases, modes that differ;
     nothing of partners."""
     enabled = set(tables.enabled())
@@ -105,7 +107,7 @@ def say_split(row: dict, usual: Tables, tables: Tables, number: int, partners: C
         row["modes"] = modes
 
 
-def say_patterns(sheet: dict, usual: Tables, tables: Tables, partners: Collection[int]) -> None:
+def say_patterns(sheet: dict[str, Any], usual: Tables, tables: Tables, partners: Collection[int]) -> None:
     """Says the patterns and splits that differ. A split of one defined pattern alone stands with it."""
     cells = differing(usual, tables)
     changed, touched = ({cell[1] for cell in cells if cell[0] == table} for table in ("split", "pattern"))
@@ -124,7 +126,7 @@ def say_patterns(sheet: dict, usual: Tables, tables: Tables, partners: Collectio
         say_split(say(sheet, "split", str(number)), usual, tables, number, partners)
 
 
-def say_pattern(row: dict, usual: Tables, tables: Tables, number: int) -> None:
+def say_pattern(row: dict[str, Any], usual: Tables, tables: Tables, number: int) -> None:
     """Says what of a pattern differs from the standard and from what is entered where nothing is said."""
     cycle = value(tables, ("pattern", number, 2))
     entered = {"split": number if number in SPLITS else 0, "sequence": 1} if cycle else {}
@@ -136,7 +138,7 @@ def say_pattern(row: dict, usual: Tables, tables: Tables, number: int) -> None:
             row[name] = now
 
 
-def say_sequences(sheet: dict, usual: Tables, tables: Tables) -> None:
+def say_sequences(sheet: dict[str, Any], usual: Tables, tables: Tables) -> None:
     """Says the orders of the rings that differ."""
     for number in SEQUENCES:
         rings = [value(tables, ("sequence", number, ring)) for ring in (1, 2)]
@@ -144,10 +146,10 @@ def say_sequences(sheet: dict, usual: Tables, tables: Tables) -> None:
             say(sheet, "sequence")[str(number)] = drawing.order_lines(drawing.of_tables(tables), rings)
 
 
-def said(base: str, tables: Tables, known: names.Intersection, drawn: drawing.Drawing | None) -> dict | None:
+def said(base: str, tables: Tables, known: names.Intersection, drawn: drawing.Drawing | None) -> dict[str, Any] | None:
     """Returns an intersection as a sheet has it with this drawing, None where that doesn't come back as the same
     tables."""
-    sheet: dict = {} if base == "std8" else {"standard": base}
+    sheet: dict[str, Any] = {} if base == "std8" else {"standard": base}
     if drawn is not None and drawn != drawing.STANDARD:
         sheet["rings"] = drawn.lines()
     sheet |= about(known)
@@ -167,13 +169,14 @@ def said(base: str, tables: Tables, known: names.Intersection, drawn: drawing.Dr
     return sheet if found is not None and not differing(found.tables, tables) else None
 
 
-def intersection_sheet(cabinet: dict, known: names.Intersection) -> dict:
+def intersection_sheet(cabinet: dict[str, Any], known: names.Intersection) -> dict[str, Any]:
     """Returns a cabinet of a scenario as an intersection of a sheet."""
     tables, base = tables_of(cabinet), cabinet.get("base", "std8")
-    head: dict = {name: it for name, it in (("name", known.name), ("note", known.note), ("travel", known.travel)) if it}
+    about = (("name", known.name), ("note", known.note), ("travel", known.travel))
+    head: dict[str, Any] = {name: it for name, it in about if it}
     for name, show in (
         ("pattern", given.command_word),
-        ("clock", given.day_time),
+        ("clock", clock.day_time),
         ("section", int),
         ("gain", int),
         ("lose", int),
@@ -188,18 +191,18 @@ def intersection_sheet(cabinet: dict, known: names.Intersection) -> dict:
     raise AssertionError("each table can be said cell by cell")
 
 
-def master_sheet(master: dict) -> dict:
+def master_sheet(master: dict[str, Any]) -> dict[str, Any]:
     """Returns what the master does, as a sheet has it."""
-    sheet: dict = {}
+    sheet: dict[str, Any] = {}
     settings = {name: master[name] for name in (*EVERY, "retries") if name in master}
     if "clock" in master:
-        settings = {"clock": given.day_time(master["clock"]), **settings}
+        settings = {"clock": clock.day_time(master["clock"]), **settings}
     if settings:
         sheet["master"] = settings
     if "schedule" in master:
         sheet["schedule"] = [
             {
-                "at": given.day_time(10 * it["second"]),
+                "at": clock.day_time(10 * it["second"]),
                 "section": it["section"],
                 "pattern": given.command_word(it["pattern"]),
             }
@@ -208,9 +211,9 @@ def master_sheet(master: dict) -> dict:
     return sheet
 
 
-def detector_row(item: dict, ticks: int, called: str | None) -> dict:
+def detector_row(item: dict[str, Any], ticks: int, called: str | None) -> dict[str, Any]:
     """Returns a detector of a bank as a sheet has it, in seconds."""
-    row: dict = {"name": called} if called else {}
+    row: dict[str, Any] = {"name": called} if called else {}
     row["phase"] = item["phase"]
     for name in ("delay", "extend", "no_activity", "max_presence"):
         if item[name]:
@@ -221,10 +224,10 @@ def detector_row(item: dict, ticks: int, called: str | None) -> dict:
     return row
 
 
-def sheet_of(street: Street) -> dict:
+def sheet_of(street: Street) -> dict[str, Any]:
     """Returns a scenario with its names, and what a field file has around it, as a sheet."""
     scenario, known = street.scenario, street.names
-    sheet: dict = {"title": known.title} if known.title else {}
+    sheet: dict[str, Any] = {"title": known.title} if known.title else {}
     if known.units != "us":
         sheet["units"] = known.units
     sheet["run"] = {name: scenario[name] for name in ("version", "rounds", "ticks", "community") if name in scenario}

@@ -20,7 +20,7 @@ TOP = pathlib.Path(__file__).resolve().parents[3]
 sys.dont_write_bytecode = True
 sys.path.insert(0, str(TOP / "tools"))
 
-from streettools.cosim import command  # noqa: E402
+from streettools import words as tools  # noqa: E402
 
 SECONDS = 600
 """How long anything may take, on a machine that is busy with other things."""
@@ -72,7 +72,7 @@ def here(*words: object) -> Ran:
     """Runs `arterial cosim` within the tests' own process: for what is refused before SUMO starts."""
     out, err = io.StringIO(), io.StringIO()
     with contextlib.redirect_stdout(out), contextlib.redirect_stderr(err):
-        status = command.main([*map(str, words), "--program", str(PROGRAM)])
+        status = tools.run(["cosim", *map(str, words), "--program", str(PROGRAM)])
     return Ran(status, out.getvalue(), err.getvalue().splitlines())
 
 

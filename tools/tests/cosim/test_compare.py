@@ -85,3 +85,19 @@ def test_a_refusal_is_one_line_of_the_command(tmp_path):
     path.write_text(HEAD + plan("one"))
     ran = cosim("compare", path, "-o", tmp_path / "out")
     assert ran.status == 2 and len(ran.said) == 1 and not (tmp_path / "out").exists()
+
+
+@needs_sumo
+def test_folders_that_the_comparison_did_not_make_stay_as_they_are(tmp_path):
+    """A run's folder `01-1` of before is neither written to nor taken away; with --keep it is refused."""
+    path, mine = tmp_path / "plans.toml", tmp_path / "out/01-1/mine"
+    path.write_text(HEAD.replace("[1, 2]", "[1]") + plan("one") + plan("the same"))
+    mine.parent.mkdir(parents=True)
+    mine.write_text("kept")
+    ran = cosim("compare", path, "-o", tmp_path / "out", "--keep")
+    assert ran.status == 1 and "01-1 is there from an earlier comparison" in ran.said[0]
+    assert [it.name for it in (tmp_path / "out").iterdir()] == ["01-1"]
+    ran = cosim("compare", path, "-o", tmp_path / "out")
+    assert ran.status == 0, ran
+    assert mine.read_text() == "kept" and list(mine.parent.iterdir()) == [mine]
+    assert sorted(it.name for it in (tmp_path / "out").iterdir()) == ["01-1", "comparison.json", "comparison.txt"]

@@ -201,7 +201,7 @@ PREEMPT = '\n[[preempt]]\ncabinet = 1\nnumber = 3\nvehicles = ["emergency"]\n'
 @pytest.mark.parametrize(
     ("more", "line"),
     [
-        ("", "preempt 1: edges is needed, or ahead in its place"),
+        ("", "preempt[0].edges is needed, or ahead in its place"),
         ('edges = ["in-east"]\nphases = [2]', "phases goes with ahead"),
         ("ahead = 200\nphases = [9]", "phase 9 is not enabled in cabinet 1"),
         ("ahead = 0", "ahead is 0, and has to be 1 to 5000"),

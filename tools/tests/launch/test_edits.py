@@ -2,6 +2,7 @@
 
 import os
 import pathlib
+import shutil
 import subprocess
 
 import pytest
@@ -47,24 +48,43 @@ def test_a_crate_without_edits_is_refused():
     assert tried.returncode == 2 and "ber_code has no edits here" in tried.stderr
 
 
+@pytest.fixture(name="copy")
+def a_copy(tmp_path):
+    """Returns a copy of what the script needs for two edits of a crate, and a command in place of `rt`, which prints
+    the file `said` for each edit."""
+    top = tmp_path / "copy"
+    for name in ("sig_types", "sig_tables", "phase_clock"):
+        shutil.copytree(TOP / "crates" / name, top / "crates" / name, ignore=shutil.ignore_patterns("out"))
+    for name in ("edits/phase_clock", *(f"tools/streettools/{it}" for it in ("launch", "promises", "shared"))):
+        shutil.copytree(TOP / name, top / name, ignore=shutil.ignore_patterns("__pycache__"))
+    for name in ("crates.txt", "HANDLES", "edits/try", "tools/streettools/__init__.py"):
+        shutil.copy(TOP / name, top / name)
+    tool = tmp_path / "rt"
+    tool.write_text(
+        f"#!/bin/sh\nfor it in crates/$2/must-fail/*; do\n"
+        f'echo "rt: $1 $2/$(basename $it): $(cat {tmp_path}/said)"\ndone\nexit $(cat {tmp_path}/status)\n'
+    )
+    tool.chmod(0o755)
+    return top
+
+
 @pytest.mark.parametrize(
-    ("said", "status"),
+    ("said", "ended", "status"),
     [
-        ("rt: must-fail a/b.edit: refused, as it must be", 0),
-        ("rt: must-fail a/b.edit: BAD EDIT: there is no file src/c.rt", 1),
-        ("rt: must-fail a/b.edit: NOT TRIED: its check was killed", 1),
+        ("refused, as it must be: src/lib.rt:9:1: error", 0, 0),
+        ("NOT REFUSED: the crate is still proved with this edit", 1, 1),
+        ("BAD EDIT: there is no file src/c.rt", 0, 1),
+        ("NOT TRIED: its check was killed", 0, 1),
     ],
 )
-def test_an_edit_that_was_not_tried_is_no_success(tmp_path, said, status):
-    tool = tmp_path / "rt"
-    tool.write_text(f"#!/bin/sh\necho '{said}'\nls crates/phase_clock/must-fail\n")
-    tool.chmod(0o755)
-    tried = subprocess.run(
-        [TRY, "phase_clock", "phase_clock"],
-        capture_output=True,
-        text=True,
-        timeout=60,
-        env=os.environ | {"PATH": f"{tmp_path}:{os.environ['PATH']}"},
-    )
+def test_a_crate_is_recorded_as_tried_if_all_its_edits_are_refused(tmp_path, copy, said, ended, status):
+    (tmp_path / "said").write_text(said)
+    (tmp_path / "status").write_text(str(ended))
+    words = [copy / "edits/try", "phase_clock"]
+    environment = os.environ | {"PATH": f"{tmp_path}:{os.environ['PATH']}"}
+    tried = subprocess.run(words, capture_output=True, text=True, timeout=60, env=environment)
     named = [it.name for it in EDITS if it.parent.name == "phase_clock"]
-    assert tried.returncode == status and tried.stdout.splitlines() == [said, *named]
+    told = [f"rt: must-fail phase_clock/{name}: {said}" for name in named]
+    assert tried.returncode == status and tried.stdout.splitlines()[: len(told)] == told
+    pending = subprocess.run([copy / "edits/try", "--pending"], capture_output=True, text=True, timeout=60)
+    assert pending.stdout.splitlines() == (["phase_clock"] if status else [])

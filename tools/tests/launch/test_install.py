@@ -61,8 +61,8 @@ def test_the_installed_program_takes_files_and_tools_and_needs_no_kit(whole, tmp
         "\narterial: due   F 1 0 RRRRRRRRRRRRRRRR DDDDDDDDDDDDDDDD S 0 0 0\n"
     )
     for command in ("look", "cabinet"):
-        assert done(program, command, "--help", env=names)[1].startswith(f"usage: {command} ")
-        assert done(to / f"bin/arterial-{command}", "--help", env=names)[1].startswith(f"usage: {command} ")
+        assert done(program, command, "--help", env=names)[1].startswith(f"usage: arterial {command} ")
+        assert done(to / f"bin/arterial-{command}", "--help", env=names)[1].startswith(f"usage: arterial {command} ")
     status, written, said = done(program, "--help", env=names)
     assert (status, said) == (0, "") and "  arterial look " in written and "arterial prove" not in written
     assert done(program, "prove", env=names) == (
@@ -81,6 +81,30 @@ def test_what_was_installed_is_removed_and_nothing_else(whole, tmp_path):
     assert done(whole.top / "tools/install", "--prefix", to, "--remove")[0] == 0
     assert [str(it.relative_to(to)) for it in to.rglob("*")] == ["bin", "bin/other"]
     assert done(whole.top / "tools/install", "--prefix", to, "--remove")[0] == 1
+
+
+@pytest.mark.parametrize("name", ["/{folder}/other", "../other", "bin/../../other", ".."])
+def test_a_list_that_names_files_elsewhere_removes_nothing(whole, tmp_path, name):
+    """Who may write the list of an installation can't have files removed that were not installed."""
+    to, other = tmp_path / "prefix", tmp_path / "other"
+    other.write_text("")
+    assert done(whole.top / "tools/install", "--prefix", to)[0] == 0
+    with open(to / "lib/arterial/installed", "a", encoding="utf-8") as file:
+        file.write(name.format(folder=tmp_path) + "\n")
+    status, _, said = done(whole.top / "tools/install", "--prefix", to, "--remove")
+    assert status == 1 and said.count("\n") == 1 and "names files outside of" in said
+    assert other.exists() and (to / "bin/arterial").exists()
+
+
+def test_names_with_backslashes_and_hyphens_are_taken_as_they_are(whole, tmp_path):
+    to = tmp_path / "prefix"
+    assert done(whole.top / "tools/install", "--prefix", to)[0] == 0
+    for name in ("-rf", "a\\nb", "bin/\\c"):
+        (to / name).write_text("")
+        with open(to / "lib/arterial/installed", "a", encoding="utf-8") as file:
+            file.write(name + "\n")
+    assert done(whole.top / "tools/install", "--prefix", to, "--remove") == (0, "", "")
+    assert not to.exists() or list(to.iterdir()) == []
 
 
 def test_nothing_is_installed_that_was_not_proved(tried, proved, tmp_path):

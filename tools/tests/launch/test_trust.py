@@ -98,7 +98,7 @@ def test_with_other_sources_the_program_without_proofs_answers(proved, name):
     status, written, said = proved.ran("run", "--workers", "2")
     assert (status, written) == BUILT
     assert said.startswith(
-        f"arterial: {name} has changed since the program was proved: the program without its proofs answers"
+        f"arterial: {name} has changed since the program was proved: the unproved program answers"
     )
 
 

@@ -1,5 +1,4 @@
-"""While there is no proved program: the answer of the program without proofs, and what is said where that can't be
-had."""
+"""While there is no proved program, and the kit is one whose unproved program can't be kept: each call builds it."""
 
 import os
 import pathlib
@@ -13,14 +12,14 @@ import pytest
 from .conftest import BUILT, HERE, SECONDS, Tried, ended, interrupt, wait_for
 
 FIRST = (
-    "arterial: there is no proved program here yet: the program without its proofs answers, in about a minute "
-    "(./arterial prove or ./test proves it here)\n"
+    "arterial: there is no proved program here yet: the unproved program answers; building it takes about a minute "
+    "(./arterial prove proves it here)\n"
 )
 
 
 def test_the_answer_and_its_status_are_the_programs_and_one_line_says_of_what_kind_it_is(tried):
     assert tried.ran("run", "--workers", "2") == (*BUILT, FIRST)
-    assert tried.calls()[0] == ["try --seconds 60 -- run --workers 2"]
+    assert tried.calls()[0] == ["try --seconds 60 -- --version", "try --seconds 60 -- run --workers 2"]
 
 
 def test_a_refusal_is_the_programs_own_line(tried):
@@ -55,7 +54,7 @@ def test_a_longer_input_than_the_kit_takes_is_not_cut(tried, tmp_path):
         it.truncate(64 << 20)
     status, written, said = tried.ran("check", str(long))
     assert (status, written) == (124, "") and "the input is longer than 64 MiB" in said
-    assert tried.calls()[0] == []
+    assert tried.calls()[0] == ["try --seconds 60 -- --version"]
 
 
 def test_help_is_there_at_once(tried):
@@ -205,7 +204,7 @@ def test_a_sources_text_is_read_as_the_compiler_reads_it():
 
     top = HERE.parents[2]
     text = source.help(top)
-    assert text.startswith("arterial: a bench") and "\\" not in text and text.count('"') == 0
+    assert text.startswith("arterial: a ") and "\\" not in text and text.count('"') == 0
     listed = (top / "crates/station/src/help.rt").read_text()
     assert text.removesuffix("\n") in listed
     assert source.version(top).startswith("arterial ") and source.usage(top).startswith("usage: arterial ")

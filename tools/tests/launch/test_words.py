@@ -88,7 +88,7 @@ def test_help_of_one_command(proved, word):
 @pytest.mark.parametrize("command", ["look", "cabinet"])
 def test_the_tools_are_words_of_the_launcher(proved, command):
     status, written, said = proved.ran(command, "--help")
-    assert (status, said) == (0, "") and written.startswith(f"usage: {command} ")
+    assert (status, said) == (0, "") and written.startswith(f"usage: arterial {command} ")
 
 
 def test_in_a_virtual_environment_its_python_runs_the_tools(proved, tmp_path):
@@ -97,7 +97,7 @@ def test_in_a_virtual_environment_its_python_runs_the_tools(proved, tmp_path):
     python.write_text('#!/bin/sh\necho "in the environment" >&2\nexec /usr/bin/python3 "$@"\n')
     python.chmod(0o755)
     status, written, said = proved.ran("look", "--help", VIRTUAL_ENV=str(tmp_path))
-    assert (status, said) == (0, "in the environment\n") and written.startswith("usage: look ")
+    assert (status, said) == (0, "in the environment\n") and written.startswith("usage: arterial look ")
     assert proved.ran("look", "--help", VIRTUAL_ENV="/nowhere")[:2] == (0, written)
 
 
@@ -111,16 +111,16 @@ def test_the_tools_can_be_called_as_a_package_of_python(proved):
         )
         return ran.returncode, ran.stdout, ran.stderr
 
-    assert called("look", "--help")[1].startswith("usage: look ")
+    assert called("look", "--help")[1].startswith("usage: arterial look ")
     assert "cabinet" in called()[1] and "launch" not in called()[1]
     assert called("lok") == (2, "", "streettools: no command lok: look?\n")
 
 
 def test_a_package_of_python_that_is_missing_is_told_in_one_line(proved, tmp_path):
-    (tmp_path / "tqdm.py").write_text("raise ModuleNotFoundError('none', name='tqdm')\n")
+    (tmp_path / "tomli_w.py").write_text("raise ModuleNotFoundError('none', name='tomli_w')\n")
     status, written, said = proved.ran("plan", "--help", PYTHONPATH=str(tmp_path))
     assert (status, written) == (1, "")
-    assert said == "plan: Python's package tqdm is missing: README.md has the line that installs all of them\n"
+    assert said == "plan: Python's package tomli_w is missing: apt-get install -y python3-tomli-w\n"
 
 
 def test_a_command_of_the_tools_is_a_line_and_a_module(proved):

@@ -103,7 +103,7 @@ class Drawn:
 @pytest.fixture
 def look(capsys, monkeypatch, tmp_path):
     """The command within this process, which must answer with status 0; a trace that is given stands in a file."""
-    from streettools.look.command import main
+    from streettools import words as tools
 
     monkeypatch.setenv("ARTERIAL_PROGRAM", "/nowhere")
 
@@ -112,7 +112,7 @@ def look(capsys, monkeypatch, tmp_path):
             file = tmp_path / "given.trace"
             file.write_text(given)
             words = (*words, file)
-        status = main([str(word) for word in words])
+        status = tools.run(["look", *map(str, words)])
         answer = capsys.readouterr()
         assert (status, answer.err) == (0, "")
         return answer.out

@@ -4,8 +4,8 @@ import io
 
 import pytest
 from streettools.shared import lines
-from streettools.shared.lines import Frame, NotATrace
-from streettools.shared.trace_reader import Answered, Ended, Input, Noted, TraceReader
+from streettools.shared.trace_records import Answered, Ended, Frame, Input, NotATrace, Noted
+from streettools.shared.trace_reader import TraceReader
 
 from .conftest import SMALL, STREET, VECTORS, run
 
@@ -123,7 +123,7 @@ def test_a_fault_is_told_and_writes_nothing_over_a_picture(tmp_path):
 
 def test_faulty_words_are_told():
     for words in (["rings", "--cabinet", "2", "-o", "x.svg"], ["rings", "-o", "x.gif"],
-                  ["rings", "--from", "420", "-o", "x.svg"], ["coordination", "--travel", "5", "-o", "x.svg"],
+                  ["rings", "--from", "42", "-o", "x.svg"], ["coordination", "--travel", "5", "-o", "x.svg"],
                   ["events"], []):  # fmt: skip
         answer = run(*words, given=SMALL)
         assert (answer.returncode, answer.stdout) == (2, "") and answer.stderr

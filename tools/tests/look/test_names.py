@@ -3,7 +3,7 @@
 import json
 
 import pytest
-from streettools.plan.command import main as plan
+from streettools.words import run as tool
 
 from .conftest import PAIR, SMALL, run
 
@@ -59,7 +59,7 @@ def planned(tmp_path):
 
     def done(sheet, lines):
         (tmp_path / "street.toml").write_text(sheet)
-        assert plan(["scenario", str(tmp_path / "street.toml"), "-o", str(tmp_path / "street.json")]) == 0
+        assert tool(["plan", "scenario", str(tmp_path / "street.toml"), "-o", str(tmp_path / "street.json")]) == 0
         scenario = json.loads((tmp_path / "street.json").read_text())
         text = json.dumps(scenario, separators=(",", ":"), sort_keys=True)
         return f"S {text}\n" + "".join(f"{line}\n" for line in lines), tmp_path / "street.names.json"

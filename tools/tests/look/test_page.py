@@ -161,7 +161,7 @@ def test_a_name_with_marks_of_html_stays_a_name(paged, tmp_path):
     "words, given, status, said",
     [
         (["-o", "page.svg"], SMALL, 2, "the page's name must end in .html"),
-        ([], SMALL, 2, "-o/--out"),
+        ([], SMALL, 2, "-o/--output"),
         (["-o", "page.html"], SMALL.replace("F 1 160 ", "F 1 600 "), 2, "line 10 is no line of a trace"),
         (["-o", "page.html"], SMALL.removesuffix("Z 7\n"), 2, "it ends before its Z line"),
         (["-o", "page.html"], "no trace", 2, "line 1 is no line of a trace"),
@@ -180,12 +180,12 @@ def test_bad_input_is_told_and_leaves_no_page(tmp_path, monkeypatch, words, give
 
 
 def test_a_missing_library_is_named_with_what_installs_it(tmp_path, monkeypatch, capsys):
-    from streettools.look.command import main
+    from streettools.words import run as tool
 
     monkeypatch.setattr(writing, "LIBRARY", tmp_path / "d3.min.js")
     trace = tmp_path / "trace"
     trace.write_text(SMALL)
-    assert main(["page", "--no-check", "-o", str(tmp_path / "page.html"), str(trace)]) == 1
+    assert tool(["look", "page", "--no-check", "-o", str(tmp_path / "page.html"), str(trace)]) == 1
     assert (
         capsys.readouterr().err.endswith("d3.min.js): apt-get install node-d3\n")
         and not (tmp_path / "page.html").exists()

@@ -17,13 +17,13 @@ def test_rings_of_a_car_on_the_side_street(drawn):
 
 
 def test_rings_of_a_street_cabinet(drawn):
-    found = drawn("rings", "--cabinet", "2", "--to", "2400", STREET)
+    found = drawn("rings", "--cabinet", "2", "--to", "240", STREET)
     assert found.groups["ring-1-green"] == 10 and found.groups["ring-2-yellow"] == 9
     assert found.groups["local-zeros"] == 3 and found.texts["0"] == 3 and found.groups["barriers"] == 5
 
 
 def test_rings_show_preempts_walks_and_downloads(drawn):
-    found = drawn("rings", "--from", "0", "--to", "1100", VECTORS[1])
+    found = drawn("rings", "--from", "0", "--to", "110", VECTORS[1])
     assert [found.groups[f"ring-{ring}-{name}"] for ring in (1, 2) for name in ("walk", "flashing")] == [3, 1, 1, 1]
     assert found.groups["mode-preempt"] >= 1 and found.texts["preempt 2 input"] == 1
     found = drawn("rings", "--cabinet", "1", VECTORS[2])
@@ -40,7 +40,7 @@ def test_a_start_gives_the_axis_the_time_of_day(drawn):
 
 
 def test_bands_through_a_street(drawn):
-    found = drawn("coordination", "--from", "6000", "--to", "9600", "--travel", "20,20,20", STREET)
+    found = drawn("coordination", "--from", "600", "--to", "960", "--travel", "20,20,20", STREET)
     assert sum(name.startswith("outbound-band") for name in found.groups if name) == 4
     assert found.texts["24.5 s"] == 3 and found.texts["no inbound band"] == 1
     assert [found.groups[f"cabinet-{number}-outbound-green"] for number in (1, 2, 3, 4)] == [4, 4, 5, 4]
@@ -67,7 +67,7 @@ def test_bands_of_a_plan_by_the_clock_of_the_street(drawn, bands):
     """The clocks show 840 at tick 0, so that time 0 of a cycle of 900 is at ticks 60, 960 and 1860, and time 100 a
     hundred later."""
     found = drawn(
-        "coordination", "--to", "2400", "--travel", "10", "--planned",
+        "coordination", "--to", "240", "--travel", "10", "--planned",
         bands("outbound 0 245 1 1", "inbound 100 45 2 1"), given=PAIR,
     )
     assert (
@@ -77,7 +77,7 @@ def test_bands_of_a_plan_by_the_clock_of_the_street(drawn, bands):
 
 
 def test_a_street_on_its_offsets_has_the_bands_of_its_plan(drawn, bands):
-    words = ("coordination", "--from", "6000", "--to", "9000", "--travel", "20,20,20", STREET)
+    words = ("coordination", "--from", "600", "--to", "900", "--travel", "20,20,20", STREET)
     found = drawn(*words, "--planned", bands("outbound 0 245 1 1", "inbound none"))
     assert named(found, "outbound-planned-") == named(found, "outbound-band-") == [5460, 6360, 7260, 8160]
     assert named(found, "inbound-planned-") == [] and found.texts["none inbound by the plan"] == 1

@@ -41,7 +41,7 @@ def said(program: pathlib.Path, text: bytes) -> str:
 def plan(*words: object, given: bytes | None = None) -> subprocess.CompletedProcess:
     """Runs `./arterial plan` with some words, as a process of its own."""
     return subprocess.run(
-        ["/usr/bin/python3", "-B", "-m", "streettools.plan", *map(str, words)], input=given, capture_output=True,
+        ["/usr/bin/python3", "-B", "-m", "streettools", "plan", *map(str, words)], input=given, capture_output=True,
         timeout=SECONDS,
         env={**os.environ, "PYTHONPATH": str(TOP / "tools")},
     )  # fmt: skip

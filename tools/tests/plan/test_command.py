@@ -1,10 +1,12 @@
 """The command as it is called: what it writes, one line for what it can't take, and its exit statuses."""
 
 import json
+import os
+import subprocess
 
 import pytest
 
-from .conftest import TOP, plan, said
+from .conftest import SECONDS, TOP, plan, said
 
 SHEET = TOP / "scenarios/sheets/main-street.toml"
 BAD = '[[intersection]]\nname = "Main & 3rd"\n[intersection.pattern.1]\ncycle = 80\n'
@@ -178,3 +180,39 @@ def test_a_time_of_day_without_seconds_is_told(tmp_path, text):
     (tmp_path / "given.toml").write_text(text)
     ran = plan("check", tmp_path / "given.toml")
     assert ran.returncode == 2 and b"; a time of day has its seconds too, as 07:30:00" in ran.stdout
+
+
+HIDDEN = ["\x1b[2J", "\x1b]0;title\x07", "\u202e", "\0"]
+"""What a terminal would do something with, or doesn't show: it is cleared, it gets a title, the text turns round."""
+
+
+@pytest.mark.parametrize("hidden", HIDDEN, ids=["clear", "title", "turned", "nul"])
+def test_names_with_characters_that_are_not_shown_are_refused(tmp_path, hidden):
+    """In a sheet, and in the file with the names of a scenario; nothing of them reaches the terminal."""
+    sheet, scenario = tmp_path / "street.toml", tmp_path / "street.json"
+    sheet.write_text(f"[[intersection]]\nname = {json.dumps('Main' + hidden)}\n")
+    scenario.write_text('{"version":1,"rounds":9,"ticks":10,"cabinets":[{}]}')
+    (tmp_path / "street.names.json").write_text(json.dumps({"intersections": [{"name": "Main" + hidden}]}))
+    for path in (sheet, scenario):
+        ran = plan("check", path)
+        assert ran.returncode == 2 and b"has characters that can't be shown" in ran.stdout + ran.stderr
+        assert hidden.encode() not in ran.stdout + ran.stderr
+
+
+def test_a_name_of_several_lines_is_one_line(tmp_path):
+    """As a workbook's cell may have it."""
+    (tmp_path / "street.toml").write_text('[[intersection]]\nname = "Main St\\n  at 3rd Ave"\n')
+    ran = plan("scenario", tmp_path / "street.toml", "-o", tmp_path / "street.json")
+    assert ran.returncode == 0, ran.stderr
+    known = json.loads((tmp_path / "street.names.json").read_text())
+    assert known["intersections"][0]["name"] == "Main St at 3rd Ave"
+
+
+def test_plan_runs_without_a_bar_of_progress(tmp_path):
+    """Python's tqdm is only for the bar."""
+    (tmp_path / "tqdm.py").write_text("raise ModuleNotFoundError('No module named tqdm', name='tqdm')\n")
+    (tmp_path / "street.toml").write_text('[[intersection]]\nname = "Main St"\n')
+    command = ["/usr/bin/python3", "-B", "-m", "streettools", "plan", "check", tmp_path / "street.toml"]
+    path = f"{tmp_path}:{TOP / 'tools'}"
+    ran = subprocess.run(command, capture_output=True, timeout=SECONDS, env={**os.environ, "PYTHONPATH": path})
+    assert ran.returncode == 0 and ran.stderr == b""

@@ -13,7 +13,7 @@ import pytest
 
 from streettools.cabinet.messages import GET, GET_NEXT, field, integer, kind_of, message, name_of, reply_of, value_of
 from streettools.plan import live, loads, reading, toml_text, walk
-from streettools.plan.cells import differing, kinds, tables_of, value
+from streettools.shared.cells import differing, kinds, tables_of, value
 from streettools.plan.given import Unreadable
 from streettools.shared.tables import Tables
 
@@ -173,7 +173,8 @@ def test_an_agent_that_does_not_answer_is_told(monkeypatch):
 def cabinet(program, *words: object):
     """A live cabinet, which gives its port."""
     agent = subprocess.Popen(
-        [TOP / "cabinet", "--port", "0", "--step", "1", "--program", program, *words], stderr=subprocess.PIPE, text=True
+        [TOP / "cabinet", "--port", "0", "--ticks-per-message", "1", "--program", program, *words],
+        stderr=subprocess.PIPE, text=True,
     )
     try:
         yield int(re.search(r"127\.0\.0\.1:(\d+)", agent.stderr.readline())[1])

@@ -8,7 +8,7 @@ import subprocess
 import pytest
 
 from streettools.plan import fix, loads, names, pattern_rules, reading, rules
-from streettools.plan.cells import differing, with_cells
+from streettools.shared.cells import differing, with_cells
 from streettools.shared.tables import Tables
 
 from .random_tables import cells_of
@@ -207,7 +207,7 @@ def test_the_sets_of_a_download_are_begin_parts_total_and_finish():
     head, own, asc = "snmpset -v1 -c public 127.0.0.1:10161", "1.3.6.1.4.1.32473.1", "1.3.6.1.4.1.1206.4.2.1"
     assert len(lines) == 5 and lines[0] == f"{head} {own}.1.2.0 i 7"
     assert lines[1].startswith(
-        f'{head} {own}.1.3.0 i 7 {own}.1.4.0 i 1 {asc}.1.2.1.8.2 i 43 {asc}.7.3.1.3.2.1 x "0201" {own}.3.2.0 i 60'
+        f'{head} {own}.1.3.0 i 7 {own}.1.4.0 i 1 {asc}.1.2.1.8.2 i 43 {asc}.7.3.1.3.2.1 x 0201 {own}.3.2.0 i 60'
     )
     assert lines[2] == f"{head} {own}.1.3.0 i 7 {own}.1.4.0 i 2 {asc}.4.2.0 i 3"
     assert lines[3:] == [f"{head} {own}.1.3.0 i 7 {own}.1.5.0 i 2", f"{head} {own}.1.3.0 i 7 {own}.1.6.0 i 1"]

@@ -8,8 +8,9 @@ import sys
 
 import pytest
 
-from streettools.plan import check, jsontext, reading, rules, shapes, sources, toml_text
-from streettools.plan.cells import tables_of
+from streettools.plan import check, jsontext, reading, rules, sources, toml_text
+from streettools.shared import shapes
+from streettools.shared.cells import tables_of
 from streettools.plan.findings import Level
 
 from .conftest import TOP, said

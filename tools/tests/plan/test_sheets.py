@@ -7,7 +7,7 @@ import subprocess
 import pytest
 
 from streettools.plan import book, book_reading, names, reading, toml_text, writing
-from streettools.plan.cells import differing, tables_of
+from streettools.shared.cells import differing, tables_of
 from streettools.plan.given import Unreadable
 from streettools.plan.layout import concurrent
 from streettools.shared.tables import Tables
@@ -52,7 +52,7 @@ def test_each_scenario_comes_back_whole_from_its_sheet_and_its_workbook(path, tm
     sheet = writing.sheet_of(old)
     assert same(old, reading.street_of(toml_text.read(toml_text.text(sheet))))
     book.write(sheet, str(tmp_path / "street.xlsx"))
-    assert same(old, reading.street_of(book_reading.read((tmp_path / "street.xlsx").read_bytes())))
+    assert same(old, reading.street_of(book_reading.read((tmp_path / "street.xlsx").read_bytes())[0]))
 
 
 def test_two_thousand_random_tables_come_back_cell_by_cell():
@@ -71,7 +71,7 @@ def test_random_tables_come_back_from_workbooks(tmp_path):
     known = [names.Intersection(name=f"= Main [St] / {it}?") for it in range(BOOKS)]
     sheet = {"intersection": [writing.intersection_sheet(*it) for it in zip(cabinets, known, strict=True)]}
     book.write(sheet, str(tmp_path / "all.xlsx"))
-    back = reading.street_of(book_reading.read((tmp_path / "all.xlsx").read_bytes()))
+    back = reading.street_of(book_reading.read((tmp_path / "all.xlsx").read_bytes())[0])
     assert [it.name for it in back.names.intersections] == [it.name for it in known]
     for old, new in zip(cabinets, back.scenario["cabinets"], strict=True):
         assert not differing(tables_of(old), tables_of(new))

@@ -6,7 +6,7 @@ import re
 import pytest
 
 from streettools.plan import reading, utdf_in, utdf_out, utdf_text
-from streettools.plan.cells import differing, tables_of
+from streettools.shared.cells import differing, tables_of
 from streettools.plan.given import Unreadable
 from streettools.plan.layout import concurrent
 

@@ -14,10 +14,10 @@ TOP = pathlib.Path(__file__).resolve().parents[3]
 sys.dont_write_bytecode = True
 sys.path.insert(0, str(TOP / "tools"))
 
-from streettools.cosim.queues_demand import demand_of  # noqa: E402
-from streettools.cosim.queues_signals import Signals  # noqa: E402
-from streettools.cosim.queues_street import Steps, Street  # noqa: E402
-from streettools.cosim.queues_volumes import Flow, Onward, Saturation, Volumes  # noqa: E402
+from streettools.cosim.queues.demand import demand_of  # noqa: E402
+from streettools.cosim.queues.signals import Signals  # noqa: E402
+from streettools.cosim.queues.street import Steps, Street  # noqa: E402
+from streettools.cosim.queues.volumes import Flow, Onward, Saturation, Volumes  # noqa: E402
 
 
 class FixedTime:

@@ -7,8 +7,8 @@ from itertools import pairwise
 import pytest
 
 from .conftest import Flow, Onward, Volumes, flow
-from streettools.cosim.queues_demand import arrivals, demand_of, travel
-from streettools.cosim.queues_volumes import Crossing, Profile, volumes_of
+from streettools.cosim.queues.demand import arrivals, demand_of, travel
+from streettools.cosim.queues.volumes import Crossing, Profile, volumes_of
 
 HOUR = 3600.0
 

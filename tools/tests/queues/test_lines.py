@@ -5,7 +5,7 @@ import math
 import pytest
 
 from .conftest import FixedTime, Saturation, flow, ran
-from streettools.cosim.queues_lines import StopLine
+from streettools.cosim.queues.lines import StopLine
 
 
 def line_of(count: int, lanes: int = 1, saturation: Saturation = Saturation()) -> StopLine:

@@ -6,7 +6,7 @@ import pytest
 
 from .conftest import TOP  # noqa: F401 (puts the tools on the path)
 from streettools.cosim import movements, records, report
-from streettools.cosim.queues_signals import Signals, Spans
+from streettools.cosim.queues.signals import Signals, Spans
 from streettools.cosim.records import Kind, Movement, Passage, QueueSample, Study, Trip
 
 

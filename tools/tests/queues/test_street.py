@@ -5,7 +5,7 @@ from itertools import pairwise
 import pytest
 
 from .conftest import FixedTime, Flow, Onward, Saturation, flow, ran
-from streettools.cosim.queues_volumes import Detectors
+from streettools.cosim.queues.volumes import Detectors
 
 
 def street_of_three(dispersion: float = 0.35, share: float = 0.9) -> list[Flow]:
@@ -116,10 +116,10 @@ def test_the_detector_ahead_sees_a_vehicle_its_seconds_before_the_line():
 
 
 def test_persons_press_the_button_of_their_crossing_once_a_step():
-    from streettools.cosim.queues_demand import demand_of
-    from streettools.cosim.queues_signals import Signals
-    from streettools.cosim.queues_street import Steps, Street
-    from streettools.cosim.queues_volumes import Crossing, Volumes
+    from streettools.cosim.queues.demand import demand_of
+    from streettools.cosim.queues.signals import Signals
+    from streettools.cosim.queues.street import Steps, Street
+    from streettools.cosim.queues.volumes import Crossing, Volumes
 
     volumes = Volumes("", (flow(0),), crossings=(Crossing(1, 4, 3000.0),))
     demand = demand_of(volumes, 1, 0.0, 100.0)

@@ -6,9 +6,10 @@ import os
 import pytest
 
 from .conftest import program_here
-from streettools.cosim import queues_study, report
-from streettools.cosim.queues_study import Asked
-from streettools.cosim.queues_volumes import volumes_of
+from streettools.cosim import report
+from streettools.cosim.queues import study
+from streettools.cosim.queues.study import Asked
+from streettools.cosim.queues.volumes import volumes_of
 from streettools.shared.fault import Fault
 from streettools.sweep.prepared import modules, prepared
 
@@ -52,10 +53,10 @@ def test_a_study_with_volumes_has_the_measures_of_the_report_and_those_of_the_tr
     one, other, refused, _ = rows()
     asked = Asked(100.0, 10, 1)
     volumes = volumes_of(__import__("tomllib").loads(VOLUMES.decode()))
-    ran = queues_study.run(str(program_here()), volumes, SCENARIO, asked, lambda step: None)
+    ran = study.run(str(program_here()), volumes, SCENARIO, asked, lambda step: None)
     import pathlib
 
-    value = report.collect(queues_study.study_of(ran, pathlib.Path()), ran.signals.greens)
+    value = report.collect(study.study_of(ran, pathlib.Path()), ran.signals.greens)
     east = next(it for it in value["movements"] if it["movement"] == "EBT")
     assert round(one["delay_mean_c1_p2"], 1) == pytest.approx(east["delay"], abs=0.051)
     assert one["vehicles"] == sum(it["vehicles"] for it in value["movements"])
@@ -99,5 +100,5 @@ def test_volumes_that_do_not_fit_the_scenario_are_a_refused_row():
 
 def test_the_modules_that_a_worker_needs_go_along():
     given = modules()
-    assert {"cosim/queues_study.py", "cosim/movements.py", "cosim/records.py", "cosim/__init__.py"} <= set(given)
+    assert {"cosim/queues/study.py", "cosim/movements.py", "cosim/records.py", "cosim/__init__.py"} <= set(given)
     assert not any("pictures" in name and name.startswith("cosim") for name in given)

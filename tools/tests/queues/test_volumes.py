@@ -6,9 +6,9 @@ import tomllib
 import pytest
 
 from .conftest import TOP
-from streettools.cosim import queues_study
-from streettools.cosim.queues_checks import check
-from streettools.cosim.queues_volumes import Detectors, Onward, Saturation, volumes_of
+from streettools.cosim.queues import study
+from streettools.cosim.queues.checks import check
+from streettools.cosim.queues.volumes import Detectors, Onward, Saturation, volumes_of
 from streettools.shared.fault import Fault
 
 SCENARIO = {"version": 1, "rounds": 60, "ticks": 10, "cabinets": [{"pattern": 1, "clock": 252_000}, {"pattern": 1}]}
@@ -81,7 +81,7 @@ def changed(one: str, other: str, count: int = 1) -> str:
         (changed("number = 2", "number = 3"), "volumes: EBT of cabinet 3: the scenario has no cabinet 3"),
         (changed("number = 2", "number = 1"), "volumes: cabinet 1 stands there twice"),
         (
-            changed('until = "8:00"', 'until = "7:00:30"'),
+            changed('until = "8:00"', 'until = "7:60"'),
             'volumes: profiles.day.until has to be a time of day, as "09:00"',
         ),
         (
@@ -129,7 +129,7 @@ def test_what_does_not_fit_is_refused_in_one_line(text, line):
 
 
 def test_vehicles_that_never_leave_are_refused():
-    from streettools.cosim.queues_demand import demand_of
+    from streettools.cosim.queues.demand import demand_of
 
     text = changed("volume = 500 }", 'volume = 500, to = "2 EB", travel = 9 }')
     with pytest.raises(Fault, match="their way has no end"):
@@ -139,7 +139,7 @@ def test_vehicles_that_never_leave_are_refused():
 @pytest.mark.parametrize("text", [b"{", b"[]", b'{"cabinets":[]}', b'{"cabinets":[{}],"rounds":"1","ticks":10}'])
 def test_what_is_no_scenario_is_refused(text):
     with pytest.raises(Fault, match="street.json is no scenario"):
-        queues_study.read_scenario(text, "street.json")
+        study.read_scenario(text, "street.json")
 
 
 def test_the_volumes_of_the_street_of_four_fit_its_scenario_for_an_hour():

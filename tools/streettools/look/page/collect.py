@@ -4,15 +4,15 @@ Frames are kept as they stand in the trace; all else that needs the tables in fo
 pictures.
 """
 
-from typing import NamedTuple
+from typing import Any, NamedTuple
 
 from streettools.shared import answers
 from streettools.shared.answers import Cancelled, ClockNamed, Requested
 from streettools.shared.cabinet import changes, mode_of, opened
-from streettools.shared.lines import Frame
+from streettools.shared.trace_records import Answered, Ended, Frame, Input, Noted, RoundEnd
 from streettools.shared.plans import coordinated
 from streettools.shared.tables import ALL
-from streettools.shared.trace_reader import Answered, Ended, Input, Noted, RoundEnd, TraceReader
+from streettools.shared.trace_reader import TraceReader
 
 from .tables import FIELDS, Table, Words
 
@@ -43,7 +43,7 @@ class CabinetNumbers:
     """A cabinet's tables of numbers, filled as the trace is read. `rings` tells the ring of each phase from a tick on,
     `pairs` the coordinated phases of ring 1 and ring 2."""
 
-    def __init__(self, scenario: dict, number: int, shared: Shared):
+    def __init__(self, scenario: dict[str, Any], number: int, shared: Shared):
         self.cabinet, self.shared = opened(scenario, number), shared
         self.tables = {name: Table(fields) for name, fields in FIELDS.items()}
         self.side, self.rings, self.pairs = None, [], []

@@ -9,7 +9,7 @@ import json
 import pathlib
 import re
 from collections.abc import Iterator
-from typing import NamedTuple
+from typing import Any, NamedTuple
 
 from streettools.shared import files
 from streettools.shared.status import Status
@@ -61,7 +61,7 @@ def shown_pairs(numbers: CabinetNumbers, partners: frozenset[int]) -> list[list[
     return found
 
 
-def cabinet_head(numbers: CabinetNumbers, names: Called) -> dict:
+def cabinet_head(numbers: CabinetNumbers, names: Called) -> dict[str, Any]:
     """Returns what a page says of a cabinet beside its numbers."""
     number = numbers.cabinet.number
     partners = names.partners(number)
@@ -78,7 +78,9 @@ def cabinet_head(numbers: CabinetNumbers, names: Called) -> dict:
     }
 
 
-def head(reader: Checked, cabinets: list[CabinetNumbers], shared: Shared, names: Called, asked: Asked) -> dict:
+def head(
+    reader: Checked, cabinets: list[CabinetNumbers], shared: Shared, names: Called, asked: Asked
+) -> dict[str, Any]:
     """Returns all of a page that isn't a number of a table."""
     return {
         "title": names.title() or f"A run of {reader.cabinets} cabinet{'s' * (reader.cabinets > 1)}",
@@ -99,7 +101,7 @@ def in_script(code: str) -> str:
     return code.replace("</script", "<\\/script")
 
 
-def page(top: dict, data: str) -> Iterator[str]:
+def page(top: dict[str, Any], data: str) -> Iterator[str]:
     """Yields the parts of the file."""
     filled = {
         "TITLE": html.escape(top["title"]),

@@ -1,0 +1,1 @@
+"""Pictures of a run with traffic (docs/QUEUES.md)."""

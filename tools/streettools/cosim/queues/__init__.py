@@ -1,0 +1,1 @@
+"""Traffic that waits in queues, without SUMO (docs/QUEUES.md)."""

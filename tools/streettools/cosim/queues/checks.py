@@ -1,0 +1,122 @@
+"""What volumes must keep to fit a scenario: each movement has a phase that is there, each phase has somebody."""
+
+import difflib
+from typing import Any
+
+from ...shared.fault import Fault
+from ...shared.tables import Tables
+from .volumes import Crossing, Flow, Volumes
+
+
+def tables_of(scenario: dict[str, Any]) -> dict[int, Tables]:
+    """Returns the tables with which each cabinet of a scenario opens."""
+    try:
+        rows = enumerate(scenario["cabinets"], 1)
+        return {number: Tables(it.get("base", "std8"), it.get("cells", ())) for number, it in rows}
+    except (TypeError, ValueError, AttributeError, KeyError):
+        raise Fault("no scenario (./arterial run tells why)") from None
+
+
+def check(volumes: Volumes, scenario: dict[str, Any], seconds: float) -> None:
+    """Refuses volumes that don't fit a scenario, or that don't cover a run of so many seconds."""
+    tables = tables_of(scenario)
+    cabinets_are_there(volumes, tables)
+    phases_are_served(volumes, tables)
+    names_are_known(volumes)
+    profiles_cover(volumes, scenario, seconds)
+    capacities_hold(volumes)
+
+
+def cabinets_are_there(volumes: Volumes, tables: dict[int, Tables]) -> None:
+    """Refuses cabinets and phases that aren't there."""
+    for it in (*volumes.flows, *volumes.crossings):
+        what = told(it)
+        if it.cabinet not in tables:
+            raise Fault(f"volumes: {what}: the scenario has no cabinet {it.cabinet}")
+        if it.phase not in tables[it.cabinet].enabled():
+            raise Fault(f"volumes: {what}: phase {it.phase} is not enabled in cabinet {it.cabinet}")
+        if isinstance(it, Crossing) and not tables[it.cabinet].phase(it.phase, 2):
+            raise Fault(f"volumes: {what}: phase {it.phase} of cabinet {it.cabinet} has no walk")
+    for cabinet, phase in sorted(volumes.idle, key=str):
+        if cabinet not in tables or phase not in tables[cabinet].enabled():
+            raise Fault(f"volumes: idle of cabinet {cabinet}: phase {phase} is not enabled there")
+
+
+def told(it: Flow | Crossing) -> str:
+    """Returns how a movement or a crossing is told in a message."""
+    return f"{'crossing' if isinstance(it, Crossing) else it.name} of cabinet {it.cabinet}"
+
+
+def phases_are_served(volumes: Volumes, tables: dict[int, Tables]) -> None:
+    """Refuses a phase that serves nobody."""
+    served = {(it.cabinet, it.phase) for it in (*volumes.flows, *volumes.crossings)} | volumes.idle
+    for cabinet, table in tables.items():
+        for phase in table.enabled():
+            if (cabinet, phase) not in served:
+                raise Fault(
+                    f"volumes: phase {phase} of cabinet {cabinet} has no movement and no crossing "
+                    "(idle lists phases without traffic)"
+                )
+
+
+def names_are_known(volumes: Volumes) -> None:
+    """Refuses equal names, approaches and profiles that aren't there, and approaches that aren't told apart."""
+    names, approaches = set(), {}
+    for it in volumes.flows:
+        if (it.cabinet, it.name) in names:
+            raise Fault(f"volumes: cabinet {it.cabinet} has two movements {it.name}")
+        names.add((it.cabinet, it.name))
+        approaches.setdefault((it.cabinet, it.approach), []).append(it)
+    for it in volumes.flows:
+        onward = it.onward
+        if onward is None:
+            continue
+        there = approaches.get((onward.cabinet, onward.approach))
+        if there is None:
+            where = f"{onward.cabinet} {onward.approach}"
+            raise Fault(f"volumes: {told(it)} goes to {where}, and there is no such approach")
+        if not sum(other.volume for other in there):
+            raise Fault(
+                f"volumes: approach {onward.approach} of cabinet {onward.cabinet} has no volumes, "
+                "which are the shares of those who come from elsewhere"
+            )
+    for it in (*volumes.flows, *volumes.crossings):
+        if it.profile is not None and it.profile not in volumes.profiles:
+            near = next(iter(difflib.get_close_matches(it.profile, volumes.profiles, 1)), None)
+            raise Fault(f"volumes: {told(it)}: no profile {it.profile}" + (f": is {near} meant?" if near else ""))
+
+
+def profiles_cover(volumes: Volumes, scenario: dict[str, Any], seconds: float) -> None:
+    """Refuses a profile that says nothing of some time of the run."""
+    used = {it.profile for it in (*volumes.flows, *volumes.crossings)} - {None}
+    start = starts_at(scenario)
+    for name in sorted(used):
+        profile = volumes.profiles[name]
+        if profile.steps[0][0] > start or profile.until < start + seconds:
+            raise Fault(
+                f"volumes: profile {name} covers {day(profile.steps[0][0])} to {day(profile.until)}, "
+                f"and the run is from {day(start)} to {day(start + seconds)}"
+            )
+
+
+def starts_at(scenario: dict[str, Any]) -> float:
+    """Returns the time of day at which a run begins, by the clock of its first cabinet."""
+    return scenario["cabinets"][0].get("clock", 0) / 10
+
+
+def day(seconds: float) -> str:
+    """Returns a time of day in words."""
+    whole = int(seconds)
+    return f"{whole // 3600}:{whole // 60 % 60:02d}" + (f":{whole % 60:02d}" if whole % 60 else "")
+
+
+def capacities_hold(volumes: Volumes) -> None:
+    """Refuses a volume that can't come with the least headway, by the greatest factor of its profile."""
+    for it in volumes.flows:
+        steps = volumes.profiles[it.profile].steps if it.profile else ((0.0, 1.0),)
+        most = it.volume * volumes.factor * max(factor for _, factor in steps)
+        if it.headway and most * it.headway / it.lanes >= 3600:
+            raise Fault(
+                f"volumes: {told(it)}: {most:g} vehicles an hour can't come {it.headway:g} s apart in "
+                f"{it.lanes} lane{'s'[: it.lanes > 1]}"
+            )

@@ -1,0 +1,136 @@
+"""The street of queues, step by step: detectors tell the cabinets, signals open stop lines, vehicles go on."""
+
+from collections.abc import Callable
+from dataclasses import dataclass
+
+from .demand import Demand
+from .detectors import PhaseDetectors
+from .lines import StopLine
+from .session import Cabinets
+from .signals import Change, Signals
+from .volumes import Volumes
+
+Reached = tuple[float, int, int]
+"""When a vehicle reaches a stop line if nothing holds it, the place of the movement, the vehicle's number."""
+Passages = list[list[tuple[float, float]]]
+"""For each vehicle the stop lines that it has passed: when it reached each, when it passed it."""
+
+
+@dataclass
+class Steps:
+    """How a run is cut into steps: how many there are, and how many ticks each has."""
+
+    count: int
+    ticks: int
+
+    @property
+    def seconds(self) -> float:
+        """Returns how long the run is."""
+        return self.count * self.ticks / 10
+
+    def place(self, at: float) -> int:
+        """Returns the step in which a second lies."""
+        return int(at * 10 / self.ticks)
+
+
+class Street:
+    """All stop lines of a street, what sees them, and who is on the way to them."""
+
+    def __init__(self, volumes: Volumes, demand: Demand, steps: Steps) -> None:
+        self.flows, self.demand, self.steps = volumes.flows, demand, steps
+        self.size = steps.ticks / 10
+        self.lines = [StopLine(it.lanes, it.saturation) for it in self.flows]
+        self.passages: Passages = [[] for _ in demand.vehicles]
+        self.reached: list[list[Reached]] = [[] for _ in range(steps.count + 1)]
+        self.passing: list[list[tuple[float, int]]] = [[] for _ in range(steps.count + 1)]
+        self.detectors: dict[tuple[int, int], PhaseDetectors] = {}
+        self.by_phase: dict[tuple[int, int], list[int]] = {}
+        for place, it in enumerate(self.flows):
+            key = (it.cabinet, it.phase)
+            self.detectors.setdefault(key, PhaseDetectors(*key)).watch(it, self.lines[place])
+            self.by_phase.setdefault(key, []).append(place)
+        self.seers = [self.detectors[it.cabinet, it.phase] for it in self.flows]
+        for number, it in enumerate(demand.vehicles):
+            self.sent(it.entry, it.way.flows[0], number, 0)
+        self.presses = presses(volumes, demand, steps)
+
+    def sent(self, at: float, place: int, vehicle: int, now: int) -> None:
+        """Puts a vehicle on its way: in which step it reaches a stop line, and drives over the detector ahead of it."""
+        step = self.steps.place(at)
+        if step > self.steps.count:
+            return
+        self.reached[max(step, now)].append((at, place, vehicle))
+        ahead = self.flows[place].detectors.ahead
+        if ahead:
+            over = max(at - ahead, 0.0)
+            self.passing[max(self.steps.place(over), now)].append((over, place))
+
+    def run(self, cabinets: Cabinets, signals: Signals, advance: Callable[[int], None]) -> None:
+        """Runs all steps; `advance` is told each of them."""
+        signals.shown(cabinets.shown)
+        seers = list(self.detectors.values())
+        for step in range(self.steps.count):
+            now = step * self.size
+            requests = self.presses[step]
+            for it in seers:
+                if it.is_awake:
+                    it.told(now, requests)
+            lines = cabinets.step(requests, self.steps.ticks)
+            self.arrive(step)
+            for change in signals.shown(lines):
+                self.turn(change, step)
+            self.discharge(step, now + self.size)
+            advance(step)
+
+    def arrive(self, step: int) -> None:
+        """Takes those who reach a stop line, or drive over the detector ahead of it, in a step."""
+        came = self.reached[step]
+        if len(came) > 1:
+            came.sort()
+        for at, place, vehicle in came:
+            self.lines[place].queue.append((at, vehicle))
+            self.seers[place].is_awake = True
+        for at, place in self.passing[step]:
+            self.seers[place].drove(at, self.flows[place].detectors.occupied)
+
+    def turn(self, change: Change, step: int) -> None:
+        """Opens or closes the stop lines of a phase."""
+        for place in self.by_phase.get((change.cabinet, change.phase), ()):
+            line = self.lines[place]
+            if change.is_green:
+                self.passed(place, step, change.at)
+                line.opens(change.at)
+            else:
+                line.closes(change.at)
+
+    def discharge(self, step: int, until: float) -> None:
+        """Lets pass who can, at all stop lines."""
+        for place, line in enumerate(self.lines):
+            if line.queue and line.open_until >= until - self.size:
+                self.passed(place, step, until)
+
+    def passed(self, place: int, step: int, until: float) -> None:
+        """Lets pass who can at one stop line, and sends them on."""
+        flow, seer = self.flows[place], self.seers[place]
+        for vehicle, arrived, released in self.lines[place].discharged(until):
+            seer.is_awake = True
+            if flow.detectors.stop:
+                seer.drove(released, flow.detectors.occupied)
+            told = self.passages[vehicle]
+            told.append((arrived, released))
+            way, travels = self.demand.vehicles[vehicle].way, self.demand.vehicles[vehicle].travels
+            if len(told) < len(way.flows):
+                self.sent(released + travels[len(told) - 1], way.flows[len(told)], vehicle, step + 1)
+
+
+def presses(volumes: Volumes, demand: Demand, steps: Steps) -> list[list[bytes]]:
+    """Returns the push buttons that are pressed before each step: by those who came in the step before."""
+    found: list[list[bytes]] = [[] for _ in range(steps.count)]
+    for it in demand.persons:
+        step = steps.place(it.at) + 1
+        if step < steps.count:
+            crossing = volumes.crossings[it.crossing]
+            press = b"ped %d %d\n" % (crossing.cabinet, crossing.phase)
+            if press not in found[step]:
+                found[step].append(press)
+    return found

@@ -1,0 +1,175 @@
+"""A run of the model of queues: volumes, a scenario and a seed through a session, and what is recorded of it."""
+
+import json
+import pathlib
+from collections.abc import Callable
+from dataclasses import dataclass
+from typing import Any
+
+from ...shared.fault import Fault
+from . import checks
+from .demand import Demand, demand_of
+from .session import Cabinets, scenario_of
+from .signals import Signals
+from .street import Steps, Street
+from .volumes import Volumes
+from ..records import Kind, Movement, Passage, QueueSample, Study, Trip
+
+STOPPED = 2.0
+"""Who waits as long as this has stopped; who waits less has slowed down."""
+MOST_TICKS, MOST_ROUNDS = 55_296_000, 86_400
+
+
+@dataclass(frozen=True)
+class Asked:
+    """What is asked of a run: how many seconds, the ticks of a step, the seed, what is left out at the beginning,
+    whether the scenario's own inputs stay, whether the trace is kept."""
+
+    seconds: float
+    step: int = 10
+    seed: int = 1
+    warm: float = 0.0
+    keeps_inputs: bool = False
+    keeps_trace: bool = False
+
+
+@dataclass
+class Ran:
+    """What came of a run: the street, its signals, who came, and the trace where it was kept."""
+
+    volumes: Volumes
+    asked: Asked
+    street: Street
+    signals: Signals
+    demand: Demand
+    cabinets: int
+    trace: bytes | None
+
+
+def seconds_of(scenario: dict[str, Any], given: float | None) -> float:
+    """Returns how long a run is: as long as is asked for, else as the scenario says."""
+    return given if given is not None else scenario["rounds"] * scenario["ticks"] / 10
+
+
+def read_scenario(text: bytes, name: str) -> dict[str, Any]:
+    """Returns a scenario's value, which has to have what a session is made from."""
+    try:
+        scenario = json.loads(text)
+        if not isinstance(scenario["cabinets"], list) or not scenario["cabinets"]:
+            raise ValueError
+        scenario["rounds"] * scenario["ticks"] * 1.0
+    except (ValueError, KeyError, TypeError, RecursionError):
+        raise Fault(f"{name} is no scenario (./arterial run tells why)") from None
+    return scenario
+
+
+def session_of(scenario: dict[str, Any], asked: Asked) -> tuple[dict[str, Any], Steps]:
+    """Returns the scenario of the session, and its steps: as many whole steps as go into whole rounds."""
+    ticks = scenario["ticks"]
+    rounds = -(-round(asked.seconds * 10) // ticks)
+    if rounds > MOST_ROUNDS or rounds * ticks * len(scenario["cabinets"]) > MOST_TICKS:
+        raise Fault(f"{asked.seconds:g} s are more than a scenario with rounds of {ticks} ticks may have")
+    return scenario_of(scenario, rounds, asked.keeps_inputs), Steps(round(asked.seconds * 10) // asked.step, asked.step)
+
+
+Advance = Callable[[int], None]
+"""Is told each step that is done."""
+
+
+def run(program: str, volumes: Volumes, scenario: dict[str, Any], asked: Asked, advance: Advance) -> Ran:
+    """Runs the street."""
+    checks.check(volumes, scenario, asked.seconds)
+    given, steps = session_of(scenario, asked)
+    demand = demand_of(volumes, asked.seed, checks.starts_at(scenario), asked.seconds)
+    street, signals = Street(volumes, demand, steps), Signals(len(scenario["cabinets"]))
+    cabinets = Cabinets(program, given, asked.keeps_trace)
+    try:
+        street.run(cabinets, signals, advance)
+        cabinets.close()
+    finally:
+        cabinets.kill()
+    signals.close(steps.seconds)
+    trace = cabinets.trace() if asked.keeps_trace else None
+    return Ran(volumes, asked, street, signals, demand, len(scenario["cabinets"]), trace)
+
+
+def movements_of(volumes: Volumes) -> list[Movement]:
+    """Returns the movements of vehicles and of persons."""
+    crossed = {(it.cabinet, it.phase) for it in volumes.crossings}
+    return [Movement(it.cabinet, it.name, it.phase) for it in volumes.flows] + [
+        Movement(cabinet, f"ped {phase}", phase) for cabinet, phase in sorted(crossed)
+    ]
+
+
+def vehicle_trips(ran: Ran) -> list[Trip]:
+    """Returns the trips of all vehicles."""
+    flows, seconds = ran.volumes.flows, ran.street.steps.seconds
+    spans = [ran.signals.greens[it.cabinet, it.phase] for it in flows]
+    found = []
+    for number, (vehicle, told) in enumerate(zip(ran.demand.vehicles, ran.street.passages)):
+        passages, lost, stops = [], 0.0, 0
+        for place, (arrived, released) in zip(vehicle.way.flows, told):
+            it, delay = flows[place], released - arrived
+            stopped = delay >= STOPPED
+            lost += delay
+            stops += stopped
+            passages.append(
+                Passage(it.cabinet, it.name, it.phase, arrived, released, delay, stopped, spans[place].holds(arrived))
+            )
+        is_there = len(told) == len(vehicle.way.flows)
+        if not is_there:
+            reaches = told[-1][1] + vehicle.travels[len(told) - 1] if told else vehicle.entry
+            lost += max(0.0, seconds - reaches)
+        arrive = told[-1][1] if is_there else None
+        name, route = str(number + 1), vehicle.way.route
+        found.append(Trip(name, route, Kind.CAR, tuple(passages), vehicle.entry, arrive, lost, stops))
+    return found
+
+
+def person_trips(ran: Ran) -> list[Trip]:
+    """Returns the trips of all persons: each waits until walk is shown."""
+    found = []
+    for number, person in enumerate(ran.demand.persons, 1):
+        it = ran.volumes.crossings[person.crossing]
+        name, walks = f"ped {it.phase}", ran.signals.walks[it.cabinet, it.phase]
+        at = walks.first(person.at)
+        delay = (ran.street.steps.seconds if at is None else at) - person.at
+        passages = ()
+        if at is not None:
+            passages = (Passage(it.cabinet, name, it.phase, person.at, at, delay, delay > 0, delay == 0),)
+        route = f"{name} {it.cabinet}"
+        found.append(Trip(f"person {number}", route, Kind.PERSON, passages, person.at, at, delay, int(delay > 0)))
+    return found
+
+
+def samples(ran: Ran) -> list[QueueSample]:
+    """Returns how many vehicles stood at each stop line, whenever that changed."""
+    flows = ran.volumes.flows
+    changes: list[list[tuple[float, int]]] = [[] for _ in flows]
+    for vehicle, told in zip(ran.demand.vehicles, ran.street.passages):
+        for place, (arrived, released) in zip(vehicle.way.flows, told):
+            if arrived < released:
+                changes[place] += ((arrived, 1), (released, -1))
+    found = []
+    for it, line, rows in zip(flows, ran.street.lines, changes):
+        rows += [(at, 1) for at, _ in line.queue]
+        rows.sort()
+        count = 0
+        for at, change in rows:
+            count += change
+            found.append(QueueSample(it.cabinet, it.name, at, count))
+    return found
+
+
+def study_of(ran: Ran, trace: pathlib.Path) -> Study:
+    """Returns what was recorded of a run."""
+    return Study(
+        cabinets=ran.cabinets,
+        movements=movements_of(ran.volumes),
+        trace=trace,
+        trips=vehicle_trips(ran) + person_trips(ran),
+        queues=samples(ran),
+        seconds=ran.street.steps.seconds,
+        warm=ran.asked.warm,
+        title=ran.volumes.title,
+    )

@@ -1,0 +1,1 @@
+"""What the contracts promise, as digests that a change of a statement has to touch: `edits/promises`, `edits/try`."""
