@@ -19,7 +19,7 @@ CABINET = (
     ),
     *(
         "coord_gate", "coord_count", "preempt_stages", "preempt_run", "flash_mode", "prio_queue", "tick_context",
-        "controller", "rule_book", "stage_txn",
+        "engine", "controller", "rule_book", "stage_txn",
     ),
     *("cabinet_history", "look_back", "observer", "cab_book"),
 )

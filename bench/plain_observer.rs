@@ -42,7 +42,7 @@ mod measured {
 
     impl Way for Observer {
         fn opened(street: &str) -> Self {
-            Observer::open(Global, tables_of(street), command_of(street), 0).ok().unwrap()
+            crate::observer::open(Global, tables_of(street), command_of(street), 0).ok().unwrap()
         }
         fn input(&mut self, field: Field) {
             self.input(field)

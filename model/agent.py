@@ -1,6 +1,6 @@
 """What a cabinet's agent reads in a frame, and what it answers.
 
-RFC 1157; docs/CLIENTS.md, "What the agent does"; docs/SCENARIO.md, "What is sent in a round". The bindings of a Set
+RFC 1157; docs/SNMP-CONFORMANCE.md; docs/SCENARIO.md, "What is sent in a round". The bindings of a Set
 are tested in order, each first by its name (status 2), then by its value (status 3); the first fault is answered and
 nothing is changed.
 """

@@ -1,6 +1,6 @@
 """The greatest through bands of a street's plan, each way.
 
-docs/SCENARIO.md, "What is asked of through bands". Each time of the cycle is tested.
+docs/BANDS.md. Each time of the cycle is tested.
 """
 
 from collections.abc import Iterator

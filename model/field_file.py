@@ -1,7 +1,7 @@
 """A field file: detectors and their pulses, and how the patterns of sections follow the traffic; the scenario that
 comes of it.
 
-docs/SCENARIO.md, "A field file".
+docs/FIELD-FILE.md.
 """
 
 from collections import defaultdict

@@ -1,6 +1,6 @@
 """Which pattern a section has by the traffic that is counted.
 
-docs/SCENARIO.md, "A field file": "Which pattern".
+docs/FIELD-FILE.md, "Which pattern".
 """
 
 from dataclasses import dataclass

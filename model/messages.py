@@ -1,6 +1,6 @@
 """Messages of SNMP version 1, both ways.
 
-RFC 1157; docs/DEFINITIONS.md, "Messages (RFC 1157, ITU-T X.690)"; docs/CLIENTS.md, "What the agent does".
+RFC 1157; docs/DEFINITIONS.md, "Messages (RFC 1157, ITU-T X.690)"; docs/SNMP-CONFORMANCE.md.
 """
 
 from dataclasses import dataclass, field

@@ -1,6 +1,6 @@
 """The objects of a cabinet's agent: their names, and the order in which GetNext goes through them.
 
-mibs/ARTERIAL-PROFILE-MIB names each; docs/CLIENTS.md, "What the agent does". A name is a tuple of arcs; the readable
+mibs/ARTERIAL-PROFILE-MIB names each; docs/SNMP-CONFORMANCE.md. A name is a tuple of arcs; the readable
 ones stand in one list in lexicographic order.
 """
 

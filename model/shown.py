@@ -1,6 +1,6 @@
 """What a cabinet shows to management software: the value of each object that can be read.
 
-mibs/ARTERIAL-PROFILE-MIB; docs/CLIENTS.md, "What the agent does".
+mibs/ARTERIAL-PROFILE-MIB; docs/SNMP-CONFORMANCE.md.
 """
 
 from collections.abc import Callable

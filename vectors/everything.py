@@ -43,9 +43,8 @@ def faults():
                 yield {"round": 2 * place + 2, "cabinet": 1 + place % CABINETS, "stream": stream, "way": way, **kind}
 
 
-def everything(*, crowded: bool = False):
-    """Returns the scenario's text. A crowded one has 25 cabinets more and rounds of a minute, so that several workers
-    take up each round."""
+def everything():
+    """Returns the scenario's text."""
     request = {"number": 1, "class": 2, "level": 3, "phase": 6, "arrival": 20, "departure": 300}
     every = range(1, CABINETS + 1)
     lists = {
@@ -69,9 +68,7 @@ def everything(*, crowded: bool = False):
     master = {
         "clock": 863_500, "poll_every": 2, "clock_every": 5, "pattern_every": 3, "retries": 2, "schedule": schedule
     }
-    others, ticks = ([{"base": "max8"}] * 25, 600) if crowded else ([], 50)
     head = {
-        "version": 2, "rounds": ROUNDS, "ticks": ticks, "community": "public", "cabinets": [*cabinets(), *others],
-        "master": master,
-    }  # fmt: skip
+        "version": 2, "rounds": ROUNDS, "ticks": 50, "community": "public", "cabinets": cabinets(), "master": master
+    }
     return json.dumps(head | lists).encode()
