@@ -13,12 +13,11 @@ python() {
     exec "$found" -B "$tools/streettools" "$@"
 }
 
-# Runs `look`, which is to start fast: Python keeps compiled modules here, and packages are made ready where they are
-# needed (-S).
+# Runs `look`. Where Python may write here it keeps compiled modules: a report then starts in a third of the time.
 look() {
     set_python
     trap '' INT
-    exec "$found" -S "$tools/streettools/look/__main__.py" "$@"
+    exec "$found" "$tools/streettools" "$@"
 }
 
 # Finds Python: that of a virtual environment, that of the system, any other.
@@ -47,12 +46,14 @@ has_mark() {
 # Runs the program, and adds to its answer what it does not say: which command was meant, that a byte order mark is in
 # the way, which line is due where a text is no trace. Where the reader of its output has gone, nothing is said.
 run_and_tell() {
+    [ -n "$tried" ] && ulimit -c 0
     # (a link is that of a smaller system, whose setpriv lacks this)
     guard=$(command -v setpriv) && [ ! -L "$guard" ] && guard="$guard --pdeathsig TERM" || guard=
     # shellcheck disable=SC2086
     { said=$($guard "$program" "$@" 2>&1 >&3 3>&-); } 3>&1
     status=$?
     [ "$status" = 4 ] && [ -p /dev/stdout ] && exit 4
+    [ "$tried$status" = yes124 ] && tell_failed "$said" && exit 124
     [ -n "$said" ] && printf '%s\n' "$said" >&2
     case $status:$said in
     1:*) tell_meant "$1" ;;
@@ -68,6 +69,17 @@ run_and_tell() {
         ;;
     esac
     exit "$status"
+}
+
+# Says that a run-time check of the unproved program failed, and in which function, by the report of the checks.
+tell_failed() {
+    case $1 in
+    *"rss limit"*) say "the unproved program took more than 4 GB of memory, so its output is not an answer" && return ;;
+    esac
+    set_python
+    # shellcheck disable=SC2046
+    where=$("$found" -B "$tools/streettools" launch where "$program" $(printf '%s\n' "$1" | sed -n 's/^frame \(0x[0-9a-f]*\).*/\1/p'))
+    say "a run-time check of the unproved program failed, so its output is not an answer: $where"
 }
 
 # Says where all commands are told, and the one that may have been meant.
@@ -98,13 +110,18 @@ prove)
     shift
     python launch prove "$@"
     ;;
+take)
+    [ -n "$checkout" ] || { say "the program is installed here; a proof is taken over in a checkout" && exit 125; }
+    shift
+    python launch take "$@"
+    ;;
 --help) [ $# = 1 ] && help_of ;;
 run | check | overlaps | band | respond | generate | survey)
     for word; do
         case $word in --help | -h) help_of "$1" ;; esac
     done
     ;;
-look) [ -f "$tools/streettools/look/command.py" ] && shift && look "$@" ;;
+look) [ -f "$tools/streettools/look/command.py" ] && look "$@" ;;
 *[!a-z]* | launch | shared | "") ;;
 *) [ -f "$tools/streettools/$1/command.py" ] && python "$@" ;;
 esac
@@ -140,15 +157,23 @@ esac
 if [ -n "$checkout" ]; then
     is_proved
     case $? in
-    0) ;;
+    0) is_taken && say "proved by its maker, not here (./arterial prove confirms it here)" ;;
     123)
         say "refused: $program is not the program that was proved here. ./arterial prove proves and builds it again"
         exit 123
         ;;
-    *) python launch unproved "$why" "$@" ;;
+    *)
+        reason=$why
+        # --version and words that the source answers need no program
+        is_tried || python launch unproved "$reason" "$@"
+        [ -n "$ARTERIAL_BUILT" ] || say "$reason: the unproved program answers (./arterial prove proves it here)"
+        # a failed run-time check is not an answer: it has a status that the program doesn't have
+        export ASAN_OPTIONS='exitcode=124:abort_on_error=0:hard_rss_limit_mb=4096:stack_trace_format="frame %o"'
+        tried=yes
+        ;;
     esac
 fi
-if are_right "$@" && ! [ -p /dev/stdout ] && ! [ -p /dev/stdin ] && ! has_mark; then
+if [ -z "$tried" ] && are_right "$@" && ! [ -p /dev/stdout ] && ! [ -p /dev/stdin ] && ! has_mark; then
     exec "$program" "$@"
 fi
 run_and_tell "$@"

@@ -9,14 +9,15 @@
 # A file whose time of change (ctime) is not past that of `tested` has not been written, moved or replaced since. So
 # one look at times is enough as long as nothing was touched; else all sums are tested again. A clock that was set
 # back can deceive it, and so can who writes `proved` anew, which everybody can who may write the checkout.
-proved=$checkout/crates/arterial/out/proved
+record=crates/arterial/out/proved
+proved=$checkout/$record
 
 # Whether nothing was touched since the sums were tested.
 is_untouched() {
     [ -e "$proved/tested" ] && [ -x "$program" ] && is_kit || return 1
     # one process alone, and no texts in the reader's language: the start of another takes as long as a thousand looks
-    touched=$(cd "$checkout" && LC_ALL=C exec find -files0-from crates/arterial/out/proved/names \
-        -prune -cnewer crates/arterial/out/proved/tested -print -quit 2>&1)
+    touched=$(cd "$checkout" && LC_ALL=C exec find -files0-from "$record/names" \
+        -prune -cnewer "$record/tested" -print -quit 2>&1)
     [ -z "$touched" ]
 }
 
@@ -37,7 +38,7 @@ test_sums() {
     [ -e "$proved/sums" ] && [ -e "$program" ] || { why="there is no proved program here yet" && return 1; }
     is_kit || { why="the kit is not the one of the proof" && return 1; }
     touch -d '1 second ago' "$proved/testing.$$" 2>/dev/null
-    wrong=$(cd "$checkout" && LC_ALL=C sha256sum --quiet -c crates/arterial/out/proved/sums 2>/dev/null)
+    wrong=$(cd "$checkout" && LC_ALL=C sha256sum --quiet -c "$record/sums" 2>/dev/null)
     if [ -z "$wrong" ]; then
         mv -f "$proved/testing.$$" "$proved/tested" 2>/dev/null
         return 0
@@ -53,4 +54,16 @@ test_sums() {
 # As test_sums, and quick where nothing was touched.
 is_proved() {
     is_untouched || test_sums
+}
+
+# Whether the proof was made elsewhere and taken over (./arterial take).
+is_taken() {
+    [ -e "$proved/maker" ]
+}
+
+# Whether the unproved program that was built here is one of the sources that are here. It is never taken for the proved
+# one: it has its own place and its own record, crates/arterial/out/tried/.
+is_tried() {
+    record=crates/arterial/out/tried proved=$checkout/crates/arterial/out/tried program=$checkout/crates/arterial/out/tried/program
+    is_proved
 }

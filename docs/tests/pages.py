@@ -59,9 +59,8 @@ def joined(block: list[tuple[int, str]]) -> list[tuple[int, str]]:
 
 def commands(page: pathlib.Path) -> list[Command]:
     """Returns the commands of a page, those of its blocks in order and then those within its sentences. In a block that
-    begins with `$ ` each line with that mark is a command, and what stands behind it is all that it prints, also behind
-    an empty line; in any other block a line that begins with the word of a command is one, up to three spaces, behind
-    which a remark stands."""
+    begins with `$ ` each line with that mark is a command, and the lines after it are all that it prints, even after an
+    empty line; in any other block a line that begins with the word of a command is one, up to a remark after ` # `."""
     found, is_marked, last = [], False, 0
     for block in map(joined, blocks(page)):
         is_marked = block[0][1].startswith("$ ") or (is_marked and block[0][0] == last + 2)
@@ -72,7 +71,7 @@ def commands(page: pathlib.Path) -> list[Command]:
             elif is_marked:
                 found[-1].printed.append(line)
             elif WORDS.match(line):
-                found.append(Command(number, re.split(r"\s{3,}", line)[0]))
+                found.append(Command(number, re.split(r"\s+# ", line)[0]))
     text = (TOP / page).read_text(encoding="utf-8")
     return found + [Command(text.count("\n", 0, it.start()) + 1, it[1]) for it in WITHIN.finditer(text)]
 

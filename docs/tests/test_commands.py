@@ -21,8 +21,9 @@ PACKAGES = ("matplotlib", "pandas", "tqdm", "openpyxl", "tomli_w", "numpy", "dis
 """What the tools need."""
 
 NOT_RUN = {
-    r"apt-get ": "it installs packages",
-    r"\./arterial prove$": "it proves the program, in some half an hour",
+    r"apt-get |tools/setup": "it installs packages",
+    r"\./test": "it is the whole gate",
+    r"\./arterial (prove|take \S+ --sum SHA256)$": "it proves the program, which takes half an hour, or takes a proof over",
     r"\./cabinet ": "it serves until it is stopped; tools/tests/cabinet runs it",
     r"\./arterial street ": "it serves until it is stopped; tools/tests/street runs it",
     r"snmpget -v1 -c public -Os 127": "it asks a street that serves; tools/tests/street does so",
@@ -113,14 +114,20 @@ def test_the_commands_of_a_page_do_what_it_says(folder, page):
         assert picture.read_bytes() == (TOP / picture.relative_to(folder)).read_bytes(), picture
 
 
+@pytest.mark.parametrize("page", pages.pages(), ids=str)
+def test_a_remark_follows_a_hash_so_that_a_block_can_be_pasted(page):
+    """Three spaces within a command show a remark without `#`."""
+    assert [it.text for it in pages.commands(page) if re.search(r"\S {3,}\S", it.text)] == []
+
+
 def test_what_is_not_run_is_there():
-    """Each reason stands for a command of some page."""
+    """Each reason applies to a command of some page."""
     left = [command.text for page in pages.pages() for command in pages.commands(page) if reason(command)]
     assert [begin for begin in NOT_RUN if not any(re.match(begin, it) for it in left)] == []
 
 
 def test_a_command_is_found_with_what_it_prints():
-    """The tutorial shows `a trace` behind its check."""
+    """The tutorial shows `a trace` after its check."""
     check = next(it for it in pages.commands(pathlib.Path("docs/TUTORIAL.md")) if "&& echo" in it.text)
     assert (check.text, check.printed) == ("./arterial check trace && echo a trace", ["a trace"])
 

@@ -1,4 +1,4 @@
-"""No document has a line of more than 120 columns, and each file that a document links to is there."""
+"""No document has a line of more than 120 columns outside tables, and each file that a document links to is there."""
 
 import re
 
@@ -9,7 +9,7 @@ from pages import TOP
 MOST = 120
 LONG = {
     "docs/TRACE.md": re.compile(r"    A "),
-    "docs/SCENARIO.md": re.compile(r'    \{"cabinets":'),
+    "docs/FIELD-FILE.md": re.compile(r'    \{"cabinets":'),
 }
 """By page, the lines of data that can't be broken: replies in a trace; a scenario as `respond` writes it."""
 
@@ -22,7 +22,11 @@ def lines_of(page) -> list[str]:
 @pytest.mark.parametrize("page", pages.pages(), ids=str)
 def test_a_page_has_no_long_lines(page):
     data = LONG.get(str(page))
-    long = [number for number, it in enumerate(lines_of(page), 1) if len(it) > MOST and not (data and data.match(it))]
+    long = [
+        number
+        for number, it in enumerate(lines_of(page), 1)
+        if len(it) > MOST and not it.startswith("|") and not (data and data.match(it))
+    ]
     assert long == []
 
 

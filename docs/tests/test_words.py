@@ -1,0 +1,49 @@
+"""Documents avoid the words that words.toml lists: no document has more of them than it allows."""
+
+import functools
+import pathlib
+import re
+import tomllib
+
+import pages
+import pytest
+from pages import TOP
+
+LIST = pathlib.Path(__file__).with_name("words.toml")
+PATTERNS = tomllib.loads(LIST.read_text(encoding="utf-8"))["pattern"]
+OWN = ("docs/STYLE.md", "docs/DEFINITIONS.md")
+"""Documents that show the words themselves, or that are made from comments in the sources."""
+
+
+@functools.cache
+def prose(page: pathlib.Path) -> str:
+    """Returns a page in one line, without its indented blocks and without code spans."""
+    lines = (TOP / page).read_text(encoding="utf-8").splitlines()
+    text = " ".join(line.strip() for line in lines if not line.startswith(pages.INDENT))
+    return re.sub(r"`[^`]*`", "`..`", text)
+
+
+def matches(pattern: dict, page: pathlib.Path) -> list[str]:
+    """Returns what a pattern finds on a page, each with some words around it."""
+    text = prose(page)
+    return [
+        text[max(0, it.start() - 30) : it.end() + 30] for it in re.finditer(pattern["find"], text, re.IGNORECASE)
+    ]
+
+
+CHECKED = [it for it in pages.pages() if str(it) not in OWN]
+
+
+@pytest.mark.parametrize("page", CHECKED, ids=str)
+def test_a_page_has_no_more_avoided_words_than_are_allowed(page):
+    for pattern in PATTERNS:
+        found, allowed = matches(pattern, page), pattern.get("allowed", {}).get(str(page), 0)
+        assert len(found) <= allowed, f"{allowed} allowed; write {pattern['write']!r} in place of: {found}"
+
+
+def test_the_list_allows_no_more_than_there_is():
+    """A count that has fallen is lowered in the list, so that it can't rise again."""
+    allowed = {it["name"]: it.get("allowed", {}) for it in PATTERNS}
+    assert allowed == {
+        it["name"]: {name: len(matches(it, pathlib.Path(name))) for name in allowed[it["name"]]} for it in PATTERNS
+    }
