@@ -4,7 +4,7 @@
     python3 -m model check < trace
     python3 -m model band < scenarios/street.bands
 
-README.md and docs/arterial.1 tell what each command does. `run --workers N` gives the serial order, one of those
+README.md and docs/COMMANDS.md tell what each command does. `run --workers N` gives the serial order, one of those
 that it may give.
 """
 

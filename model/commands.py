@@ -1,6 +1,6 @@
 """What each command of the program's words reads and writes, and its exit status.
 
-`live` answers each line before it reads on; every other command reads all of its input first. docs/arterial.1;
+`live` answers each line before it reads on; every other command reads all of its input first. docs/COMMANDS.md;
 docs/SCENARIO.md, "What is refused, and how"; docs/TRACE.md, "Checking a trace".
 """
 

@@ -1,4 +1,4 @@
-# What `arterial` does with its words. To be read by a script that has set `checkout` (empty where the program is
+# What `arterial` does with its arguments. To be read by a script that has set `checkout` (empty where the program is
 # installed), `program`, and `tools`, the folder that has the package streettools.
 [ -n "$checkout" ] && . "$tools/trust.sh"
 
@@ -30,7 +30,7 @@ set_python() {
     }
 }
 
-# Whether the words are right without a doubt, so that nothing has to be added to the program's answer.
+# Whether the arguments are certainly right, so that nothing has to be added to the program's answer.
 are_right() {
     case "$*" in
     run | live | band | respond | --version | "run --workers "[0-8]) true ;;
@@ -38,14 +38,14 @@ are_right() {
     esac
 }
 
-# Whether a text on standard input begins with a byte order mark; a pipe does not tell.
+# Whether a text on standard input begins with a byte order mark; a pipe can't be looked at.
 has_mark() {
     [ -f /dev/stdin ] && [ "$(head -c 3 /dev/stdin)" = "$(printf '\357\273\277')" ]
 }
 
 # Runs the program, and adds to its answer what it does not say: which command was meant, that a byte order mark is in
-# the way, which line is due where a text is no trace. Where the reader of its output has gone, nothing is said.
-run_and_tell() {
+# the way, what was expected if an input is invalid. If the reader of its output has gone, nothing is added.
+run_and_explain() {
     [ -n "$tried" ] && ulimit -c 0
     # (a link is that of a smaller system, whose setpriv lacks this)
     guard=$(command -v setpriv) && [ ! -L "$guard" ] && guard="$guard --pdeathsig TERM" || guard=
@@ -53,18 +53,18 @@ run_and_tell() {
     { said=$($guard "$program" "$@" 2>&1 >&3 3>&-); } 3>&1
     status=$?
     [ "$status" = 4 ] && [ -p /dev/stdout ] && exit 4
-    [ "$tried$status" = yes124 ] && tell_failed "$said" && exit 124
+    [ "$tried$status" = yes124 ] && show_failed "$said" && exit 124
     [ -n "$said" ] && printf '%s\n' "$said" >&2
     case $status:$said in
-    1:*) tell_meant "$1" ;;
-    2:*"not JSON" | 5:*)
+    1:*) show_meant "$1" ;;
+    2:* | 5:*)
         if has_mark; then
             mark="a byte order mark (EF BB BF), which does not belong to it"
             say "the text begins with $mark: save it as UTF-8 without one"
-        elif [ "$status" = 2 ] && [ -p /dev/stdin ]; then
-            say "one cause can be a byte order mark (EF BB BF) at its beginning, which does not belong to JSON"
-        elif [ "$status" = 5 ] && [ "$1" = check ]; then
-            tell_due "$said"
+        elif [ "$status" = 2 ]; then
+            show_refusal "$1" "$said"
+        elif [ "$1" = check ]; then
+            show_expected "$said"
         fi
         ;;
     esac
@@ -72,7 +72,7 @@ run_and_tell() {
 }
 
 # Says that a run-time check of the unproved program failed, and in which function, by the report of the checks.
-tell_failed() {
+show_failed() {
     case $1 in
     *"rss limit"*) say "the unproved program took more than 4 GB of memory, so its output is not an answer" && return ;;
     esac
@@ -82,28 +82,42 @@ tell_failed() {
     say "a run-time check of the unproved program failed, so its output is not an answer: $where"
 }
 
-# Says where all commands are told, and the one that may have been meant.
-tell_meant() {
+# Says where all commands are listed, and which one may have been meant.
+show_meant() {
     set_python
     "$found" -B "$tools/streettools" launch meant "$@" >&2
 }
 
-# Says, behind the program's line about a text that is no trace, which line was read there and which is due.
-tell_due() {
+# Shows, after the program's line about a text that is not a trace, the line that was read and the expected line.
+show_expected() {
     if [ -f /dev/stdin ]; then
         (set_python && "$found" -B "$tools/streettools" launch due "$program" "$1")
     else
-        say "with the name of a file, arterial check FILE also shows the line read and the line due"
+        say "with the name of a file, arterial check FILE also shows the line read and the expected line"
     fi
 }
 
-# Prints the program's help, or the part of it that is about one command; then, for all, what stands beside the program.
+# Shows, after the program's line about an invalid scenario, what was expected and what was found.
+show_refusal() {
+    if [ -f /dev/stdin ]; then
+        (set_python && "$found" -B "$tools/streettools" launch refused "$@")
+        return
+    fi
+    case $1:$2 in
+    run:* | respond:*) say "with the name of a file, arterial $1 FILE also shows what was expected and what was found" ;;
+    esac
+    case $2 in
+    *"not JSON") say "one cause can be a byte order mark (EF BB BF) at its beginning, which does not belong to JSON" ;;
+    esac
+}
+
+# Prints the help that a word (-h or --help) asks for: of all commands, or of one.
 help_of() {
     [ -n "$checkout" ] && ! is_proved && program=
     python launch help "$program" "$@"
 }
 
-# the tools, and the launcher's own words
+# the tools, and the launcher's own commands
 case $1 in
 prove)
     [ -n "$checkout" ] || { say "the program is installed here, and proved in a checkout" && exit 125; }
@@ -115,10 +129,10 @@ take)
     shift
     python launch take "$@"
     ;;
---help) [ $# = 1 ] && help_of ;;
-run | check | overlaps | band | respond | generate | survey)
+-h | --help) [ $# = 1 ] && help_of "$1" ;;
+run | check | overlaps | live | band | respond | generate | survey)
     for word; do
-        case $word in --help | -h) help_of "$1" ;; esac
+        case $word in --help | -h) help_of "$word" "$1" ;; esac
     done
     ;;
 look) [ -f "$tools/streettools/look/command.py" ] && look "$@" ;;
@@ -126,7 +140,7 @@ look) [ -f "$tools/streettools/look/command.py" ] && look "$@" ;;
 *) [ -f "$tools/streettools/$1/command.py" ] && python "$@" ;;
 esac
 
-# The name of a file among the words of a command that reads one stands for standard input.
+# The name of a file among the arguments of a command that reads one replaces standard input.
 case $1 in
 run | check | overlaps | band | respond)
     place=0 is_value=no file=
@@ -146,8 +160,8 @@ run | check | overlaps | band | respond)
     if [ -n "$file" ] && [ "$file" != - ]; then
         why=
         [ -e "$file" ] || why="no such file"
-        [ -d "$file" ] && why="a folder, and no file"
-        [ -z "$why" ] && [ ! -r "$file" ] && why="it may not be read"
+        [ -d "$file" ] && why="is a directory"
+        [ -z "$why" ] && [ ! -r "$file" ] && why="permission denied"
         [ -z "$why" ] || { say "$file: $why" && exit 3; }
         exec <"$file"
     fi
@@ -173,7 +187,7 @@ if [ -n "$checkout" ]; then
         ;;
     esac
 fi
-if [ -z "$tried" ] && are_right "$@" && ! [ -p /dev/stdout ] && ! [ -p /dev/stdin ] && ! has_mark; then
+if [ -z "$tried" ] && are_right "$@" && ! [ -p /dev/stdout ] && ! [ -p /dev/stdin ] && ! [ -f /dev/stdin ]; then
     exec "$program" "$@"
 fi
-run_and_tell "$@"
+run_and_explain "$@"

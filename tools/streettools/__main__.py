@@ -16,7 +16,7 @@ from streettools.shared.status import Status  # noqa: E402
 
 
 def main(given: list[str] | None = None) -> int:
-    """Runs the command that the first word names, and returns its exit status."""
+    """Runs the command that the first argument names, and returns its exit status."""
     given = sys.argv[1:] if given is None else given
     if not given or given[0] in ("-h", "--help"):
         print("usage: streettools COMMAND ..\n")
@@ -25,7 +25,7 @@ def main(given: list[str] | None = None) -> int:
         return Status.DONE
     if not words.is_word(given[0]):
         near = words.meant(given[0])
-        print(f"streettools: no command {given[0]}" + (f": {near}?" if near else ""), file=sys.stderr)
+        print(f"streettools: unknown command {given[0]!r}" + (f"; did you mean {near}?" if near else ""), file=sys.stderr)
         return Status.REFUSED
     signal.signal(signal.SIGINT, signal.default_int_handler)
     return words.run(given)

@@ -1,8 +1,8 @@
-"""The words of the launcher: the one place where a command of the tools is named.
+"""The commands of the launcher: the one place where a command is named.
 
-A new command is one line in TOOLS, and a module `streettools/NAME/command.py` with `main(words: list[str]) -> int`,
-which raises what it can't do: `run` is the boundary of all of them. A command is shown in help and taken as a word only
-if that module is there.
+A new command of the tools is one line in TOOLS, and a module `streettools/NAME/command.py` with
+`main(words: list[str]) -> int`, which raises what it can't do: `run` is the boundary of all of them. A command is shown
+in help and accepted only if that module is there. Its parser is named in streettools/reference/tree.py.
 """
 
 import importlib
@@ -15,34 +15,45 @@ HERE = os.path.dirname(os.path.realpath(__file__))
 
 
 class Word(NamedTuple):
-    """A word, and what it does in half a line."""
+    """A command, and what it does in half a line."""
 
     name: str
     does: str
 
     def is_there(self) -> bool:
-        """Tells whether this checkout has the command."""
+        """Returns whether this checkout has the command."""
         return os.path.isfile(os.path.join(HERE, self.name, "command.py"))
 
 
 TOOLS = (
-    Word("look", "pictures, a timing report and an event log of a trace"),
-    Word("cabinet", "a live cabinet that answers SNMP version 1 on loopback"),
-    Word("cosim", "traffic in the loop: SUMO's vehicles, or queues, under the cabinets"),
-    Word("street", "the cabinets of a scenario as live cabinets, each at its own port"),
-    Word("plan", "a timing sheet as a scenario, and its refusals in words"),
-    Word("sweep", "many plans over many scenarios, on one machine or several"),
+    Word("look", "draw a trace, report its timing, write its event log"),
+    Word("cabinet", "run a live cabinet that answers SNMP version 1 on loopback"),
+    Word("cosim", "simulate traffic with the cabinets: SUMO's vehicles, or queues"),
+    Word("street", "run the cabinets of a scenario live, each at its own port"),
+    Word("plan", "convert and check timing sheets"),
+    Word("sweep", "run many plans over many scenarios, on one machine or several"),
 )
 """Commands of the tools, which are not proved."""
 
-PROVE = Word("prove", "proves the program here, and builds it")
-TAKE = Word("take", "takes over a proof that its maker published, for a checkout of the same sources")
+PROVE = Word("prove", "prove the program here, and build it")
+TAKE = Word("take", "use a published proof of the same sources")
 """What the launcher itself does."""
 
-LAUNCH = Word("launch", "what the launcher's shell hands over to Python; no word for users")
+LAUNCH = Word("launch", "what the launcher's shell hands over to Python; not for users")
 
-PROGRAM = ("run", "check", "overlaps", "live", "band", "respond", "generate", "survey")
-"""Commands of the program itself."""
+OF_PROGRAM = (
+    Word("run", "simulate a scenario and write its trace"),
+    Word("check", "check whether a text is a trace"),
+    Word("live", "run a scenario request by request"),
+    Word("overlaps", "show when an overlap of a trace changes"),
+    Word("band", "compute the progression bands of a plan"),
+    Word("respond", "compute calls and patterns from detector pulses"),
+    Word("generate", "write a random scenario"),
+    Word("survey", "run a random scenario and write its totals"),
+)
+"""Commands of the program itself, which are proved."""
+
+PROGRAM = tuple(word.name for word in OF_PROGRAM)
 
 
 def tools() -> list[Word]:
@@ -51,7 +62,7 @@ def tools() -> list[Word]:
 
 
 def meant(word: str) -> str | None:
-    """Returns the command that is nearest to a word that is none, None if no command is near."""
+    """Returns the command that is nearest to an unknown one, None if no command is near."""
     import difflib  # takes a while
 
     known = [*PROGRAM, PROVE.name, TAKE.name, *(it.name for it in tools()), "--help", "--version"]
@@ -59,12 +70,12 @@ def meant(word: str) -> str | None:
 
 
 def is_word(word: str) -> bool:
-    """Tells whether a word is a command that `run` takes."""
+    """Returns whether `run` accepts a command."""
     return word in [it.name for it in (*tools(), LAUNCH)]
 
 
 def run(words: list[str]) -> int:
-    """Runs the command of the tools that the first word names with the other words, and returns its exit status."""
+    """Runs the command of the tools that the first argument names, and returns its exit status."""
     name, *rest = words
     tool = "arterial" if name == LAUNCH.name else name
     return bounded(tool, lambda given: importlib.import_module(f"streettools.{name}.command").main(given), rest)

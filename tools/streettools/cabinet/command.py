@@ -1,4 +1,4 @@
-"""The command `./cabinet`: a street of one cabinet, with words of its own."""
+"""The command `./cabinet`: a street of one cabinet, with its own options."""
 
 import argparse
 import asyncio
@@ -23,9 +23,9 @@ from ..street.street import Hearer, Street, rounds_for
 from .alone import alone, compact, with_all
 
 USUAL = b'{"version":1,"rounds":1,"ticks":10,"cabinets":[{}]}'
-"""Where no scenario is named: the standard tables, rounds of a second."""
+"""The default scenario: the standard tables, rounds of a second."""
 OF_FRAME = 80
-"""How many octets a frame of a scenario has beside its digits, at the most."""
+"""How many bytes an item of `frames` has in addition to its digits, at most."""
 
 
 class Full(Exception):
@@ -33,7 +33,7 @@ class Full(Exception):
 
 
 def say(words: object) -> None:
-    """Tells something on standard error."""
+    """Writes a line to standard error."""
     saying.say("cabinet", words)
 
 
@@ -72,11 +72,13 @@ class Cabinet:
     def limit(self) -> str:
         """Returns the limit that is reached, in words."""
         if self.sets is not None and self.sets.is_full():
-            return "the history is full: a scenario has at most 100000 frames and 16777216 bytes"
-        return f"the time is over: a scenario like this has at most {self.street.scenario['rounds']} rounds"
+            return "the record is full: a scenario has at most 100000 messages and 16777216 bytes"
+        return (
+            f"the session limit is reached ({self.street.scenario['rounds']} rounds): restart, or use a scenario with longer rounds"
+        )
 
     async def serve(self) -> None:
-        """Answers until it is told to end; that a limit is reached is raised."""
+        """Answers until it has to end; raises Full if a limit is reached."""
         with ports.opened([ports.Place(ports.LOOPBACK, self.words.port)]) as sockets:
             await self.street.open()
             for it in (signal.SIGINT, signal.SIGTERM):
@@ -95,7 +97,7 @@ class Cabinet:
             raise Full(self.limit())
 
     def write(self) -> None:
-        """Writes the scenario of all that came, where that is asked for."""
+        """Writes the scenario of all that came, if --record-scenario is given."""
         if self.sets is not None:
             text = with_all(
                 self.scenario, self.words.cabinet, self.sets.record.number, self.sets.record.added["frames"]
@@ -105,28 +107,28 @@ class Cabinet:
 
 
 def parser() -> argparse.ArgumentParser:
-    """Returns the reader of the command's words."""
+    """Returns the reader of the options."""
     words = Parser(
         "cabinet",
         description="Answers SNMP version 1 on loopback as a live cabinet, until Ctrl-C. A tick is 0.1 s.",
         epilog="`./arterial street --as ntcip1202` answers version 2c too, and what central software asks first.",
     )
     words.add_argument(
-        "--port", type=number(0, 65_535), default=10_161, help="the UDP port (10161); 0 for one that is free"
+        "--port", type=number(0, 65_535), default=10_161, help="the UDP port; 0 for a free one (default: 10161)"
     )
     words.add_argument(
-        "--scenario", metavar="FILE", help="the scenario that it lives in (one standard cabinet, rounds of 1 s)"
+        "--scenario", metavar="FILE", help="the scenario to run (default: one standard cabinet, rounds of 1 s)"
     )
     words.add_argument(
-        "--cabinet", type=number(1, 64), default=1, metavar="N", help="which cabinet of the scenario answers (1)"
+        "--cabinet", type=number(1, 64), default=1, metavar="N", help="which cabinet of the scenario answers (default: 1)"
     )
     add_renamed(
         words, "--step", "--ticks-per-message", type=number(0, 864_000), metavar="TICKS",
-        help="ticks that pass after each message (default: those of the clock)",
+        help="ticks that pass after each message (default: real time)",
     )  # fmt: skip
     add_renamed(
         words, "--record", "--record-scenario", metavar="FILE",
-        help="at the end write the scenario of all messages that came, for arterial run",
+        help="at the end write the scenario of all received messages, for arterial run",
     )  # fmt: skip
     add_program(words)
     return words
@@ -166,7 +168,7 @@ def answered(cabinet: Cabinet) -> int:
 
 
 def main(arguments: list[str] | None = None) -> int:
-    """Does what the words ask for, and returns the exit status."""
+    """Runs the command, and returns the exit status."""
     words = parser().parse_args(arguments)
     # also where it was started with SIGINT ignored, as a shell does behind `&`
     signal.signal(signal.SIGINT, signal.default_int_handler)

@@ -1,4 +1,4 @@
-"""The command `./arterial cosim`: its words, one module for each, and what it says where something is wrong."""
+"""The command `./arterial cosim`: its commands, one module for each."""
 
 import importlib
 import pathlib
@@ -9,18 +9,18 @@ from ..shared.status import Status
 HERE = pathlib.Path(__file__).resolve().parent
 WORDS = {
     "run": ("run_command", "SUMO drives the detectors, the cabinets drive SUMO's signals"),
-    "map": ("map_command", "writes which link of a network has which phase"),
+    "map": ("map_command", "write which link of a network has which phase"),
     "compare": ("compare_command", "several plans over the same seeds, side by side"),
     "queues": ("queues.command", "traffic by volumes and queues, without SUMO"),
     "draw": ("pictures.command", "pictures of a run: arrivals, paths over bands, splits, queues"),
 }
-"""The words of the command: the module of each, which has `main(words) -> int`, and what it does in half a line."""
+"""The commands: the module of each, which has `parser()` and `main(words) -> int`, and what it does in half a line."""
 
-USAGE = "usage: arterial cosim WORD .. (--help of each word says more; docs/COSIM.md)"
+USAGE = "usage: arterial cosim COMMAND .. (COMMAND --help shows its options; docs/COSIM.md)"
 
 
 def known() -> dict[str, str]:
-    """Returns the words that this checkout has, with what they do."""
+    """Returns the commands that this checkout has, with what they do."""
     return {name: does for name, (module, does) in WORDS.items() if (HERE / f"{module.replace('.', '/')}.py").is_file()}
 
 
@@ -32,12 +32,12 @@ def usage() -> str:
 
 
 def main(words: list[str]) -> int:
-    """Does what the words ask for, and returns the exit status."""
+    """Runs the command that the first argument names, and returns the exit status."""
     if not words or words[0] in ("-h", "--help"):
         print(usage())
         return Status.DONE if words else Status.REFUSED
     if words[0] not in known():
-        say("cosim", f"no word {words[0]}: {', '.join(known())}")
+        say("cosim", f"unknown command {words[0]!r}; choose from {', '.join(known())}")
         return Status.REFUSED
     module = importlib.import_module(f".{WORDS[words[0]][0]}", __package__)
     return module.main(words[1:])

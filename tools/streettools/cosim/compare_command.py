@@ -1,4 +1,4 @@
-"""`./arterial cosim compare`: its words, and the table that it writes."""
+"""`./arterial cosim compare`: its options, and the table that it writes."""
 
 import argparse
 import json
@@ -18,22 +18,22 @@ examples:
   ./arterial cosim compare scenarios/sumo/street/bus.toml -o out/ --workers 4 --keep
 
 All plans run over the same seeds, so that they meet the same vehicles. A difference is taken seed by seed; its
-interval of 95 % is Student's over the seeds. The folder gets comparison.txt and comparison.json. docs/COSIM.md says
-how the file is written."""
+interval of 95 % is Student's over the seeds. The folder gets comparison.txt and comparison.json. docs/COSIM.md
+explains the file."""
 HEADS = ("plan", "trips", "delay", "stops", "more delay", "more stops")
 
 
 def parser() -> argparse.ArgumentParser:
-    """Returns the reader of the words."""
+    """Returns the reader of the options."""
     words = Parser(
         "cosim compare",
-        description="Runs several plans over the same seeds, and tells delay and stops side by side.",
+        description="Runs several plans over the same seeds, and prints delay and stops side by side.",
         epilog=EXAMPLES,
     )
     words.add_argument("comparison", type=pathlib.Path, help="the file that names the plans, in TOML")
-    add_output(words, "where all is written", type=pathlib.Path, required=True, metavar="FOLDER")
-    words.add_argument("--workers", type=number(1, 64), default=1, metavar="N", help="so many runs at once (1)")
-    words.add_argument("--keep", action="store_true", help="keeps each run's folder: trace, trips, study, report")
+    add_output(words, "the folder for all results", type=pathlib.Path, required=True, metavar="FOLDER")
+    words.add_argument("--workers", type=number(1, 64), default=1, metavar="N", help="number of parallel runs (default: 1)")
+    words.add_argument("--keep", action="store_true", help="keep each run's folder: trace, trips, study, report")
     add_json(words)
     add_program(words)
     return words

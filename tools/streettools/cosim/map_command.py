@@ -14,13 +14,13 @@ from .map_making import LENGTH, Maker
 
 EXAMPLES = """\
 examples:
-  ./arterial cosim map street.net.xml -o map.toml              by the approaches' compass and turns
-  ./arterial cosim map street.sumocfg --main E -o map.toml     phase 2 drives east at each signal
-  ./arterial cosim map street.net.xml --phase 'c0 SB2T=8'      answers a question that was asked
-  ./arterial cosim map street.net.xml --permissive             left turns also yield under the phase from opposite
+  ./arterial cosim map street.net.xml -o map.toml              # by the approaches' compass and turns
+  ./arterial cosim map street.sumocfg --main E -o map.toml     # phase 2 drives east at each signal
+  ./arterial cosim map street.net.xml --phase 'c0 SB2T=8'      # answers a question that was asked
+  ./arterial cosim map street.net.xml --permissive             # left turns also yield under the opposite phase
 
-Where a network has SUMO's NEMA logic, its phases are taken. What can't be told stands as "?" in the map, and is asked
-for on standard error; `run` refuses a map with a question left. docs/COSIM.md says how a map is written."""
+If a network has SUMO's NEMA logic, its phases are used. A phase that can't be decided is "?" in the map, with a
+question on standard error; `run` refuses a map with a "?" left. docs/COSIM.md explains maps."""
 
 
 def answer(text: str) -> tuple[tuple[str, str], int]:
@@ -33,7 +33,7 @@ def answer(text: str) -> tuple[tuple[str, str], int]:
 
 
 def parser() -> argparse.ArgumentParser:
-    """Returns the reader of the words."""
+    """Returns the reader of the options."""
     words = Parser(
         "cosim map",
         description="Writes a map from a network of SUMO: which link has which phase, detectors before stop lines.",
@@ -42,11 +42,12 @@ def parser() -> argparse.ArgumentParser:
     words.add_argument("network", type=pathlib.Path, help="the network (*.net.xml), or a configuration that names it")
     add_output(words, "the map to write (default: standard output)", metavar="MAP")
     words.add_argument("--main", choices=list(WAYS), help="the way in which phase 2 drives, at each signal")
-    words.add_argument("--phase", type=answer, action="append", default=[], metavar="'SIGNAL MOVEMENT=N'")
+    words.add_argument("--phase", type=answer, action="append", default=[], metavar="'SIGNAL MOVEMENT=N'",
+                       help="the phase of a movement of a signal; may be repeated")  # fmt: skip
     words.add_argument(
-        "--permissive", action="store_true", help="left turns with a phase of their own also yield under the opposite's"
+        "--permissive", action="store_true", help="left turns with their own phase also yield under the opposite one"
     )
-    words.add_argument("--length", type=float, default=LENGTH, metavar="M", help="metres of a detector (15)")
+    words.add_argument("--length", type=float, default=LENGTH, metavar="M", help="length of a detector (default: 15)")
     return words
 
 

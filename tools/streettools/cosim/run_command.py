@@ -1,4 +1,4 @@
-"""`./arterial cosim run`: its words, and what it says of a run."""
+"""`./arterial cosim run`: its options, and what it reports of a run."""
 
 import argparse
 import pathlib
@@ -19,11 +19,11 @@ EXAMPLES = """\
 examples:
   ./arterial cosim run --sumo street.sumocfg --map map.toml --scenario street.json -o out/
   ./arterial cosim run --sumo street.sumocfg --map map.toml --scenario street.json --step 1 --seed 7 -o out/
-  ./arterial check out/session.trace                the trace of the cabinets
-  ./look coordination out/session.trace             and its pictures
+  ./arterial check out/session.trace                # the trace of the cabinets
+  ./look coordination out/session.trace             # and its pictures
 
 A step of SUMO is 0.1 s or 1 s. The folder gets session.trace, what SUMO writes (tripinfo.xml, vehroutes.xml, stops.xml,
-sumo.log), study.json and the report. docs/COSIM.md says how a map is written."""
+sumo.log), study.json and the report. docs/COSIM.md explains maps."""
 
 
 def step_of(text: str) -> float:
@@ -34,7 +34,7 @@ def step_of(text: str) -> float:
 
 
 def parser() -> argparse.ArgumentParser:
-    """Returns the reader of the words."""
+    """Returns the reader of the options."""
     words = Parser(
         "cosim run",
         description="Runs SUMO under the cabinets of a scenario: its detectors, persons, buses and trains call them.",
@@ -44,31 +44,31 @@ def parser() -> argparse.ArgumentParser:
     words.add_argument("--sumo", **path, metavar="CONFIG", help="SUMO's configuration (*.sumocfg)")
     words.add_argument("--map", **path, metavar="MAP", help="the map: which link has which phase")
     words.add_argument("--scenario", **path, metavar="FILE", help="the cabinets")
-    add_output(words, "where all is written", **path, metavar="FOLDER")
-    words.add_argument("--step", type=step_of, default=0.1, metavar="S", help="a step of SUMO: 0.1 or 1 second (0.1)")
+    add_output(words, "the folder for all results", **path, metavar="FOLDER")
+    words.add_argument("--step", type=step_of, default=0.1, metavar="S", help="a step of SUMO: 0.1 or 1 second (default: 0.1)")
     of_day = number(0, 86_400)
-    words.add_argument("--seconds", type=number(1, 86_400), metavar="S", help="the length (SUMO's, or the scenario's)")
-    words.add_argument("--seed", type=number(0, 2**31 - 1), metavar="N", help="SUMO's seed (that of its configuration)")
-    words.add_argument("--warm", type=of_day, default=0, metavar="S", help="trips that start sooner don't count (0)")
-    words.add_argument("--no-priority", action="store_true", help="buses don't ask")
+    words.add_argument("--seconds", type=number(1, 86_400), metavar="S", help="the length (default: SUMO's, or else the scenario's)")
+    words.add_argument("--seed", type=number(0, 2**31 - 1), metavar="N", help="SUMO's seed (default: that of its configuration)")
+    words.add_argument("--warm", type=of_day, default=0, metavar="S", help="exclude trips that start earlier (default: 0)")
+    words.add_argument("--no-priority", action="store_true", help="buses don't request priority")
     add_program(words)
     return words
 
 
 def given_of(words: argparse.Namespace) -> Given:
-    """Reads all files that the words name."""
+    """Reads all files that the options name."""
     config = read_config(words.sumo)
     scenario = read_scenario(words.scenario)
     street, known = read_map(words.map), network.read(config.network)
     whole = config.end - config.begin if config.end else scenario["rounds"] * scenario["ticks"] / 10
     seconds = words.seconds or whole
     if words.warm >= seconds:
-        raise Fault(f"--warm {words.warm} is no less than the {seconds:g} seconds of the run")
+        raise Fault(f"--warm {words.warm} is not less than the {seconds:g} seconds of the run")
     return Given(config, street, known, scenario, words.step, seconds, words.seed, not words.no_priority, words.warm)
 
 
 def tell(done: Done, given: Given, out: pathlib.Path) -> None:
-    """Says what a run came to."""
+    """Reports the result of a run."""
     times = done.times
     if times.whole:
         say(
@@ -79,9 +79,9 @@ def tell(done: Done, given: Given, out: pathlib.Path) -> None:
     if done.refusals:
         say("cosim", f"{done.refusals} priority requests were refused by the cabinets")
     if done.study is None:
-        say("cosim", "nothing was recorded: no round was over")
+        say("cosim", "nothing was recorded: no round ended")
     else:
-        say("cosim", f"{out / TRACE} and the report beside it: {done.study.seconds:g} s, {len(done.study.trips)} trips")
+        say("cosim", f"{out / TRACE} and the report next to it: {done.study.seconds:g} s, {len(done.study.trips)} trips")
 
 
 def main(words: list[str]) -> int:

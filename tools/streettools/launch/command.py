@@ -1,5 +1,5 @@
 """What the launcher's shell hands over to Python: `launch prove`, `take`, `release`, `unproved`, `help`, `meant`,
-`due`, `sums`, `record`, `where`."""
+`due`, `refused`, `sums`, `record`, `where`."""
 
 import json
 import pathlib
@@ -8,11 +8,11 @@ import sys
 from streettools.shared.saying import say
 from streettools.shared.status import Status
 
-from . import crates, due, help, hint, keeping, prove, record, release, take, unproved
+from . import crates, due, help, hint, keeping, prove, record, refused, release, take, unproved
 
 
 def meant(words: list[str]) -> int:
-    """Prints what is said behind the usage line."""
+    """Prints what follows the usage line."""
     print(hint.of(words))
     return Status.DONE
 
@@ -49,6 +49,7 @@ DOES = {
     "help": help.main,
     "meant": meant,
     "due": due.main,
+    "refused": refused.main,
     "sums": sums,
     "record": recorded,
     "where": where,

@@ -1,8 +1,9 @@
-"""Help of the launcher: the program's own, that of one command, and what stands beside the program."""
+"""Help of the launcher: the program's own, that of one command, and the commands that are not the program's."""
 
 import re
 import subprocess
 import sys
+from collections.abc import Iterable
 
 from streettools import words
 from streettools.shared.saying import say
@@ -11,8 +12,10 @@ from streettools.shared.status import Status
 from . import crates, source
 
 FROM_SOURCE = (
-    "there is no proved program here yet: this is the text in its source (./arterial prove proves and builds it)"
+    "no proved program exists here yet: this is the text in its source (./arterial prove proves and builds it)"
 )
+SHORT = "-h"
+"""The option that asks for the short help."""
 
 
 def of_command(text: str, name: str) -> str | None:
@@ -21,33 +24,51 @@ def of_command(text: str, name: str) -> str | None:
     return found[0] if found else None
 
 
-def beside() -> str:
-    """Returns what the help says of the words that are not the program's."""
-    listed = [*[words.PROVE, words.TAKE] * (crates.TOP / crates.LISTS[0]).is_file(), *words.tools()]
-    lines = [f"  arterial {word.name:8} {word.does}\n" for word in listed]
-    head = "\nBeside the program, and not proved (arterial COMMAND --help tells more of each command):\n\n"
+def others() -> list[words.Word]:
+    """Returns the commands that are not the program's."""
+    return [*words.tools(), *[words.PROVE, words.TAKE] * (crates.TOP / crates.LISTS[0]).is_file()]
+
+
+def more() -> str:
+    """Returns what follows the program's own help."""
     return (
-        head
-        + "".join(lines)
-        + "\nA file can be named behind run, check, overlaps, band and respond, in place of < FILE. "
-        + "Of a file that is no trace\ncheck also shows the line read and the line due.\n"
+        "\nThese commands are not proved (arterial COMMAND --help shows the options of each):\n\n"
+        + listed("  arterial ", others())
+        + "\nrun, check, overlaps, band and respond also accept the name of a file in place of < FILE. With a file, an\n"
+        "invalid scenario is explained, and check also shows the line read and the expected line.\n"
+    )
+
+
+def listed(head: str, known: Iterable[words.Word]) -> str:
+    """Returns a line for each command."""
+    return "".join(f"{head}{it.name:9} {it.does}\n" for it in known)
+
+
+def short() -> str:
+    """Returns the short help, of 20 lines at most."""
+    return (
+        "usage: arterial COMMAND ..\n"
+        + listed("  ", words.OF_PROGRAM)
+        + "Not proved:\n"
+        + listed("  ", others())
+        + "`arterial COMMAND -h` shows a command, `arterial --help` all.\n"
     )
 
 
 def main(given: list[str]) -> int:
-    """Prints help; the words are the program's path, empty where it is not proved, and a command, if it is of one
-    alone."""
-    program, *names = given
+    """Prints help; the arguments are the program's path, empty if it is not proved, the option that asks for help, and
+    a command, if it is help of one."""
+    program, option, *names = given
+    if option == SHORT and not names:
+        sys.stdout.write(short())
+        return Status.DONE
     if program:
         text = subprocess.run([program, "--help"], capture_output=True, text=True, check=True).stdout
     else:
         text = source.help(crates.TOP)
         if text is None:
-            say("arterial", "the help could not be found in the source: docs/arterial.1 has it")
+            say("arterial", "the help was not found in the source: docs/COMMANDS.md has it")
             return Status.NO_PROGRAM
         say("arterial", FROM_SOURCE)
-    if names:
-        sys.stdout.write(of_command(text, names[0]) or text)
-    else:
-        sys.stdout.write(text + beside())
+    sys.stdout.write((of_command(text, names[0]) or text) if names else text + more())
     return Status.DONE

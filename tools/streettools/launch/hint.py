@@ -1,4 +1,4 @@
-"""What is said behind the usage line where the words are no command."""
+"""What follows the usage line if the arguments are wrong."""
 
 from streettools import words
 
@@ -7,6 +7,6 @@ def of(given: list[str]) -> str:
     """Returns a line that names --help, and the command that may have been meant."""
     first = given[0] if given else ""
     if first in words.PROGRAM:
-        return f"arterial: `arterial {first} --help` tells which words {first} takes"
+        return f"arterial: `arterial {first} --help` shows the arguments of {first}"
     near = words.meant(first)
-    return "arterial: `arterial --help` tells of all commands" + (f"; was `arterial {near}` meant?" if near else "")
+    return "arterial: `arterial --help` lists all commands" + (f"; did you mean `arterial {near}`?" if near else "")

@@ -14,6 +14,7 @@ import time
 from collections.abc import Iterator
 from typing import BinaryIO
 
+from streettools.shared.commandline import Parser
 from streettools.shared.saying import say
 from streettools.shared.status import Status
 
@@ -32,18 +33,18 @@ class Failed(Exception):
 
 
 def parser() -> argparse.ArgumentParser:
-    """Returns the reader of the words of `prove`."""
-    words = argparse.ArgumentParser(
-        prog="arterial prove",
-        description="Proves all that the program stands on, and builds it. Interrupted, it goes on where it was; "
-        "of two calls at once one proves and the other waits. Some half an hour on four processors, 15 GB of disk "
-        "meanwhile.",
+    """Returns the reader of the options of `prove`."""
+    words = Parser(
+        "prove",
+        description="Proves everything that the program depends on, and builds it. If interrupted, the next call continues; "
+        "of two calls at once one proves and the other waits. It takes about 25 minutes on four processors, and 15 GB of "
+        "disk while it runs.",
         epilog="example: ./arterial prove && ./arterial run scenarios/one-cabinet.json",
     )
     words.add_argument(
         "--keep",
         action="store_true",
-        help="leave in crates/*/out what the proofs kept, for quicker proofs after an edit; this takes longer",
+        help="keep in crates/*/out what speeds up proofs after an edit; this takes longer",
     )
     return words
 

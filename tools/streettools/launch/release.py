@@ -12,6 +12,7 @@ import pathlib
 import subprocess
 import tarfile
 
+from streettools.shared.commandline import Parser
 from streettools.shared.saying import say
 from streettools.shared.status import Status
 
@@ -20,13 +21,13 @@ from . import crates, prove, record
 
 def parser() -> argparse.ArgumentParser:
     """Returns the reader of the arguments."""
-    words = argparse.ArgumentParser(
-        prog="tools/release",
+    words = Parser(
+        "tools/release",
         description="Makes the Debian package with the record of the proof, and arterial-VERSION-proof.tgz for "
         "./arterial take, from a checkout whose program is proved. Prints the name and the SHA-256 of each.",
         epilog="example: tools/release /tmp",
     )
-    words.add_argument("folder", type=pathlib.Path, nargs="?", default=pathlib.Path("."), help="for the files (.)")
+    words.add_argument("folder", type=pathlib.Path, nargs="?", default=pathlib.Path("."), help="where the files are written (default: the current one)")
     words.add_argument("--no-package", action="store_true", help="only the proof, no Debian package")
     return words
 

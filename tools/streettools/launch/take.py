@@ -16,6 +16,7 @@ import tarfile
 import tempfile
 import time
 
+from streettools.shared.commandline import Parser
 from streettools.shared.saying import say
 from streettools.shared.status import Status
 
@@ -36,8 +37,8 @@ class Refused(Exception):
 
 def parser() -> argparse.ArgumentParser:
     """Returns the reader of the arguments."""
-    words = argparse.ArgumentParser(
-        prog="arterial take",
+    words = Parser(
+        "take",
         description="Takes over a proof that tools/release made of the same sources: from then on the proved program "
         "answers at once, and each call says that it was proved by its maker, not here. ./arterial prove confirms it.",
         epilog="example: ./arterial take arterial-0.8-proof.tgz --sum 0f1e..",

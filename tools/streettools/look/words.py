@@ -1,4 +1,4 @@
-"""The words of the command `./look`."""
+"""The options of the command `./look`."""
 
 import argparse
 import os
@@ -7,17 +7,17 @@ from ..shared.clock import daytime, moment, run_ticks
 from ..shared.commandline import Parser, add_json, add_output
 
 EPILOG = """examples:
-  ./look report trace                                      each phase's greens and how they ended, replies, downloads
-  ./look rings --from 90 --to 210 -o rings.svg trace       both rings of cabinet 1 over two minutes
-  ./look rings --names street.names.json -o rings.svg trace        with names, and without partner phases
+  ./look report trace                                      # each phase's greens and how they ended, replies, downloads
+  ./look rings --from 90 --to 210 -o rings.svg trace       # both rings of cabinet 1 over two minutes
+  ./look rings --names street.names.json -o rings.svg trace   # with names, and without placeholder phases
   ./look coordination --start 06:30:00 --travel 20,20,20 -o street.svg trace
-  ./look page --travel 20,20,20 -o street.html trace       one file to move about in: any second of any cabinet
+  ./look page --travel 20,20,20 -o street.html trace       # one file for a browser: any second of any cabinet
   ./look events --start 2026-11-27T06:00:00 -o log.csv trace
-  ./look purdue OUT --cabinet 2 -o purdue.svg              of a run with traffic; also paths, splits, queues
+  ./look purdue OUT --cabinet 2 -o purdue.svg              # of a run with traffic; also paths, splits, queues
 
-Where a proved program is there, `arterial check` reads the text too, and one that isn't a trace is refused.
-Exit status: 0 done, 1 a file can't be read or written, or a package is missing, 2 the words or the text can't be
-taken, 130 Ctrl-C.
+If a proved program exists, `arterial check` also checks the text, and a text that isn't a trace is refused.
+Exit status: 0 done, 1 a file can't be read or written, or a package is missing, 2 the arguments or the text are
+invalid, 130 Ctrl-C.
 """
 STARTED = "the time of tick 0, as 06:30:00 or 2026-11-27T06:30:00: the time axis then has the time of day"
 
@@ -44,7 +44,7 @@ def travel(text):
 
 
 def picture(text):
-    """Reads the name of a picture, which tells its form."""
+    """Reads the name of a picture, whose ending gives its form."""
     if os.path.splitext(text)[1] not in (".svg", ".png", ".pdf"):
         raise argparse.ArgumentTypeError("the picture's name must end in .svg, .png or .pdf")
     return text
@@ -58,28 +58,29 @@ def page(text):
 
 
 def add_reader(commands, name, text):
-    """Returns a command's reader, with the words that all share."""
-    found = commands.add_parser(name, help=text, description=text, formatter_class=argparse.HelpFormatter)
+    """Returns a command's reader, with the options that all share."""
+    found = commands.add_parser(name, help=text, description=f"{text[:1].upper()}{text[1:]}.",
+                                formatter_class=argparse.HelpFormatter)  # fmt: skip
     found.add_argument("trace", nargs="?", help="the trace's file (default: standard input, as with -)")
     found.add_argument("--names", metavar="FILE", help="names of cabinets and phases, as `arterial plan scenario` "
-                       "writes them; partner phases are left out")  # fmt: skip
-    found.add_argument("--no-check", action="store_true", help="don't let `arterial check` read the text too")
+                       "writes them; placeholder phases are left out")  # fmt: skip
+    found.add_argument("--no-check", action="store_true", help="don't let `arterial check` check the text")
     return found
 
 
 def add_street(found):
-    """Adds the words that choose a street."""
-    found.add_argument("--cabinets", type=numbers, metavar="N,N,..", help="the cabinets in the street's order (all)")
+    """Adds the options that choose a street."""
+    found.add_argument("--cabinets", type=numbers, metavar="N,N,..", help="the cabinets in the street's order (default: all)")
     found.add_argument("--travel", type=travel, metavar="S,S,..",
                        help="seconds from each cabinet to the next, for the bands")  # fmt: skip
 
 
 def add_picture(commands, name, text):
-    """Returns the reader of a command that draws, with the words that these share."""
+    """Returns the reader of a command that draws, with the options that these share."""
     found = add_reader(commands, name, text)
     add_output(found, "the picture: .svg, .png or .pdf", type=picture, required=True)
     found.add_argument("--from", dest="first", type=run_ticks, default=0, metavar="TIME",
-                       help="where to begin: seconds, as 90; or 1:30, or ticks, as 900t (0)")  # fmt: skip
+                       help="where to begin: seconds, as 90; or 1:30, or ticks, as 900t (default: 0)")  # fmt: skip
     found.add_argument("--to", dest="last", type=run_ticks, metavar="TIME", help="where to end, in the same forms")
     found.add_argument("--start", type=daytime, metavar="TIME", help=STARTED)
     return found
@@ -95,27 +96,27 @@ def add_text(commands, name, text):
 def add_rings(commands):
     """Adds the command that draws a cabinet's rings."""
     found = add_picture(
-        commands, "rings", "both rings of a cabinet: greens, clearances, walks, barriers, modes (to: 180 s on)"
+        commands, "rings", "both rings of a cabinet: greens, clearances, walks, barriers, modes (180 s if --to isn't given)"
     )
-    found.add_argument("--cabinet", type=int, default=1, metavar="N", help="the cabinet (1)")
+    found.add_argument("--cabinet", type=int, default=1, metavar="N", help="the cabinet (default: 1)")
 
 
 def add_coordination(commands):
     """Adds the command that draws a street."""
     found = add_picture(
         commands, "coordination",
-        "the coordinated greens of several cabinets over time, with through bands (to: 300 s on)",
+        "the coordinated greens of several cabinets over time, with progression bands (300 s if --to isn't given)",
     )  # fmt: skip
     add_street(found)
     found.add_argument("--planned", metavar="FILE",
-                       help="what `arterial band` wrote: the plan's greatest bands, as dashed outlines")  # fmt: skip
-    found.add_argument("--phases", type=phases, metavar="P,P", help="the phases to show, not the coordinated ones")
+                       help="what `arterial band` wrote: the plan's widest bands, as dashed outlines")  # fmt: skip
+    found.add_argument("--phases", type=phases, metavar="P,P", help="the phases to show (default: the coordinated ones)")
 
 
 def add_offset(commands):
     """Adds the command that draws how an offset comes about."""
-    found = add_picture(commands, "offset", "how a cabinet brings its offset about, and what disturbs it (to: the end)")
-    found.add_argument("--cabinet", type=int, default=1, metavar="N", help="the cabinet (1)")
+    found = add_picture(commands, "offset", "how a cabinet brings its offset about, and what disturbs it")
+    found.add_argument("--cabinet", type=int, default=1, metavar="N", help="the cabinet (default: 1)")
 
 
 def add_page(commands):
@@ -150,7 +151,7 @@ COMMANDS = (add_rings, add_coordination, add_offset, add_page, add_report, add_e
 
 
 def parser():
-    """Returns the reader of the words."""
+    """Returns the reader of the options."""
     words = Parser("look", description="Shows a trace that `arterial run` wrote. Ticks are 0.1 s.", epilog=EPILOG)
     commands = words.add_subparsers(dest="command", required=True, metavar="COMMAND", prog="arterial look")
     for add in COMMANDS:

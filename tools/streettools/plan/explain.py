@@ -4,7 +4,8 @@ import re
 from collections.abc import Callable
 
 from ..shared.fault import Fault
-from . import rules
+from ..shared.values import MOST_BYTES
+from . import jsontext, names, rules, sources
 from ..shared.cells import tables_of, with_cells
 from .pattern_sentences import sentences
 from .sources import Source
@@ -57,6 +58,21 @@ OTHERS = {
 
 class NotKnown(Fault):
     """A line isn't one of the program's, or doesn't fit the file, in words."""
+
+
+def of_refusal(content: bytes, line: str) -> list[str]:
+    """Returns what a line says with which the program refuses a scenario or a field file, by its text: what was
+    expected, and what was found. Only the first fault is looked for, so that this is quick even if there are many."""
+    if len(content) <= MOST_BYTES and line.startswith(("scenario: not JSON", "scenario: field ", "scenario: limit ")):
+        try:
+            value = jsontext.read(content)
+        except jsontext.NoJson as fault:
+            return [str(fault)]
+        found = next((it for it in sources.faults_of(content.decode(), value) if it.line == line), None)
+        if found is None:
+            raise NotKnown("the file doesn't have this fault")
+        return [f"{found.place}: {found.where}: {found.words}"]
+    return explained(sources.source_of("scenario.json", content, names.Names), line)
 
 
 def fault_of_value(source: Source, line: str) -> list[str]:

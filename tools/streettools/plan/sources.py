@@ -3,8 +3,9 @@ their first letters."""
 
 import pathlib
 import sys
-from collections.abc import Callable
+from collections.abc import Callable, Iterator
 from dataclasses import dataclass, field
+from typing import Any
 
 from ..shared import shapes
 from . import jsontext, names, reading, toml_text
@@ -106,10 +107,28 @@ def read_sheet(source: Source, read: Callable[[], tuple[dict, list[str]]]) -> No
     source.street = street
 
 
+def is_field_file(value: object) -> bool:
+    """Returns whether a value is a field file, which has a scenario inside."""
+    return isinstance(value, dict) and isinstance(value.get("scenario"), dict)
+
+
+def faults_of(text: str, value: Any) -> Iterator[Finding]:
+    """Yields the faults of the names and values of a scenario or a field file, as they are found."""
+    is_field = is_field_file(value)
+    front = "scenario." if is_field else ""
+    for fault in shapes.scenario_faults(value["scenario"] if is_field else value):
+        path = front + fault.path if fault.path != "." else front.rstrip(".") or "."
+        line = f"scenario: {fault.what} {path}"
+        yield Finding(Level.ERROR, fault.path, fault.words, line=line, place=str(jsontext.place_of(text, path)))
+    for fault in shapes.field_faults(value) if is_field else ():
+        place = str(jsontext.place_of(text, fault.path))
+        yield Finding(Level.ERROR, fault.path, fault.words, line=fault.line, place=place)
+
+
 def read_json(source: Source, content: bytes, known: names.Names) -> None:
     """Takes up a scenario or a field file."""
     if len(content) > MOST_BYTES:
-        source.error(f"{len(content)} bytes, and {MOST_BYTES} is the most", line="scenario: limit .")
+        source.error(f"expected at most {MOST_BYTES} bytes, found {len(content)}", line="scenario: limit .")
         return
     try:
         value = jsontext.read(content)
@@ -117,14 +136,9 @@ def read_json(source: Source, content: bytes, known: names.Names) -> None:
         source.error(fault.words, line="scenario: not JSON", place=str(fault.place))
         return
     source.text = content.decode()
-    is_field = isinstance(value, dict) and isinstance(value.get("scenario"), dict)
+    is_field = is_field_file(value)
     scenario = value["scenario"] if is_field else value
-    front = "scenario." if is_field else ""
-    for fault in shapes.scenario_faults(scenario):
-        place = jsontext.place_of(source.text, front + fault.path if fault.path != "." else front.rstrip(".") or ".")
-        source.error(fault.words, fault.path, line=fault.line, place=str(place))
-    for fault in shapes.field_faults(value) if is_field else ():
-        source.error(fault.words, fault.path, line=fault.line, place=str(jsontext.place_of(source.text, fault.path)))
+    source.findings += faults_of(source.text, value)
     if isinstance(scenario, dict) and not any(
         fault.startswith(("cabinets", ".", "version")) for fault in (it.where for it in source.errors)
     ):

@@ -1,23 +1,28 @@
-"""The command line: the words that all tools share, and readers of numbers for argparse."""
+"""The command line: the options that all tools share, and readers of numbers for argparse."""
 
 import argparse
 from collections.abc import Callable, Sequence
 from typing import Any
 
 from .saying import say
+from .short_help import ShortHelp
 from .version import VERSION
 
 
 class Parser(argparse.ArgumentParser):
-    """A reader of words, named `arterial TOOL ..`. Words can't be shortened. Texts before and after the words keep
-    their lines. It also has `--version` and `--traceback`."""
+    """A reader of arguments, named `arterial TOOL ..`, or by the path of a script. Options can't be shortened. Texts
+    before and after the options keep their lines. `-h` prints a short help, `--help` all. It also has `--version` and
+    `--traceback`."""
 
     def __init__(self, prog: str, **more: Any) -> None:
         more.setdefault("formatter_class", argparse.RawDescriptionHelpFormatter)
-        super().__init__(prog=f"arterial {prog.removeprefix('arterial ')}", allow_abbrev=False, **more)
+        name = prog if "/" in prog else f"arterial {prog.removeprefix('arterial ')}"
+        super().__init__(prog=name, allow_abbrev=False, **{**more, "add_help": False})
+        self.add_argument("-h", action=ShortHelp, help="show a short help and exit")
+        self.add_argument("--help", action="help", help="show this help and exit")
         self.add_argument("--version", action="version", version=f"arterial {VERSION}")
-        # the boundary takes this word away before words are read
-        self.add_argument("--traceback", action="store_true", help="show where a fault of this tool is")
+        # the boundary takes this option away before the others are read
+        self.add_argument("--traceback", action="store_true", help="if this tool has a fault, show where")
 
 
 class Renamed(argparse.Action):
@@ -64,7 +69,7 @@ def add_json(words: argparse.ArgumentParser) -> None:
 
 
 def number(least: int, most: int) -> Callable[[str], int]:
-    """Returns a reader of whole numbers in a range."""
+    """Returns a reader of whole numbers in a range; the reference of commands shows its attribute `takes`."""
 
     def read(text: str) -> int:
         value = int(text)
@@ -72,4 +77,5 @@ def number(least: int, most: int) -> Callable[[str], int]:
             raise argparse.ArgumentTypeError(f"{text} is not {least} to {most}")
         return value
 
+    setattr(read, "takes", f"{least:,} to {most:,}")
     return read

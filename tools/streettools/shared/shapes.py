@@ -1,4 +1,4 @@
-"""The objects of a scenario and of a field file by their names, and all faults of a value that is to be one."""
+"""The objects of a scenario and of a field file by their names, and all faults of a value."""
 
 from collections.abc import Iterator
 from typing import Any
@@ -45,7 +45,7 @@ LINE_FAULT = {
 def one_drift(path: str, value: dict[str, Any]) -> Iterator[Fault]:
     """Tests a cabinet's clock for not gaining and losing both."""
     if value.get("gain") and value.get("lose"):
-        yield Fault("field", path, "a clock gains or loses, not both: one of the two must be 0")
+        yield Fault("field", path, "expected 0 for gain or for lose: a clock gains or loses, not both")
 
 
 def cabinet(version: object) -> Test:
@@ -66,7 +66,7 @@ def leaves_after_coming(path: str, value: dict[str, Any]) -> Iterator[Fault]:
     come, gone = value.get("arrival"), value.get("departure")
     if "cancel" not in value and type(come) is int and type(gone) is int and come > gone:
         yield Fault(
-            "limit", below(path, "departure"), f"the vehicle is gone after {gone} ticks, but comes after {come}"
+            "limit", below(path, "departure"), f"expected a departure at or after the arrival ({come}), found {gone}"
         )
 
 
@@ -81,7 +81,7 @@ def few_loads(load: Test) -> Test:
             counts[number] = counts.get(number, 0) + 1
             if counts[number] > 100:
                 yield Fault(
-                    "limit", path, f"this is download {counts[number]} of cabinet {number}, and 100 is the most"
+                    "limit", path, f"expected at most 100 downloads of cabinet {number}, found {counts[number]}"
                 )
 
     return test
@@ -148,7 +148,7 @@ def scenario_faults(value: object) -> Iterator[Fault]:
         yield from members(WHOLE, it, lists(size(it.get("rounds"), 86_400), count))
         ticks = size(it.get("rounds"), 86_400) * size(it.get("ticks"), 600) * count
         if all(type(it.get(name)) is int for name in ("rounds", "ticks")) and ticks > MOST_TICKS:
-            yield Fault("limit", "rounds", f"cabinets x rounds x ticks come to {ticks}, and {MOST_TICKS} is the most")
+            yield Fault("limit", "rounds", f"expected cabinets x rounds x ticks of at most {MOST_TICKS}, found {ticks}")
 
     def later(_: str, __: object) -> Iterator[Fault]:
         yield from ()

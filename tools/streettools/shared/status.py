@@ -1,11 +1,11 @@
-"""The exit statuses of the tools and of the launcher. docs/arterial.1 has this table, too, with the statuses of the
-program itself; a test compares them."""
+"""The exit statuses of the tools and of the launcher. docs/COMMANDS.md and the manual pages show this table, with the
+statuses of the program itself."""
 
 import enum
 
 
 class Status(enum.IntEnum):
-    """An exit status; MEANINGS has what each says."""
+    """An exit status; MEANINGS explains each."""
 
     DONE = 0
     FILE = 1
@@ -19,14 +19,14 @@ class Status(enum.IntEnum):
 
 
 MEANINGS = {
-    Status.DONE: "done; Ctrl-C ends street and cabinet with it, too",
+    Status.DONE: "done; also if Ctrl-C ends street or cabinet",
     Status.FILE: "a file can't be read or written, a reader of the output has gone, or a package is missing",
-    Status.REFUSED: "the words or an input can't be taken, or a check found an error",
-    Status.FULL: "a live cabinet reached a limit of scenarios",
+    Status.REFUSED: "the arguments or an input are invalid, or a check found an error",
+    Status.FULL: "a live cabinet reached a limit of its session",
     Status.SOFTWARE: "the tool itself has a fault: --traceback shows where",
     Status.FORGED: "the program is not the one that was proved",
-    Status.UNFINISHED: "runs of a sweep failed, or the run without proofs can't bring its answer to its end",
-    Status.NO_PROGRAM: "there is no program, and none can be had here",
-    Status.INTERRUPTED: "Ctrl-C",
+    Status.UNFINISHED: "runs of a sweep failed, or the unproved program could not finish its answer",
+    Status.NO_PROGRAM: "no program is available",
+    Status.INTERRUPTED: "interrupted by Ctrl-C",
 }
 """What each status says, in a line."""

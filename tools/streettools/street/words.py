@@ -1,4 +1,4 @@
-"""The words of `./arterial street`."""
+"""The options of `./arterial street`."""
 
 import argparse
 import ipaddress
@@ -17,11 +17,11 @@ ABOUT = (
     "Runs the cabinets of a scenario as live cabinets: each answers SNMP version 1 at its own UDP port, until Ctrl-C."
 )
 AFTER = """A tick is 0.1 s. The ports are those of loopback: the protocol has no protection, so another address is
-opened only where --bind names it. docs/STREET.md says more."""
+opened only if --bind names it. docs/STREET.md has details."""
 
 
 def speed(text: str) -> float | str:
-    """Reads a speed: a factor of real time, or the word for time that goes on by messages."""
+    """Reads a speed: a factor of real time, or the word for time that advances by messages."""
     if text == STEP:
         return STEP
     value = float(text)
@@ -31,15 +31,15 @@ def speed(text: str) -> float | str:
 
 
 def first_port(text: str) -> int:
-    """Reads the first of some ports, which may have a plus behind it."""
+    """Reads the first of some ports, with or without a plus."""
     return number(0, 65_535)(text.removesuffix("+"))
 
 
 def first_address(text: str) -> str:
-    """Reads the first of some addresses of loopback, which may have a plus behind it."""
+    """Reads the first of some addresses of loopback, with or without a plus."""
     address = ipaddress.ip_address(text.removesuffix("+"))
     if not address.is_loopback:
-        raise argparse.ArgumentTypeError(f"{text} is no address of loopback; --bind names another one")
+        raise argparse.ArgumentTypeError(f"{text} is not an address of loopback; --bind opens another one")
     return str(address)
 
 
@@ -59,40 +59,40 @@ def host(text: str) -> str:
 
 
 def parser() -> argparse.ArgumentParser:
-    """Returns the reader of the words."""
+    """Returns the reader of the options."""
     words = Parser("street", description=ABOUT, epilog=AFTER)
     words.add_argument(
-        "--scenario", metavar="FILE", help="the scenario of the street (one standard cabinet, rounds of 1 s)"
+        "--scenario", metavar="FILE", help="the scenario of the street (default: one standard cabinet, rounds of 1 s)"
     )
     words.add_argument(
         "--ports",
         type=first_port,
         default=USUAL_PORT,
         metavar="N+",
-        help="the first port; the next cabinets follow (10161+)",
+        help="the first port; the next cabinets follow (default: 10161+)",
     )
     words.add_argument(
         "--addresses", type=first_address, metavar="A+", help="one port at this and the next addresses, as 127.0.1.1+"
     )
     words.add_argument(
-        "--bind", type=bound, metavar="ADDRESS", help="an address that others can reach, in place of loopback"
+        "--bind", type=bound, metavar="ADDRESS", help="an address that others can reach (default: loopback only)"
     )
     words.add_argument(
         "--speed",
         type=speed,
         default=1.0,
         metavar="N",
-        help="so many times real time (1); step: time goes on by messages",
+        help="speed in multiples of real time, 0.01 to 1000; step: time advances by messages (default: 1)",
     )
     add_renamed(
         words, "--step", "--ticks-per-message", type=number(0, 864_000), metavar="TICKS",
-        help="with --speed step: ticks that pass after each message (10)",
+        help="with --speed step: ticks that pass after each message (default: 10)",
     )  # fmt: skip
     words.add_argument(
         "--panel",
         type=number(0, 65_535),
         metavar="PORT",
-        help="a panel for the browser at this port; 0 for one that is free",
+        help="open a panel for the browser at this port; 0 for a free one",
     )
     words.add_argument(
         "--allow-host",
@@ -105,13 +105,13 @@ def parser() -> argparse.ArgumentParser:
     words.add_argument("--record", metavar="FILE", help="write the trace of the session here, its requests beside it")
     again = words.add_mutually_exclusive_group()
     again.add_argument(
-        "--replay", metavar="FILE", help="what this record holds happens again by the clock; then the street goes on"
+        "--replay", metavar="FILE", help="replay this record in real time; then the street continues"
     )
     again.add_argument(
-        "--resume", metavar="FILE", help="what this record holds happens again at once; then the street goes on"
+        "--resume", metavar="FILE", help="replay this record at once; then the street continues"
     )
     words.add_argument(
-        "--as", dest="front", choices=["ntcip1202"], help="answer more than the proved profile has: docs/CLIENTS.md"
+        "--as", dest="front", choices=["ntcip1202"], help="answer more than the proved profile does (docs/SNMP-CONFORMANCE.md)"
     )
     add_program(words)
     return words
@@ -123,7 +123,7 @@ def first_place(given: argparse.Namespace) -> Place:
 
 
 def is_anywhere(address: str | None) -> bool:
-    """Tells whether an address stands for all of this machine's, as 0.0.0.0 does."""
+    """Returns whether an address means all of this machine's, as 0.0.0.0 does."""
     return address is not None and ipaddress.ip_address(address).is_unspecified
 
 
@@ -134,5 +134,5 @@ def panel_name(given: argparse.Namespace) -> str:
 
 
 def is_step(given: argparse.Namespace) -> bool:
-    """Tells whether time goes on by messages."""
+    """Returns whether time advances by messages."""
     return bool(given.speed == STEP)

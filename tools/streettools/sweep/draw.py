@@ -15,14 +15,14 @@ examples:
 
 
 class Wanted(argparse.Action):
-    """Keeps the measures of a frontier in their order, each with whether the least or the greatest is best."""
+    """Keeps the measures of a frontier in their order, each with whether the lowest or the highest value is best."""
 
     def __call__(self, parser, space, value, option=None):
         space.wanted = [*(space.wanted or []), (value, 1 if option == "--least" else -1)]
 
 
 def picture(text: str) -> str:
-    """Reads the name of a picture, which tells its form."""
+    """Reads the name of a picture, whose ending gives its form."""
     if Path(text).suffix not in (".svg", ".png", ".pdf"):
         raise argparse.ArgumentTypeError("the picture's name must end in .svg, .png or .pdf")
     return text
@@ -35,7 +35,7 @@ def parser() -> argparse.ArgumentParser:
 
     def kind(name: str, help: str) -> argparse.ArgumentParser:
         """Returns the reader of a kind of picture."""
-        found = kinds.add_parser(name, help=help, description=help, epilog=EXAMPLES)
+        found = kinds.add_parser(name, help=help, description=f"{help[:1].upper()}{help[1:]}.", epilog=EXAMPLES)
         found.add_argument("table", type=Path, help="the table that a sweep has written")
         add_output(found, "the picture: .svg, .png or .pdf", type=picture, required=True)
         return found
@@ -47,10 +47,10 @@ def parser() -> argparse.ArgumentParser:
         it.add_argument("--of", required=True, metavar="COLUMN", help="the measure")
     lines.add_argument("--by", metavar="COLUMN", help="a line for each value of this parameter")
     heat.add_argument("--y", required=True, metavar="COLUMN", help="the parameter up the picture")
-    frontier = kind("frontier", "two measures, and the variants that no other is better than in both")
-    for word in ("least", "greatest"):
+    frontier = kind("frontier", "two measures, and the variants that no other variant beats in both")
+    for word, best in (("least", "lowest"), ("greatest", "highest")):
         frontier.add_argument(
-            f"--{word}", action=Wanted, dest="wanted", metavar="COLUMN", help=f"a measure of which the {word} is best"
+            f"--{word}", action=Wanted, dest="wanted", metavar="COLUMN", help=f"a measure whose {best} value is best"
         )
     return words
 
@@ -59,7 +59,7 @@ def main(given: list[str]) -> int:
     """Draws what the words ask for."""
     words = parser().parse_args(given)
     if words.kind == "frontier" and len(words.wanted or []) != 2:
-        raise Fault("a frontier is that of two measures: two of --least and --greatest")
+        raise Fault("a frontier needs two measures: two options of --least and --greatest")
     from . import pictures
     from .results import Results
 

@@ -143,5 +143,5 @@ def test_where_the_model_is_not_there_the_line_due_is_not_told(proved, damaged):
 
 
 def test_of_a_pipe_the_way_to_both_lines_is_told(proved):
-    way = "arterial: with the name of a file, arterial check FILE also shows the line read and the line due\n"
+    way = "arterial: with the name of a file, arterial check FILE also shows the line read and the expected line\n"
     assert proved.ran("check", **ANSWER) == (5, "", f"{ANSWER['SAYS']}\n{way}")

@@ -9,6 +9,7 @@ import pytest
 
 from .conftest import SECONDS, TOP
 
+TOOLS = ("cabinet", "cosim", "look", "plan", "street", "sweep")
 COMMIT = {f"GIT_{who}_{what}": "x" for who in ("AUTHOR", "COMMITTER") for what in ("NAME", "EMAIL")}
 
 
@@ -31,7 +32,10 @@ def done(*words, **more):
 def test_all_stands_where_a_unix_user_looks_for_it(whole, tmp_path):
     to = tmp_path / "an empty prefix"
     assert done(whole.top / "tools/install", "--prefix", to) == (0, f"install: arterial is at {to}/bin/arterial\n", "")
-    assert gzip.decompress((to / "share/man/man1/arterial.1.gz").read_bytes()) == (TOP / "docs/arterial.1").read_bytes()
+    for page in (TOP / "docs/man").iterdir():
+        assert gzip.decompress((to / f"share/man/man1/{page.name}.gz").read_bytes()) == page.read_bytes()
+    assert len(list((to / "share/man/man1").iterdir())) == len(list((TOP / "docs/man").iterdir())) == 7
+    assert sorted(it.name for it in (to / "bin").iterdir()) == ["arterial", *(f"arterial-{it}" for it in TOOLS)]
     for name in (
         "snmp/mibs/ARTERIAL-PROFILE-MIB",
         "arterial/scenario.schema.json",

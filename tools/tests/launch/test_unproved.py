@@ -74,9 +74,9 @@ def test_words_that_are_no_command_are_told_at_once(tried):
     assert tried.ran("rnu") == (
         1,
         "",
-        "usage: arterial run | check\narterial: `arterial --help` tells of all commands; was `arterial run` meant?\n",
+        "usage: arterial run | check\narterial: `arterial --help` lists all commands; did you mean `arterial run`?\n",
     )
-    assert tried.ran() == (1, "", "usage: arterial run | check\narterial: `arterial --help` tells of all commands\n")
+    assert tried.ran() == (1, "", "usage: arterial run | check\narterial: `arterial --help` lists all commands\n")
     assert tried.calls()[0] == []
 
 

@@ -41,7 +41,7 @@ def test_a_dash_is_standard_input(proved):
 
 
 @pytest.mark.parametrize(
-    ("name", "why"), [("missing", "no such file"), (".", "a folder, and no file"), ("", "a folder, and no file")]
+    ("name", "why"), [("missing", "no such file"), (".", "is a directory"), ("", "is a directory")]
 )
 def test_a_file_that_can_not_be_read_is_told_in_one_line(proved, tmp_path, name, why):
     given = str(tmp_path / name) if name else ""
@@ -58,12 +58,12 @@ def test_two_files_are_too_many(proved, tmp_path):
 def test_a_wrong_word_gets_the_usage_line_and_the_command_that_was_meant(proved):
     usage = {"SAYS": "usage: arterial run", "STATUS": "1"}
     assert proved.ran("chekc", **usage) == (
-        1, "", "usage: arterial run\narterial: `arterial --help` tells of all commands; was `arterial check` meant?\n"
+        1, "", "usage: arterial run\narterial: `arterial --help` lists all commands; did you mean `arterial check`?\n"
     )  # fmt: skip
-    assert proved.ran("zzz", **usage)[2] == "usage: arterial run\narterial: `arterial --help` tells of all commands\n"
-    assert proved.ran("prov", **usage)[2].endswith("was `arterial prove` meant?\n")
+    assert proved.ran("zzz", **usage)[2] == "usage: arterial run\narterial: `arterial --help` lists all commands\n"
+    assert proved.ran("prov", **usage)[2].endswith("did you mean `arterial prove`?\n")
     assert proved.ran("run", "--worker", "2", **usage)[2].endswith(
-        "arterial: `arterial run --help` tells which words run takes\n"
+        "arterial: `arterial run --help` shows the arguments of run\n"
     )
 
 
@@ -113,7 +113,7 @@ def test_the_tools_can_be_called_as_a_package_of_python(proved):
 
     assert called("look", "--help")[1].startswith("usage: arterial look ")
     assert "cabinet" in called()[1] and "launch" not in called()[1]
-    assert called("lok") == (2, "", "streettools: no command lok: look?\n")
+    assert called("lok") == (2, "", "streettools: unknown command 'lok'; did you mean look?\n")
 
 
 def test_a_package_of_python_that_is_missing_is_told_in_one_line(proved, tmp_path):

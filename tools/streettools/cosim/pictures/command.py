@@ -16,35 +16,35 @@ from ..records import Study
 
 EXAMPLES = """\
 examples, after a run has written OUT/study.json and OUT/session.trace:
-  ./arterial cosim draw purdue OUT --cabinet 2 -o purdue.svg          arrivals in each cycle
+  ./arterial cosim draw purdue OUT --cabinet 2 -o purdue.svg          # arrivals in each cycle
   ./arterial cosim draw paths OUT --travel 20,20,20 --from 600 --to 900 -o paths.svg
-  ./arterial cosim draw splits OUT --cabinet 2 -o splits.svg          each service of each phase, and how it ended
+  ./arterial cosim draw splits OUT --cabinet 2 -o splits.svg          # each service of each phase, and how it ended
   ./arterial cosim draw queues OUT --cabinet 2 --movement EBT,SBT -o queues.svg
 
-docs/QUEUES.md says how they are read."""
+docs/QUEUES.md explains the pictures."""
 KINDS = ("paths", "purdue", "splits", "queues")
 USUAL = {"paths": 300.0, "purdue": 3600.0, "splits": 3600.0, "queues": 900.0}
-"""So many seconds are shown where no last one is named."""
+"""The seconds that are shown by default."""
 MOST = 7200.0
 
 
 def parser() -> argparse.ArgumentParser:
-    """Returns the reader of the command's words."""
+    """Returns the reader of the options."""
     words = Parser(
         "cosim draw",
         description="Draws a run with traffic: vehicles' paths over the bands, the Purdue coordination diagram, "
         "the split monitor, queues over time.",
         epilog=EXAMPLES,
     )
-    words.add_argument("kind", choices=KINDS, help="what is drawn")
+    words.add_argument("kind", choices=KINDS, help="the picture to draw")
     words.add_argument("folder", help="the folder of the run (its -o)")
     add_output(words, "the picture: .svg, .png or .pdf", type=picture, required=True)
-    words.add_argument("--cabinet", type=number(1, 64), default=1, metavar="N", help="the cabinet (1); not of paths")
-    words.add_argument("--movement", metavar="NAME,..", help="the movements (purdue: the two busiest; queues: all)")
-    words.add_argument("--cabinets", type=numbers, metavar="N,N,..", help="the cabinets of paths, in order (all)")
+    words.add_argument("--cabinet", type=number(1, 64), default=1, metavar="N", help="the cabinet, except for paths (default: 1)")
+    words.add_argument("--movement", metavar="NAME,..", help="the movements (default: the two busiest for purdue, all for queues)")
+    words.add_argument("--cabinets", type=numbers, metavar="N,N,..", help="the cabinets of paths, in order (default: all)")
     words.add_argument("--travel", type=travel, metavar="S,S,..", help="seconds from each cabinet to the next (paths)")
     words.add_argument("--from", dest="first", type=run_seconds, metavar="TIME",
-                       help="where to begin: seconds, as 90; or 1:30, or ticks, as 900t (at --warm)")  # fmt: skip
+                       help="where to begin: seconds, as 90; or 1:30, or ticks, as 900t (default: the --warm of the run)")  # fmt: skip
     words.add_argument("--to", dest="last", type=run_seconds, metavar="TIME", help="where to end, in the same forms")
     words.add_argument("--start", type=daytime, metavar="TIME", help="the time of day at second 0, as 07:00:00")
     return words

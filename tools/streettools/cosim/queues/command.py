@@ -20,27 +20,27 @@ examples:
   ./arterial cosim queues scenarios/street.volumes.toml --scenario scenarios/street.json
   ./arterial cosim queues volumes.toml --scenario street.json --seconds 3600 --warm 600 --seed 2
   ./arterial cosim queues volumes.toml --scenario street.json --json > report.json
-  ./arterial cosim queues volumes.toml --scenario street.json -o OUT    the report, the trace, and what was recorded
+  ./arterial cosim queues volumes.toml --scenario street.json -o OUT    # the report, the trace, and what was recorded
 
-docs/QUEUES.md says how volumes are written, and what the model does."""
+docs/QUEUES.md explains the file of volumes and the model."""
 STEPS = {"0.1": 1, "0.2": 2, "0.5": 5, "1": 10}
 """How long a step may be, in seconds, and its ticks."""
 
 
 def parser() -> argparse.ArgumentParser:
-    """Returns the reader of the command's words."""
+    """Returns the reader of the options."""
     words = Parser(
         "cosim queues",
         description="Runs a scenario's cabinets with vehicles that wait in queues: delay, stops, split failures.",
         epilog=EXAMPLES,
     )
-    words.add_argument("volumes", help="who comes, and where they go: a file in TOML; - is standard input")
+    words.add_argument("volumes", help="volumes and routes, in TOML; - is standard input")
     words.add_argument("--scenario", required=True, metavar="FILE", help="the cabinets: a scenario")
-    words.add_argument("--seconds", type=number(1, 5_529_600), metavar="S", help="how long (as the scenario says)")
-    words.add_argument("--warm", type=number(0, 5_529_600), default=0, metavar="S", help="nobody before is counted (0)")
-    words.add_argument("--step", choices=STEPS, default="1", help="seconds from look to look of the detectors (1)")
-    words.add_argument("--seed", type=number(0, 4_294_967_295), default=1, metavar="N", help="draws who comes (1)")
-    words.add_argument("--keep-inputs", action="store_true", help="keeps the scenario's detectors and buttons, too")
+    words.add_argument("--seconds", type=number(1, 5_529_600), metavar="S", help="the length (default: that of the scenario)")
+    words.add_argument("--warm", type=number(0, 5_529_600), default=0, metavar="S", help="exclude trips that start earlier (default: 0)")
+    words.add_argument("--step", choices=STEPS, default="1", help="seconds between two samples of the detectors (default: 1)")
+    words.add_argument("--seed", type=number(0, 4_294_967_295), default=1, metavar="N", help="the seed of random arrivals (default: 1)")
+    words.add_argument("--keep-inputs", action="store_true", help="keep the scenario's inputs of detectors and push buttons")
     add_json(words)
     add_output(words, "a folder for the report, session.trace and study.json", metavar="FOLDER")
     add_program(words)
@@ -53,12 +53,12 @@ def read_volumes(text: bytes, name: str) -> Volumes:
 
 
 def asked_of(words: argparse.Namespace, seconds: float) -> Asked:
-    """Returns what the words ask of a run."""
+    """Returns what the options ask of a run."""
     step = STEPS[words.step]
     if round(seconds * 10) % step:
-        raise Fault(f"{seconds:g} s are no whole number of steps of {words.step} s")
+        raise Fault(f"{seconds:g} s is not a whole number of steps of {words.step} s")
     if words.warm >= seconds:
-        raise Fault(f"--warm {words.warm} leaves nothing of {seconds:g} s to count")
+        raise Fault(f"--warm {words.warm} leaves nothing of {seconds:g} s to measure")
     return Asked(seconds, step, words.seed, words.warm, words.keep_inputs, words.output is not None)
 
 
