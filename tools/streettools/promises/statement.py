@@ -1,5 +1,6 @@
 """The statement of a promise: the words of a definition or a contract without comments, layout and bodies."""
 
+import functools
 import hashlib
 import re
 
@@ -44,6 +45,7 @@ def definitions(text: str) -> str:
     return _lines(NOTE.sub(lambda it: it[1] or "", text))
 
 
+@functools.lru_cache(maxsize=1024)
 def code(text: str) -> str:
     """Returns a file in Rattle without its comments."""
     return "".join("" if it["note"] else it[0] for it in TOKEN.finditer(text))
@@ -72,6 +74,7 @@ def _head(text: str, at: int) -> int:
     return at
 
 
+@functools.lru_cache(maxsize=1024)
 def contracts(text: str) -> str:
     """Returns what a file in Rattle states: its types, its traits and the contracts of its functions. Bodies, modules,
     imports of code and constant texts are left out."""

@@ -48,6 +48,11 @@ def test_a_crate_without_edits_is_refused():
     assert tried.returncode == 2 and "ber_code has no edits here" in tried.stderr
 
 
+def test_a_file_of_results_that_is_not_there_is_a_fault(tmp_path):
+    tried = ran("--record", str(tmp_path / "none"))
+    assert (tried.returncode, tried.stderr) == (2, f"edits/try: {tmp_path}/none: No such file or directory\n")
+
+
 @pytest.fixture(name="copy")
 def a_copy(tmp_path):
     """Returns a copy of what the script needs for two edits of a crate, and a command in place of `rt`, which prints
@@ -86,5 +91,30 @@ def test_a_crate_is_recorded_as_tried_if_all_its_edits_are_refused(tmp_path, cop
     named = [it.name for it in EDITS if it.parent.name == "phase_clock"]
     told = [f"rt: must-fail phase_clock/{name}: {said}" for name in named]
     assert tried.returncode == status and tried.stdout.splitlines()[: len(told)] == told
-    pending = subprocess.run([copy / "edits/try", "--pending"], capture_output=True, text=True, timeout=60)
-    assert pending.stdout.splitlines() == (["phase_clock"] if status else [])
+    assert pending(copy) == (["phase_clock"] if status else [])
+
+
+def pending(copy: pathlib.Path) -> list[str]:
+    """Returns the crates that the copy has yet to try."""
+    asked = subprocess.run([copy / "edits/try", "--pending"], capture_output=True, text=True, timeout=60)
+    return asked.stdout.splitlines()
+
+
+@pytest.mark.parametrize(
+    ("old", "new", "left"),
+    [
+        ("", "", []),
+        ("refused, as it must be", "NOT REFUSED", ["phase_clock"]),
+        ("contracts and edits ", "contracts and edits 0", ["phase_clock"]),
+    ],
+    ids=["as it was printed", "an edit that is not refused", "of other contracts"],
+)
+def test_what_another_checkout_printed_is_recorded_if_its_contracts_are_these(tmp_path, copy, old, new, left):
+    (tmp_path / "said").write_text("refused, as it must be: src/lib.rt:9:1: error")
+    (tmp_path / "status").write_text("0")
+    environment = os.environ | {"PATH": f"{tmp_path}:{os.environ['PATH']}"}
+    tried = subprocess.run([copy / "edits/try"], capture_output=True, text=True, timeout=60, env=environment)
+    (copy / "edits/tried.sums").unlink()
+    (tmp_path / "results").write_text(tried.stdout.replace(old, new, 1))
+    again = subprocess.run([copy / "edits/try", "--record", tmp_path / "results"], capture_output=True, timeout=60)
+    assert (again.returncode, pending(copy)) == (1 if left else 0, left)
