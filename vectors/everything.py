@@ -43,8 +43,9 @@ def faults():
                 yield {"round": 2 * place + 2, "cabinet": 1 + place % CABINETS, "stream": stream, "way": way, **kind}
 
 
-def everything():
-    """Returns the scenario's text."""
+def everything(*, crowded: bool = False) -> bytes:
+    """Returns the scenario's text. A crowded one has 25 cabinets more, so that each of several workers has cabinets to
+    take up."""
     request = {"number": 1, "class": 2, "level": 3, "phase": 6, "arrival": 20, "departure": 300}
     every = range(1, CABINETS + 1)
     lists = {
@@ -68,7 +69,8 @@ def everything():
     master = {
         "clock": 863_500, "poll_every": 2, "clock_every": 5, "pattern_every": 3, "retries": 2, "schedule": schedule
     }
+    all_cabinets = [*cabinets(), *([{"base": "max8"}] * 25 if crowded else [])]
     head = {
-        "version": 2, "rounds": ROUNDS, "ticks": 50, "community": "public", "cabinets": cabinets(), "master": master
+        "version": 2, "rounds": ROUNDS, "ticks": 50, "community": "public", "cabinets": all_cabinets, "master": master
     }
     return json.dumps(head | lists).encode()

@@ -133,9 +133,10 @@ class Client:
                 break
         return b"".join(lines)
 
-    def ask(self, request: bytes) -> bytes:
-        """Writes a request, and returns its answer."""
-        self.session.stdin.write(request)
+    def ask(self, request: bytes, size: int = 1 << 30) -> bytes:
+        """Writes a request, in pieces of a size, and returns its answer."""
+        for at in range(0, len(request), size):
+            self.session.stdin.write(request[at : at + size])
         return self.answer()
 
     def memory(self) -> dict[str, int]:
