@@ -2,6 +2,7 @@
 
 import os
 import pathlib
+import re
 import shutil
 import subprocess
 
@@ -41,6 +42,15 @@ def test_edits_are_named_by_crate():
     named = ran("--list").stdout.splitlines()
     assert named == [f"{it.parent.name}/{it.name}" for it in EDITS]
     assert ran("--list", "phase_clock").stdout.splitlines() == [it for it in named if it.startswith("phase_clock/")]
+
+
+def test_the_table_has_each_clause_of_the_top_call_and_each_field_of_its_answers():
+    files = ("edits/README.md", "crates/station/src/top.rt", "crates/station/specs/Commands.antt")
+    table, top, commands = ((TOP / it).read_text(encoding="utf-8") for it in files)
+    rows = dict(re.findall(r"^\| `(\w+)` \| (.*?) \|", table, re.M))
+    top_call, answers = top.partition("pub fn station<")[2], commands.partition("pub record Answers ")[2]
+    assert [*rows] == re.findall(r"^    ensures (\w+) ", top_call, re.M) + re.findall(r"^  pub (\w+) :", answers, re.M)
+    assert all((TOP / file).is_file() for row in rows.values() for file in re.findall(r"`(\S+\.edit)`", row))
 
 
 def test_a_crate_without_edits_is_refused():
