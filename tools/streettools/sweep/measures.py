@@ -113,10 +113,10 @@ ENDINGS = {
 def spreads(
     name: str, of: str, what: str, scope: Scope, part: Part | None = None, unit: str = "s", scale: int = 10
 ) -> list[Measure]:
-    """Returns the least, the mean and the greatest of lengths as measures."""
+    """Returns the minimum, the mean and the maximum of lengths as measures."""
     return [
-        Measure(f"{name}_{it}", scope, unit, f"{it} {what}", spread(of, it, scale), part)
-        for it in ("least", "mean", "greatest")
+        Measure(f"{name}_{it}", scope, unit, f"{word} {what}", spread(of, it, scale), part)
+        for it, word in (("least", "minimum"), ("mean", "mean"), ("greatest", "maximum"))
     ]
 
 
@@ -135,7 +135,7 @@ PHASE = [
             f"ended_{it.replace(' ', '_').replace('-', '_')}",
             Scope.PHASE,
             "greens",
-            f"greens that ended so: {what}",
+            f"greens that ended for this reason: {what}",
             ended(it),
             Part.ENDINGS,
         )
@@ -308,7 +308,7 @@ TRAFFIC = [
         "queue_greatest",
         Scope.TRAFFIC,
         "vehicles",
-        "greatest number of vehicles in a queue",
+        "maximum number of vehicles in a queue",
         lambda parts: max(it.queue_greatest for it in parts),
     ),
     Measure("queue_left", Scope.TRAFFIC, "vehicles", "vehicles in the queue at the end of the run", count("left")),
