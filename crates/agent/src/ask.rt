@@ -94,8 +94,8 @@ impl Ask {
     }
 }
 
-/// Reads what a frame asks of a cabinet of this community with these tables in force into a blank ask. None exactly where the
-/// frame is no message, of another community, or a Response; what was read of it is then left there.
+/// Reads what a frame asks of a cabinet of this community with these tables in force into a blank ask. None exactly if
+/// the frame isn't a message, is of another community, or is a Response; what was read of it is then left there.
 pub fn decode_into(frame: &[u8], community: &[u8], tables: &Tables, ask: &mut Ask) -> Option<()>
     requires community { array_vec_len ask.old.message.community ≡ 0 }
     requires binds { array_vec_len ask.old.message.binds ≡ 0 }
@@ -114,8 +114,8 @@ pub fn decode_into(frame: &[u8], community: &[u8], tables: &Tables, ask: &mut As
     Some(())
 }
 
-/// What a frame asks of a cabinet of this community with these tables in force. None exactly where the frame is no message,
-/// of another community, or a Response.
+/// What a frame asks of a cabinet of this community with these tables in force. None exactly if the frame isn't a
+/// message, is of another community, or is a Response.
 pub fn decode(frame: &[u8], community: &[u8], tables: &Tables) -> Option<Ask>
     ensures found { IfSome result (λ ask. Asks frame.now community.now tables.now ask) }
     ensures none { IfNone result ((ask : Ask) → Asks frame.now community.now tables.now ask → ⊥) }

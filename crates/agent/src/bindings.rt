@@ -10,7 +10,7 @@ pub struct Fault {
 /// RFC 1157, 4.1.1: the answer would not fit into a frame.
 pub const TOO_BIG: u8 = 1;
 
-/// RFC 1157, 4.1.1: there is no instance of this name that can be read, or that can be set.
+/// RFC 1157, 4.1.1: no instance of this name can be read, or can be set.
 pub const NO_SUCH_NAME: u8 = 2;
 
 /// RFC 1157, 4.1.1: the value is of another type, or out of range.

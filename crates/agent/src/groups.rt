@@ -27,7 +27,7 @@ fn counts_in(shown: &Shown, column: u8, phase: u8) -> bool
     }
 }
 
-/// The octet of a column, 2 to 10, of a group, 1 to 2: its lowest phase stands in the least bit.
+/// The octet of a column, 2 to 10, of a group, 1 to 2: its lowest phase is the lowest bit.
 pub fn group_octet(shown: &Shown, column: u8, group: u8) -> u32
     requires above { 0 < group }
     requires within { group ≤ 2 }

@@ -20,7 +20,7 @@ pub fn frames_ask_one_thing()
     ensures found { (frame community : List ℕ) (t : Tables) → IfSome (ask_of frame community t) (Asks frame community t) }
 {}
 
-/// A frame asks nothing exactly where it is no message, a message of another community, or a Response.
+/// A frame asks nothing exactly if it isn't a message, is one of another community, or is a Response.
 pub fn other_frames_ask_nothing()
     ensures nothing { (frame community : List ℕ) (t : Tables) → AsksNothing frame community → ask_of frame community t ≡ None }
     ensures others { (frame community : List ℕ) (t : Tables) → ask_of frame community t ≡ None → AsksNothing frame community }

@@ -1,6 +1,6 @@
-//! The agent of a cabinet: what a frame of management software asks (SNMP version 1, RFC 1157), and what is answered. An
-//! answer is a function of the tables in force, of what the cabinet shows, and of its download stage. Frames that are no
-//! message, of another community, or a Response are met with silence. Nothing here takes memory.
+//! The agent of a cabinet: what a frame of management software asks (SNMP version 1, RFC 1157), and what is answered.
+//! An answer is a function of the tables in force, of what the cabinet shows, and of its download stage. Frames that
+//! aren't messages, are of another community, or are Responses are ignored. Nothing here takes memory.
 #![tactic(auto)]
 
 mod ask;

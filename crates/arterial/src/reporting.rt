@@ -1,4 +1,4 @@
-//! What is printed for each answer: one line, piece by piece, since a line may be due where there is no memory.
+//! What is printed for each answer: one line, piece by piece, because a line may be needed when memory has run out.
 
 ghost use Rattle.std.specs.Prelude.{◌≡◌, ◌++◌, ◌∷◌, [], codes, decimal, string_bytes};
 ghost use Rattle.arterial.specs.Prints.{Prints};

@@ -1,5 +1,6 @@
-//! Through bands are green: along the street of a trace a vehicle inside a band meets green at each cabinet that is in step with its plan as it
-//! passes (FHWA Signal Timing Manual: bandwidth). The function has no code: it stands for the law of its contract.
+//! Progression bands are green: along the street of a trace a vehicle inside a band meets green at each cabinet that is
+//! on offset as it passes (FHWA Signal Timing Manual: bandwidth). The function has no code: it represents the law of
+//! its contract.
 #![tactic(auto)]
 
 ghost use Rattle.std.specs.Prelude.{ℕ, List};

@@ -1,4 +1,4 @@
-//! The greatest band: from the start of one window on, where the most is left of all windows.
+//! The widest band: from the start of one window on, where the most is left of all windows.
 
 ghost use Rattle.std.specs.Prelude.{◌≡◌, ◌≤◌, ◌<◌, IfOk, length, None};
 ghost use Rattle.scenario_data.specs.Content.{scenario_content};
@@ -12,8 +12,8 @@ use scenario_data::Scenario;
 use sig_types::NoMemory;
 use std::alloc::Global;
 
-/// A band: when it starts, in ticks of the cycle as the first cabinet passed counts them, and how many ticks wide it is; and
-/// the numbers of the first cabinets of the scenario that stand in its way before its start and behind its end.
+/// A band: when it starts, in ticks of the cycle as the first cabinet passed counts them, and how many ticks wide it
+/// is; and the numbers of the first cabinets of the scenario that block it before its start and after its end.
 #[derive(Clone, Copy, PartialEq, Eq)]
 pub struct Band {
     pub start: u32,
@@ -22,7 +22,7 @@ pub struct Band {
     pub after: u32,
 }
 
-/// A time from which so much is left of all windows.
+/// A time from which this much is left of all windows.
 #[derive(Clone, Copy)]
 pub struct Span {
     pub start: u32,
@@ -74,9 +74,9 @@ fn band_of(arcs: &Vec<Arc>, cycle: u32) -> Option<Band>
     })
 }
 
-/// The greatest band in a pattern along a section, with the travel times from each of its cabinets to the next, in ticks:
-/// outbound for the coordinated phases of ring 1, inbound for those of ring 2. None exactly where no time is open, that is,
-/// where no vehicle finds every cabinet in its window.
+/// The widest band in a pattern along a section, with the travel times from each of its cabinets to the next, in ticks:
+/// outbound for the coordinated phases of ring 1, inbound for those of ring 2. None exactly if no time is open, that
+/// is, where no vehicle finds every cabinet in its window.
 pub fn greatest(
     alloc: Global,
     s: &Scenario,

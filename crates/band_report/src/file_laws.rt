@@ -6,7 +6,7 @@ ghost use Rattle.scenario_data.specs.declared.refusal.Refusal.{Refusal};
 ghost use Rattle.scenario_read.specs.Answers.{SameFault};
 ghost use Rattle.band_report.specs.BandAnswer.{AsksOfBands, TellsBands, IsFirstBandFault};
 
-/// A law: bytes that ask of bands are told of in one way, and others have one first fault, and no bytes do both.
+/// A law: bytes that ask for bands have either one answer or one first fault, and never both.
 pub fn bytes_have_one_answer()
     ensures one { (bytes a b : List ℕ) → TellsBands bytes a → TellsBands bytes b → a ≡ b }
     ensures apart { (bytes : List ℕ) → (refusal : Refusal) → AsksOfBands bytes → IsFirstBandFault bytes refusal → ⊥ }

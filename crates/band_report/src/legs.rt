@@ -1,5 +1,5 @@
-//! The travel times of an object that asks of bands, read from its text one by one: of each no more is kept than its ticks, and behind
-//! the first fault of one they are passed over.
+//! The travel times of an object that asks of bands, read from its text one by one: of each no more is kept than its
+//! ticks, and behind the first fault of one they are skipped.
 
 ghost use Rattle.std.specs.Prelude.{◌≡◌, ◌<◌, codes, length, Some, IfSome};
 ghost use Rattle.json.specs.Json.{value, items};

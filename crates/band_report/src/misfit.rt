@@ -43,8 +43,8 @@ fn misfit_read(signals: &Vec<Signal>, legs: usize) -> Option<Misfit>
     }
 }
 
-/// The first reason against a band in a pattern along a section of a scenario of at most 64 cabinets, with so many travel
-/// times; none where there can be one.
+/// The first reason against a band in a pattern along a section of a scenario of at most 64 cabinets, with this number
+/// of travel times; none if there can be one.
 pub fn misfit_of(
     alloc: Global,
     s: &Scenario,

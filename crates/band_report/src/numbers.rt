@@ -1,5 +1,5 @@
-//! Values of the text where only a number may stand: the number, or null in place of anything else, which is passed over. So no value
-//! takes more memory than a number, however much its text has.
+//! Values of the text where only a number is allowed: the number, or null for anything else, which is skipped. So no
+//! value takes more memory than a number, however much its text has.
 
 ghost use Rattle.std.specs.Prelude.{◌≡◌, ◌<◌, length, Some, IfSome};
 ghost use Rattle.json.specs.Json.{value};

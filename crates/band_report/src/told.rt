@@ -138,13 +138,13 @@ fn report_by_kept(alloc: Global, bytes: &[u8]) -> Result<Vec<u8>, ReadFail>
     }
 }
 
-/// The greatest bands, outbound and inbound, that the bytes of one JSON object ask of: two lines, `outbound START WIDTH A B`
-/// and `inbound START WIDTH A B`, or `none` behind the word where no time is open. The refusal is the first fault in the
-/// order of the checks: the JSON reading, the four names and what stands there, those of the scenario with their paths behind
-/// `scenario.`, and then what stands against any band. Where the scenario is right, little is kept of the object; else a fault of it
-/// is looked for with its lists judged item by item. Where none was found so and memory was enough, a right object has names that come
-/// again: then the object is read again without what stands at the earlier of equal names, and only where that tells nothing that is
-/// kept on which a fault may hang.
+/// The widest bands, outbound and inbound, that the bytes of one JSON object ask for: two lines, `outbound START WIDTH
+/// A B` and `inbound START WIDTH A B`, or `none` after the word if no time is open. The refusal is the first fault in
+/// the order of the checks: the JSON reading, the four names and their values, those of the scenario with their paths
+/// after `scenario.`, and then the reasons against any band. If the scenario is valid, little is kept of the object;
+/// otherwise a fault of it is looked for with its lists judged item by item. If none is found and memory is enough, a
+/// valid object has repeated names: then the object is read again without the values of the earlier of equal names, and
+/// only if that gives no answer the part is kept on which a fault may hang.
 pub fn report(alloc: Global, bytes: &[u8]) -> Result<Vec<u8>, ReadFail>
     ensures told { IfOk result (λ text. TellsBands bytes.now text.items) }
     ensures refused { IfErr result (λ fail. OnRefusal fail (IsFirstBandFault bytes.now)) }

@@ -1,5 +1,5 @@
-//! Tags and lengths in the definite form, and what stands under them (ITU-T X.690, 8.1.2, 8.1.3 and
-//! 8.7). Each other field is a content under its tag.
+//! Tags and lengths in the definite form, and what follows them (ITU-T X.690, 8.1.2, 8.1.3 and 8.7). Each other field
+//! is a content under its tag.
 
 ghost use Rattle.std.specs.Prelude.{◌≡◌, ℕ, ◌+◌, ◌≤◌, ◌<◌, ◌^◌, ◌↔◌, List, ◌++◌, length, IsOk, OnOk, OnErr, IfSome, IfNone};
 ghost use Rattle.arrayvec.specs.ArrayVec.{array_vec_len};

@@ -1,5 +1,4 @@
-//! The OBJECT IDENTIFIER (ITU-T X.690, 8.19), a name of 2 to 32 arcs whose first two stand in one
-//! octet below 128.
+//! The OBJECT IDENTIFIER (ITU-T X.690, 8.19), a name of 2 to 32 arcs whose first two are in one octet below 128.
 
 ghost use Rattle.std.specs.Prelude.{◌≡◌, ◌+◌, ◌*◌, ◌≤◌, ◌<◌, ◌↔◌, ◌∷◌, [], ◌++◌, length, IsOk, OnOk, OnErr, IfSome, IfNone, Some};
 ghost use Rattle.std.specs.List.{flat_map};
@@ -273,7 +272,7 @@ pub fn oid_size(o: &Oid) -> usize
     tagged_size(contents_size(o.as_slice()))
 }
 
-/// How many octets the contents of a name take, which stand behind its tag and length.
+/// The number of octets of the contents of a name, which follow its tag and length.
 pub fn oid_contents_size(o: &Oid) -> usize
     requires { IsWritable o.now.items }
     ensures size { result ≡ length (name_octets o.now.items) }
@@ -282,7 +281,7 @@ pub fn oid_contents_size(o: &Oid) -> usize
     contents_size(o.as_slice())
 }
 
-/// Writes an OBJECT IDENTIFIER in its shortest form, whose contents take so many octets.
+/// Writes an OBJECT IDENTIFIER in its shortest form, whose contents take this number of octets.
 #[tactic(auto, unfolding(crate::specs::Names::name_text))]
 pub fn write_oid_sized(o: &Oid, contents: usize, out: &mut Octets) -> Result<(), Full>
     requires writable { IsWritable o.now.items }

@@ -173,8 +173,8 @@ impl Book {
         Ok(())
     }
 
-    /// How many items a pass has left in the round: a pass from 0 to 7 brings those of the stream `Stream::of_pass`, 5 to 7 only where
-    /// the ticks were shared. Any other number is no pass and has none.
+    /// How many items a pass has left in the round: a pass from 0 to 7 brings those of the stream `Stream::of_pass`, 5
+    /// to 7 only if the ticks were shared. Any other number isn't a pass and has none.
     pub fn left(&self, pass: u32) -> u32
         ensures { result ≡ left_of self.now pass }
     {
@@ -185,8 +185,8 @@ impl Book {
         }
     }
 
-    /// A pass brings the next item of its stream. A frame that asks nothing of the cabinet changes nothing in it, and is met with silence.
-    /// It takes no memory.
+    /// A pass brings the next item of its stream. A frame that asks nothing of the cabinet changes nothing in it, and
+    /// is ignored. It takes no memory.
     pub fn apply(&mut self, pass: u32)
         requires { 0 < left_of self.old pass }
         ensures stands { (cabinet_history : CabinetHistory) → BookStands self.old cabinet_history → BookStands self.new cabinet_history }
@@ -235,8 +235,8 @@ impl Book {
         self.left[4] + self.left[5] + self.left[6] + self.left[7]
     }
 
-    /// All ticks of the round are those of pass 4 again: passes 5 to 7 are read as 4, in the journal too, which is told in its longest
-    /// runs. It takes no memory.
+    /// All ticks of the round are those of pass 4 again: passes 5 to 7 are read as 4, also in the journal, which is
+    /// written in its longest runs. It takes no memory.
     pub fn join_ticks(&mut self)
         ensures stands { (cabinet_history : CabinetHistory) → BookStands self.old cabinet_history → BookStands self.new cabinet_history }
         ensures streams { streams_in self.new ≡ streams_in self.old }

@@ -154,8 +154,8 @@ impl Cabinet {
         }
     }
 
-    /// A frame comes to it. One that asks nothing of it, as it is no message, of another community, or a Response, is met with silence
-    /// and changes nothing.
+    /// A frame comes to it. One that asks nothing of it, as it isn't a message, is of another community, or is a
+    /// Response, is ignored and changes nothing.
     pub fn receive(&mut self, octets: &[u8]) -> Received
         requires some { ∥ ((cabinet_history : CabinetHistory) × CabinetStands self.old cabinet_history) ∥₁ }
         ensures text { (cabinet_history : CabinetHistory) → CabinetStands self.old cabinet_history → result.text ≡ in_frame (reply_to cabinet_history octets.now) }

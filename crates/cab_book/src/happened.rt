@@ -44,7 +44,8 @@ impl Happened {
         }
     }
 
-    /// A round in which nothing has happened, with room for so many ticks, so many frames from elsewhere and so many items in all.
+    /// A round in which nothing has happened, with room for this number of ticks, of frames from elsewhere and of all
+    /// items.
     pub fn with_room(
         alloc: Global,
         ticks: u32,
@@ -77,8 +78,8 @@ impl Happened {
         })
     }
 
-    /// Takes room for so many frames from elsewhere and so many items in all, beside what there is. Nothing else changes, also where
-    /// memory is wanting.
+    /// Takes room for this number of frames from elsewhere and this number of items in all, besides those kept. Nothing else
+    /// changes, even if memory runs out.
     pub fn reserve(&mut self, frames: usize, items: usize) -> Result<(), NoMemory>
         ensures room { OnOk result ((ticks : ℕ) → HasRoom self.old ticks 0 0 → HasRoom self.new ticks frames items) }
         ensures kept { (ticks others all : ℕ) → HasRoom self.old ticks others all → HasRoom self.new ticks others all }
@@ -103,7 +104,8 @@ impl Happened {
         self.journal.add(Stream::Inputs.number());
     }
 
-    /// A pass brought so many ticks, of which the last gave this frame with its number, or none has a line. It takes no memory.
+    /// A pass brought this number of ticks, of which the last gave this frame with its number, or none has a line. It
+    /// takes no memory.
     pub fn add_ticks(&mut self, pass: u32, count: u32, written: Option<(u32, Frame)>)
         requires some { 1 ≤ count }
         requires room { HasRoom self.old 1 0 1 }
@@ -117,7 +119,7 @@ impl Happened {
         self.journal.add_run(pass, count);
     }
 
-    /// A frame came and was replied to, or met with silence. It takes no memory.
+    /// A frame came and was replied to, or ignored. It takes no memory.
     pub fn add_reply(&mut self, reply: Reply)
         requires room { HasRoom self.old 0 1 1 }
         requires few { times reply.pass (journal_in self.old) < 4294967295 }

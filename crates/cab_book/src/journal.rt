@@ -26,7 +26,7 @@ impl Journal {
         Journal { runs: room }
     }
 
-    /// Takes room for so many runs more. Where memory is wanting it is as before.
+    /// Takes room for N more runs. If memory runs out it is as before.
     pub fn reserve(&mut self, runs: usize) -> Result<(), NoMemory>
         ensures passes { passes_of self.new.runs.items ≡ passes_of self.old.runs.items }
         ensures len { vec_len self.new.runs ≡ vec_len self.old.runs }
@@ -50,7 +50,7 @@ impl Journal {
         self.add_run(pass, 1);
     }
 
-    /// One pass so many times more. It takes no memory.
+    /// One pass N more times. It takes no memory.
     pub fn add_run(&mut self, pass: u32, count: u32)
         requires some { 1 ≤ count }
         requires room { vec_len self.old.runs < vec_capacity self.old.runs }

@@ -16,15 +16,15 @@ use crate::view::View;
 use atomic_table::{Badge, Seat};
 use std::mem::replace;
 
-/// What came of one call: an item was applied, or another pass was met, and this is the word that showed it.
+/// The result of one call: an item was applied, or another pass was met, and this is the word that showed it.
 #[derive(Clone, Copy, PartialEq, Eq)]
 pub enum Act {
     Done,
     Busy(u64),
 }
 
-/// What came of one call that applies some items: so many were applied, or another pass was met, and this is the word
-/// that showed it.
+/// The result of one call that applies some items: this number was applied, or another pass was met, and this is the
+/// word that showed it.
 #[derive(Clone, Copy, PartialEq, Eq)]
 pub enum Brought {
     Done(u32),
@@ -65,9 +65,9 @@ impl<B: Logged> Row<B> {
         }
     }
 
-    /// Does what `act` does, with as many of the pass's next items as the book applies in one go: at least one, and
-    /// at most so many. Done: it looked, found the cabinet free, and applied these items. The word is twice the
-    /// length of the journal again, so each item has its place there.
+    /// Does what `act` does, with as many of the pass's next items as the book applies in one go: at least one, and at
+    /// most `most`. Done: it looked, found the cabinet free, and applied these items. The word is twice the length of
+    /// the journal again, so each item has its place there.
     pub fn act_some(&self, pass: &mut Pass, cab: u32, most: u32) -> Brought
         requires pass { IsPassOf B.row.coded.code B.left_of self.now pass.old }
         requires cab { (1 ≤ cab) × (cab ≤ length (books_of self.now)) }

@@ -1,5 +1,5 @@
-//! What a pass knows of its own doings. Each step on a row's words is written into it, so that contracts can speak of what a pass
-//! saw and did; it exists in proofs alone.
+//! What a pass knows of its own doings. Each step on a row's words is written into it, so that contracts can describe
+//! what a pass saw and did; it exists only in proofs.
 ghost use Rattle.std.specs.Prelude.{ℕ, List, Option};
 ghost use Rattle.std.specs.Borrow.{ftrue};
 ghost use Rattle.std.specs.Coded.{coded_option};

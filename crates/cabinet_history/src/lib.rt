@@ -1,5 +1,6 @@
-//! What a cabinet is told and what it tells, as definitions: its cabinet history item by item, the journal of a round, what that comes to at
-//! its controller and its download stage, what is replied, and which frames have a line. The code that does it stands above.
+//! What reaches a cabinet and what it reports, as definitions: its cabinet history item by item, the journal of a
+//! round, the result of it at its controller and its download stage, what is replied, and which frames have a line. The
+//! code that does it is in the crates above.
 #![tactic(auto)]
 
 use sig_types::{Broken, Octets};

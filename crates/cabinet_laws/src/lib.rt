@@ -1,6 +1,6 @@
-//! What every history of a cabinet is worth: whatever frames, inputs and ticks come to it, in any order, its history is one of which the
-//! laws of the street and of coordination speak, its tables are those of whole downloads, and its lines tell what happened. The
-//! functions do nothing but cite: each stands for the laws of its contract.
+//! What holds of every history of a cabinet: whatever frames, inputs and ticks come to it, in any order, the laws of
+//! the street and of coordination apply to its history, its tables are those of whole downloads, and its lines show
+//! what happened. The functions only cite: each represents the laws of its contract.
 #![tactic(auto)]
 
 ghost use Rattle.std.specs.Prelude.{◌≡◌, ℕ, List, ◌+◌, ◌++◌, drop, length, None, IfSome, true};
@@ -40,8 +40,8 @@ use safety_laws::admitted_streets_are_safe;
 use stage_txn::{installs_what_keeps_the_rules, parts_come_in_order};
 use tick_laws::keeps_to_plan;
 
-/// Whatever comes to a cabinet that opened with consistent tables, each download that is put in force broke no rule beside the tables
-/// that it replaces. The clock keeps the drift that it opened with: no frame changes it.
+/// Whatever reaches a cabinet that opened with consistent tables, each download that is put in force broke no rule with
+/// regard to the tables that it replaces. The clock keeps the drift that it opened with: no frame changes it.
 pub fn cabinet_histories_are_admitted()
     ensures admitted { (cabinet_history : CabinetHistory) (t : Tables) (d : Drift) → IsOpening t d cabinet_history.opening → Consistent t
         → Admitted (history_of cabinet_history).tables (since_opening (history_of cabinet_history)) }
@@ -51,8 +51,8 @@ pub fn cabinet_histories_are_admitted()
     installs_what_keeps_the_rules();
 }
 
-/// Where each cell of the opening tables holds what may stand in it, so does each cell of the tables in force after any cabinet history, and the
-/// rows of all tables that were ever put in force are in range.
+/// If each cell of the opening tables holds an allowed value, so does each cell of the tables in force after any
+/// cabinet history, and the rows of all tables that were ever put in force are in range.
 pub fn tables_stay_in_range()
     ensures now { (cabinet_history : CabinetHistory) (t : Tables) (d : Drift) → IsOpening t d cabinet_history.opening → EachFits t → EachFits (in_force (coming cabinet_history)) }
     ensures each { (cabinet_history : CabinetHistory) (t : Tables) (d : Drift) → IsOpening t d cabinet_history.opening → EachFits t
@@ -107,9 +107,9 @@ pub fn downloads_are_whole()
     parts_come_in_order();
 }
 
-/// A download that ends says what the rules say then: where a finish is accepted, the staged tables broke no rule beside those in force,
-/// and the version that is told is the cabinet's from then on; where a verify or a finish is refused, the rule that is told, with its
-/// row, is the first that they broke.
+/// A download that ends says what the rules say then: if a finish is accepted, the staged tables broke no rule with
+/// regard to those in force, and the version that is reported is the cabinet's from then on; if a verify or a finish is
+/// refused, the rule that is reported, with its row, is the first that they broke.
 pub fn downloads_end_as_judged()
     ensures { (cabinet_history : CabinetHistory) (octets : List ℕ)
         → IfSome (load_end cabinet_history octets) (λ load. IsVerdict (coming cabinet_history) (coming (with_item cabinet_history (Came octets))) load.result) }
@@ -117,8 +117,8 @@ pub fn downloads_end_as_judged()
     installs_what_keeps_the_rules();
 }
 
-/// What the items of a cabinet history tell one after another is what is to be told of its history. So whoever writes the lines of each item as it
-/// comes has a street that is safe at every tick, and versions that are whole.
+/// What the items of a cabinet history show one after another is what its history must show. So anyone that writes the
+/// lines of each item as it comes has a street that is safe at every tick, and versions that are whole.
 pub fn cabinet_histories_are_safe()
     ensures told { (cabinet_history : CabinetHistory) (t : Tables) (d : Drift) → IsOpening t d cabinet_history.opening
         → cabinet_history_told cabinet_history ≡ history_told has_line (history_of cabinet_history) }
@@ -135,8 +135,8 @@ pub fn cabinet_histories_are_safe()
     admitted_streets_are_safe();
 }
 
-/// A frame that asks nothing, because it is no message, of another community, or a Response, changes nothing at the cabinet, is
-/// answered by silence and ends no download (RFC 1157, 4.1).
+/// A frame that asks nothing, because it isn't a message, is of another community, or is a Response, changes nothing at
+/// the cabinet, is answered by silence and ends no download (RFC 1157, 4.1).
 pub fn other_frames_change_nothing()
     ensures nothing { (cabinet_history : CabinetHistory) (octets : List ℕ) → AsksNothing octets cabinet_history.community
         → coming (with_item cabinet_history (Came octets)) ≡ coming cabinet_history }

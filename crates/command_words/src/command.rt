@@ -14,7 +14,7 @@ pub struct Seeding {
 #[derive(PartialEq, Drop)]
 pub struct Overlap {
     pub cabinet: u32,
-    /// One octet for each parent, of any value; by the rules each is to be an enabled phase, and none is to stand twice.
+    /// One byte for each parent, of any value; by the rules each must be an enabled phase, and none may be repeated.
     pub parents: ArrayVec<u8, 16>,
     /// How long Green is held when no parent shows it any more.
     pub trail: u8,

@@ -51,7 +51,7 @@ fn first_number(words: &[String]) -> Option<(u32, &[String])>
     }
 }
 
-/// The number that stands behind an option, where the first word is this one, and the words behind it.
+/// The number that follows an option, if the first word is this one, and the words after it.
 pub fn option_number<'a>(words: &'a [String], option: &str) -> Option<(u32, &'a [String])>
     ensures some { IfSome result (λ found. (map string_bytes words.now ≡ option.now ∷ decimal found.0 ∷ map string_bytes found.1.now) × (found.0 ≤ 4294967295)) }
     ensures none { result ≡ None → (n : ℕ) (rest : List (List ℕ)) → n ≤ 4294967295

@@ -1,5 +1,5 @@
-//! The words of an overlap: a number of a cabinet, parents as hexadecimal digits, and times. Each word of an option stands
-//! in its place, and no memory is taken.
+//! The words of an overlap: a number of a cabinet, parents as hexadecimal digits, and times. Each option is in its
+//! place, and no memory is taken.
 
 ghost use Rattle.std.specs.Prelude.{◌≡◌, ◌≤◌, ◌∷◌, ◌↔◌, ℕ, List, IfSome, Ok, codes, decimal, length, map, string_bytes};
 ghost use Rattle.arrayvec.specs.ArrayVec.{ArrayVec as ArrayVecRow};

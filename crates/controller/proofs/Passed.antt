@@ -1,4 +1,4 @@
--- What registers keep stands after ticks that it passes over, one by one and at once.
+-- What registers keep still holds after skipped ticks, one by one and at once.
 use Rattle.std.proofs.Common.{◌≡◌, ◌<◌, ◌+◌, ◌==◌, ◌&&◌, ℕ, zero, suc, Bool, true, false}
 use Rattle.std.proofs.Common.{List, ◌∷◌, length, refl, sym, ◌∙◌, ap, arith, subst}
 use Rattle.std.proofs.lemmas.Bool.{false≢true, and_parts}
@@ -55,12 +55,12 @@ pub record IsSteadyAt (c : Registers) (s : TickInputs) : Type 0 where
   pub steady : IsSteady c.clocks s.active s.opposed
   pub clear : IsClear c.preempts
 
--- the count after so many ticks more, where it counts
+-- the count after N ticks more, if it counts
 abbrev pub counted : Bool → ℕ → Count → Count
 counted true k count = count_passed k count
 counted false k count = count
 
--- the registers after so many such ticks
+-- the registers after N such ticks
 abbrev pub passed : Bool → ℕ → Registers → Registers
 passed coord k c = record c {
   clocks = clocks_passed k c.clocks;

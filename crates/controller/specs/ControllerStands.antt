@@ -1,4 +1,4 @@
--- A controller stands for a history: the engine does, over registers.
+-- A controller represents a history: the engine does, over registers.
 use Rattle.std.specs.Prelude.{ℕ}
 use Rattle.sig_tables.specs.Past.{History}
 use Rattle.engine.specs.declared.Engine.{Engine}

@@ -1,4 +1,4 @@
--- What is told, and is no matter of past frames, leaves registers as they are.
+-- An event that doesn't concern past frames leaves registers as they are.
 use Rattle.std.specs.Prelude.{◌<◌, ◌≤◌, length}
 use Rattle.sig_types.specs.declared.frame.Field.TheVariants.{Veh, Ped, Preempt}
 use Rattle.sig_tables.specs.declared.tables.Tables.{Tables}

@@ -27,7 +27,7 @@ pub struct Registers {
     latest: u8,
     /// For how many frames in a row the cabinet has been in Start.
     start_run: u32,
-    /// The counter of the cycle of the pattern that was sought or in step last.
+    /// The counter of the cycle of the pattern that was sought, or coordinated in, last.
     count: Count,
 }
 
@@ -117,7 +117,8 @@ impl Registers {
         count
     }
 
-    /// The count of the cycle after this frame: a tick in step with a pattern counts on, and any other frame may be a pickup.
+    /// The count of the cycle after this frame: a tick coordinated in a pattern counts on, and any other frame may be a
+    /// pickup.
     fn count_after(&self, context: &TickContext, frame: &Frame, tick_state: &TickState) -> Count
         ensures counts { (past : Past) → RegistersStand self.now past → ContextRuns context.now tick_state.now past → frame.now ≡ (next_moment past).frame
             → (n : ℕ) → is_in_step frame.now past.version n ≡ true → CountsOn result (with_moment past (next_moment past)) n }

@@ -13,8 +13,8 @@ use crate::members::{in_time, reached};
 use sig_tables::Plan;
 use sig_types::PhaseSet;
 
-/// Whether a phase, 1 to 16, that is not coordinated can be served where it begins `k` ticks after this counter: the window
-/// has been reached, and its least service ends by its force point.
+/// Whether a phase, 1 to 16, that is not coordinated can be served where it begins `k` ticks after this counter: the
+/// window has been reached, and its minimum service ends by its force point.
 pub fn fits(plan: &Plan, counter: u32, k: u32, service: u32, phase: u8) -> bool
     requires above { 0 < phase }
     requires within { phase ≤ 16 }
@@ -57,7 +57,7 @@ pub struct Gate<'a> {
     pub plan: &'a Plan,
     /// The phases that the pattern coordinates.
     pub coordinated: PhaseSet,
-    /// The least service of each phase; phase p stands at place p - 1.
+    /// The minimum service of each phase; phase p is at place p - 1.
     pub services: &'a [u32; 16],
 }
 
@@ -71,8 +71,8 @@ impl Gate<'_> {
         among.minus(self.coordinated)
     }
 
-    /// Those of the phases that have room: the coordinated ones, and from the window on those whose least service ends by
-    /// their force points where they begin `k` ticks after this counter.
+    /// Those of the phases that have room: the coordinated ones, and from the window on those whose minimum service
+    /// ends by their force points where they begin `k` ticks after this counter.
     pub fn with_room(&self, counter: u32, k: u32, among: PhaseSet) -> PhaseSet
         ensures { (t : Tables) → (n : ℕ) → GateStands self.now t n → Has result (λ p. has among p && has_room (Some n) t counter k p) }
     {

@@ -26,7 +26,7 @@ fn ends_in_time(force: &[u32; 16], services: &[u32; 16], moment: u64, phase: u8)
     moment + u64::from(services[place]) <= u64::from(force[place])
 }
 
-/// The phases of a set whose moments have come at this counter. Phase p's moment stands at place p - 1.
+/// The phases of a set whose moments have come at this counter. Phase p's moment is at place p - 1.
 pub fn reached(moments: &[u32; 16], counter: u32, among: PhaseSet) -> PhaseSet
     ensures { Has result (λ p. has among p && nat_le (get_or moments.now (p - 1) 0) counter) }
 {
@@ -41,7 +41,7 @@ pub fn reached(moments: &[u32; 16], counter: u32, among: PhaseSet) -> PhaseSet
 }
 
 /// The phases of a set that can be served from a moment on before their force points, each for as long as its service.
-/// Phase p stands at place p - 1.
+/// Phase p is at place p - 1.
 pub fn in_time(force: &[u32; 16], services: &[u32; 16], moment: u64, among: PhaseSet) -> PhaseSet
     requires moment { moment < 2 ^ 33 }
     ensures { Has result (λ p. has among p && nat_le (moment + get_or services.now (p - 1) 0) (get_or force.now (p - 1) 0)) }

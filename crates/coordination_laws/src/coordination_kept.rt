@@ -1,6 +1,6 @@
-//! Coordination that is left alone keeps its promise: from what each tick is, every history meets it, also of a clock that drifts. The
-//! functions have no bodies: each stands for the laws of its contract, which callers cite.
-//! (FHWA Signal Timing Manual: coordination, offset, transition.)
+//! Undisturbed coordination keeps its promise: from what each tick is, every history meets it, also of a clock that
+//! drifts. The functions have no bodies: each represents the laws of its contract, which callers cite. (FHWA Signal
+//! Timing Manual: coordination, offset, transition.)
 ghost use Rattle.std.specs.Prelude.{ℕ, ◌≡◌, ◌⊎◌, ◌<◌, ◌+◌, ◌%◌, ◌∷◌, [], List, false};
 ghost use Rattle.sig_tables.specs.declared.tables.Tables.{Tables};
 ghost use Rattle.sig_tables.specs.Slots.{cycle_time};
@@ -26,8 +26,8 @@ pub fn promise_kept()
     ensures opening { (d : Drift) (t : Tables) → TellsEach d (first_moment t ∷ []) }
 {}
 
-/// A tick that is no disturbance goes on as the one before; and where it does, the target goes on as the clock does: by one tick, by
-/// two, or not at all.
+/// A tick that isn't a disturbance continues the one before; and if it does, the target advances as the clock does: by
+/// one tick, by two, or not at all.
 pub fn quiet_tells()
     ensures goes_on { (d : Drift) (m l : Moment) (past : List Moment) → is_disturbed d (m ∷ l ∷ past) ≡ false → CounterGoesOn d m l }
     ensures later { (d : Drift) (t : Tables) (n number time : ℕ) → (time + rise d number < day) ⊎ (day % cycle_time t n ≡ 0)

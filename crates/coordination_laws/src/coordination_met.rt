@@ -1,5 +1,5 @@
-//! Coordination that is left alone, in every lawful history: each tick is as the laws of a search and of a pattern in step ask, so the
-//! whole promise holds of it. The functions have no bodies: each stands for the laws of its contract.
+//! Undisturbed coordination, in every lawful history: each tick is as the laws of a seek and of a coordinated pattern
+//! require, so the whole promise holds of it. The functions have no bodies: each represents the laws of its contract.
 //! (FHWA Signal Timing Manual: coordination, offset, transition.)
 ghost use Rattle.std.specs.Prelude.{ℕ, ◌≡◌, ◌⊎◌, ◌≤◌, ◌<◌, ◌+◌, ◌∷◌, List, true, false};
 ghost use Rattle.sig_tables.specs.Slots.{is_defined, cycle_time};
@@ -17,11 +17,12 @@ ghost use Rattle.coordination_laws.specs.Ranged.{EachInRange};
 /// disturbance at which a defined pattern is in command, a local zero comes in time, from whatever state that leaves; and where nothing
 /// disturbs it for the cycles that the correction needs besides, the offset is met by then, and held until the next disturbance.
 ///
-/// With a clock that drifts, counter and target meet within twice the needed cycles and are then at most one tick apart; one that gains
-/// is followed by shortway alone. The drift is one that a cabinet may have: it gains or loses, not both, a tick every so many, 12,000
-/// or more; and the tables are in range, so that two of the longest cycles lie between. A drift that changes after the first tick
-/// leaves all this true of the last one, where ticks that came to another time count as ones at which the clock was set. In the same
-/// way any slow drift may be taken, also none, and of none no ranges are asked.
+/// With a clock that drifts, counter and target meet within twice the needed cycles and are then at most one tick
+/// apart; one that gains is followed only by shortway. The drift is one that a cabinet may have: it gains or loses, not
+/// both, a tick in every N, 12,000 or more; and the tables are in range, so that two of the longest cycles lie between.
+/// A drift that changes after the first tick leaves all this true of the last one, if ticks whose clock shows a
+/// different time count as ones at which it was set. In the same way any slow drift may be used, also none, and then no
+/// ranges are required.
 ///
 /// It is enough that the opening tables are consistent and each download passed the rules.
 pub fn coordination_is_met()

@@ -1,6 +1,6 @@
-//! Coordination that is left alone, cycle after cycle: a local zero comes within the longest cycle, and the offset is met within the
-//! cycles that the correction needs. The functions have no bodies: each stands for the laws of its contract, which callers cite.
-//! (FHWA Signal Timing Manual: offset, transition.)
+//! Undisturbed coordination, cycle after cycle: a local zero comes within the longest cycle, and the offset is met
+//! within the cycles that the correction needs. The functions have no bodies: each represents the laws of its contract,
+//! which callers cite. (FHWA Signal Timing Manual: offset, transition.)
 ghost use Rattle.std.specs.Prelude.{ℕ, ◌≡◌, ◌≤◌, ◌<◌, ◌+◌, ◌-◌, ◌*◌, ◌⊎◌, ◌∷◌, List, true, false};
 ghost use Rattle.sig_tables.specs.declared.tables.Tables.{Tables};
 ghost use Rattle.sig_tables.specs.Counting.{HasRoom, begins_cycle, needed};
@@ -14,8 +14,8 @@ ghost use Rattle.plan_facts.specs.Bounds.{longest_cycle, shortest_cycle};
 ghost use Rattle.plan_facts.specs.Meets.{is_zero, first_zero, has_zero, zero_target, zero_within, offset_within, can_follow};
 ghost use Rattle.coordination_laws.specs.Cycles.{counters, CountsOn, PicksUp, InCycle, HasTime, step_at, cycles_needed, OnPath};
 
-/// In step with a pattern, whatever the targets and the disturbances are: from a pickup on, each tick keeps the limits of the
-/// correction, and after each disturbance a local zero comes within the longest cycle.
+/// While coordinated in a pattern, whatever the targets and the disturbances are: from a pickup on, each tick keeps the
+/// limits of the correction, and after each disturbance a local zero comes within the longest cycle.
 pub fn zero_comes_in_time()
     ensures pickup { (d : Drift) (t : Tables) (n : ℕ) (m l : Moment) (past : List Moment) → HasRoom (correction_of t n) → PicksUp n m l
         → (is_zero (m ∷ l ∷ past) ≡ true) ⊎ (is_disturbed d (m ∷ l ∷ past) ≡ true) → InCycle d t n (m ∷ l ∷ past) }
@@ -25,10 +25,11 @@ pub fn zero_comes_in_time()
         → zero_within d most past ≡ true }
 {}
 
-/// Left alone, the counter comes onto the offset: from the first local zero after a disturbance, each quiet tick corrects it and
-/// the target goes on as the clock does; so within the needed cycles the two are equal, and stay so. A clock that drifts slowly makes
-/// that twice the needed cycles, and then the two stay within one tick of each other. Where the clock keeps time and the first local zero
-/// was off the target, they are not equal before the last of the needed cycles, each of the others at its shortest.
+/// Undisturbed, the counter reaches the offset: from the first local zero after a disturbance, each quiet tick corrects
+/// it and the target advances as the clock does; so within the needed cycles the two are equal, and stay so. A clock
+/// that drifts slowly makes that twice the needed cycles, and then the two stay within one tick of each other. If the
+/// clock keeps time and the first local zero was off the target, they are not equal before the last of the needed
+/// cycles, each of the others at its shortest.
 pub fn offset_met_in_time()
     ensures pickup { (n : ℕ) (m l : Moment) (past : List Moment) → PicksUp n m l → begins_cycle (counters n (m ∷ l ∷ past)) ≡ true }
     ensures zero { (t : Tables) (n : ℕ) (m l : Moment) (past : List Moment) → CountsOn t n m l past → is_zero (m ∷ l ∷ past) ≡ true

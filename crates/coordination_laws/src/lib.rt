@@ -1,6 +1,6 @@
-//! Coordination over histories: the search for a pattern ends in time, a cabinet in step keeps its offset, and what both give of
-//! a history that nothing disturbs (FHWA Signal Timing Manual: transition into coordination). The functions have no bodies: each
-//! stands for the law of its contract, which callers cite.
+//! Coordination over histories: a seek for a pattern ends in time, a coordinated cabinet keeps its offset, and what
+//! both give of a history that nothing disturbs (FHWA Signal Timing Manual: transition into coordination). The
+//! functions have no bodies: each represents the laws of its contract, which callers cite.
 #![tactic(auto)]
 
 mod coordination_kept;

@@ -1,6 +1,7 @@
-//! Ticks in a row that seek a pattern, and ticks in a row in step with it: the search is over within the bound that the greatest times
-//! so far give, and in step every local zero is green. The functions have no bodies: each stands for the laws of its contract, which
-//! callers cite. (FHWA Signal Timing Manual: transition into coordination.)
+//! Ticks in a row that seek a pattern, and ticks in a row that are coordinated in it: the seek is over within the bound
+//! that the longest times so far give, and while coordinated every local zero is green. The functions have no bodies:
+//! each represents the laws of its contract, which callers cite. (FHWA Signal Timing Manual: transition into
+//! coordination.)
 ghost use Rattle.std.specs.Prelude.{ℕ, ◌≡◌, ◌≤◌, ◌+◌, ◌∷◌, List, Bool, true, false};
 ghost use Rattle.sig_types.specs.declared.frame.Mode.TheVariants.{Seek, Coord};
 ghost use Rattle.sig_types.specs.Phases.{is_in};
@@ -35,9 +36,9 @@ pub fn greatest_times()
     ensures late { (past : List Moment) (ticks : ℕ) → pickup_bound past ≤ ticks + 2 → IsLate (greatest_at past) ticks }
 {}
 
-/// A search for a pattern, over so many ticks: each phase is as far as it must be by then; while the coordinated phases are not both Green
-/// the search is shorter than its bound by two ticks, so that no local zero is overdue even where the disturbance came a tick before
-/// it began; and the tick that brings both to Green is the pickup, a local zero.
+/// A seek for a pattern, over N ticks: each phase is as far as it must be by then; while the coordinated phases are not
+/// both Green the seek is shorter than its bound by two ticks, so that no local zero is overdue even if the disturbance
+/// came a tick before it began; and the tick that brings both to Green is the pickup, a local zero.
 pub fn search_lasts()
     ensures stands { (t : Tables) (n : ℕ) (start : List Moment) → IsVersion t start → HasYellow t → AnyMoment (greatest_at start) t start
         → ((q : ℕ) → is_in (coordinated_phases t n) q ≡ true → is_enabled t q ≡ true) → (k : ℕ) (now : List Moment)
@@ -57,8 +58,8 @@ pub fn search_lasts()
         → is_zero (m ∷ l ∷ past) ≡ true }
 {}
 
-/// Ticks in step with a pattern, from its pickup or any moment in time: every phase is in time after each, and wherever the
-/// counter is 0 both coordinated phases are Green and every other Red, which is what a local zero asks.
+/// Coordinated ticks of a pattern, from its pickup or any moment in time: every phase is in time after each, and
+/// wherever the counter is 0 both coordinated phases are Green and every other Red, which is what a local zero asks.
 pub fn steps_last()
     ensures pickup { (t : Tables) (n : ℕ) (l : Moment) (before : List Moment) → ZeroHolds t n l → l.frame.counter ≡ 0
         → InTime t n l.frame.counter (l ∷ before) }

@@ -10,15 +10,15 @@ pub struct Detector {
     pub detector: u8,
     /// The phase that it calls, 1 to 16.
     pub phase: u8,
-    /// It calls once it has been active for so many rounds and one more.
+    /// It calls once it has been active for this many rounds and one more.
     pub delay: u8,
-    /// It calls for so many rounds longer.
+    /// It calls for this number of rounds longer.
     pub extend: u8,
-    /// It has failed after so many rounds in a row without a pulse; 0 is never.
+    /// It has failed after this number of rounds in a row without a pulse; 0 is never.
     pub no_activity: u16,
-    /// It has failed after so many rounds in a row in which it is active; 0 is never.
+    /// It has failed after this number of rounds in a row in which it is active; 0 is never.
     pub max_presence: u16,
-    /// It has failed with more than so many edges in sixty rounds; 0 is never.
+    /// It has failed with more than this number of edges in sixty rounds; 0 is never.
     pub erratic: u8,
 }
 

@@ -1,5 +1,5 @@
-//! What is kept of a detector of a bank while its rounds go by: its registers, how many of the sorted pulses lie behind it, and whether it
-//! calls. It is looked at only in rounds that are due.
+//! What is kept of a detector of a bank from round to round: its registers, how many of the sorted pulses it has had,
+//! and whether it calls. It is examined only in rounds in which something may change.
 
 ghost use Rattle.std.specs.Prelude.{ℕ, ◌≡◌, ◌+◌, ◌≤◌, false, List, length};
 ghost use Rattle.detector_bank.specs.declared.bank.Pulse.{Pulse as PulseRow};
@@ -21,7 +21,7 @@ pub struct DetectorState {
 impl DetectorState {
     ghost use Rattle.detector_bank.specs.Watching.{Sorts, Posted};
 
-    /// Before the first round, which is due.
+    /// Before the first round, in which it is examined.
     pub fn new(detector: &Detector, sorted: &[Pulse]) -> DetectorState
         ensures stands { (ps : List PulseRow) → Sorts sorted.now ps → Posted result 0 sorted.now detector.now ps 0 }
         ensures none { result.calls ≡ false }
@@ -34,7 +34,7 @@ impl DetectorState {
         }
     }
 
-    /// A round, and the next one that is due.
+    /// A round, and the next one in which it is examined.
     pub fn step(&mut self, detector: &Detector, round: u32, sorted: &[Pulse]) -> u32
         requires few { length sorted.now ≤ 1000000 }
         ensures { (ps : List PulseRow) (due j : ℕ) → round ≡ j + 1 → Sorts sorted.now ps → Posted self.old due sorted.now detector.now ps j → Posted self.new result sorted.now detector.now ps (j + 1) }

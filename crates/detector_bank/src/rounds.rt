@@ -10,9 +10,9 @@ use crate::walk::{call_round, edge_round, start};
 use sig_types::NoMemory;
 use std::alloc::Global;
 
-/// The calls of a bank in so many rounds: one for each round, cabinet and phase at which the phase is called and was not in
-/// the round before, or the other way round, by round, cabinet and phase. A pulse whose detector is not in the bank counts
-/// for none. A detector is looked at in those rounds alone in which it has a pulse or may call otherwise.
+/// The calls of a bank in N rounds: one for each round, cabinet and phase at which the phase is called and was not in
+/// the round before, or the other way round, by round, cabinet and phase. A pulse whose detector is not in the bank
+/// counts for none. A detector is examined only in rounds in which it has a pulse or may call otherwise.
 pub fn bank_calls(
     alloc: Global,
     bank: &Vec<Detector>,
@@ -42,7 +42,7 @@ pub fn bank_calls(
     Ok(calls)
 }
 
-/// How often each detector went on in each of so many rounds in which it had not failed, where it did, by round, cabinet and
+/// How often each detector turned on in each of N rounds in which it had not failed, if it did, by round, cabinet and
 /// number.
 pub fn edges(
     alloc: Global,

@@ -15,7 +15,7 @@ use crate::pulses::sorted_pulses;
 use sig_types::NoMemory;
 use std::alloc::Global;
 
-/// The sorted pulses, what is kept of each detector, and for each the next round that is due.
+/// The sorted pulses, what is kept of each detector, and for each the next round in which it is examined.
 #[derive(Drop)]
 pub struct Walk {
     pub sorted: Vec<Pulse>,

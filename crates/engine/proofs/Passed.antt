@@ -1,4 +1,4 @@
--- What an engine keeps beside its memory stands after ticks that it passes over, one by one and at once.
+-- What an engine keeps in addition to its memory still holds after skipped ticks, one by one and at once.
 use Rattle.std.proofs.Common.{◌≡◌, ◌<◌, ◌≤◌, ◌+◌, ℕ, zero, suc, Bool, true, false, List, refl, sym, ◌∙◌, ap, arith, subst, ◌-◌, ◌||◌, get_or}
 use Rattle.sig_types.specs.declared.frame.Frame.{Frame}
 use Rattle.sig_types.specs.declared.frame.Mode.{Mode}
@@ -51,7 +51,7 @@ timed-twice false f target later k j e = ap (λ (x : Bool). timed x (f.counter +
 abbrev built : {M : Type 0} → Engine M → UnitCommands → Frame → Engine M
 built e new f = record e { context = record e.context { frame = f; unit_commands = new } }
 
--- the engine after so many ticks, but for its memory
+-- the engine after N ticks, except for its memory
 abbrev pub passed : {M : Type 0} → ℕ → Engine M → UnitCommands → Engine M
 passed k e new = record e { context = gone_on (e.context.frame.counter + k) e.context new }
 

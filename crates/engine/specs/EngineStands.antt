@@ -1,4 +1,4 @@
--- An engine stands for a history where all that it keeps is what the history has come to.
+-- An engine represents a history if all that it keeps is the result of the history.
 use Rattle.std.specs.Prelude.{ℕ, max}
 use Rattle.sig_tables.specs.Past.{Past, History}
 use Rattle.sig_tables.specs.Decide.{past_at}
@@ -26,6 +26,6 @@ pub record EngineKeeps {M : Type 0} (remembers : M → Past → Type 0) (e : Eng
   pub walking : Has e.walking (is_walking (frame_seen past))
   pub signalling : Has e.signalling (is_signalling (frame_seen past))
 
--- the engine stands for a history: it keeps what this has come to
+-- the engine represents a history: it keeps the result of it
 abbrev pub EngineStands : {M : Type 0} → (M → Past → Type 0) → Engine M → History → Type 0
 EngineStands remembers e h = EngineKeeps remembers e (past_at h)

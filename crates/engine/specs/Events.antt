@@ -1,4 +1,4 @@
--- What is told to a cabinet.
+-- The events that a cabinet receives.
 use Rattle.sig_types.specs.declared.frame.Field.{Field}
 use Rattle.sig_types.specs.declared.frame.Field.TheVariants.{Veh, Ped, Preempt}
 use Rattle.sig_tables.specs.Past.{Event, Tick, Input, Install, SetPattern, SetClock, Ask, Cancel, SetDrift}
@@ -8,7 +8,7 @@ IsOfPhase (Veh q on) = Unit {0}
 IsOfPhase (Ped q) = Unit {0}
 IsOfPhase (Preempt i on) = ⊥
 
--- what is told is no tick, puts no tables in force and is no input of a preempt
+-- the event is not a tick, puts no tables in force and is not an input of a preempt
 abbrev pub LeavesBe : Event → Type 0
 LeavesBe Tick = ⊥
 LeavesBe (Input field) = IsOfPhase field

@@ -1,8 +1,8 @@
--- Ticks that are passed over at once.
+-- Ticks that are skipped at once.
 use Rattle.std.specs.Prelude.{ℕ}
 use Rattle.tick_context.specs.Even.{IsEven}
 use Rattle.engine.specs.declared.Engine.{Engine}
 
--- at each of so many ticks that come the command and the clock go on evenly
+-- at each of the next N ticks the command and the clock advance evenly
 abbrev pub GoesEvenly : {M : Type 0} → Engine M → ℕ → Type 0
 GoesEvenly e k = IsEven e.context.unit_commands e.context.tables k

@@ -32,8 +32,8 @@ impl<M: Memory> Engine<M> {
     ghost use Rattle.tick_context.specs.Sees.{Sees};
     ghost use Rattle.engine.specs.EngineStands.{EngineKeeps, tick_count, install_count};
 
-    /// Whether a cabinet that runs free goes on to: no preempt input is on, and this pattern in command is none that is defined
-    /// and is no flash.
+    /// Whether a cabinet in free operation stays in it: no preempt input is on, and the commanded pattern is neither a
+    /// defined one nor flash.
     pub(crate) fn stays_free(&self, command: u8) -> bool
         ensures was { (past : Past) → EngineKeeps M.remembers self.now past → IsTrue result → (frame_seen past).mode ≡ Free }
         ensures free { (past : Past) → EngineKeeps M.remembers self.now past → command ≡ command_now past → IsTrue result → mode_seen past ≡ Free }

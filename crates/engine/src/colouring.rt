@@ -99,7 +99,7 @@ impl<M: Memory> Engine<M> {
         }
     }
 
-    /// Whether a phase that neither ends nor begins keeps its colour. What is no phase does.
+    /// Whether a phase that neither ends nor begins keeps its colour. A number that isn't a phase does.
     fn keeps_colour(&self, phase: u8) -> bool
         requires few { tick_count M.frames self.now < 4294967295 }
         ensures stays { (past : Past) → EngineKeeps M.remembers self.now past → IsTrue result → is_phase phase ≡ true

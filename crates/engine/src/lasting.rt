@@ -49,7 +49,7 @@ impl<M: Memory> Engine<M> {
         }
     }
 
-    /// For how many ticks more there is no reason to end a Green phase, 1 to 16, where the pattern that is kept binds.
+    /// For how many ticks more a Green phase, 1 to 16, has no reason to end, if the pattern that is kept binds.
     fn bound_left(&self, phase: u8, active: bool) -> u32
         requires above { 0 < phase }
         requires within { phase ≤ 16 }
@@ -65,7 +65,7 @@ impl<M: Memory> Engine<M> {
         }
     }
 
-    /// For how many ticks more there is no reason to end a Green phase, 1 to 16, where no pattern binds.
+    /// For how many ticks more a Green phase, 1 to 16, has no reason to end, if no pattern binds.
     fn unbound_left(&self, phase: u8, active: bool, opposed: bool) -> u32
         requires above { 0 < phase }
         requires within { phase ≤ 16 }
@@ -76,7 +76,7 @@ impl<M: Memory> Engine<M> {
         gap.min(self.memory.maximum_left(&self.context, phase, opposed))
     }
 
-    /// For how many ticks more there is no reason to end a Green phase, 1 to 16, in the mode of the last frame.
+    /// For how many ticks more a Green phase, 1 to 16, has no reason to end, in the mode of the last frame.
     fn reason_left(&self, phase: u8, active: bool, opposed: bool) -> u32
         requires above { 0 < phase }
         requires within { phase ≤ 16 }
@@ -92,7 +92,7 @@ impl<M: Memory> Engine<M> {
         }
     }
 
-    /// For how many ticks more an enabled Green phase, 1 to 16, stays: it is not served, or there is no reason to end it.
+    /// For how many ticks more an enabled Green phase, 1 to 16, stays: it is not served, or it has no reason to end.
     fn stay_left(&self, tick_inputs: &TickInputs, phase: u8) -> u32
         requires above { 0 < phase }
         requires within { phase ≤ 16 }

@@ -1,7 +1,7 @@
-//! The engine of a cabinet: what its phases show after each tick of 0.1 s. Two rings of phases are served by the rules of
-//! actuated control (NEMA TS 2, FHWA Signal Timing Manual), in free operation and in step with the patterns of a timing
-//! plan; preemption, flash, priority requests, commands, clocks and downloads come at any time. The definitions look back
-//! over past frames; the engine asks a memory of them. It is proved once, for every memory.
+//! The engine of a cabinet: what its phases show after each tick of 0.1 s. Two rings of phases are served by the rules
+//! of actuated control (NEMA TS 2, FHWA Signal Timing Manual), in free operation and coordinated in the patterns of a
+//! timing plan; preemption, flash, priority requests, commands, clocks and downloads may occur at any time. The
+//! definitions look back over past frames; the engine asks a memory of them. It is proved once, for every memory.
 #![tactic(auto)]
 
 ghost use Rattle.std.specs.Prelude.{◌≡◌, ◌<◌, ◌≤◌, ◌+◌};
@@ -29,10 +29,11 @@ mod walking;
 use by_colour::ByColour;
 pub use memory::{Fresh, Memory, Same};
 
-/// What an engine keeps between ticks: what it was told, what the last frame shows, and a memory of those before.
+/// What an engine keeps between ticks: its tables, commands and requests, what the last frame shows, and a memory of
+/// the frames before.
 #[derive(Drop)]
 pub struct Engine<M: Memory> {
-    /// The tables in force, the last frame, and what was told.
+    /// The tables in force, the last frame, commands and requests.
     context: TickContext,
     /// The phases by the colour that the last frame shows.
     shown: ByColour,
@@ -89,8 +90,8 @@ impl<M: Memory> Engine<M> {
         }
     }
 
-    /// An input from the street: a detector or a push button of a phase, 1 to 16, or the input of a preempt, 1 to 8. The
-    /// frames show what comes of it from the next tick on.
+    /// An input from the street: a detector or a push button of a phase, 1 to 16, or the input of a preempt, 1 to 8.
+    /// The frames show its effect from the next tick on.
     pub fn input(&mut self, field: Field)
         requires place { NamesPlace field }
         ensures stands { (h : History) → EngineStands M.remembers self.old h → EngineStands M.remembers self.new (with_one h (Input field)) }

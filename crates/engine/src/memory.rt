@@ -56,7 +56,7 @@ pub trait Memory: Drop {
         ensures follows { (past : Past) → remembers self.now past → ContextStands context.now past
             → result ≡ runs_on phase past.tables past.moments (colour_of (frame_seen past) phase) };
 
-    /// The signal of a phase, 1 to 16, that follows by itself, cut short to lesser times.
+    /// The signal of a phase, 1 to 16, that follows by itself, with smaller times.
     fn signal_on(&self, context: &TickContext, phase: u8, lesser: Option<(u32, u32)>) -> Ped
         requires above { 0 < phase }
         requires within { phase ≤ 16 }
@@ -72,7 +72,8 @@ pub trait Memory: Drop {
         ensures startable { (past : Past) → remembers self.now past → ContextStands context.now past → is_enabled past.tables phase ≡ true
             → same_colour (colour_of (frame_seen past) phase) Red ≡ true → result ≡ is_startable (view_seen past) phase };
 
-    /// Whether a Green phase, 1 to 16, is served: it has had its least green, and no walk or pedestrian clearance runs on.
+    /// Whether a Green phase, 1 to 16, is served: it has had its minimum green, and no walk or pedestrian clearance
+    /// continues.
     fn is_served(&self, context: &TickContext, phase: u8) -> bool
         requires above { 0 < phase }
         requires within { phase ≤ 16 }
@@ -80,7 +81,7 @@ pub trait Memory: Drop {
         ensures served { (past : Past) → remembers self.now past → ContextStands context.now past → is_green (frame_seen past) phase ≡ true
             → result ≡ is_served past.tables past.moments phase };
 
-    /// The same with the least green and the times that the mode of a tick leaves.
+    /// The same with the minimum green and the times that the mode of a tick leaves.
     fn is_cleared(&self, context: &TickContext, tick_state: &TickState, phase: u8) -> bool
         requires above { 0 < phase }
         requires within { phase ≤ 16 }
@@ -126,7 +127,7 @@ pub trait Memory: Drop {
         ensures left { (past : Past) (k : ℕ) → remembers self.now past → ContextStands context.now past → 0 < k → k ≤ result
             → SignalLasts k phase past.tables past.moments (signal_of (frame_seen past) phase) };
 
-    /// For how many ticks more a Green phase, 1 to 16, has not had its least green.
+    /// For how many ticks more a Green phase, 1 to 16, has not had its minimum green.
     fn least_left(&self, phase: u8) -> u32
         requires above { 0 < phase }
         requires within { phase ≤ 16 }
@@ -170,7 +171,7 @@ pub trait Memory: Drop {
     fn is_beside(&self) -> bool
         ensures beside { (past : Past) → remembers self.now past → IsTrue result → preempts_seen past ≡ [] };
 
-    /// The count of the cycle of the pattern with which the last frame is in step.
+    /// The count of the cycle of the pattern in which the last frame is coordinated.
     fn count(&self) -> Count
         ensures counts { (past : Past) → remembers self.now past → CountStandsFor result past };
 
@@ -208,7 +209,7 @@ pub trait Memory: Drop {
             → Has opposed (is_in (opposed_seen past)) → Repeats past → remembers self.new (with_moment past (next_moment past)) }
         ensures frames { frames self.new ≡ frames self.old + 1 };
 
-    /// So many frames that go on with the last one, whose ticks see this.
+    /// N frames that continue the last one, at whose ticks this was seen.
     fn pass(&mut self, context: &TickContext, tick_inputs: &TickInputs, ticks: u32)
         requires some { 0 < ticks }
         requires few { frames self.old + ticks ≤ 4294967295 }
@@ -219,7 +220,7 @@ pub trait Memory: Drop {
             → remembers self.new (past_at (ticks_more ticks h)) }
         ensures frames { frames self.new ≡ frames self.old + ticks };
 
-    /// What is told, and is no matter of past frames, leaves it as it is.
+    /// An event that doesn't concern past frames leaves the memory as it is.
     ghost told: { (m : Self) (past : Past) (e : Event) → LeavesBe e → remembers m past → remembers m (with_event e past) };
 
     /// So do tables that a download puts in force.

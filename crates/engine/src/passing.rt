@@ -1,6 +1,6 @@
-//! Ticks that are passed over at once, in free operation and in step with a pattern: each shows what the last frame shows, and
-//! nothing moves but what counts: the number of the tick, the clock, the age of the command, the counter of the cycle and
-//! its target.
+//! Ticks that are skipped at once, in free operation and while coordinated: each shows what the last frame shows, and
+//! nothing changes except what counts: the number of the tick, the clock, the age of the command, the counter of the
+//! cycle and its target.
 
 ghost use Rattle.std.specs.Prelude.{◌≡◌, ◌≢◌, ◌==◌, get_or, if◌then◌else◌, ◌<◌, ◌≤◌, ◌+◌, [], ℕ, suc, true, false, IsTrue, None};
 
@@ -60,8 +60,8 @@ impl<M: Memory> Engine<M> {
         }
     }
 
-    /// For how many ticks more the cabinet stays in step with this pattern, which is the one that is kept, and the counter goes
-    /// on as time does.
+    /// For how many ticks more the cabinet stays coordinated in this pattern, which is the one that is kept, and the
+    /// counter advances as time does.
     fn step_left(&self, pattern: u8) -> u32
         ensures left { (past : Past) (k : ℕ) → EngineKeeps M.remembers self.now past → ActivePatternIs self.now.context.active_pattern past.tables pattern → IsFresh past
             → GoesEvenly self.now k → 0 < k → k ≤ result → StaysInStep pattern k past }
@@ -125,8 +125,8 @@ impl<M: Memory> Engine<M> {
         }
     }
 
-    /// Whether the mode of the last frame is one that can go on, no preempt input is on and no request is active: else no tick is
-    /// passed over.
+    /// Whether the mode of the last frame is one that can continue, no preempt input is on and no request is active:
+    /// otherwise no tick is skipped.
     fn can_pass(&self) -> bool
         ensures bound { (past : Past) → EngineKeeps M.remembers self.now past → IsTrue result → IsBound self.now.context.active_pattern past.tables self.now.context.frame.mode }
         ensures beside { (past : Past) → EngineKeeps M.remembers self.now past → IsTrue result → preempts_seen past ≡ [] }
@@ -141,8 +141,8 @@ impl<M: Memory> Engine<M> {
         }
     }
 
-    /// For how many of so many ticks at the most the cabinet shows what it shows and sees this, where nothing has been told since
-    /// the last frame. It may be fewer than there are.
+    /// For how many of at most N ticks the cabinet shows what it shows and sees this, if no event has come since the
+    /// last frame. The answer may be lower than the real number.
     fn lasting(&self, tick_inputs: &TickInputs, most: u32) -> u32
         requires few { tick_count M.frames self.now < 4294967295 }
         ensures within { result ≤ most }
@@ -158,7 +158,7 @@ impl<M: Memory> Engine<M> {
             .even(&self.context.tables, most.min(left))
     }
 
-    /// Passes over so many ticks that see this.
+    /// Skips N ticks that see this.
     fn pass(&mut self, tick_inputs: &TickInputs, ticks: u32)
         requires some { 0 < ticks }
         requires few { tick_count M.frames self.old + ticks ≤ 4294967295 }
@@ -177,8 +177,8 @@ impl<M: Memory> Engine<M> {
         self.context.pass(ticks, counter);
     }
 
-    /// Passes over ticks that come, at most so many, and says how many, where nothing has been told since the last tick. It may
-    /// stop before the first whose frame has a line.
+    /// Skips ticks, at most N, and returns how many, if no event has come since the last tick. It may stop before the
+    /// first whose frame has a line.
     pub(crate) fn pass_on(&mut self, most: u32) -> u32
         requires few { tick_count M.frames self.old + most ≤ 4294967295 }
         ensures within { result ≤ most }

@@ -21,7 +21,7 @@ impl<M: Memory> Engine<M> {
     ghost use Rattle.tick_context.specs.Sees.{Sees};
     ghost use Rattle.engine.specs.EngineStands.{EngineKeeps, tick_count};
 
-    /// Whether a phase on which no walk begins keeps its signal. What is no phase does.
+    /// Whether a phase on which no walk begins keeps its signal. A number that isn't a phase does.
     fn walks_on(&self, phase: u8) -> bool
         requires few { tick_count M.frames self.now < 4294967295 }
         ensures stays { (past : Past) → EngineKeeps M.remembers self.now past → mode_seen past ≡ Free → IsTrue result → is_phase phase ≡ true
@@ -75,7 +75,7 @@ impl<M: Memory> Engine<M> {
         }
     }
 
-    /// Whether a phase is not done. What is no phase is not.
+    /// Whether a phase is not done. A number that isn't a phase is not.
     fn stays(&self, tick_inputs: &TickInputs, phase: u8) -> bool
         requires few { tick_count M.frames self.now < 4294967295 }
         ensures stays { (past : Past) → EngineKeeps M.remembers self.now past → Sees tick_inputs.now past → mode_seen past ≡ Free → IsTrue result → is_phase phase ≡ true

@@ -1,5 +1,5 @@
-//! Strides: the ticks up to the next frame that has a line in a trace are taken in one call. Those at which nothing that is
-//! shown can change are passed over at once.
+//! Strides: the ticks up to the next frame that has a line in a trace are taken in one call. Those at which nothing
+//! that is shown can change are skipped at once.
 
 ghost use Rattle.std.specs.Prelude.{◌≡◌, ◌<◌, ◌≤◌, ◌+◌, ℕ, suc, false};
 
@@ -12,9 +12,9 @@ impl<M: Memory> Engine<M> {
     ghost use Rattle.tick_context.specs.Strides.{IsStride, is_told, ticks_more};
     ghost use Rattle.engine.specs.EngineStands.{EngineStands, tick_count, install_count};
 
-    /// Takes ticks until one gives a frame that has a line in a trace, but at most n, and says how many: the least number from
-    /// 1 to n whose frame has a line, or n where all frames are plain. A frame has a line where it shows other colours or
-    /// signals, another mode or another version than the one before, or is a local zero.
+    /// Takes ticks until one gives a frame that has a line in a trace, but at most n, and returns how many: the lowest
+    /// number from 1 to n whose frame has a line, or n if all frames are plain. A frame has a line if its colours or
+    /// signals, mode or version differ from those of the frame before, or if it is a local zero.
     pub fn stride(&mut self, n: u32) -> u32
         requires some { 1 ≤ n }
         requires few { tick_count M.frames self.old + n ≤ 4294967295 }

@@ -28,7 +28,7 @@ impl<M: Memory> Engine<M> {
         sought(&choice, self.memory.stage(&self.context))
     }
 
-    /// Keeps the pattern that this mode, which is that of this tick, seeks or is in step with.
+    /// Keeps the pattern that this mode, which is that of this tick, seeks or is coordinated in.
     pub(crate) fn follow(&mut self, mode: Mode)
         ensures keeps { (past : Past) → EngineKeeps M.remembers self.old past → EngineKeeps M.remembers self.new past }
         ensures bound { (past : Past) → EngineKeeps M.remembers self.old past → mode ≡ mode_seen past

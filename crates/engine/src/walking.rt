@@ -30,7 +30,7 @@ impl<M: Memory> Engine<M> {
     ghost use Rattle.engine.specs.EngineStands.{EngineKeeps, tick_count};
     ghost use Rattle.tick_context.specs.Moves.{AreMoves};
 
-    /// The lesser times of a phase, 1 to 16; none for a phase of the goal.
+    /// The smaller times of a phase, 1 to 16; none for a phase of the goal.
     fn lesser_for(&self, tick_state: &TickState, phase: u8) -> Option<(u32, u32)>
         requires above { 0 < phase }
         requires within { phase ≤ 16 }
@@ -124,7 +124,7 @@ impl<M: Memory> Engine<M> {
         }
     }
 
-    /// Whether a phase on which no walk begins keeps its signal. What is no phase does.
+    /// Whether a phase on which no walk begins keeps its signal. A number that isn't a phase does.
     fn keeps_signal(&self, tick_state: &TickState, phase: u8) -> bool
         requires few { tick_count M.frames self.now < 4294967295 }
         ensures stays { (past : Past) → Runs M.remembers self.now tick_state.now past → IsTrue result → is_phase phase ≡ true

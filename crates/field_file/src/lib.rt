@@ -1,5 +1,5 @@
-//! The result of a field file: a scenario in which the calls of a bank of detectors stand as inputs and, where patterns follow the
-//! traffic, the schedule that counted traffic gives.
+//! The result of a field file: a scenario in which the calls of a bank of detectors are inputs and, if patterns follow
+//! the traffic, the schedule that counted traffic gives.
 #![tactic(auto)]
 
 mod parts;

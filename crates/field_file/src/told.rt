@@ -1,5 +1,5 @@
-//! What is told of a field file: the text of its result, refused at its first fault. A field file that is right is read in parts, and
-//! the first fault of most others is found, both with little memory; the value of any other decides.
+//! The answer to a field file: the text of its result, or its first fault. A valid field file is read in parts, and the
+//! first fault of most others is found, both with little memory; the value of any other decides.
 
 ghost use Rattle.std.specs.Prelude.{◌≡◌, ◌≤◌, ℕ, List, [], codes, option_map, Some, IfOk, IfErr};
 ghost use Rattle.serde_json.specs.Data.{Data, depth};

@@ -1,5 +1,5 @@
-//! What lies across the lists of a field file: detectors that stand twice, pulses of none, and rules that don't fit one another or
-//! the scenario.
+//! What concerns several lists of a field file: repeated detectors, pulses of none, and rules that don't fit one
+//! another or the scenario.
 
 ghost use Rattle.std.specs.Prelude.{◌≡◌, ◌<◌, map, length};
 ghost use Rattle.scenario_data.specs.Content.{scenario_content};
@@ -158,8 +158,8 @@ fn rules_fit(alloc: Global, scenario: &Scenario, respond: &Respond) -> Result<()
     Ok(())
 }
 
-/// Refuses what doesn't fit across the lists of a field file, whose names are without fault: a detector that stands twice, a pulse
-/// of none, and rules that don't fit one another or the scenario, in this order.
+/// Refuses what doesn't fit together in the lists of a field file, whose names are without fault: a repeated detector,
+/// a pulse of none, and rules that don't fit one another or the scenario, in this order.
 #[tactic(auto, using(scenario_read::proofs::Refusing::refuses_more))]
 pub fn lists_fit(alloc: Global, field: &Field) -> Result<(), ReadFail>
     requires bank { BankPlaced field.now.bank.items }

@@ -19,8 +19,8 @@ use scenario_read::list_of;
 use serde_json::Value;
 use std::alloc::Global;
 
-/// The detector that an object says, at its place from 0 in the bank of a scenario with so many cabinets; refused at its first
-/// fault.
+/// The detector that an object says, at its place from 0 in the bank of a scenario with this number of cabinets;
+/// refused at its first fault.
 pub fn detector_in(
     alloc: Global,
     object: &Value,

@@ -1,5 +1,5 @@
-//! The first fault of a field file, where it is that of a name or of what stands there: the scenario, the bank, the pulses or the rules
-//! that follow traffic. It is found in little memory; what lies across the lists is not asked here.
+//! The first fault of a field file, if it is that of a name or of its value: the scenario, the bank, the pulses or the
+//! rules that follow traffic. It is found in little memory; what concerns several lists is not checked here.
 
 ghost use Rattle.std.specs.Prelude.{IfErr};
 ghost use Rattle.scenario_read.specs.Answers.{OnRefusal};
@@ -15,10 +15,10 @@ use scenario_cut::{Form, inner_fault, kept_of_few};
 use scenario_data::ReadFail;
 use std::alloc::Global;
 
-/// The first fault of the bytes: that they are no JSON, of a name, of the scenario, whose lists are judged item by item, of the bank, of
-/// the pulses, which are judged likewise, or of the rules that follow traffic. Want of memory stands also for what this way does not tell.
-/// Ok says that none of these was found; what lies across the lists isn't asked. It keeps no value of the whole, and is asked where
-/// `listed` gave up, before anything is read again.
+/// The first fault of the bytes: that they aren't JSON, of a name, of the scenario, whose lists are judged item by
+/// item, of the bank, of the pulses, which are judged likewise, or of the rules that follow traffic. Out of memory also
+/// means that this way finds nothing. Ok says that none of these was found; what concerns several lists isn't checked.
+/// It keeps no value of the whole, and is asked if `listed` gave up, before anything is read again.
 pub fn first_fault(alloc: Global, bytes: &[u8]) -> Result<(), ReadFail>
     ensures { IfErr result (λ fail. OnRefusal fail (IsFirstFieldFault bytes.now)) }
 {

@@ -1,5 +1,5 @@
-//! The items of a list, added one by one. How many rounds and cabinets there are may stand behind them, so that they are held
-//! to the most that any scenario has; what they name is tested against these later.
+//! The items of a list, added one by one. How many rounds and cabinets there are may follow later in the text, so that
+//! they are held to the most that any scenario has; what they name is checked against these later.
 
 ghost use Rattle.std.specs.Prelude.{◌≡◌, IfSome};
 ghost use Rattle.serde_json.specs.Data.{Items, item, no_items};

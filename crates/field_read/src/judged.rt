@@ -1,5 +1,6 @@
-//! The pulses of a field file, judged item by item in one pass over its text, where it is known how many rounds and cabinets the scenario
-//! has. Nothing stays of a pulse. Behind the first at fault, and past a million, they are passed over. Of equal names the last counts.
+//! The pulses of a field file, judged item by item while its text is read once, when it is known how many rounds and
+//! cabinets the scenario has. Nothing stays of a pulse. After the first at fault, and beyond a million, they are
+//! skipped. Of equal names the last counts.
 
 ghost use Rattle.std.specs.Prelude.{◌≡◌, ◌<◌, [], length, Some, IfSome};
 ghost use Rattle.json.specs.Json.{value, items, members};

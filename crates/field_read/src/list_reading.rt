@@ -1,5 +1,6 @@
-//! The field file: bytes in, and what it says out where it is right, or its first fault where that lies across its lists. It is read at
-//! once, and in a second try of names that come again the last alone. Each try says nothing of a file at which it gives up.
+//! The field file: bytes in, and what it says out where it is right, or its first fault where that lies across its
+//! lists. It is read at once, and in a second try with only the last of repeated names. Each try says nothing of a file
+//! at which it gives up.
 
 ghost use Rattle.std.specs.Prelude.{◌≡◌, [], IfSome, IfOk, IfErr};
 ghost use Rattle.serde_json.specs.Data.{Data};
@@ -44,10 +45,11 @@ fn listed_with<'a>(alloc: Global, bytes: &'a [u8], left: FileLeft) -> Result<Lis
     }
 }
 
-/// Reads a field file that is right, in time that grows with its bytes and in the memory of what it says. It is the first try, and the
-/// only one that most right files need: no name is counted beforehand. The refusal is the first fault of the file, found where that lies
-/// across its lists and all of them were read. Want of memory stands also for what this way does not tell: where a name or what stands
-/// there is at fault, or an earlier of equal names, or a detector or a pulse is of a round or a cabinet that there isn't.
+/// Reads a valid field file, in time that grows with its bytes and in the memory of what it says. It is the first try,
+/// and the only one that most valid files need: no name is counted beforehand. The refusal is the first fault of the
+/// file, if it concerns several lists and all of them were read. Out of memory also means that this way gives no
+/// answer: a name or its value is at fault, or an earlier of equal names, or a detector or a pulse names a round or a
+/// cabinet that doesn't exist.
 pub fn listed<'a>(alloc: Global, bytes: &'a [u8]) -> Result<Listed<'a>, ReadFail>
     ensures ok { IfOk result (λ l. (d : Data) × Reads bytes.now d × (file_faults d ≡ []) × (field_content l.field ≡ field_of d) × Writes l.text (held scenario d)) }
     ensures refused { IfErr result (λ fail. OnRefusal fail (IsFirstFieldFault bytes.now)) }
@@ -55,12 +57,13 @@ pub fn listed<'a>(alloc: Global, bytes: &'a [u8]) -> Result<Listed<'a>, ReadFail
     listed_with(alloc, bytes, FileLeft::none(alloc))
 }
 
-/// Reads a field file that is right: of equal names, its own, the scenario's and those of the scenario's master, the last alone, as what
-/// stands at an earlier one may be at fault or large. It takes time and memory as `listed` does, the time of passes that count the names,
-/// and room to count those of the master. It is the second try, for files at which `listed` gave up and in which `first_fault` finds
-/// none: where memory was enough for these, a right file has names that come again. The refusal is the first fault of the file, as that
-/// of `listed` is. Want of memory stands also for what this way does not tell: where a name or what stands there last is at fault, or an
-/// earlier of other equal names, or a detector or a pulse is of a round or a cabinet that there isn't.
+/// Reads a valid field file: of equal names, its own, the scenario's and those of the scenario's master, only the last,
+/// because the value of an earlier one may be at fault or large. It takes time and memory as `listed` does, the time of
+/// passes that count the names, and room to count those of the master. It is the second try, for files at which
+/// `listed` gave up and in which `first_fault` finds none: if memory was enough for these, a valid file has repeated
+/// names. The refusal is the first fault of the file, as that of `listed` is. Out of memory also means that this way
+/// gives no answer: a name or its last value is at fault, or an earlier of other equal names, or a detector or a pulse
+/// names a round or a cabinet that doesn't exist.
 pub fn listed_again<'a>(alloc: Global, bytes: &'a [u8]) -> Result<Listed<'a>, ReadFail>
     ensures ok { IfOk result (λ l. (d : Data) × Reads bytes.now d × (file_faults d ≡ []) × (field_content l.field ≡ field_of d) × Writes l.text (held scenario d)) }
     ensures refused { IfErr result (λ fail. OnRefusal fail (IsFirstFieldFault bytes.now)) }

@@ -1,4 +1,4 @@
-//! The items of a list, read one by one: each stands as a tree only while it is read.
+//! The items of a list, read one by one: each is a tree only while it is read.
 
 ghost use Rattle.std.specs.Prelude.{◌≡◌, ◌<◌, length, Some, IfSome};
 ghost use Rattle.json.specs.Json.{value, items};

@@ -1,4 +1,4 @@
-//! The members of an object: which names may stand there, and what stands at a name.
+//! The members of an object: which names are allowed, and the value at a name.
 
 ghost use Rattle.std.specs.Prelude.{◌≡◌, ◌≤◌, map, IfOk};
 ghost use Rattle.serde_json.specs.View.{view, members_view};

@@ -19,8 +19,8 @@ use scenario_read::list_of;
 use serde_json::Value;
 use std::alloc::Global;
 
-/// The pulse that an object says, at its place from 0 among the pulses, in a scenario with so many rounds and cabinets; refused
-/// at its first fault.
+/// The pulse that an object says, at its place from 0 among the pulses, in a scenario with this number of rounds and
+/// cabinets; refused at its first fault.
 pub fn pulse_in(
     alloc: Global,
     object: &Value,

@@ -1,5 +1,5 @@
-//! The field file: bytes in, what it says with its value, or the first fault out. This way answers for any file, since it keeps a
-//! value: who asks it makes the scenario that comes of the file from that.
+//! The field file: bytes in, what it says with its value, or the first fault out. This way answers for any file,
+//! because it keeps a value: its caller makes the resulting scenario from that.
 
 ghost use Rattle.std.specs.Prelude.{◌≡◌, ◌≤◌, [], IfOk, IfErr};
 ghost use Rattle.serde_json.specs.Data.{depth};

@@ -22,7 +22,7 @@ use std::alloc::Global;
 /// The rules by which patterns follow the traffic.
 #[derive(Drop)]
 pub struct Respond {
-    /// So many rounds are counted together, 1 to 3,600.
+    /// The number of rounds that are counted together, 1 to 3,600.
     pub period: u32,
     /// A rule for each of 1 to 8 sections.
     pub sections: Vec<Rule>,

@@ -1,5 +1,5 @@
-//! What stands at the names of a field file, an object with none but the four, read from its text one after the other, the lists item by
-//! item. Of equal names the last counts.
+//! The values at the names of a field file, an object with only the four, read from its text one after the other, the
+//! lists item by item. Of equal names the last counts.
 
 ghost use Rattle.std.specs.Prelude.{◌≡◌, ◌<◌, length, Some, IfSome, codes};
 ghost use Rattle.json.specs.Json.{value};

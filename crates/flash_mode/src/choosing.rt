@@ -29,8 +29,8 @@ fn is_in_step(shown: &Frame, version: u32, pattern: u8) -> bool
     }
 }
 
-/// What the command asks for, flash aside, after this frame and with the tables in force of this version: a pattern that is
-/// defined goes on where the frame is in step with it, and is sought where it is not; else Free.
+/// What the command asks for, apart from flash, after this frame and with the tables in force of this version: a
+/// defined pattern continues if the frame is coordinated in it, and is sought if it isn't; otherwise Free.
 pub fn commanded(t: &Tables, version: u32, command: u8, shown: &Frame) -> Mode
     ensures { result ≡ mode_commanded t.now version command shown.now }
 {

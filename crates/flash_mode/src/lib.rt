@@ -25,9 +25,9 @@ const START_FRAMES: u32 = 60;
 /// The command that asks for flash.
 const FLASH_COMMAND: u8 = 255;
 
-/// The mode that start-up and flash give a tick: Start for 60 frames, then Flash where it is commanded (255), and Flash as
-/// long as it is commanded, then Start. None exactly where the last frame, for how many frames it has been Start and the
-/// command alone give no mode: then a preempt and what is commanded decide.
+/// The mode that start-up and flash give a tick: Start for 60 frames, then Flash if it is commanded (255), and Flash
+/// while it is commanded, then Start. None exactly if the last frame, the number of frames in Start and the command
+/// give no mode: then a preempt and the command decide.
 pub fn mode(shown: &Frame, start_run: u32, command: u8) -> Option<Mode>
     ensures own { result ≡ own_mode shown.now.mode start_run command }
     ensures sought { (t : Tables) (version : ℕ) (preempts : List ℕ) (past : List Moment)

@@ -189,7 +189,7 @@ fn draw_rounds(
     Ok(Rounds { inputs, faults })
 }
 
-/// Draws all that a seed gives for so many cabinets and rounds.
+/// Draws all that a seed gives for this number of cabinets and rounds.
 pub fn draw_all(alloc: Global, seed: u32, cabinets: u32, rounds: u32) -> Result<Drawn, NoMemory>
     requires some { 0 < cabinets }
     requires few { cabinets ≤ 64 }

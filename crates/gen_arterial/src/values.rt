@@ -255,7 +255,7 @@ fn value_of(alloc: Global, drawn: &Drawn, rounds: u32) -> Result<Value, NoMemory
     }
 }
 
-/// The compact text of all that was drawn for so many rounds; it is read as that value.
+/// The compact text of all that was generated for this number of rounds; it is read as that value.
 pub fn compact_of(alloc: Global, drawn: &Drawn, rounds: u32) -> Result<Vec<u8>, NoMemory>
     ensures text { IfOk result (λ text. (seed cabinets : ℕ) → AreDrawn drawn.now seed cabinets rounds → text.items ≡ compact_text (scenario_value seed cabinets rounds)) }
     ensures reads { IfOk result (λ text. (seed cabinets : ℕ) → AreDrawn drawn.now seed cabinets rounds → Reads text.items (scenario_value seed cabinets rounds)) }

@@ -1,6 +1,6 @@
-//! Sources and sinks in memory, some of whose calls fail, by their numbers from 1; and a gate that is always open.
-//! A listed number is of 32 bits, so of the calls past 4,294,967,295 none fails by the list.
-//! They move as much as they can, or pieces of so many bytes at the most, as a file, a pipe or a line may.
+//! Sources and sinks in memory, some of whose calls fail, by their numbers from 1; and a gate that is always open. A
+//! listed number is of 32 bits, so of the calls past 4,294,967,295 none fails by the list. They move as much as they
+//! can, or pieces of at most N bytes, as a file, a pipe or a line may.
 
 ghost use Rattle.std.specs.Prelude.{◌≡◌, ◌<◌, ◌≤◌, ◌+◌, ◌-◌, ◌↔◌, ◌⊎◌, [], ℕ, Some, take, drop, length, min, IfOk, OnOk, OnErr, IsErr, IsTrue, true, vec_len, vec_capacity};
 ghost use Rattle.io_edge.specs.Edge.{Rises, Stays, Reads, Appends};
@@ -37,7 +37,7 @@ impl MemSource {
         MemSource::in_pieces(bytes, fails, usize::MAX)
     }
 
-    /// A source of these bytes, each of whose reads gives at most so many of them, at least 1, and whose reads of the listed
+    /// A source of these bytes, each of whose reads gives at most N of them, at least 1, and whose reads of the listed
     /// numbers fail.
     pub fn in_pieces(bytes: Vec<u8>, fails: Vec<u32>, most: usize) -> MemSource
         requires { 0 < most }
@@ -95,7 +95,7 @@ impl Source for MemSource {
     }
 }
 
-/// A sink in memory, with room for so many bytes.
+/// A sink in memory, with room for N bytes.
 #[derive(Drop)]
 pub struct MemSink {
     bytes: Vec<u8>,
@@ -112,8 +112,8 @@ pub struct MemSink {
 impl MemSink {
     ghost use Rattle.io_edge.specs.Memory.{written_of, room_left, writes_so_far, sink_faults, failing_writes, most_written};
 
-    /// An empty sink with room for so many bytes, whose writes of the listed numbers fail.
-    /// The room is taken here; a write takes no memory.
+    /// An empty sink with room for N bytes, whose writes of the listed numbers fail. The room is taken here; a write
+    /// takes no memory.
     pub fn new(alloc: Global, room: usize, fails: Vec<u32>) -> Result<MemSink, NoMemory>
         ensures empty { IfOk result (λ s. written_of s ≡ []) }
         ensures room { IfOk result (λ s. room_left s ≡ room) }
@@ -125,8 +125,8 @@ impl MemSink {
         MemSink::in_pieces(alloc, room, fails, usize::MAX)
     }
 
-    /// An empty sink with room for so many bytes, each of whose writes takes at most so many of a piece, at least 1, and whose
-    /// writes of the listed numbers fail. The room is taken here; a write takes no memory.
+    /// An empty sink with room for N bytes, each of whose writes takes at most N bytes of a piece, at least 1, and
+    /// whose writes of the listed numbers fail. The room is taken here; a write takes no memory.
     pub fn in_pieces(
         alloc: Global,
         room: usize,

@@ -11,7 +11,7 @@ ghost use Rattle.judge_laws.specs.Breaches.{shows, gives, are_together, is_lit_o
 use sig_tables::{Layout, Tables};
 use sig_types::{Colour, Ped, PhaseSet};
 
-/// The phases that show another colour than red.
+/// The phases that show a colour other than red.
 pub fn lit_phases(colours: &[Colour; 16]) -> PhaseSet
     ensures { (x : Indications) → x.colours ≡ colours.now → Has result (λ p. not (shows ColourOf.Red p x)) }
 {
@@ -22,7 +22,7 @@ pub fn lit_phases(colours: &[Colour; 16]) -> PhaseSet
     set
 }
 
-/// The phases that show another pedestrian signal than don't walk.
+/// The phases that show a pedestrian signal other than don't walk.
 pub fn walking_phases(signals: &[Ped; 16]) -> PhaseSet
     ensures { (x : Indications) → x.signals ≡ signals.now → Has result (λ p. not (gives PedOf.Dont p x)) }
 {

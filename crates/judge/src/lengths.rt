@@ -1,4 +1,4 @@
-//! How long an interval must last: all of its time, or what a preempt leaves of it; and whether it lasted so long.
+//! How long an interval must last: all of its time, or what a preempt leaves of it; and whether it lasted that long.
 
 ghost use Rattle.std.specs.Prelude.{◌≡◌, ◌+◌, nat_le, Option};
 ghost use Rattle.sig_tables.specs.declared.tables.Preempt.{Preempt as PreemptOf};
@@ -49,14 +49,14 @@ pub struct Step {
 }
 
 impl Step {
-    /// Whether an interval that began at tick `since`, and that this line ends, lasted at least so long.
+    /// Whether an interval that began at tick `since`, and that this line ends, lasted at least that long.
     pub fn is_past(self, since: u32, time: u16) -> bool
         ensures { result ≡ nat_le (since + time) (self.tick + self.tolerance) }
     {
         u64::from(since) + u64::from(time) <= u64::from(self.tick) + u64::from(self.tolerance)
     }
 
-    /// Whether it lasted at most so long.
+    /// Whether it lasted at most that long.
     pub fn is_within(self, since: u32, time: u16) -> bool
         ensures { result ≡ nat_le self.tick (since + time + self.tolerance) }
     {

@@ -73,18 +73,18 @@ pub fn whole_walk()
     ensures { told_of whole_walk_history ≡ whole_walk_told }
 {}
 
-/// A pattern in step releases its coordinated phases at their force point, forces off the turn that was called, and
-/// comes back.
+/// A coordinated pattern releases its coordinated phases at their force point, forces off the turn that was called, and
+/// returns.
 pub fn forced_off()
     ensures { told_of forced_off_history ≡ forced_off_told }
 {}
 
-/// Correction by dwell: the counter stands at local zero for as long as one cycle may.
+/// Correction by dwell: the counter waits at local zero for as long as one cycle may.
 pub fn dwells()
     ensures { told_of dwells_history ≡ dwells_told }
 {}
 
-/// The shorter way, where both are equal, is to add: the counter stands at every other tick.
+/// The shorter way, if both are equal, is to add: the counter waits at every other tick.
 pub fn adds()
     ensures { told_of adds_history ≡ adds_told }
 {}
@@ -120,7 +120,7 @@ pub fn sets_emptied_again()
     ensures { told_of sets_emptied_again_history ≡ sets_emptied_again_told }
 {}
 
-/// Downloads change the force mode and the offset reference under a pattern, which is picked up anew; the reference
+/// Downloads change the force mode and the offset reference under a pattern, which is picked up again; the reference
 /// moves the target.
 pub fn switched()
     ensures { told_of switched_history ≡ switched_told }

@@ -1,5 +1,5 @@
-//! The link between the master and the cabinets, with its faults: frames that are lost, come twice, come again later, have an
-//! octet turned, or are cut.
+//! The link between the master and the cabinets, with its faults: frames that are lost, come twice, are repeated later,
+//! have an octet turned, or are cut.
 #![tactic(auto)]
 
 mod agenda;

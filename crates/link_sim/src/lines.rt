@@ -51,8 +51,8 @@ impl Lines {
         }
     }
 
-    /// What arrives over the lines in a round in which these frames are sent; the rounds come in order. The lines hold what the
-    /// rounds so far left also afterwards, so that a round that fails elsewhere may come again.
+    /// What arrives over the lines in a round in which these frames are sent; the rounds come in order. The lines hold
+    /// what the rounds so far left also afterwards, so that a round that fails elsewhere may be repeated.
     pub fn carry(
         &mut self,
         alloc: Global,

@@ -116,8 +116,8 @@ impl Link {
         Ok(Link { lists, down, up })
     }
 
-    /// What reaches each cabinet in a round in which the master sends these, in the order of the cabinets; the rounds come in
-    /// order. Where memory is refused, the link stands for the same rounds as before, and the round may come again.
+    /// What reaches each cabinet in a round in which the master sends these, in the order of the cabinets; the rounds
+    /// come in order. If memory runs out, the link represents the same rounds as before, and the round may be repeated.
     pub fn down(
         &mut self,
         alloc: Global,
@@ -141,8 +141,8 @@ impl Link {
         }
     }
 
-    /// What arrives at the master of each cabinet's replies in a round, in the order of the cabinets; the rounds come in order.
-    /// Where memory is refused, the link stands for the same rounds as before, and the round may come again.
+    /// What arrives at the master of each cabinet's replies in a round, in the order of the cabinets; the rounds come
+    /// in order. If memory runs out, the link represents the same rounds as before, and the round may be repeated.
     pub fn up(
         &mut self,
         alloc: Global,

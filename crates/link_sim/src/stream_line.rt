@@ -29,8 +29,8 @@ pub struct LateList {
     copies: Vec<Late>,
 }
 
-/// A line, with the copies that are still to come, and the last round that it carried. A copy stands in the list of its round's
-/// rest by 32, so that a round looks through few others than its own.
+/// One direction of a stream, with the copies that are still to come, and the last round that it carried. A copy is in
+/// the list of its round modulo 32, so that a round examines few others than its own.
 #[derive(Drop)]
 pub struct StreamLine {
     line: Line,
@@ -224,8 +224,8 @@ impl StreamLine {
         }
     }
 
-    /// What arrives over the line in a round in which these frames are sent; the rounds come in order. The line holds what the
-    /// rounds so far left also afterwards, so that a round that fails elsewhere may come again.
+    /// What arrives over the line in a round in which these frames are sent; the rounds come in order. The line holds
+    /// what the rounds so far left also afterwards, so that a round that fails elsewhere may be repeated.
     pub fn carry(
         &mut self,
         alloc: Global,

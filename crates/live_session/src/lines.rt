@@ -1,5 +1,5 @@
-//! The lines of an answer, appended to its text. Where memory is wanting, a part of them may stand there already: the text is then of no
-//! more use.
+//! The lines of an answer, appended to its text. If memory runs out, a part of them may be there already: the text is
+//! then of no more use.
 
 ghost use Rattle.std.specs.Prelude.{◌≡◌, ◌++◌, ◌∷◌, OnOk, map};
 ghost use Rattle.trace_text.specs.declared.lines.Line.{Line as LineRow};
@@ -87,7 +87,7 @@ pub fn put_answer(
     }
 }
 
-/// Appends the line of what a cabinet shows after so many ticks.
+/// Appends the line of what a cabinet shows after N ticks.
 pub fn put_frame(
     alloc: Global,
     out: &mut Vec<u8>,
@@ -165,7 +165,7 @@ pub fn put_dot(out: &mut Vec<u8>) -> Result<(), NoMemory>
     put(out, b".\n")
 }
 
-/// Appends the answer that says why a request can't be taken.
+/// Appends the answer that says why a request isn't accepted.
 pub fn put_refusal(out: &mut Vec<u8>, untaken: Untaken) -> Result<(), NoMemory>
     ensures { OnOk result (out.new.items ≡ out.old.items ++ answer_text (NotTaken untaken)) }
 {

@@ -38,7 +38,7 @@ more-lasts t = elim (cases_Bool (nat_lt t 4096)) [
   | inr e ↦ let le : 4096 ≤ t = ltb-false t 4096 e in let k : 1 ≤ t = omega arith in rw e k
 ]
 
--- where no frame stands in the newest run there is no older one
+-- if the newest run is empty, so is the list of older ones
 pub none-older : (t : ℕ) (older : List FrameRun) → (1 ≤ t) ⊎ (older ≡ []) → t ≡ 0 → older ≡ []
 none-older t older (inl some) none = absurd (omega arith)
 none-older t older (inr empty) none = empty

@@ -48,7 +48,7 @@ last-shows active pressed [] past all = record { veh = refl; ped = refl; on = re
 last-shows active pressed (m ∷ ms) past all =
     shows-on m.frame (last_frame (ms ++ past)) (last_frame past) all.0.shows (last-shows active pressed ms past all.1)
 
--- what is kept of the last frame tells the last moment
+-- what is kept of the last frame describes the last moment
 pub newest-tells : (n t : ℕ) (g : Sample) (older : List FrameRun) (m : Moment) (past : List Moment) → 1 ≤ n → (1 ≤ t) ⊎ (older ≡ [])
     → TellLast n (spread (frame_run g t ∷ older)) (m ∷ past) → Tells g m
 newest-tells zero t g older m past le some h = absurd (omega arith)
@@ -131,7 +131,7 @@ keeps-same s past keeps = record {
   room = keeps.room;
 }
 
--- and so many
+-- and N of them
 pub keeps-again : (s : FrameRuns) (g : Sample) (past : List Moment) → newest_of s ≡ g
     → ((m : Moment) → Tells g m → FrameRunsKeep s (m ∷ past)) → (n : ℕ) (ms : List Moment) → length ms ≡ suc n → AllTell g ms
     → FrameRunsKeep (lengthened n s) (ms ++ past)

@@ -1,4 +1,4 @@
--- What a mode leaves of a least green, and where walks and pedestrian clearances are cut short.
+-- What a mode leaves of a minimum green, and where walks and pedestrian clearances are cut short.
 use Rattle.std.proofs.Common.{◌≡◌, ◌≤◌, ◌&&◌, ℕ, zero, suc, nat_le, Bool, refl, ap, arith}
 use Rattle.std.proofs.lemmas.Bool.{le-leb}
 use Rattle.std.specs.Prelude.{Option, Some, None, min}
@@ -12,7 +12,7 @@ pub left-within : (t : Tables) (i time : ℕ) → time ≤ 2550 → lesser_green
 left-within t zero time le = le
 left-within t (suc i) time le = omega arith
 
--- where no two numbers are told, all lasts in full; else no longer than they tell
+-- if no two numbers are given, all lasts in full; otherwise no longer than they say
 pub no-cut : (lesser : Lesser) → None ≡ ticks_of lesser → InFull ≡ lesser
 no-cut InFull e = refl
 no-cut (AtMost walk clear) e = cc

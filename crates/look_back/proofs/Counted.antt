@@ -1,4 +1,4 @@
--- The counters of moments that go on with the last one, in step with a pattern.
+-- The counters of moments that continue the last one, coordinated in a pattern.
 use Rattle.std.proofs.Common.{◌≡◌, ◌+◌, ◌-◌, ◌<◌, ◌≤◌, ℕ, zero, suc, true, List, [], ◌∷◌, ◌++◌, length, refl, sym, ◌∙◌, ap, subst, arith, eq-eqb}
 use Rattle.sig_types.specs.declared.frame.Mode.{Mode}
 use Rattle.sig_types.specs.declared.frame.Mode.TheVariants.{Coord}
@@ -16,7 +16,7 @@ use Rattle.look_back.specs.Counts.{CountingStands, counters_in}
 use Rattle.look_back.specs.Again.{ShowsAgain, AllGoOn}
 use Rattle.look_back.proofs.Again.{last-shows}
 
--- the counter of a moment in step with the pattern is the first
+-- the counter of a moment that is coordinated in the pattern is the first
 pub counter-first : (n version : ℕ) (m : Moment) (past : List Moment) → m.frame.mode ≡ Coord n → m.frame.version ≡ version
     → counters_since n version (m ∷ past) ≡ m.frame.counter ∷ counters_since n version past
 counter-first n version m past mode same =
@@ -28,7 +28,7 @@ passed-on c k =
     let e : c.counter + suc k + 1 ≡ c.counter + suc (suc k) = omega arith in
     ap (λ (x : ℕ). record c { counter = x; changed = true }) e
 
--- the count of so many
+-- the count of N
 pub counted-on : (c : Count) (n version : ℕ) (active pressed : PhaseSet) (last : Moment) (before : List Moment)
     → CountStands c (counters_since n version (last ∷ before)) → last.frame.mode ≡ Coord n → last.frame.version ≡ version
     → (k : ℕ) (ms : List Moment) → length ms ≡ suc k → AllGoOn active pressed ms (last ∷ before)
@@ -73,13 +73,13 @@ counted-on c n version active pressed last before stands mode same (suc k) (m �
     subst (λ (d : Count). CountStands d (counters_since n version (m ∷ i ∷ ms ++ last ∷ before))) (passed-on c k)
     (subst (λ (xs : List ℕ). CountStands (passed 1 (passed (suc k) c)) xs) (sym list) on)
 
--- in step with no pattern there are none, whatever the moments
+-- without a pattern there are none, whatever the moments
 pub none-counted : (mode : Mode) (version : ℕ) (before after : List Moment) → ((n : ℕ) → mode ≡ Coord n → ⊥)
     → counters_in mode version before ≡ counters_in mode version after
 none-counted (Coord n) version before after h = absurd (h n refl)
 none-counted _ version before after h = refl
 
--- what is kept goes on with so many
+-- what is kept continues with N
 pub counting-on : (c : Counting) (d : Count) (n ticks : ℕ) (active pressed : PhaseSet) (last : Moment) (before ms : List Moment)
     → CountingStands c (last ∷ before) → length ms ≡ ticks → 0 < ticks → last.frame.counter + ticks ≤ 4294967295
     → AllGoOn active pressed ms (last ∷ before) → c.mode ≡ Coord n

@@ -11,7 +11,7 @@ use Rattle.coord_count.specs.Passed.{passed}
 use Rattle.look_back.specs.declared.counting.Counting.{Counting}
 use Rattle.look_back.specs.Counts.{CountingStands, counters_in}
 
--- a pickup whose counter has gone on by so much is that of one counter
+-- a pickup whose counter has advanced by this much is that of one counter
 pub picked : (c d : Count) (k : ℕ) → CountStands c (0 ∷ []) → d ≡ passed k c → CountStands d (k ∷ [])
 picked c d k none e =
     let P : Count → Type 0 = λ x. CountStands x (k ∷ []) in
@@ -22,7 +22,7 @@ picked c d k none e =
       changed = refl;
     })
 
--- in step with a pattern, the counters are those of that pattern
+-- while coordinated in a pattern, the counters are those of that pattern
 pub of-pattern : (c : Counting) (past : List Moment) (n : ℕ) → CountingStands c past → (last_frame past).mode ≡ Coord n
     → CountStands c.count (counters_since n (last_frame past).version past)
 of-pattern c past n stands coord =

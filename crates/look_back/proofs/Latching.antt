@@ -1,4 +1,4 @@
--- A latched time goes on or begins anew with one more moment.
+-- A latched time continues or restarts with one more moment.
 use Rattle.std.proofs.Common.{◌≡◌, ◌≤◌, ◌<◌, ◌-◌, ◌+◌, ℕ, Bool, true, false, List, [], ◌∷◌, get_or, arith, refl, sym, ap, subst}
 use Rattle.std.proofs.lemmas.List.{get_or-replicate}
 use Rattle.sig_types.specs.declared.frame.Colour.{Colour}

@@ -11,7 +11,7 @@ use Rattle.look_back.specs.FrameRunsKeep.{FrameRunsKeep}
 use Rattle.look_back.proofs.Runs.{same-run, told-newest}
 use Rattle.look_back.proofs.SampleTold.{tells-so}
 
--- as many as `most`, of at most 4,096, are told alike
+-- as many as `most`, of at most 4,096, give the same answer
 pub look-is : (s : FrameRuns) (look : Look) (most : ℕ) (past : List Moment) → LooksAtPhase look → most ≤ 4096 → FrameRunsKeep s past
     → min (told_run (is_told look) (s.newest ∷ s.older.items)) most ≡ min (in_a_row (is_so look) past) most
 look-is s look most past is le keeps =

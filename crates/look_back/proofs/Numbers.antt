@@ -36,7 +36,7 @@ none-of i before (n ∷ past) was other =
     let e : (stage_of n.frame.mode == i) ≡ false = ne_eqb (stage_of n.frame.mode) i (λ k. eqb-false i before other (sym k ∙ sym was)) in
     rw e refl
 
--- and begin anew
+-- and restart
 pub stage-anew : (old none new : Row) → ((test : Moment → Bool) → RowStands none test []) → RowSteps none new true → StagesStep old new false
 stage-anew old none new fresh steps before past m was is stands =
     let one : new.frames ≡ 1 = steps (λ n. true) [] m (fresh (λ n. true)) refl in

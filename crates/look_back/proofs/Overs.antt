@@ -47,7 +47,7 @@ pub dont-runs : (lesser : Lesser) (p : ℕ) (now : Tables) (past : List Moment) 
 dont-runs InFull p now past = refl
 dont-runs (AtMost walk clear) p now past = refl
 
--- what follows a signal that is shown, by what was told of its time and of the frames in a row
+-- what follows a signal that is shown, by its time and the frames in a row
 pub walk-follows : (told : Bool) (lesser : Lesser) (p : ℕ) (now : Tables) (past : List Moment) (shown : Ped) (time frames : ℕ) → shown ≡ Walk
     → time ≡ signal_time (signal_latched p shown now past) p shown → frames ≡ min (signal_run p shown past) (time + 1)
     → is_walk_over lesser time frames ≡ told

@@ -56,7 +56,7 @@ signals-itself : (E : Ped → Ped → Bool) → ((a b : Ped) → E a b ≡ same_
 signals-itself E each [] = refl
 signals-itself E each (x ∷ xs) = rw (each x x, same_signal-itself x, signals-itself E each xs) refl
 
--- what a test of two lists told, where the test of each pair is that of one colour or signal
+-- the result of a test of two lists, if the test of each pair is that of one colour or signal
 pub colour-pairs : (E : Colour → Colour → Bool) (told : Bool) (xs ys : List Colour) → told ≡ pointwise E xs ys
     → ((a b : Colour) → E a b ≡ same_colour a b) → IsTrue told ↔ (xs ≡ ys)
 colour-pairs E told xs ys e each =

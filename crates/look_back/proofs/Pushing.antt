@@ -1,4 +1,4 @@
--- What is kept of a frame that is pushed tells the moment that was seen.
+-- What is kept of a frame that is pushed describes the moment that was seen.
 use Rattle.std.proofs.Common.{◌≡◌, ◌≤◌, ℕ, ◌&&◌, not, Bool, List, sym, ◌∙◌, ap}
 use Rattle.sig_types.specs.declared.frame.Colour.{Colour}
 use Rattle.sig_types.specs.declared.frame.Colour.TheVariants.{Green}

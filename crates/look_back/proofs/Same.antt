@@ -1,4 +1,4 @@
--- What is told to be the same is one.
+-- What compares as the same is one.
 use Rattle.std.proofs.Common.{◌≡◌, ◌==◌, ℕ, true, refl, ap}
 use Rattle.std.proofs.lemmas.Bool.{false≢true}
 use Rattle.sig_types.specs.declared.frame.Mode.{Mode}
@@ -17,7 +17,7 @@ set n = record { 0 = n }
 pub one-set : (a b : PhaseSet) → (a.0 == b.0) ≡ true → a ≡ b
 one-set a b h = let e : set a.0 ≡ set b.0 = ap (λ (n : ℕ). set n) (eq-true a.0 b.0 h) in e
 
--- two modes that are told to be the same are one
+-- two modes that compare as the same are one
 pub one-mode : (a b : Mode) → same_mode a b ≡ true → a ≡ b
 one-mode Start Start h = refl
 one-mode Free Free h = refl

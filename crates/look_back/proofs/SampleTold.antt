@@ -19,7 +19,7 @@ pub every-same : (f g : ℕ → Bool) (xs : List ℕ) → ((q : ℕ) → f q ≡
 every-same f g [] e = refl
 every-same f g (x ∷ xs) e = rw (e x, every-same f g xs e) refl
 
--- an octet is due where the moment shows it Green: 0 is read as phase 1, and past the last phase all is read as Green
+-- an octet counts if the moment shows it Green: 0 is read as phase 1, and past the last phase all is read as Green
 due-green : (g : Sample) (m : Moment) → Tells g m → (q : ℕ) → is_due g.shown.green q ≡ is_green m.frame q
 due-green g m tells q = elim (cases_Bool (nat_lt 16 q)) [
   | inl e ↦ let past : length m.frame.veh ≤ q - 1 = omega (arith, tells.wide, ltb-true 16 q e) in rw (e, get_or_past m.frame.veh (q - 1) Green past) refl

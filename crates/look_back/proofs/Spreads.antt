@@ -6,7 +6,7 @@ use Rattle.look_back.specs.declared.frame_runs.FrameRun.{FrameRun}
 use Rattle.look_back.specs.Look.{Tells}
 use Rattle.look_back.specs.Spread.{spread, EachLasts, TellLast}
 
--- what tells the last moments tells fewer of them
+-- what describes the last moments describes fewer of them
 pub fewer : (k n : ℕ) (kept : List Sample) (past : List Moment) → k ≤ n → TellLast n kept past → TellLast k kept past
 fewer zero n kept past le h = tt
 fewer (suc k) zero kept past le h = absurd (omega arith)
@@ -24,7 +24,7 @@ alike (suc k) (suc a) zero g xs ys past la lb h = absurd (omega arith)
 alike (suc k) (suc a) (suc b) g xs ys [] la lb h = h
 alike (suc k) (suc a) (suc b) g xs ys (m ∷ past) la lb h = (h.0, alike k a b g xs ys past (omega arith) (omega arith) h.1)
 
--- behind a run, what tells as much may stand for what was there
+-- after a run, what means the same may replace what was there
 behind : (t k n : ℕ) (g : Sample) (xs ys : List Sample) (past : List Moment) → k ≤ t + n
     → ((j : ℕ) (before : List Moment) → j ≤ n → TellLast j xs before → TellLast j ys before)
     → TellLast k (replicate t g ++ xs) past → TellLast k (replicate t g ++ ys) past
@@ -33,7 +33,7 @@ behind (suc t) zero n g xs ys past le f h = tt
 behind (suc t) (suc k) n g xs ys [] le f h = h
 behind (suc t) (suc k) n g xs ys (m ∷ past) le f h = (h.0, behind t k n g xs ys past (omega arith) f h.1)
 
--- so many runs tell as many moments
+-- N runs give N moments
 pub cut : (n k : ℕ) (ss : List FrameRun) (past : List Moment) → k ≤ n → EachLasts ss
     → TellLast k (spread ss) past → TellLast k (spread (take n ss)) past
 cut zero zero ss past le lasts h = tt
@@ -55,7 +55,7 @@ pub add-other : (n : ℕ) (g : Sample) (kept : List Sample) (m : Moment) (past :
 add-other zero g kept m past tells h = tt
 add-other (suc n) g kept m past tells h = (tells, fewer n (suc n) kept past (omega arith) h)
 
--- one moment more of a run that is as long as can be told
+-- one moment more of a run that is as long as can be counted
 pub add-full : (n t : ℕ) (g : Sample) (kept : List Sample) (m : Moment) (past : List Moment) → n ≤ t → Tells g m
     → TellLast n (replicate t g ++ kept) past → TellLast n (replicate t g ++ kept) (m ∷ past)
 add-full zero t g kept m past le tells h = tt

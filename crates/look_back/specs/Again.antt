@@ -21,9 +21,9 @@ pub record ShowsAgain (f g : Frame) : Type 0 where
   pub mode : f.mode ≡ g.mode
   pub version : f.version ≡ g.version
 
--- the moment goes on with these: it shows what the last frame shows, in step with a pattern with a counter that is one more; of the
--- phases that were Green before it those were not active that are not of the first set, and to those an incompatible phase had
--- demand that are of the second; no preempt input was on
+-- the moment continues these: it shows what the last frame shows, coordinated in a pattern, with a counter that is one
+-- more; of the phases that were Green before it those were not active that are not of the first set, and to those a
+-- conflicting phase had demand that are of the second; no preempt input was on
 pub record FrameGoesOn (active pressed : PhaseSet) (m : Moment) (past : List Moment) : Type 0 where
   pub shows : ShowsAgain m.frame (last_frame past)
   pub counter : (n : ℕ) → m.frame.mode ≡ Coord n → m.frame.counter ≡ (last_frame past).counter + 1
@@ -31,7 +31,7 @@ pub record FrameGoesOn (active pressed : PhaseSet) (m : Moment) (past : List Mom
   pub opposed : (p : ℕ) → is_phase p ≡ true → is_in m.opposed p ≡ (is_green (last_frame past) p && has pressed p)
   pub preempts : (i : ℕ) → 0 < i → i ≤ 8 → is_in m.preempts i ≡ false
 
--- each of so many moments more goes on with those before it
+-- each of N moments more continues those before it
 abbrev pub AllGoOn : PhaseSet → PhaseSet → List Moment → List Moment → Type 0
 AllGoOn active pressed [] past = Unit {0}
 AllGoOn active pressed (m ∷ ms) past = FrameGoesOn active pressed m (ms ++ past) × AllGoOn active pressed ms past
@@ -46,10 +46,10 @@ abbrev pub AllPass : (Moment → Bool) → List Moment → Type 0
 AllPass test [] = Unit {0}
 AllPass test (m ∷ ms) = (test m ≡ true) × AllPass test ms
 
--- so many more of so many frames; 4,096 stand for so many or more
+-- N more than this number of frames; 4,096 means that many or more
 abbrev pub more_by : ℕ → ℕ → ℕ
 more_by ticks more = if nat_lt ticks 4096 then min (ticks + more) 4096 else ticks
 
--- the runs with so many frames more in the newest one
+-- the runs with N frames more in the newest one
 abbrev pub lengthened : ℕ → FrameRuns → FrameRuns
 lengthened n s = record s { newest = frame_run s.newest.sample (more_by s.newest.ticks n) }

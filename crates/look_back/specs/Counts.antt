@@ -8,7 +8,8 @@ use Rattle.sig_tables.specs.Counters.{counters_since}
 use Rattle.coord_count.specs.CountStands.{CountStands}
 use Rattle.look_back.specs.declared.counting.Counting.{Counting}
 
--- the counters of the last frames in a row in step with the pattern of this mode, with this version; none where it is in step with none
+-- the counters of the last frames in a row that are coordinated in the pattern of this mode, with this version; none if
+-- the mode isn't a coordinated one
 abbrev pub counters_in : Mode → ℕ → List Moment → List ℕ
 counters_in (Coord n) version past = counters_since n version past
 counters_in _ version past = []

@@ -10,12 +10,12 @@ abbrev pub lesser_of : Option Cut → Lesser
 lesser_of None = InFull
 lesser_of (Some cut) = AtMost cut.walk cut.clear
 
--- a walk of this time is over after so many frames; one that is cut short lasts a tick at least
+-- a walk of this time is over after N frames; one that is cut short lasts a tick at least
 abbrev pub is_walk_over : Lesser → ℕ → ℕ → Bool
 is_walk_over InFull time frames = frames == time
 is_walk_over (AtMost walk clear) time frames = nat_le (max 1 (min time walk)) frames
 
--- a pedestrian clearance of this time is over after so many frames
+-- a pedestrian clearance of this time is over after N frames
 abbrev pub is_clearance_over : Lesser → ℕ → ℕ → Bool
 is_clearance_over InFull time frames = frames == time
 is_clearance_over (AtMost walk clear) time frames = nat_le (min time clear) frames

@@ -9,8 +9,8 @@ use Rattle.look_back.specs.Spread.{spread, EachLasts, TellLast}
 abbrev pub newest_of : FrameRuns → Sample
 newest_of s = s.newest.sample
 
--- what is kept tells the last 4,096 of the moments; there is room for as many runs, each with a frame but where none was
--- added
+-- what is kept describes the last 4,096 of the moments; there is room for as many runs, each with a frame except where
+-- none was added
 pub record FrameRunsKeep (s : FrameRuns) (past : List Moment) : Type 0 where
   pub tells : TellLast 4096 (spread (s.newest ∷ s.older.items)) past
   pub newest : (1 ≤ s.newest.ticks) ⊎ (s.older.items ≡ [])

@@ -5,11 +5,11 @@ use Rattle.sig_tables.specs.Looking.{in_a_row, last_frame}
 use Rattle.sig_tables.specs.Modes.{stage_of}
 use Rattle.look_back.specs.declared.row.Row.{Row}
 
--- the greatest number that is kept, which stands for so many or more
+-- the greatest number that is kept, which means that many or more
 abbrev pub most : ℕ
 most = 4294967295
 
--- what is read where there is no row
+-- what is read if a row is missing
 abbrev pub no_row : Row
 no_row = record { frames = 0 }
 

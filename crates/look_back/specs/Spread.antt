@@ -5,7 +5,7 @@ use Rattle.look_back.specs.declared.sample.Sample.{Sample}
 use Rattle.look_back.specs.declared.frame_runs.FrameRun.{FrameRun}
 use Rattle.look_back.specs.Look.{Tells}
 
--- the run of one frame of which this is kept, and that of so many
+-- the run of one frame of which this is kept, and that of N frames
 abbrev pub frame_run : Sample → ℕ → FrameRun
 frame_run g ticks = record { sample = g; ticks = ticks }
 
@@ -24,7 +24,7 @@ abbrev pub told_run : (Sample → Bool) → List FrameRun → ℕ
 told_run test [] = 0
 told_run test (s ∷ older) = if test s.sample then s.ticks + told_run test older else 0
 
--- one more of so many frames; 4,096 stand for so many or more
+-- one more than this number of frames; 4,096 means that many or more
 abbrev pub more_of : ℕ → ℕ
 more_of ticks = if nat_lt ticks 4096 then ticks + 1 else ticks
 

@@ -1,4 +1,4 @@
--- The window stands for all that was seen of a cabinet since it was opened.
+-- The window represents all that was seen of a cabinet since it was opened.
 use Rattle.std.specs.Prelude.{ℕ, ◌≡◌, ◌&&◌, not, true, List}
 use Rattle.sig_types.specs.Phases.{is_phase, is_in}
 use Rattle.sig_types.specs.PhaseSet.{has}

@@ -1,5 +1,5 @@
-//! The counters that go on from the last frame: those of the frames in a row in step with its
-//! pattern, under its version of the tables.
+//! The counters that continue from the last frame: those of the frames in a row that are coordinated in its pattern,
+//! under its version of the tables.
 
 ghost use Rattle.std.specs.Prelude.{◌≡◌, ◌<◌, ◌≤◌, ◌+◌, ◌∷◌, ◌++◌, [], length, ℕ, List};
 ghost use Rattle.sig_types.specs.declared.frame.Mode.TheVariants.{Coord};
@@ -39,7 +39,7 @@ fn with(count: Count, counter: u32) -> Count
     more
 }
 
-/// What is kept with so many counters more, each one more than the last, as far as there are numbers.
+/// What is kept with N counters more, each one more than the last, as far as there are numbers.
 fn gone_on(count: Count, ticks: u32) -> Count
     ensures { counter_of count + ticks ≤ 4294967295 → result ≡ passed ticks count }
 {
@@ -77,7 +77,7 @@ impl Counting {
         }
     }
 
-    /// So many more frames, one at least, that go on with the last one, as far as there are numbers for their counters.
+    /// N more frames, one at least, that continue the last one, as far as there are numbers for their counters.
     pub fn step_again(self, ticks: u32) -> Counting
         requires { 0 < ticks }
         ensures { (active pressed : PhaseSet) (last : Moment) (before ms : List Moment) → CountingStands self (last ∷ before)
@@ -113,8 +113,8 @@ impl Counting {
         }
     }
 
-    /// What is kept of the counters of the last frames in a row in step with the pattern of the last one, under its version; of
-    /// these the counter of the next frame is `Count::next`.
+    /// What is kept of the counters of the last frames in a row that are coordinated in the pattern of the last one,
+    /// under its version; of these the counter of the next frame is `Count::next`.
     pub fn count(self) -> Count
         ensures { (past : List Moment) (n : ℕ) → CountingStands self past → (last_frame past).mode ≡ Coord n
             → CountStands result (counters_since n (last_frame past).version past) }

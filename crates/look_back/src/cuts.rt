@@ -12,7 +12,7 @@ pub struct Cut {
     pub clear: u32,
 }
 
-/// Whether a walk of so many ticks is over after so many frames; one that is cut short has been reached or passed.
+/// Whether a walk of `time` ticks is over after `frames` frames; one that is cut short has been reached or passed.
 pub fn is_walk_over(cut: Option<Cut>, time: u32, frames: u32) -> bool
     ensures { result ≡ is_walk_over (lesser_of cut) time frames }
 {
@@ -22,7 +22,7 @@ pub fn is_walk_over(cut: Option<Cut>, time: u32, frames: u32) -> bool
     }
 }
 
-/// Whether a pedestrian clearance of so many ticks is over after so many frames.
+/// Whether a pedestrian clearance of `time` ticks is over after `frames` frames.
 pub fn is_clearance_over(cut: Option<Cut>, time: u32, frames: u32) -> bool
     ensures { result ≡ is_clearance_over (lesser_of cut) time frames }
 {
@@ -32,7 +32,7 @@ pub fn is_clearance_over(cut: Option<Cut>, time: u32, frames: u32) -> bool
     }
 }
 
-/// What follows walk where pedestrian clearance has so many ticks.
+/// What follows walk if the pedestrian clearance has `time` ticks.
 pub fn after_walk(cut: Option<Cut>, time: u32) -> Ped
     ensures { result ≡ after_walk (lesser_of cut) time }
 {

@@ -78,9 +78,10 @@ impl FrameHistory {
         self.counting = self.counting.step(&seen.frame);
     }
 
-    /// So many more frames that go on with the last one, of which there is one: each shows what it shows, in step with a pattern
-    /// with a counter that is one more, as far as there are numbers for it. At their ticks these phases were active, and to these an
-    /// incompatible phase had demand; no preempt input was on. It takes no memory, and as long for any number.
+    /// N more frames that continue the last one, if there is one: each shows what it shows, coordinated in a pattern,
+    /// with a counter that is one more, as far as there are numbers for it. At their ticks these phases were active,
+    /// and to these a conflicting phase had demand; no preempt input was on. It takes no memory, and the same time for
+    /// any number.
     pub fn push_again(&mut self, active: PhaseSet, opposed: PhaseSet, ticks: u32)
         ensures { (last : Moment) (before ms : List Moment) → LooksOver self.old (last ∷ before) → length ms ≡ ticks
             → last.frame.counter + ticks ≤ 4294967295 → AllGoOn active opposed ms (last ∷ before)
@@ -198,8 +199,8 @@ impl FrameHistory {
         }
     }
 
-    /// Whether a phase, 1 to 16, which shows this colour and this signal in the last frame, has been green for the least green
-    /// that was in force when it began, and no walk or pedestrian clearance of it runs on.
+    /// Whether a phase, 1 to 16, which shows this colour and this signal in the last frame, has been green for the
+    /// minimum green that was in force when it began, and no walk or pedestrian clearance of it continues.
     pub fn is_served(&self, t: &Tables, phase: u8, shown: Colour, signal: Ped) -> bool
         requires above { 0 < phase }
         requires below { phase ≤ 16 }

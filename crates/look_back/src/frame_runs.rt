@@ -14,7 +14,7 @@ use circular_buffer::HeapCircularBuffer;
 use sig_types::NoMemory;
 use std::alloc::Global;
 
-/// So many frames in a row of which the same is kept; 4,096 stand for so many or more.
+/// The number of frames in a row of which the same is kept; 4,096 means that many or more.
 #[derive(Clone, Copy)]
 pub struct FrameRun {
     pub sample: Sample,
@@ -28,14 +28,14 @@ pub struct FrameRuns {
     older: HeapCircularBuffer<FrameRun>,
 }
 
-/// One more of so many frames.
+/// One frame more than this number.
 fn one_more(ticks: u16) -> u16
     ensures { result ≡ more_of ticks }
 {
     if ticks < 4096 { ticks + 1 } else { ticks }
 }
 
-/// So many more of so many frames.
+/// N frames more than this number.
 fn more_by(ticks: u16, more: u32) -> u16
     ensures { result ≡ more_by ticks more }
 {
@@ -98,7 +98,7 @@ impl FrameRuns {
         }
     }
 
-    /// So many more frames, one at least, of each of which this is kept. It takes no memory.
+    /// N more frames, one at least, of each of which this is kept. It takes no memory.
     pub fn add_again(&mut self, sample: Sample, ticks: u32)
         requires { 0 < ticks }
         ensures keeps { (past ms : List Moment) → FrameRunsKeep self.old past → length ms ≡ ticks → AllTell sample ms
@@ -109,7 +109,7 @@ impl FrameRuns {
         self.lengthen(ticks - 1);
     }
 
-    /// So many more frames of the newest run.
+    /// N more frames of the newest run.
     fn lengthen(&mut self, ticks: u32)
         ensures { self.new ≡ lengthened ticks self.old }
     {
@@ -129,7 +129,7 @@ impl FrameRuns {
         }
     }
 
-    /// So many frames, and those of the older runs in a row in which it was so, at most `most`.
+    /// This number of frames and those of the older runs in a row in which it was so, at most `most`.
     fn continued(&self, look: Look, start: u32, most: u32) -> u32
         requires phase { LooksAtPhase look }
         requires within { most ≤ 4096 }

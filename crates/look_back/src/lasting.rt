@@ -23,7 +23,7 @@ impl Window {
     ghost use Rattle.look_back.specs.Look.{LooksAtPhase, is_so};
     ghost use Rattle.look_back.specs.WindowStands.{WindowStands};
 
-    /// Whether it was so in each of so many last frames.
+    /// Whether it was so in each of the last N frames.
     pub fn lasts(&self, look: Look, frames: u32) -> bool
         requires phase { LooksAtPhase look }
         requires within { frames ≤ 4096 }
@@ -32,7 +32,7 @@ impl Window {
         self.look(look, frames) >= frames
     }
 
-    /// Whether it is so at this tick, and was so in each of the frames before it, so many in all.
+    /// Whether it is so at this tick, and was so in each of the frames before it, N in all.
     pub fn lasts_now(&self, look: Look, frames: u32, now: bool) -> bool
         requires phase { LooksAtPhase look }
         requires within { frames ≤ 4096 }
@@ -69,7 +69,7 @@ impl Window {
         self.lasts(Look::Shows { phase, colour }, red_revert_time(t, phase))
     }
 
-    /// Whether the track clearance of a preempt has lasted its time, of so many seconds.
+    /// Whether the track clearance of a preempt has lasted its time, N seconds.
     pub fn is_track_over(&self, number: u8, track_green: u8) -> bool
         ensures { (t : Tables) (past : List Moment) → WindowStands self.now past → track_green ≡ (preempt_of t number).track_green
             → result ≡ is_track_over t number past }
@@ -78,7 +78,7 @@ impl Window {
         self.lasts(Look::IsIn { mode }, stage_time(track_green))
     }
 
-    /// Whether a preempt has dwelt in its phases for their time, of so many seconds.
+    /// Whether a preempt has dwelt in its phases for their time, N seconds.
     pub fn has_dwelt(&self, number: u8, dwell_green: u8, goal: &PhaseList) -> bool
         ensures { (t : Tables) (past : List Moment) → WindowStands self.now past → dwell_green ≡ (preempt_of t number).dwell_green
             → listed goal.now ≡ dwell_set t number → result ≡ has_dwelt t number past }

@@ -12,8 +12,8 @@ use crate::shown::{same_colours, same_signals};
 use sig_tables::Tables;
 use sig_types::{Colour, Frame, Ped};
 
-/// The times of sixteen phases, as the tables have them: seconds of green, walk and pedestrian clearance, tenths of a second of
-/// yellow change and red clearance, 0 of what has no time. Phase p stands at place p - 1.
+/// The times of sixteen phases, as the tables have them: seconds of green, walk and pedestrian clearance, tenths of a
+/// second of yellow change and red clearance, 0 of what has no time. Phase p is at place p - 1.
 #[derive(Drop)]
 pub struct Latched {
     veh: [Colour; 16],

@@ -21,7 +21,7 @@ use crate::row::Row;
 use crate::sample::stage_of;
 use sig_types::{Frame, Mode, PhaseSet};
 
-/// What is kept as numbers. Preempt i stands at place i - 1.
+/// What is kept as numbers. Preempt i is at place i - 1.
 #[derive(Drop)]
 pub struct LongCounts {
     /// The preempt that the last frame serves, or 0, and for how many frames in a row it was that one.
@@ -126,7 +126,7 @@ impl LongCounts {
         ];
     }
 
-    /// So many more frames, one at least, that go on with the last one.
+    /// N more frames, one at least, that continue the last one.
     pub fn step_again(&mut self, ticks: u32)
         requires { 0 < ticks }
         ensures { (active pressed : PhaseSet) (past ms : List Moment) → LongCountsStands self.old past → length ms ≡ ticks
@@ -136,7 +136,7 @@ impl LongCounts {
         self.inputs = [Row::new(); 8];
     }
 
-    /// Whether a preempt has been served for its least time, of so many seconds.
+    /// Whether a preempt has been served for its minimum time, N seconds.
     pub fn has_lasted(&self, number: u8, seconds: u16) -> bool
         ensures { (t : Tables) (past : List Moment) → LongCountsStands self.now past → seconds ≡ (preempt_of t number).minimum_duration
             → result ≡ has_lasted t number past }
@@ -149,7 +149,8 @@ impl LongCounts {
         }
     }
 
-    /// Whether the input of a preempt, 1 to 8, that is on at this tick or not has been on for so many ticks, this one included.
+    /// Whether the input of a preempt, 1 to 8, that is on at this tick or not has been on for N ticks, this one
+    /// included.
     pub fn has_been_on(&self, ticks: u32, number: u8, on: bool) -> bool
         requires above { 0 < number }
         requires below { number ≤ 8 }

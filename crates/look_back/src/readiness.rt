@@ -27,7 +27,7 @@ fn cut_in(t: &Tables, mode: Mode) -> Option<Cut>
     }
 }
 
-/// What a mode leaves of a least green of so many ticks.
+/// What a mode leaves of a minimum green of N ticks.
 fn least_left(t: &Tables, mode: Mode, time: u32) -> u32
     requires { time ≤ 2550 }
     ensures least { result ≡ lesser_green t.now (stage_of mode) time }
@@ -54,8 +54,8 @@ impl FrameHistory {
         self.signal_runs_on(t, phase, signal, cut_in(t, mode)) == Ped::Dont
     }
 
-    /// The least green that the mode leaves a phase, 1 to 16, which is green in the last frame, of that which was in force when it
-    /// began.
+    /// The minimum green that the mode leaves a phase, 1 to 16, which is green in the last frame, of that which was in
+    /// force when it began.
     fn least_in(&self, t: &Tables, mode: Mode, phase: u8) -> u32
         requires above { 0 < phase }
         requires below { phase ≤ 16 }

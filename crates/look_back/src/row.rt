@@ -5,7 +5,7 @@ ghost use Rattle.std.specs.Prelude.{◌≡◌, ◌++◌, [], length, List, Bool}
 ghost use Rattle.sig_tables.specs.Past.{Moment};
 ghost use Rattle.sig_tables.specs.Looking.{lasts, lasts_now};
 
-/// For how many last frames in a row something was so; the greatest number stands for so many or more.
+/// For how many last frames in a row something was so; the greatest number means that many or more.
 #[derive(Clone, Copy)]
 pub struct Row {
     frames: u32,
@@ -35,7 +35,7 @@ impl Row {
         }
     }
 
-    /// So many frames more, in each of which it was so.
+    /// N frames more, in each of which it was so.
     pub fn more(self, ticks: u32) -> Row
         ensures { (test : Moment → Bool) (past ms : List Moment) → RowStands self test past → length ms ≡ ticks → AllPass test ms
             → RowStands result test (ms ++ past) }
@@ -45,14 +45,14 @@ impl Row {
         }
     }
 
-    /// Whether it was so in each of so many last frames.
+    /// Whether it was so in each of the last N frames.
     pub fn lasts(self, frames: u32) -> bool
         ensures { (test : Moment → Bool) (past : List Moment) → RowStands self test past → result ≡ lasts frames test past }
     {
         self.frames >= frames
     }
 
-    /// Whether it is so at this tick, and was so in each of the frames before it, so many in all.
+    /// Whether it is so at this tick, and was so in each of the frames before it, N in all.
     pub fn lasts_now(self, frames: u32, now: bool) -> bool
         ensures { (test : Moment → Bool) (past : List Moment) → RowStands self test past → result ≡ lasts_now frames now test past }
     {

@@ -66,7 +66,8 @@ impl FrameHistory {
             .is_track_over(number, row_of(t, number).track_green)
     }
 
-    /// Whether the dwell of a preempt is over: its phases have had their time, its least time has passed, and it is not called.
+    /// Whether the dwell of a preempt is over: its phases have had their time, its minimum time has passed, and it is
+    /// not called.
     fn is_dwell_over(&self, t: &Tables, number: u8, on: PhaseSet) -> bool
         ensures { (past : List Moment) (inputs : List ℕ) → LooksOver self.now past
             → ((i : ℕ) → 0 < i → i ≤ 8 → has on i ≡ is_in inputs i) → ((i : ℕ) → (i ≡ 0) ⊎ (8 < i) → is_in inputs i ≡ false)

@@ -46,7 +46,7 @@ pub fn pedestrian_clear_time(t: &Tables, phase: u8) -> u32
     u32::from(t.phase(phase).pedestrian_clear) * 10
 }
 
-/// So many seconds of a preempt in ticks, one at least.
+/// N seconds of a preempt in ticks, one at least.
 pub fn stage_time(seconds: u8) -> u32
     ensures time { result ≡ max 1 (10 * seconds) }
     ensures within { result ≤ 2550 }

@@ -85,8 +85,8 @@ impl Window {
         self.ped = seen.frame.ped;
     }
 
-    /// So many more frames, one at least, that go on with the last one, and at whose ticks these phases were active, and to these an
-    /// incompatible phase had demand. It takes no memory.
+    /// N more frames, one at least, that continue the last one, and at whose ticks these phases were active, and to
+    /// these a conflicting phase had demand. It takes no memory.
     pub fn push_again(&mut self, active: PhaseSet, opposed: PhaseSet, ticks: u32)
         requires { 0 < ticks }
         ensures stands { (last : Moment) (before ms : List Moment) → WindowStands self.old (last ∷ before) → length ms ≡ ticks
@@ -134,7 +134,7 @@ impl Window {
         self.look(Look::Signals { phase, signal }, most)
     }
 
-    /// What a frame shows; where it is what the last one showed, nothing is read anew.
+    /// What a frame shows; if it is what the last one showed, nothing is read again.
     fn read(&self, frame: &Frame) -> Shown
         ensures { (past : List Moment) → WindowStands self.now past → IsShown result frame.now.veh frame.now.ped }
     {

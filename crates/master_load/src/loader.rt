@@ -1,4 +1,4 @@
-//! What the master keeps of a cabinet's downloads: the last frame, what became of it, and where the next load stands.
+//! What the master keeps of a cabinet's downloads: the last frame, its result, and the place of the next load.
 
 ghost use Rattle.std.specs.Prelude.{◌≡◌, ◌≤◌, ◌∷◌, ℕ, List, [], drop, map, length, max};
 ghost use Rattle.std.specs.Option.{ForSome, option_map};
@@ -16,7 +16,7 @@ use sig_tables::{Cell, CellValue};
 use sig_types::{MasterNote, Octets};
 use snmp_msg::Message;
 
-/// What became of a frame: no answer yet, a good one, or any other.
+/// The result of a frame: no answer yet, a good one, or any other.
 #[derive(Clone, Copy, PartialEq, Eq)]
 pub enum Outcome {
     Open,
@@ -24,8 +24,8 @@ pub enum Outcome {
     Refused,
 }
 
-/// The downloads of one cabinet: the last frame and what became of it, the place of its load among all loads of the scenario, and
-/// the place from which the next load of the cabinet is looked for.
+/// The downloads of one cabinet: the last frame and its result, the place of its load among all loads of the scenario,
+/// and the place from which the next load of the cabinet is looked for.
 #[derive(Clone, Copy)]
 pub struct Loader {
     sent: Option<LoadFrame>,

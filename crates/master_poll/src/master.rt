@@ -128,9 +128,9 @@ impl Master {
         Ok(Made { channels, round })
     }
 
-    /// The master after the next round, and what it then sends and notes, where this has arrived from each cabinet, in the
-    /// cabinets' order; rounds come one after another from 1. The master itself stays as it is: put the new one in its place, or let
-    /// the round come again.
+    /// The master after the next round, and what it then sends and notes, where this has arrived from each cabinet, in
+    /// the cabinets' order; rounds come one after another from 1. The master itself stays as it is: put the new one in
+    /// its place, or repeat the round.
     pub fn next(
         &self,
         alloc: Global,
@@ -162,8 +162,8 @@ impl Master {
         })
     }
 
-    /// Takes the next round, where this has arrived from each cabinet, in the cabinets' order; rounds come one after another
-    /// from 1. Where memory is wanting the master is as before, and the same round may come again.
+    /// Takes the next round, where this has arrived from each cabinet, in the cabinets' order; rounds come one after
+    /// another from 1. If memory runs out the master is as before, and the same round may be repeated.
     pub fn step(
         &mut self,
         alloc: Global,

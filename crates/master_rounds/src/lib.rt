@@ -15,8 +15,8 @@ ghost use Rattle.master_rounds.specs.Bounds.{CarriesFew, RoundIsShort};
 pub use master_rounds::{Begun, MasterRounds};
 pub use rounds::rounds_close;
 
-/// A law: what a line carries in a round is bounded by what is sent in it and by the faults, however many rounds were before; so the
-/// streams of a round can be taken by a cabinet, whatever it has answered.
+/// A law: what the link carries in a round is bounded by what is sent in it and by the faults, however many rounds were
+/// before; so a cabinet can take the streams of a round, whatever it has answered.
 pub fn rounds_are_short()
     ensures carried { (faults : List Fault) (line : Line) (texts : List (List ℕ)) (before : List (List (List ℕ))) → CarriesFew faults line texts before }
     ensures streams { (s : ScenarioContent) (cab : ℕ) (c : CabinetContent) (answered : List (List Reply)) → RoundIsShort s cab c answered }

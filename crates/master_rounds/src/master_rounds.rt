@@ -69,9 +69,9 @@ impl MasterRounds {
         })
     }
 
-    /// Begins the next round: the master has its turn at each cabinet, and what it sends goes over the link. Rounds come one after
-    /// another from 1, at most 86,400. Where memory is wanting master and line stand for the same rounds as before, and the round may
-    /// begin again.
+    /// Begins the next round: the master has its turn at each cabinet, and what it sends goes over the link. Rounds
+    /// come one after another from 1, at most 86,400. If memory runs out master and link represent the same rounds as
+    /// before, and the round may begin again.
     pub fn begin(&mut self, alloc: Global, round: u32, s: &Scenario) -> Result<Begun, NoMemory>
         requires order { round ≡ rounds_begun self.old + 1 }
         requires few { round ≤ 86400 }

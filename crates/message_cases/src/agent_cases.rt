@@ -1,5 +1,5 @@
-//! What a cabinet answers by what it shows, by its download stage and on a walk, by hand from the table of the objects
-//! and the rules of a reply (RFC 1157). Requests with their answers in octets stand in `vectors/live`.
+//! What a cabinet answers by what it shows, by its download stage and on a walk, hand-computed from the table of the
+//! objects and the rules of a reply (RFC 1157). Requests with their answers in octets are in `vectors/live`.
 
 ghost use Rattle.std.specs.Prelude.{IfSome};
 ghost use Rattle.snmp_msg.specs.Shortest.{IsWritableMessage};

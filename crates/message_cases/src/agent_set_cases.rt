@@ -1,5 +1,5 @@
-//! What Sets wish: orders and the calls of the download stage, by hand from the rules of a reply. Sets with a fault
-//! stand in `vectors/live`.
+//! What Sets ask for: commands and the calls of the download stage, hand-computed from the rules of a reply. Sets with
+//! a fault are in `vectors/live`.
 
 use agent::{Order, Wish, decode};
 use arrayvec::ArrayVec;

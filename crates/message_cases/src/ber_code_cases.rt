@@ -1,4 +1,4 @@
-//! Where a name is read and nothing is changed. Integers, lengths and names in messages stand beside the program
+//! Where a name is read and nothing is changed. Integers, lengths and names in messages are next to the program
 //! `message_lines`.
 
 use ber_code::*;

@@ -1,7 +1,7 @@
-//! Worked cases of messages, of what a cabinet answers to them, of the lines of a trace, of the master and its line, of
-//! the reading of a scenario and of the lines of a session, each with its expected values from outside. They stand in a
+//! Worked cases of messages, of what a cabinet answers to them, of the lines of a trace, of the master and its link, of
+//! the reading of a scenario and of the lines of a session, each with its expected values from outside. They are in a
 //! crate of their own, above the parts, so that a part is proved once and not again for its tests. Cases that the
-//! program or `message_lines` shows stand in `vectors/` and `corpora/snmp`, where they need no proof.
+//! program or `message_lines` shows are in `vectors/` and `corpora/snmp`, where they need no proof.
 #![tactic(auto)]
 
 #[cfg(test)]

@@ -1,5 +1,5 @@
-//! Scenarios that are read in parts, however they are spaced and ordered. What is read of them stands in
-//! `vectors/accepted.jsonl`, and at which texts that gives up in `vectors/refusals.jsonl`.
+//! Scenarios that are read in parts, with any spacing and order. What is read of them is in `vectors/accepted.jsonl`,
+//! and the texts at which that gives up are in `vectors/refusals.jsonl`.
 
 use scenario_file::scenario_of;
 use std::test::Fail;

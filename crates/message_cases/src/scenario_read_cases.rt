@@ -1,4 +1,4 @@
-//! What a scenario holds. Which text is refused, and at which first fault, stands in `vectors/refusals.jsonl`.
+//! What a scenario holds. Which text is refused, and for which first fault, is in `vectors/refusals.jsonl`.
 
 use scenario_data::{Base, Direction, Entry, Fault, FaultKind, PriorityAct, opening_tables};
 use scenario_read::{read, text};

@@ -1,4 +1,4 @@
-//! A message too long for a frame. Which octets are a message, and how it is written, stands beside the program
+//! A message too long for a frame. Which octets are a message, and how it is written, is shown next to the program
 //! `message_lines`.
 
 ghost use Rattle.ber_code.specs.Names.{IsWritable};

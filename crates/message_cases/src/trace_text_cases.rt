@@ -1,4 +1,4 @@
-//! Lines that no trace of the vectors has, and texts of no line or two. Texts that are nearly lines stand in
+//! Lines that no trace of the vectors has, and texts of no line or two. Texts that are nearly lines are in
 //! `vectors/worked_checks.jsonl`.
 
 use std::test::Fail;

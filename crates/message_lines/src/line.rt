@@ -16,9 +16,9 @@ use snmp_msg::{Message, Pdu, read, write};
 use std::alloc::{AllocError, Global};
 use trace_text::{hexadecimal, number};
 
-/// The line of the message whose octets the hexadecimal digits, of either case, write: its shortest
-/// text and its fields, without a newline. `none` where the octets are no message (RFC 1157, 4), and
-/// where these aren't digits alone and an even number of them. `NoMemory` where memory was refused.
+/// The line of the message whose octets the hexadecimal digits, of either case, write: its shortest text and its
+/// fields, without a newline. `none` if the octets aren't a message (RFC 1157, 4), or if these aren't only digits and
+/// an even number of them. `NoMemory` if memory was refused.
 pub fn line_of(alloc: Global, digits: &[u8]) -> Result<Vec<u8>, NoMemory>
     // Digits that write a message give its line.
     ensures message { IfOk result (λ line. (m : Message) → Write digits.now m → line.items ≡ message_line m) }

@@ -1,4 +1,4 @@
--- The counter of a frame in step with a pattern is within the cycle.
+-- The counter of a frame that is coordinated in a pattern is within the cycle.
 use Rattle.std.proofs.Common.{◌≡◌, ◌<◌, ◌==◌, ℕ, true, inl, inr, subst, sym, ap}
 use Rattle.std.proofs.lemmas.Bool.{and_parts}
 use Rattle.sig_types.specs.declared.frame.Mode.{Mode}
@@ -18,7 +18,7 @@ use Rattle.tick_context.proofs.Counted.{some-cycle}
 use Rattle.tick_context.proofs.Sought.{reached-from}
 use Rattle.tick_context.proofs.Steps.{seek-defined}
 
--- in step with a pattern the counter of the frame which a tick gives is within the cycle
+-- while coordinated in a pattern, the counter of the frame that a tick gives is within the cycle
 pub next-within : (k : TickState) (past : Past) (n : ℕ) → TickStateIs k past → is_in_step (next_moment past).frame past.version n ≡ true
     → (next_moment past).frame.counter < cycle_time past.tables n
 next-within k past n on step =

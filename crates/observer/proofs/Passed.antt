@@ -1,4 +1,4 @@
--- What is looked back over, after ticks that are passed over at once.
+-- What is looked back over, after ticks that are skipped at once.
 use Rattle.std.proofs.Common.{◌≡◌, ◌<◌, ◌≤◌, ◌+◌, ◌==◌, ◌&&◌, ℕ, zero, suc, Bool, true, false, List, [], ◌∷◌, ◌++◌, length, refl, sym, ◌∙◌, ap, arith, subst}
 use Rattle.std.proofs.lemmas.Bool.{false≢true, and_parts}
 use Rattle.std.proofs.lemmas.Bool.Decides.{Decides-eqb}
@@ -35,7 +35,7 @@ pub record ToldBack (on : PhaseSet) (past : Past) : Type 0 where
   pub inputs : AreOn on past
   pub within : (n : ℕ) → is_in_step (frame_seen past) past.version n ≡ true → (frame_seen past).counter < cycle_time past.tables n
 
--- the counter of the tick is within the cycle, where it is in step with a pattern
+-- the counter of the tick is within the cycle, if it is coordinated in a pattern
 within-on : (mode : Mode) (j : ℕ) (past : Past) → Lasts mode (suc j) past → Goes mode past
     → (n : ℕ) → is_in_step (next_moment past).frame past.version n ≡ true → (next_moment past).frame.counter < cycle_time past.tables n
 within-on Free j past l g n step =
@@ -75,7 +75,7 @@ told-after (suc (suc j)) mode inputs past k l =
     told-after (suc j) mode inputs (with_moment past (next_moment past)) (told-on mode (suc j) inputs past k l)
     (lasts-less mode (suc j) past l)
 
--- the moments of so many ticks that come, the newest first
+-- the moments of the next N ticks, the newest first
 abbrev pub more : ℕ → Past → List Moment
 more zero past = []
 more (suc k) past = next_moment (after k past) ∷ more k past
@@ -99,7 +99,7 @@ looks-after (suc k) j mode s past l looks =
     looks-after k j mode s (with_moment past (next_moment past)) (lasts-less mode (k + j) past more)
     (looks-on (bound mode) s past a (seen-again (bound mode) past more.fresh a) looks)
 
--- the counter of the tick is one more, where it is in step with a pattern
+-- the counter of the tick is one more, if it is coordinated in a pattern
 counter-goes : (mode : Mode) (j : ℕ) (past : Past) → Lasts mode (suc j) past → Goes mode past → (n : ℕ) → mode ≡ Coord n
     → (next_moment past).frame.counter ≡ (frame_seen past).counter + 1
 counter-goes (Coord i) j past l g n e = counter-next i j past l.fresh l.goes l.was g.now
@@ -130,7 +130,7 @@ goes-next mode j s past l looks =
       preempts = λ i above within. ap (λ (xs : List ℕ). is_in xs i) (sym (seen-is past) ∙ l.beside);
     }
 
--- so do all of so many, where it lasts for so many and some more
+-- so do all of N ticks, if it lasts for N and some more
 pub all-go-on : (n j : ℕ) (mode : Mode) (s : TickInputs) (past : Past) → Lasts mode (n + j) past → Looks (bound mode) s past
     → AllGoOn s.active s.opposed (more n past) past.moments
 all-go-on zero j mode s past l looks = tt

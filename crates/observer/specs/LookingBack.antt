@@ -16,14 +16,14 @@ use Rattle.observer.specs.declared.LookingBack.{LookingBack}
 abbrev pub frames : LookingBack → ℕ
 frames o = o.frames
 
--- the inputs are those of the past, and what it looks over is all that was seen, with the moment before any tick. In step
--- with a pattern the counter of the last frame is within the cycle
+-- the inputs are those of the past, and what it looks over is all that was seen, with the moment before any tick. While
+-- coordinated in a pattern the counter of the last frame is within the cycle
 pub record SeesBack (o : LookingBack) (past : Past) : Type 0 where
   pub inputs : (i : ℕ) → 0 < i → i ≤ 8 → has o.inputs i ≡ is_in (preempts_seen past) i
   pub frame_history : LooksOver o.frame_history past.moments
   pub frames : length past.moments ≡ o.frames + 1
   pub within : (n : ℕ) → is_in_step (frame_seen past) past.version n ≡ true → (frame_seen past).counter < cycle_time past.tables n
 
--- any ticks can be passed over
+-- any ticks can be skipped
 abbrev pub always : LookingBack → TickContext → TickInputs → Type 0
 always o x s = Unit {0}

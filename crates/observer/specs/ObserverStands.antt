@@ -1,4 +1,4 @@
--- An observer stands for a history: the engine does, over a memory that looks back.
+-- An observer represents a history: the engine does, over a memory that looks back.
 use Rattle.std.specs.Prelude.{ℕ}
 use Rattle.sig_tables.specs.Past.{History}
 use Rattle.engine.specs.declared.Engine.{Engine}

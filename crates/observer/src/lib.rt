@@ -37,7 +37,7 @@ fn turned(inputs: PhaseSet, number: u8, on: bool) -> PhaseSet
     inputs.minus(lone).with_if(number, on)
 }
 
-/// Lesser times as a cut.
+/// Smaller times as a cut.
 fn cut_to(lesser: Option<(u32, u32)>) -> Option<Cut>
     ensures { cut_of result ≡ lesser_of lesser }
 {

@@ -1,13 +1,13 @@
-//! Laws of the counter under a clock that drifts: the target then moves by none or by two at some ticks. The functions have no
-//! bodies: each stands for the laws of its contract.
+//! Laws of the counter under a clock that drifts: the target then moves by none or by two at some ticks. The functions
+//! have no bodies: each represents the laws of its contract.
 ghost use Rattle.std.specs.Prelude.{ℕ, ◌≡◌, ◌≤◌, ◌<◌, ◌+◌, ◌*◌, List, [], ◌∷◌, true};
 ghost use Rattle.sig_tables.specs.Counting.{Correction, HasRoom, begins_cycle, last_counter, most_a_cycle, needed};
 ghost use Rattle.offset_laws.specs.Drifting.{Drift, Loses, Gains, one_step, each_third, drifted, target_drifted, Spaced, CanCorrect, StaysNear};
 ghost use Rattle.offset_laws.specs.KnownDrift.{dwelling_90, shortway_90, dwelling_1};
 
-/// A clock that drifts is held to one tick of the offset. Its steps are further apart than two of the longest cycles; one
-/// that gains is brought back by shortway alone. From a local zero, or a pickup, counter and target meet within twice the needed
-/// cycles, and are never more than one tick apart from then on.
+/// A clock that drifts is held to one tick of the offset. Its steps are further apart than two of the longest cycles;
+/// one that gains is brought back only by shortway. From a local zero, or a pickup, counter and target meet within
+/// twice the needed cycles, and are never more than one tick apart from then on.
 pub fn drift_is_held()
     ensures { (k : Correction) (gap : ℕ) (drifts : ℕ → Drift) (past : List ℕ) (t : ℕ) → HasRoom k → k.add + 1 < k.cycle
         → 2 * (k.cycle + most_a_cycle k) + 1 ≤ gap → Spaced gap drifts → CanCorrect k drifts → begins_cycle past ≡ true → t < k.cycle

@@ -5,9 +5,10 @@ ghost use Rattle.std.specs.Prelude.{◌≡◌, ◌+◌, ◌∷◌, [], true};
 ghost use Rattle.sig_tables.specs.Counting.{counted, last_counter, target_after, begins_cycle, needed, most_a_cycle};
 ghost use Rattle.offset_laws.specs.Known.{dwelling_90, shortway_90, dwelling_70, adding_1, adding_past_window, skipping_past_window};
 
-/// Each from a pickup. Ten ticks a cycle, the counter three early: the first cycle stands twice. A cycle of 900 ticks, one late, dwells: nine cycles, each of
-/// 1,000 ticks but the last. Half a cycle off with shortway: fifteen cycles both ways, and then it adds. A cycle of 700, 200 off:
-/// two cycles, and counter and target are equal 100 ticks after the first.
+/// Each from a pickup. Ten ticks a cycle, the counter three early: the first cycle waits twice. A cycle of 900 ticks,
+/// one late, dwells: nine cycles, each of 1,000 ticks but the last. Half a cycle off with shortway: fifteen cycles both
+/// ways, and then it adds. A cycle of 700, 200 off: two cycles, and counter and target are equal 100 ticks after the
+/// first.
 pub fn met_as_computed()
     ensures stands { counted adding_1 12 7 (0 ∷ []) ≡ 0 ∷ 9 ∷ 8 ∷ 7 ∷ 6 ∷ 5 ∷ 4 ∷ 3 ∷ 2 ∷ 1 ∷ 1 ∷ 0 ∷ 0 ∷ [] }
     ensures dwells { needed dwelling_90 1 ≡ 9 }

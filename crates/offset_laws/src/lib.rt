@@ -1,6 +1,6 @@
-//! Laws of offset correction, in numbers: the counter of a cycle is brought onto its target, a local zero comes whatever the
-//! targets are, and under a clock that drifts the offset is held to within one tick (FHWA Signal Timing Manual, offset
-//! transition). The functions have no bodies: each stands for the laws of its contract.
+//! Laws of offset correction, in numbers: the counter of a cycle is brought onto its target, a local zero comes
+//! whatever the targets are, and under a clock that drifts the offset is held to within one tick (FHWA Signal Timing
+//! Manual, offset transition). The functions have no bodies: each represents the laws of its contract.
 #![tactic(auto)]
 
 mod drift_held;
@@ -16,10 +16,11 @@ pub use drift_held::{
 };
 pub use known::{late_without_room, met_as_computed};
 
-/// Coordination that is left alone comes onto its offset. From a local zero, or a pickup, each cycle takes no longer than the
-/// cycle and its greatest correction, and lowers the number of cycles needed by one: so within the needed cycles counter and
-/// target are equal, and stay so for ever. Nor are they equal before the last of these cycles: each earlier one takes at least
-/// the cycle less the most that is subtracted, and by dwell and by add only the cycle and the whole limit.
+/// Undisturbed coordination comes onto its offset. From a local zero, or a pickup, each cycle takes no longer than the
+/// cycle and its greatest correction, and lowers the number of cycles needed by one: so within the needed cycles
+/// counter and target are equal, and stay so for ever. Nor are they equal before the last of these cycles: each earlier
+/// one takes at least the cycle less the most that is subtracted, and by dwell and by add only the cycle and the whole
+/// limit.
 pub fn offset_is_met()
     ensures each_cycle { (k : Correction) (past : List ℕ) (target : ℕ) → HasRoom k → begins_cycle past ≡ true → target < k.cycle
         → Corrects k past target }

@@ -8,7 +8,8 @@ ghost use Rattle.oid_map.specs.Names.{IsName, IsReadable, IsReadableInstance, Is
 
 use crate::names::Name;
 
-/// The instances that can be read stand in the strict order of their names, each is the name of one, and each one's name is among them.
+/// The instances that can be read are in the strict order of their names, each is the name of one, and each one's name
+/// is among them.
 pub fn readable_instances()
     ensures rising { IsRising readable }
     ensures named { AllByRecursion IsReadableInstance readable }
@@ -26,8 +27,8 @@ pub fn names_differ()
     ensures { (n m : Name) → IsName n → IsName m → arcs_of n ≡ arcs_of m → n ≡ m }
 {}
 
-/// The next instance can be read and comes after the name, and none that can be read stands between them. Where there
-/// is no next instance, none that can be read comes after the name.
+/// The next instance can be read and follows the name, and no readable one is between them. If there isn't a next
+/// instance, no readable one follows the name.
 pub fn next_is_least()
     ensures among { (name : List ℕ) → IfSome (next_of name) (λ n. IsAmong n readable) }
     ensures after { (name : List ℕ) → IfSome (next_of name) (λ n. is_before name n ≡ true) }

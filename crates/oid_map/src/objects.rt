@@ -1,5 +1,5 @@
-//! The objects that can be read, in the order of their names. Where a column or a number in between can only be
-//! written, the object stands in two rows.
+//! The objects that can be read, in the order of their names. If a column or a number in between can only be written,
+//! the object has two rows.
 
 /// The numbers from the least to the most.
 #[derive(Clone, Copy, PartialEq, Eq)]

@@ -13,7 +13,7 @@ use sig_types::{NoMemory, PhaseSet};
 use std::alloc::Global;
 use trace_laws::Seen;
 
-/// Why there is no text of an overlap.
+/// Why an overlap has no text.
 #[derive(Clone, Copy, PartialEq, Eq)]
 pub enum ReportFail {
     /// It breaks a rule: the first that it breaks, and at which row.

@@ -1,4 +1,4 @@
-//! What was seen of a cabinet tells its overlaps. There is no code here.
+//! What was seen of a cabinet gives its overlaps. It has no code.
 
 ghost use Rattle.std.specs.Prelude.{ℕ, List};
 ghost use Rattle.trace_laws.specs.declared.seen.Seen.{Seen};

@@ -109,8 +109,9 @@ fn add_changes(
     Ok(())
 }
 
-/// The text of an overlap over so many ticks of a cabinet: what it shows at tick 0, each later change with its tick, and the number of
-/// ticks. The frames are those of the cabinet that have a line, with the numbers of their ticks; times are in ticks of 0.1 s.
+/// The text of an overlap over N ticks of a cabinet: what it shows at tick 0, each later change with its tick, and the
+/// number of ticks. The frames are those of the cabinet that have a line, with the numbers of their ticks; times are in
+/// ticks of 0.1 s.
 pub fn text(
     alloc: Global,
     frames: &Vec<(u32, Frame)>,

@@ -1,6 +1,6 @@
-//! What an overlap is worth on the street: it is never green, yellow or clearing unless one of its parents is, so it meets no traffic that
-//! its parents don't meet (NEMA TS 2, overlaps). This rests on the safety of the street alone: clearances last their time.
-//! There is no code here.
+//! What holds of an overlap on the street: it is never green, yellow or clearing unless one of its parents is, so it
+//! meets no traffic that its parents don't meet (NEMA TS 2, overlaps). This rests only on the safety of the street:
+//! clearances last their time. It has no code.
 ghost use Rattle.std.specs.Prelude.{ℕ, ◌≡◌, ◌+◌, Bool, List, Ok, length};
 ghost use Rattle.sig_types.specs.declared.frame.Frame.{Frame};
 ghost use Rattle.sig_tables.specs.declared.tables.Tables.{Tables};

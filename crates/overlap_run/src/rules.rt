@@ -73,8 +73,9 @@ fn short_parent(tables: &[Tables], time: u32, parents: &[u8]) -> Option<u8>
     None
 }
 
-/// The parents of an overlap with these times, in ticks of 0.1 s, as a set; or the first rule that it breaks. The tables are those that were
-/// in force at the cabinet, the opening ones first; there are none where there is no such cabinet.
+/// The parents of an overlap with these times, in ticks of 0.1 s, as a set; or the first rule that it breaks. The
+/// tables are those that were in force at the cabinet, the opening ones first; there are none if the cabinet doesn't
+/// exist.
 pub fn judge(
     tables: &[Tables],
     parents: &[u8],

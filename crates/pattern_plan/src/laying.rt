@@ -11,7 +11,7 @@ ghost use Rattle.pattern_plan.specs.LayoutStands.{RingLayoutStands, enabled_end}
 use crate::ring_layout::RingLayout;
 use sig_tables::{SplitEntry, Tables, time_of};
 
-/// The least time that serves each phase, in ticks. Phase p stands at place p - 1.
+/// The least time that serves each phase, in ticks. Phase p is at place p - 1.
 pub fn services(tables: &Tables) -> [u32; 16]
     ensures { EachIs result (least_service tables.now) }
 {

@@ -7,7 +7,7 @@ ghost use Rattle.sig_tables.specs.Layout.{Has, EachHas};
 use sig_tables::{Tables, concurrent_sets, named_sets, side_sets};
 use sig_types::PhaseSet;
 
-/// Tables with their enabled phases, and for each phase those of its side of the barrier; phase p stands at place p - 1.
+/// Tables with their enabled phases, and for each phase those of its barrier group; phase p is at place p - 1.
 #[derive(Clone, Copy)]
 pub struct RingLayout<'a> {
     pub tables: &'a Tables,

@@ -61,8 +61,8 @@ fn marked(entries: &[SplitEntry]) -> PhaseSet
 impl SplitOptions {
     ghost use Rattle.pattern_plan.specs.Options.{SplitSays};
 
-    /// What the split of a pattern asks, for any tables and any number of a pattern. Where there is no such pattern or no
-    /// such split, number 0 is read as 1, and what is missing asks nothing.
+    /// What the split of a pattern asks, for any tables and any number of a pattern. If the pattern or the split
+    /// doesn't exist, number 0 is read as 1, and what is missing asks nothing.
     pub fn of(tables: &Tables, pattern: u8) -> SplitOptions
         ensures says { SplitSays result tables.now pattern }
     {

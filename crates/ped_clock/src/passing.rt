@@ -1,4 +1,4 @@
-//! Ticks that are passed over at once: every signal goes on. Only the number of the step moves.
+//! Ticks that are skipped at once: every signal goes on. Only the number of the step moves.
 
 ghost use Rattle.std.specs.Prelude.{◌≡◌, ◌<◌, ◌≤◌, ◌+◌, ℕ, List};
 
@@ -45,7 +45,7 @@ impl PedClocks {
         }
     }
 
-    /// So many ticks, at which nothing changes.
+    /// N ticks at which nothing changes.
     pub fn pass(&mut self, ticks: u32)
         requires few { step_count self.old + ticks ≤ 4294967295 }
         ensures passed { self.new ≡ passed ticks self.old }

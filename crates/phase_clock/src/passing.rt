@@ -1,4 +1,4 @@
-//! Ticks that are passed over at once: every phase goes on in its colour, and quiet or opposed as it was. Only the number
+//! Ticks that are skipped at once: every phase goes on in its colour, and quiet or opposed as it was. Only the number
 //! of the step moves, since all that runs is stamped.
 
 ghost use Rattle.std.specs.Prelude.{◌≡◌, ◌≤◌, ◌+◌, IsTrue};
@@ -24,7 +24,7 @@ impl Clocks {
         }
     }
 
-    /// So many ticks, at which nothing changes.
+    /// N ticks at which nothing changes.
     pub fn pass(&mut self, ticks: u32)
         requires few { step_count self.old + ticks ≤ 4294967295 }
         ensures passed { self.new ≡ passed ticks self.old }

@@ -16,8 +16,8 @@ use sig_types::{Frame, Mode, PhaseSet};
 
 mod passing;
 
-/// What is kept of the preempt inputs and of the frames so far. Preempts are 1 to 8; those whose input is on stand in a
-/// set as phases do. All times are in ticks of a tenth of a second.
+/// What is kept of the preempt inputs and of the frames so far. Preempts are 1 to 8; those whose input is on are a set,
+/// as phases are. All times are in ticks of a tenth of a second.
 #[derive(Drop)]
 pub struct Preempts {
     /// How many frames have come.

@@ -1,4 +1,4 @@
-//! Ticks that are passed over at once, beside all preempts: no input is on, and the mode stays. Only the number of the step
+//! Ticks that are skipped at once, beside all preempts: no input is on, and the mode stays. Only the number of the step
 //! moves.
 
 ghost use Rattle.std.specs.Prelude.{◌≡◌, ◌≤◌, ◌+◌, IsTrue};
@@ -22,7 +22,7 @@ impl Preempts {
         }
     }
 
-    /// So many ticks, at which nothing changes.
+    /// N ticks at which nothing changes.
     pub fn pass(&mut self, ticks: u32)
         requires few { step_count self.old + ticks ≤ 4294967295 }
         ensures passed { self.new ≡ passed ticks self.old }

@@ -1,5 +1,5 @@
-//! What the tables say of a preempt's stages: the phases that a mode brings to green, and the lesser times of those that
-//! stand in a preempt's way.
+//! What the tables say of a preempt's stages: the phases that a mode brings to green, and the smaller times of those
+//! that are in a preempt's way.
 
 ghost use Rattle.std.specs.Prelude.{◌≡◌, ◌<◌, ◌≤◌, ◌||◌, ◌&&◌, ◌==◌, ◌*◌, ℕ, length};
 ghost use Rattle.sig_types.specs.Phases.{is_in, or_else};
@@ -137,8 +137,8 @@ pub fn lesser(t: &Tables, mode: Mode) -> Option<(u32, u32)>
     }
 }
 
-/// What is left in this mode of a least green of so many ticks, of a phase outside the goal; all of it where no preempt
-/// is served.
+/// What is left in this mode of a minimum green of N ticks, of a phase outside the goal; all of it if no preempt is
+/// served.
 pub fn lesser_green(t: &Tables, mode: Mode, time: u32) -> u32
     ensures { result ≡ lesser_green t.now (stage_of mode) time }
 {

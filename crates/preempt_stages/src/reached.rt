@@ -1,4 +1,5 @@
-//! What a frame shows of a goal: a set of phases that are to be green alone, listed by the tables in force.
+//! What a frame shows of a goal: a set of phases, listed by the tables in force, that must be green and nothing else
+//! on.
 
 ghost use Rattle.std.specs.Prelude.{◌≡◌, ◌<◌, ◌≤◌, ◌||◌, ◌&&◌, ◌==◌, not, ℕ, get_or, length};
 ghost use Rattle.sig_types.specs.Phases.{is_in, every};

@@ -12,8 +12,8 @@ use crate::reached::has_reached;
 use sig_tables::{PhaseList, Preempt};
 use sig_types::{Frame, Mode};
 
-/// Whether a preempt calls whose input has been on for so many ticks in a row before this one, and is on at it: the preempt is
-/// configured, the delay has passed, and the greatest presence has not.
+/// Whether a preempt calls whose input has been on for N ticks in a row before this one, and is on at it: the preempt
+/// is configured, the delay has passed, and the maximum presence has not.
 pub fn calls(row: &Preempt, ticks: u32) -> bool
     ensures { result ≡ (has_some (listed row.now.dwell_phases) && nat_le (10 * row.now.delay) ticks
         && (row.now.maximum_presence == 0 || nat_lt ticks (10 * (row.now.delay + row.now.maximum_presence)))) }
@@ -27,8 +27,8 @@ pub fn calls(row: &Preempt, ticks: u32) -> bool
     }
 }
 
-/// Whether preempt `called`, or 0 for none, breaks into a frame of this mode: a lesser one into a stage, any one into what
-/// is no stage.
+/// Whether preempt `called`, or 0 for none, breaks into a frame of this mode: a lower-numbered one into a stage, any
+/// one into a mode that isn't a stage.
 pub fn breaks_in(called: u8, mode: Mode) -> bool
     ensures { result ≡ breaks_in called mode }
 {

@@ -20,7 +20,8 @@ fn leader_with(mine: Place, others: Option<Place>) -> Place
     }
 }
 
-/// The same, where the request is there, live after so many ticks and for one of these phases; else the leader of the others.
+/// The same, if the request exists and is live after N ticks and for one of these phases; otherwise the leader of the
+/// others.
 pub fn leader_by(
     kept: Option<Place>,
     others: Option<Place>,
@@ -85,7 +86,7 @@ pub fn unless_number(active: Option<u8>, number: u8) -> Option<u8>
     }
 }
 
-/// The state of what is kept after so many ticks, where it was active at the last of them or not.
+/// The state of what is kept after N ticks, where it was active at the last of them or not.
 pub fn state_of(kept: Option<Place>, tick: u32, active: bool) -> u8
     ensures { result ≡ kept_state kept tick active }
 {

@@ -46,7 +46,7 @@ impl Queue {
         }
     }
 
-    /// A request, numbered 1 to 10, that is given after so many ticks. It replaces the one of its number.
+    /// A request, numbered 1 to 10, that is given after N ticks. It replaces the one of its number.
     pub fn request(&mut self, request: Request, tick: u32)
         requires above { 0 < request.number }
         requires within { request.number ≤ 10 }
@@ -63,7 +63,7 @@ impl Queue {
         self.places[request.number as usize - 1] = Some(place);
     }
 
-    /// The request of a number, 1 to 10, is cancelled after so many ticks, where there is one that has not departed.
+    /// The request of a number, 1 to 10, is cancelled after N ticks, where there is one that has not departed.
     pub fn cancel(&mut self, number: u8, tick: u32)
         requires above { 0 < number }
         requires within { number ≤ 10 }
@@ -110,7 +110,7 @@ impl Queue {
         self.active = active;
     }
 
-    /// What became of the request of a number, 1 to 10, after so many ticks: 0 there was none, 1 queued, 2 active at the last
+    /// The state of the request of a number, 1 to 10, after N ticks: 0 there was none, 1 queued, 2 active at the last
     /// tick, 3 departed, 4 cancelled.
     pub fn state(&self, number: u8, tick: u32) -> u8
         requires above { 0 < number }
@@ -121,7 +121,7 @@ impl Queue {
         state_of(self.places[number as usize - 1], tick, active)
     }
 
-    /// The states of all requests; that of number k stands at place k - 1.
+    /// The states of all requests; that of number k is at place k - 1.
     pub fn states(&self, tick: u32) -> [u8; 10]
         ensures states { (past : Past) → QueueStands self.now past → tick ≡ ticks_in past → result ≡ states_shown past }
     {

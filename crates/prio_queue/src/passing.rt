@@ -1,4 +1,4 @@
-//! Ticks that are passed over at once. No register moves while no request is active.
+//! Ticks that are skipped at once. No register moves while no request is active.
 
 ghost use Rattle.std.specs.Prelude.{◌≡◌, ◌<◌, ℕ, IsTrue};
 
@@ -22,7 +22,7 @@ impl Queue {
         }
     }
 
-    /// Whether no request is active at any tick that comes after so many, since all have departed.
+    /// Whether no request is active at any tick after N ticks, because all have departed.
     pub fn is_over(&self, tick: u32) -> bool
         ensures over { (past : Past) (t : Tables) (n number : ℕ) → QueueStands self.now past → IsTrue result → tick < number
             → active_in t (Coord n) number past.asked ≡ 0 }

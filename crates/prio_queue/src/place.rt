@@ -34,7 +34,7 @@ impl Place {
         u64::from(self.ticks) + u64::from(self.request.arrival)
     }
 
-    /// Whether the request has not departed after so many ticks.
+    /// Whether the request has not departed after N ticks.
     pub fn has_stayed(&self, tick: u32) -> bool
         ensures { result ≡ nat_le tick (stays_until (place_meant self.now)) }
     {
@@ -69,7 +69,7 @@ impl Place {
         }
     }
 
-    /// Whether the request is live after so many ticks: it has not departed, and was not cancelled.
+    /// Whether the request is live after N ticks: it has not departed, and was not cancelled.
     pub fn is_live(&self, tick: u32) -> bool
         ensures { result ≡ (nat_le tick (stays_until (place_meant self.now)) && not self.now.cancelled) }
     {

@@ -1,4 +1,4 @@
-//! The bindings of a request (RFC 1157, 4.1.6): an instance with a number, with what stands in a cell, or only named.
+//! The bindings of a request (RFC 1157, 4.1.6): an instance with a number, with the value of a cell, or only named.
 
 ghost use Rattle.std.specs.Prelude.{◌≡◌, ◌<◌};
 ghost use Rattle.snmp_msg.specs.Shortest.{IsWritableBind, IsWritableValue};
@@ -60,7 +60,7 @@ fn cell_value(content: &CellValue) -> Value
     }
 }
 
-/// A cell of the tables with what is to stand in it.
+/// A cell of the tables with its new value.
 pub fn cell_at(cell: Cell, content: &CellValue) -> Bind
     requires cell { IsCell cell }
     requires short { IsShort (content_of content.now) }

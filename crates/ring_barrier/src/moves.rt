@@ -29,8 +29,9 @@ pub fn is_idle(opening: [bool; 2], done: PhaseSet, forced: PhaseSet) -> bool
     done.union(forced).is_empty()
 }
 
-/// The phases that end their green at this tick, and those that begin it. The moves are those of every moment that the view
-/// shows, in each mode in which the rings move by themselves. Any view is taken: a number that is no phase stands for none.
+/// The phases that end their green at this tick, and those that begin it. The moves are those of every moment that the
+/// view shows, in each mode in which the rings move by themselves. Any view is taken: a number that isn't a phase means
+/// none.
 pub fn changes(view: &View) -> Changes
     ensures ends { (w : Scene) → Shows view.now w → Has result.ends (is_in (ring_moves w).ends) }
     ensures begins { (w : Scene) → Shows view.now w → Has result.begins (is_in (ring_moves w).begins) }

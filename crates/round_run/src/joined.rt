@@ -100,14 +100,14 @@ fn join_ticks(books: &mut Vec<Book>)
     }
 }
 
-/// All that comes to 1 to 64 cabinets in a round that was just begun is brought by passes in the hands of so many
-/// workers: the ticks are those of one pass for up to five workers or where they are few, of two for six, and of four
-/// for more, and there are four other passes. Worker w has the passes p with p mod workers = w, and calls the gate
-/// before each act: no clause says who brings what, or that the gate is called. What the workers leave is brought in the
-/// serial order, and so is the whole round where no other order exists: one worker brings it, or each cabinet has items
-/// of one pass only. Whatever the order of the threads, each item of each stream is brought once, in its stream's order,
-/// and each book's journal tells the order that came of it, with all ticks as those of one pass. All memory is taken
-/// first: where it is wanting, the books come back as they were.
+/// All that reaches 1 to 64 cabinets in a round that was just begun is brought by passes in the hands of this number of
+/// workers: the ticks are those of one pass for up to five workers or if they are few, of two for six, and of four for
+/// more, and there are four other passes. Worker w has the passes p with p mod workers = w, and calls the gate before
+/// each act: no clause says who brings what, or that the gate is called. What the workers leave is brought in the
+/// serial order, and so is the whole round if no other order exists: one worker brings it, or each cabinet has items of
+/// one pass only. Whatever the order of the threads, each item of each stream is brought once, in its stream's order,
+/// and each book's journal shows the resulting order, with all ticks as those of one pass. All memory is taken first:
+/// if it runs out, the books come back as they were.
 pub fn joined_round<R: Threads + Sync, G: Gate + Sync>(
     rt: &R,
     alloc: Global,

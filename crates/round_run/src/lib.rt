@@ -1,9 +1,9 @@
-//! A round of all cabinets: their books begin it with what comes to each, all that comes is brought, and what they replied goes back
-//! to the master. What a book has come to, and the lines that are written of it, are those of a run.
+//! A round of all cabinets: their books begin it with what reaches each, all of it is brought, and what they replied
+//! goes back to the master. The state of a book, and the lines that are written of it, are those of a run.
 //!
-//! The closed loop of a run: the master, and the books of all cabinets. It is opened from a
-//! scenario, and each round is begun and ended here; what comes to the cabinets in between, in
-//! whatever order, others bring. Nothing is read or written.
+//! The closed loop of a run: the master, and the books of all cabinets. It is opened from a scenario, and each round is
+//! begun and ended here; others bring what reaches the cabinets in between, in whatever order. Nothing is read or
+//! written.
 #![tactic(auto)]
 
 mod books;

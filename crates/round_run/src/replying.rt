@@ -70,7 +70,7 @@ fn answers_of(alloc: Global, book: &Book) -> Result<Answers, NoMemory>
     }
 }
 
-/// What each book has replied in its round, in the order of the books; a frame that was met with silence has no reply.
+/// What each book has replied in its round, in the order of the books; a frame that was ignored has no reply.
 pub fn answers(alloc: Global, books: &Vec<Book>) -> Result<Vec<Answers>, NoMemory>
     ensures { IfOk result (λ all. EachAnswers all.items books.now.items) }
 {

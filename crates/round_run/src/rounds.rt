@@ -46,8 +46,8 @@ impl ClosedLoop {
         }
     }
 
-    /// Begins the round after so many, and gives what the master notes at its start: each book has the streams that come to its cabinet,
-    /// of which nothing was brought yet. Where memory is wanting the closed loop is of no more use.
+    /// Begins the round after N, and gives what the master notes at its start: each book has the streams that reach its
+    /// cabinet, of which nothing was brought yet. If memory runs out the closed loop is of no more use.
     pub fn begin_round(
         &mut self,
         alloc: Global,
@@ -77,8 +77,8 @@ impl ClosedLoop {
         }
     }
 
-    /// Ends the round after so many, by which the cabinets have come to other states, whatever was brought to them: what they replied goes
-    /// back to the master. Where memory is wanting the closed loop is of no more use.
+    /// Ends the round after N, in which the cabinets have reached other states, whatever was brought to them: what they
+    /// replied goes back to the master. If memory runs out the closed loop is of no more use.
     pub fn end_round(&mut self, alloc: Global, done: u32, s: &Scenario) -> Result<(), NoMemory>
         requires few { done < 4294967295 }
         requires begun { (ts : List CabinetState) × InRound (scenario_content s.now) done ts self.old × (length self.old.books.items ≡ length ts) }

@@ -36,9 +36,10 @@ pub fn books_follow_runs()
         → HasRun s cab t journal b → AreInOrder 0 (answered_in b) (length (written_in b)) }
 {}
 
-/// A book that has run a journal has come to what the journal brings. A book to which acts have come is at what the cabinet has come to by
-/// them, and its replies are theirs. An item that is brought behind all others of its stream is an act more. Of acts that come behind
-/// others, ticks alone have the lines of the frames that are new in the book, and acts without a tick those of the new replies.
+/// A book that has run a journal is in the state that the journal brings. A book to which acts were applied is in the
+/// state to which they bring the cabinet, and its replies are theirs. An item that is brought after all others of its
+/// stream is an act more. Of acts that follow others, only ticks have the lines of the frames that are new in the book,
+/// and acts without a tick those of the new replies.
 pub fn books_follow_acts()
     ensures run { (s : ScenarioContent) (cab : ℕ) (t : CabinetState) (journal : List ℕ) (b : BookRow)
         → HasRun s cab t journal b → HasCome t (round_acts s cab t journal) b }

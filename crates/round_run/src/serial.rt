@@ -72,8 +72,8 @@ fn bring_round(book: &mut Book)
     }
 }
 
-/// All that is left to come to the cabinets in a round is brought, one cabinet after another: the inputs from the street, the frames
-/// of the three streams of messages, and the ticks. It takes no memory.
+/// All that is left for the cabinets in a round is brought, one cabinet after another: the inputs from the street, the
+/// frames of the three streams of messages, and the ticks. It takes no memory.
 pub fn serial_round(books: &mut Vec<Book>)
     ensures many { length books.new.items ≡ length books.old.items }
     ensures run { (s : ScenarioContent) (ts : List CabinetState) → HaveRun s ts (no_journals ts) books.old.items

@@ -17,8 +17,8 @@ use sig_tables::{
 };
 use sig_types::PhaseSet;
 
-/// Which phases are enabled, and for each phase those that its concurrency list names, disabled ones among them.
-/// Phase p stands at place p - 1.
+/// Which phases are enabled, and for each phase those that its concurrency list names, disabled ones among them. Phase
+/// p is at place p - 1.
 #[derive(Clone, Copy)]
 pub struct Lists {
     pub enabled: PhaseSet,
@@ -46,7 +46,7 @@ impl Lists {
     }
 }
 
-/// What the tables say of all phases at once. Phase p stands at place p - 1, ring r at place r - 1.
+/// What the tables say of all phases at once. Phase p is at place p - 1, ring r at place r - 1.
 #[derive(Clone, Copy)]
 pub struct RingLayout {
     pub lists: Lists,

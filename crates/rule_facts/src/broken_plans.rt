@@ -1,6 +1,6 @@
-//! Plans that break one rule, and what becomes of the street: what the rules of coordination are for. Each cabinet is followed over a
-//! cycle of 90 seconds, or for as long as its offset may take to be met. The functions have no bodies: each stands for the law of its
-//! contract. (FHWA Signal Timing Manual: coordination, offset, transition.)
+//! Plans that break one rule, and their effect on the street: what the rules of coordination are for. Each cabinet is
+//! followed over a cycle of 90 seconds, or for as long as its offset may take to be met. The functions have no bodies:
+//! each represents the laws of its contract. (FHWA Signal Timing Manual: coordination, offset, transition.)
 ghost use Rattle.std.specs.Prelude.{◌≡◌, false, [], ◌∷◌};
 ghost use Rattle.sig_types.specs.declared.frame.Colour.TheVariants.{Green, Red};
 ghost use Rattle.sig_types.specs.declared.frame.Mode.TheVariants.{Coord};
@@ -30,7 +30,7 @@ pub fn local_zero_needs_red_revert()
     ensures fails { ¬ Coordinated long_revert 1 (moment_seen (past_at (late_turn long_revert))) }
 {}
 
-/// Without the rule on the least service (18) a phase of the side street that is forced off may still be clearing at
+/// Without the rule on the minimum service (18) a phase of the side street that is forced off may still be clearing at
 /// local zero, with both coordinated phases red.
 pub fn local_zero_needs_least_service()
     ensures late { at_last (long_call slow_clearance) ≡ record { tick = 960; mode = Coord 1; counter = 0; two = Red; six = Red } }
@@ -38,8 +38,8 @@ pub fn local_zero_needs_least_service()
 {}
 
 /// Without the rule on the window of the correction (19) the offset may not be met in time. The counter is 50 ticks
-/// ahead of its target, and one cycle may stand for as many; but it may stand only within the window, which is 5
-/// ticks. At the end of the time in which that one cycle is promised it is 35 ahead.
+/// ahead of its target, and one cycle may wait for as many; but it may wait only within the window, which is 5 ticks.
+/// At the end of the time in which that one cycle is promised it is 35 ahead.
 pub fn offset_needs_correction_window()
     ensures broken { BreaksOnly short_window (OnPattern CorrectionWindow) (1 ∷ []) }
     ensures late { at_end (five_ahead short_window 1179)

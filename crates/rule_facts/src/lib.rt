@@ -1,6 +1,6 @@
-//! What consistent tables give the layers above: laws of sides, sequences, goals and patterns that follow from the consistency
-//! rules; and what each rule of a plan is for, by a plan that breaks it alone. The functions do nothing: each stands for the law
-//! of its contract, which callers cite.
+//! What consistent tables give the layers above: laws of barrier groups, sequences, goals and patterns that follow from
+//! the consistency rules; and what each rule of a plan is for, by a plan that breaks only it. The functions do nothing:
+//! each represents the law of its contract, which callers cite.
 #![tactic(auto)]
 
 mod broken_plans;
@@ -44,8 +44,8 @@ pub fn rules_kept()
     ensures { (t in_force : Tables) (flashing : Bool) → broken t in_force flashing ≡ [] → KeepsRules t }
 {}
 
-/// Tables that keep the rules beside any tables in force also keep them alone: a download that was accepted leaves
-/// consistent tables.
+/// Tables that keep the rules with regard to any tables in force also keep them by themselves: an accepted download
+/// leaves consistent tables.
 pub fn accepted_consistent()
     ensures { (t in_force : Tables) (flashing : Bool) → broken t in_force flashing ≡ [] → Consistent t }
 {}
@@ -90,9 +90,9 @@ pub fn sequences_serve()
     ensures { (t : Tables) → Consistent t → (s : ℕ) → is_phase s ≡ true → is_used t s ≡ true → SequenceServes t s }
 {}
 
-/// Yellow lasts at least 3 seconds (NEMA TS 2); no red revert outlasts the least service and clearance of another phase;
-/// a phase without a walk has no pedestrian clearance; and the offset is corrected by at least one tick, in a mode that
-/// there is.
+/// Yellow lasts at least 3 seconds (NEMA TS 2); no red revert outlasts the minimum service and clearance of another
+/// phase; a phase without a walk has no pedestrian clearance; and the offset is corrected by at least one tick, in a
+/// mode that there is.
 pub fn times_hold()
     ensures { (t : Tables) → Consistent t → TimesHold t }
 {}
@@ -105,10 +105,10 @@ pub fn goals_fit()
     ensures coordinated { (t : Tables) → Consistent t → (n : ℕ) → is_defined t n ≡ true → GoTogether t (coordinated_phases t n) }
 {}
 
-/// Each defined pattern lays its slots over the cycle so that local zero lies in both coordinated ones and in no other, and
-/// that of two sides of the barrier one has ended in both rings when a slot of the other starts. Its window has room for
-/// the stands and skips of one cycle, and each phase that it serves has its least service before its force point, and its
-/// clearance between that and the end of the cycle (FHWA Signal Timing Manual, coordination).
+/// Each defined pattern lays its slots over the cycle so that local zero lies in both coordinated ones and in no other,
+/// and that of two barrier groups one has ended in both rings when a slot of the other starts. Its window has room for
+/// the waits and skips of one cycle, and each phase that it serves has its minimum service before its force point, and
+/// its clearance between that and the end of the cycle (FHWA Signal Timing Manual, coordination).
 pub fn plan_holds()
     ensures { (t : Tables) → Consistent t → (n : ℕ) → is_defined t n ≡ true → PlanHolds t n }
 {}
@@ -141,7 +141,7 @@ pub fn omitted_force_point()
     ensures permissive { permissive_end first_turn_out 1 1 ≡ 0 }
 {}
 
-/// Without the rule on the least service (18) a phase may be forced off too late to clear within the cycle.
+/// Without the rule on the minimum service (18) a phase may be forced off too late to clear within the cycle.
 pub fn needs_least_service()
     ensures broken { BreaksOnly slow_clearance (OnPattern LeastService) (1 ∷ []) }
     ensures cycle { cycle_time slow_clearance 1 ≡ 900 }

@@ -16,7 +16,7 @@ pub struct Tally {
 }
 
 impl Tally {
-    /// A tally with so many items of passes 0 and 1.
+    /// A tally with these numbers of items of passes 0 and 1.
     pub fn new(alloc: Global, value: u64, first: u32, second: u32) -> Result<Tally, AllocError>
         ensures { IfOk result (λ t. (t.journal.items ≡ []) × (t.value ≡ value) × (t.first ≡ first) × (t.second ≡ second)) }
     {

@@ -1,6 +1,6 @@
-//! What a run writes, for any journals: the journal of each round and cabinet says which pass brought the next item, time after time,
-//! and all else follows from the scenario. The laws hold for every order, the serial one among them. The functions do nothing but
-//! cite: each stands for the laws of its contract.
+//! What a run writes, for any journals: the journal of each round and cabinet says which pass brought the next item,
+//! time after time, and all else follows from the scenario. The laws hold for every order, the serial one among them.
+//! The functions only cite: each represents the laws of its contract.
 #![tactic(auto)]
 
 ghost use Rattle.std.specs.Prelude.{◌≡◌, ◌+◌, ◌++◌, ℕ, List, length};
@@ -27,11 +27,12 @@ pub fn serial_is_an_order()
     ensures { (s : ScenarioContent) → AreJournals s (serial_journals s) }
 {}
 
-/// In whatever order the items of a run come to its cabinets: where these open with consistent tables and slow drifts, the lines of each
-/// cabinet alone tell that its street is safe at every tick of 0.1 s and in every mode, with the tables of each version, and that its
-/// versions are whole. These tables are the opening ones with the whole content of each download that the rules accepted; and the
-/// cabinet's history meets what coordination promises (FHWA Signal Timing Manual: offset, transition), and each frame of a pattern keeps to its
-/// plan: a coordinated phase is green wherever the counter is below its force point.
+/// In whatever order the items of a run reach its cabinets: if these open with consistent tables and slow drifts, the
+/// lines of each cabinet by themselves show that its street is safe at every tick of 0.1 s and in every mode, with the
+/// tables of each version, and that its versions are whole. These tables are the opening ones with the whole content of
+/// each download that the rules accepted; and the cabinet's history meets what coordination promises (FHWA Signal
+/// Timing Manual: offset, transition), and each frame of a pattern keeps to its plan: a coordinated phase is green
+/// wherever the counter is below its force point.
 pub fn any_order_is_safe()
     ensures { (s : ScenarioContent) → AllOpen s.cabinets → (journals : List (List (List ℕ))) → AreJournals s journals
         → AllKept s journals (run_lines s journals) }

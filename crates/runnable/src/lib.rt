@@ -1,5 +1,6 @@
-//! What every scenario has that was read without a fault: its numbers in range, its tables consistent, its cabinets numbered from 1.
-//! All that a run rests on is here, and nothing of the JSON from which a scenario comes. There is no code.
+//! What every scenario has that was read without a fault: its numbers in range, its tables consistent, its cabinets
+//! numbered from 1. All that a run rests on is here, and nothing of the JSON from which a scenario comes. It has no
+//! code.
 #![tactic(auto)]
 
 ghost use Rattle.std.specs.Prelude.{◌≤◌, ℕ, length};

@@ -1,6 +1,7 @@
-//! A trace is safe: what its frame lines alone show of a cabinet's street, at every tick of 0.1 s. The definitions know nothing of
-//! histories or of the rules of a tick; the laws tie them to every history, and to every history whose tables keep the rules.
-//! What may be shown together, in which order and how long follows NEMA TS 2 and the FHWA Signal Timing Manual.
+//! A trace is safe: what its F lines by themselves show of a cabinet's street, at every tick of 0.1 s. The definitions
+//! know nothing of histories or of the rules of a tick; the laws tie them to every history, and to every history whose
+//! tables keep the rules. What may be shown together, in which order and how long follows NEMA TS 2 and the FHWA Signal
+//! Timing Manual.
 #![tactic(auto)]
 
 mod safe_streets;
@@ -65,8 +66,8 @@ pub fn unsafe_traces_are_refused()
     ensures newest_yellow { IsRefusedWith slow_yellow newest_yellow }
 {}
 
-/// A preempt may cut short the green, the walk and the pedestrian clearance of a phase that makes way for it, to what it leaves of them
-/// and no further; those of a phase that it serves are due in full, and a yellow always is.
+/// A preempt may cut short the green, the walk and the pedestrian clearance of a phase that makes way for it, to what
+/// it leaves of them and no further; those of a phase that it serves must last in full, and so must every yellow.
 pub fn preempts_cut_short()
     ensures allowed { Safe (intersection_of 1 (preempted (pair 4 8)) cut_flash) }
     ensures green { IsRefusedWith (preempted (pair 4 8)) short_green_on_entry }

@@ -1,6 +1,7 @@
-//! Safe streets in every mode: what the lines of a cabinet show is safe, and its versions are whole, whatever is commanded, called
-//! or downloaded, where every table passed the rules. The function has no body: it stands for the law of its contract.
-//! What may be shown together, in which order and how long follows NEMA TS 2 and the FHWA Signal Timing Manual.
+//! Safe streets in every mode: what the lines of a cabinet show is safe, and its versions are whole, whatever is
+//! commanded, called or downloaded, where every table passed the rules. The function has no body: it represents the law
+//! of its contract. What may be shown together, in which order and how long follows NEMA TS 2 and the FHWA Signal
+//! Timing Manual.
 ghost use Rattle.std.specs.Prelude.{ℕ, Bool, List, ◌≡◌};
 ghost use Rattle.sig_types.specs.declared.frame.Frame.{Frame};
 ghost use Rattle.sig_tables.specs.Past.{History};

@@ -1,4 +1,5 @@
-//! The names that an object at each place may have. Of any others only the least is held: it is at fault before all that stands there.
+//! The names that an object at each place may have. Of any others only the first in byte order is kept: it is at fault
+//! before all values of the object.
 
 ghost use Rattle.std.specs.Prelude.{◌≡◌, IfSome, option_map, string_bytes};
 ghost use Rattle.scenario_read.specs.Kinds.{is_among};

@@ -1,4 +1,5 @@
-//! The scenario of a text: the whole, or what stands at `scenario` of the one object that the text is. Of equal names the last counts.
+//! The scenario of a text: the whole, or the value at `scenario` of the one object that the text is. Of equal names the
+//! last counts.
 
 ghost use Rattle.std.specs.Prelude.{◌≡◌, ◌<◌, length, Some, IfSome};
 ghost use Rattle.json.specs.Json.{value, members};

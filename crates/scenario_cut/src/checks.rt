@@ -159,9 +159,9 @@ pub(crate) fn first_fault(alloc: Global, bytes: &[u8]) -> Result<(), ReadFail>
     }
 }
 
-/// The first fault of the scenario that stands at `scenario` in the object that the bytes are, found in little memory, list by list; where
-/// it has none, its extent. `frame` is what is kept of the object as `Form::Outer`. Want of memory stands also for what this way does not
-/// tell, as where nothing stands there.
+/// The first fault of the scenario at `scenario` in the object that the bytes are, found in little memory, list by
+/// list; if it has none, its extent. `frame` is what is kept of the object as `Form::Outer`. Out of memory also means
+/// that this way gives no answer, for example if the value is missing.
 pub fn inner_fault(alloc: Global, bytes: &[u8], frame: &Value) -> Result<Extent, ReadFail>
     ensures fault { IfErr result (λ fail. (d : Data) → Reads bytes.now d → view frame.now ≡ cut Outer d → Refuses fail (faults (scenario_in Object d))) }
     ensures none { IfOk result (λ e. (d : Data) → Reads bytes.now d → view frame.now ≡ cut Outer d → IsClean e (scenario_in Object d)) }

@@ -7,11 +7,11 @@ ghost use Rattle.scenario_cut.specs.Cutting.{Street, Field, Outer, Whole, Bare, 
 
 use serde_json::Value;
 
-/// A place: an object that asks of bands, and a field file; either of them with its scenario but for its lists, with its bank and the
-/// rules by which patterns follow traffic, and at any other name with a number, a text or a word alone; a whole scenario; a scenario but
-/// for its lists of cabinets and of what happens; these lists, with their items; pulses of detectors; the master; entries, of its
-/// schedule, of a bank or of a rule; those rules, with their sections; cells, one of them, and a part of it; travel times; and any other
-/// place, where only a number, a text or a word may stand.
+/// A place: an object that asks for bands, and a field file; either of them with its scenario except its lists, with
+/// its bank and the rules by which patterns follow traffic, and at any other name with only a number, a text or a word;
+/// a whole scenario; a scenario except its lists of cabinets and of what happens; these lists, with their items; pulses
+/// of detectors; the master; entries, of its schedule, of a bank or of a rule; those rules, with their sections; cells,
+/// one of them, and a part of it; travel times; and any other place, where only a number, a text or a word is allowed.
 #[derive(Clone, Copy)]
 pub enum Form {
     Street,

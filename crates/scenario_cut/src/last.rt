@@ -1,5 +1,5 @@
-//! A whole scenario of whose equal names the last is kept. Those before it are passed over where they may have much behind them. How
-//! often each name comes is counted first; that the last of each was kept is seen in the end.
+//! A whole scenario of whose equal names the last is kept. Those before it are skipped where they may have much behind
+//! them. How often each name comes is counted first; that the last of each was kept is seen in the end.
 
 ghost use Rattle.std.specs.Prelude.{◌≡◌, ◌<◌, ◌≤◌, ℕ, List, true, false, length, nat_lt, bytes_eq, get_or, Some, IfSome, IsTrue};
 ghost use Rattle.json.specs.Json.{value, members};

@@ -1,6 +1,6 @@
-//! What is kept of a scenario's value of which the first fault is asked: less than the value, with the same first fault, and the value
-//! itself where it has none. Its first fault is looked for without that where it can be, list by list. Readers of objects around a
-//! scenario take from here how a value is kept or passed over.
+//! What is kept of a scenario's value of which the first fault is asked: less than the value, with the same first
+//! fault, and the value itself where it has none. Its first fault is looked for without that where it can be, list by
+//! list. Readers of objects around a scenario take from here how a value is kept or skipped.
 #![tactic(auto)]
 
 mod allowed;

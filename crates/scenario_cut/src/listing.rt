@@ -1,5 +1,5 @@
-//! A list at the top of a scenario, judged item by item. Behind its first fault, and past the most that are judged, the items are passed
-//! over; so that no list takes more than one item's memory, beside what stays of the items.
+//! A list at the top of a scenario, judged item by item. Behind its first fault, and past the most that are judged, the
+//! items are skipped; so that no list takes more than one item's memory, beside what stays of the items.
 
 ghost use Rattle.std.specs.Prelude.{◌≡◌, ◌<◌, ◌≤◌, [], length, Some, IfSome};
 ghost use Rattle.json.specs.Json.{value, items};

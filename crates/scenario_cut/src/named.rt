@@ -1,5 +1,5 @@
-//! The lists of a scenario's text that are looked for in one pass, found by their names and judged; all that stands beside them is
-//! passed over. Of equal names the last counts.
+//! The lists of a scenario's text that are looked for in one pass, found by their names and judged; all other values
+//! are skipped. Of equal names the last counts.
 
 ghost use Rattle.std.specs.Prelude.{◌≡◌, ◌<◌, true, length, Some, IfSome};
 ghost use Rattle.json.specs.Json.{value, members};

@@ -11,9 +11,9 @@ ghost use Rattle.scenario_cut.specs.Beginning.{BeginsWith};
 use crate::numbers::number_of;
 use json::{Reader, Token};
 
-/// Passes over the reader's next value, in which arrays and objects nest at most `depth` levels deep, and keeps nothing of it. True,
-/// where the value has a reading: the reader stands behind it then. False, where it has none, as what is no JSON here, a number out of
-/// range, and what nests deeper; where the reader stands then isn't said.
+/// Skips the reader's next value, in which arrays and objects nest at most `depth` levels deep, and keeps nothing of
+/// it. True if the value can be read: the reader is then after it. False if it can't, because it isn't JSON here, has a
+/// number out of range or nests deeper; the reader's place is then not specified.
 #[cycle(pass)]
 pub fn pass(reader: &mut Reader<'_>, depth: usize) -> bool
     ensures passed { result ≡ true → (d : Data) × (converted of_json (value depth reader.old) ≡ Some (d, reader.new)) }
@@ -26,8 +26,9 @@ pub fn pass(reader: &mut Reader<'_>, depth: usize) -> bool
     pass_rest(reader, depth, token)
 }
 
-/// Passes over the rest of a value that begins with this token, in which arrays and objects nest at most `depth` levels deep. True, where
-/// the value has a reading: the reader stands behind it then. False, where it has none; where the reader stands then isn't said.
+/// Skips the rest of a value that begins with this token, in which arrays and objects nest at most `depth` levels deep.
+/// True if the value can be read: the reader is then after it. False if it can't; the reader's place is then not
+/// specified.
 #[cycle(pass)]
 pub fn pass_rest(reader: &mut Reader<'_>, depth: usize, token: Token<'_>) -> bool
     ensures passed { result ≡ true → (d : Data) × (converted of_json (value depth (token_of token.entry ∷ reader.old)) ≡ Some (d, reader.new))
@@ -59,8 +60,9 @@ pub fn pass_rest(reader: &mut Reader<'_>, depth: usize, token: Token<'_>) -> boo
     }
 }
 
-/// Passes over the items up to the bracket that closes an array, in each of which arrays and objects nest at most `depth` levels deep.
-/// True, where they have a reading: the reader stands behind the bracket then. False, where they have none; where it stands then isn't said.
+/// Skips the items up to the bracket that closes an array, in each of which arrays and objects nest at most `depth`
+/// levels deep. True if they can be read: the reader is then after the bracket. False if they can't; its place is then
+/// not specified.
 #[cycle(pass)]
 pub fn pass_items(reader: &mut Reader<'_>, depth: usize) -> bool
     ensures passed { result ≡ true → (ds : Items) × (converted of_items (items (value depth) (length reader.old) reader.old) ≡ Some (ds, reader.new)) }
@@ -75,8 +77,9 @@ pub fn pass_items(reader: &mut Reader<'_>, depth: usize) -> bool
     true
 }
 
-/// Passes over the members up to the brace that closes an object, in each of which arrays and objects nest at most `depth` levels deep.
-/// True, where they have a reading: the reader stands behind the brace then. False, where they have none; where it stands then isn't said.
+/// Skips the members up to the brace that closes an object, in each of which arrays and objects nest at most `depth`
+/// levels deep. True if they can be read: the reader is then after the brace. False if they can't; its place is then
+/// not specified.
 #[cycle(pass)]
 pub fn pass_members(reader: &mut Reader<'_>, depth: usize) -> bool
     ensures passed { result ≡ true → (ms : Members) × (converted (λ js. of_members js no_members) (members (value depth) (length reader.old) reader.old) ≡ Some (ms, reader.new)) }

@@ -1,4 +1,4 @@
-//! What is kept of a text: nothing, where it is no JSON.
+//! What is kept of a text: nothing if it isn't JSON.
 
 ghost use Rattle.std.specs.Prelude.{◌≡◌, false, IfOk, IfErr, IfSome};
 ghost use Rattle.serde_json.specs.Data.{Data};
@@ -51,8 +51,8 @@ fn kept_value(alloc: Global, bytes: &[u8], form: Form) -> Option<Value>
     }
 }
 
-/// What is kept of the value of the bytes, at a place of this form; refused where they are no JSON, which is found before anything is
-/// kept of them.
+/// What is kept of the value of the bytes, at a place of this form; refused if they aren't JSON, which is found before
+/// anything is kept of them.
 pub fn kept_of(alloc: Global, bytes: &[u8], form: Form) -> Result<Value, ReadFail>
     ensures kept { IfOk result (λ kept. (d : Data) × Reads bytes.now d × (view kept ≡ cut form d)) }
     ensures none { IfErr result (λ fail. OnRefusal fail (IsNoText bytes.now)) }
@@ -68,8 +68,8 @@ pub fn kept_of(alloc: Global, bytes: &[u8], form: Form) -> Result<Value, ReadFai
     }
 }
 
-/// The same for forms of which little is kept at the most: it is kept at once, and where that fails it is asked whether the bytes are
-/// JSON. Want of memory is told where they are.
+/// The same for forms of which little is kept at the most: it is kept at once, and if that fails the bytes are checked
+/// to be JSON. If they are, the answer is out of memory.
 pub fn kept_of_few(alloc: Global, bytes: &[u8], form: Form) -> Result<Value, ReadFail>
     ensures kept { IfOk result (λ kept. (d : Data) × Reads bytes.now d × (view kept ≡ cut form d)) }
     ensures none { IfErr result (λ fail. OnRefusal fail (IsNoText bytes.now)) }

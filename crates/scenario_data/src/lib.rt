@@ -1,5 +1,5 @@
-//! What a scenario says, as plain data: the cabinets and their tables, the master's setup, and what happens in each round;
-//! and why a text is no scenario. Nothing here reads or runs.
+//! What a scenario says, as plain data: the cabinets and their tables, the master's setup, and what happens in each
+//! round; and why a text isn't a scenario. Nothing here reads or runs.
 #![tactic(auto)]
 
 mod octets;

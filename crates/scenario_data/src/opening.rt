@@ -27,7 +27,7 @@ pub fn opening_tables(cabinet: &Cabinet) -> Tables
     tables
 }
 
-/// A law: each cell of the tables that a cabinet opens with holds what may stand in it, whatever its cells say.
+/// A law: each cell of the tables that a cabinet opens with holds an allowed value, whatever its cells say.
 pub fn opening_tables_in_range()
     ensures { (c : CabinetContent) → EachFits (opening_tables c) }
 {}

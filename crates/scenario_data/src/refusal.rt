@@ -1,4 +1,4 @@
-//! Why a text is no scenario.
+//! Why a text isn't a scenario.
 
 /// The first fault of a text. A path names a value from the top, as in `cabinets[0].cells[3]`; places in lists are counted
 /// from 0, and `.` is the whole text's value.

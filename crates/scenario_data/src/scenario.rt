@@ -26,9 +26,9 @@ pub struct Cabinet {
     pub clock: u32,
     /// The section of the master's schedule that it follows, 1 to 8.
     pub section: u8,
-    /// Its clock gains one tick in so many, 12,000 to 864,000; 0 is never.
+    /// Its clock gains one tick in this number, 12,000 to 864,000; 0 is never.
     pub gain: u32,
-    /// Its clock loses one tick in so many, 12,000 to 864,000; 0 is never.
+    /// Its clock loses one tick in this number, 12,000 to 864,000; 0 is never.
     pub lose: u32,
 }
 
@@ -100,7 +100,8 @@ pub enum Direction {
     Up,
 }
 
-/// What a fault of the link does to a frame: it is lost, comes twice, comes again later, has an octet changed, or is cut.
+/// What a fault of the link does to a frame: it is lost, comes twice, is repeated later, has an octet changed, or is
+/// cut.
 #[derive(Clone, Copy, PartialEq, Eq)]
 pub enum FaultKind {
     Lose,

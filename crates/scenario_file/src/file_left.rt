@@ -1,5 +1,5 @@
-//! How often names are still to come in a file that is an object with a scenario: its own, and those of its last scenario. All but the
-//! last of each can so be passed over unread.
+//! How often names are still to come in a file that is an object with a scenario: its own, and those of its last
+//! scenario. All but the last of each can so be skipped unread.
 
 use crate::left::Left;
 use crate::source::SCENARIO_NAMES;
@@ -30,9 +30,9 @@ impl FileLeft {
         }
     }
 
-    /// The names in a text that is one object, of whose own these are counted. None, where the text is no object, and where memory is
-    /// wanting. Whether a name comes again isn't asked: where the names of both objects come once each, one of the scenario's master may
-    /// come again, which isn't counted here.
+    /// The names in a text that is one object, of whose own these are counted. None if the text isn't an object, and if
+    /// memory runs out. Whether a name is repeated isn't checked: if the names of both objects appear once each, one of
+    /// the scenario's master may be repeated, which isn't counted here.
     pub fn counted(alloc: Global, bytes: &[u8], names: &[&str]) -> Option<FileLeft> {
         let own = Left::of(alloc, bytes, names)?;
         let scenario = scenario_left(alloc, bytes);

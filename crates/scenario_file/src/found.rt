@@ -1,5 +1,5 @@
-//! The items of a list, added one by one. How many rounds and cabinets there are, and the version, may stand behind them,
-//! so that they are held to the most that any scenario has; what they ask for is tested against these later.
+//! The items of a list, added one by one. How many rounds and cabinets there are, and the version, may follow later in
+//! the text, so that they are held to the most that any scenario has; what they ask for is checked against these later.
 
 ghost use Rattle.std.specs.Prelude.{◌≡◌, ◌≤◌, ◌<◌, ◌⊎◌, [], ◌∷◌, ◌++◌, false, length, IfSome, IsTrue};
 ghost use Rattle.serde_json.specs.Data.{Items, item, no_items, array, object};

@@ -1,5 +1,5 @@
-//! How often names are still to come among the members of an object. Where names come again, all but the last of each can so be
-//! passed over unread. Nothing rests on the numbers but that memory is spared: that the last of each name was read is seen in the end.
+//! How often names are still to appear among the members of an object. If names are repeated, all but the last of each
+//! can then be skipped unread. The numbers only spare memory: that the last of each name was read is seen in the end.
 
 ghost use Rattle.std.specs.Prelude.{◌≡◌, ◌<◌, ℕ, List, true, false, length, map, nat_lt, bytes_eq, get_or, string_bytes};
 ghost use Rattle.scenario_file.specs.Left.{place_from, is_left};
@@ -164,8 +164,8 @@ impl Left {
         }
     }
 
-    /// How often each of these names comes in the object that stands at a name in the object that the bytes are; of such the last
-    /// counts, and where that is no object, none comes.
+    /// How often each of these names appears in the object at a name in the object that the bytes are; of equal names
+    /// the last counts, and if that isn't an object, none appears.
     pub fn of_inner(alloc: Global, bytes: &[u8], outer: &str, names: &[&str]) -> Option<Left> {
         let mut left = Left::of_names(alloc, names)?;
         if counted(alloc, bytes, Some(outer), &mut left) {

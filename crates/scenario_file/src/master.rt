@@ -1,5 +1,5 @@
-//! The master of a scenario: its schedule is read entry by entry, and what stands beside it becomes a tree, with an empty list
-//! where the schedule stands. Of equal names the last counts; where they were counted beforehand, the last alone is read.
+//! The master of a scenario: its schedule is read entry by entry, and its other values become a tree, with an empty
+//! list for the schedule. Of equal names the last counts; if they were counted beforehand, only the last is read.
 
 ghost use Rattle.std.specs.Prelude.{◌≡◌, ◌<◌, ◌≤◌, ◌-◌, length, Some, IfSome, codes};
 ghost use Rattle.json.specs.Json.{value, members};

@@ -11,7 +11,7 @@ use serde_json::{Map, Value};
 use sig_types::NoMemory;
 use std::alloc::Global;
 
-/// Puts a value at a name, and gives what stood there.
+/// Puts a value at a name, and returns the earlier one.
 pub fn put_named(
     alloc: Global,
     members: &mut Map<String, Value>,

@@ -1,5 +1,5 @@
-//! A text that is one object around a scenario, read name by name into parts, of whatever kind these are. Of equal names the last
-//! counts; where they were counted beforehand, the last alone is read.
+//! A text that is one object around a scenario, read name by name into parts, of whatever kind these are. Of equal
+//! names the last counts; if they were counted beforehand, only the last is read.
 
 ghost use Rattle.std.specs.Prelude.{◌≡◌, ◌<◌, length, Some, IfSome, IsUtf8};
 ghost use Rattle.json.specs.Json.{value, members};
@@ -88,9 +88,9 @@ fn members_of<'a, P: OuterParts<'a>>(
     }
 }
 
-/// The parts of a text that is one object, of whose names so many come: of a name that was counted the last alone is read. None, where
-/// the text is no JSON or no object, where what stands at a name is given up, where more were counted of a name than come, and where
-/// memory is wanting.
+/// The parts of a text that is one object, whose names appear this often: of a name that was counted only the last is
+/// read. None if the text isn't JSON or isn't an object, if the value at a name is given up, if more were counted of a
+/// name than appear, and if memory runs out.
 pub fn parts_with<'a, P: OuterParts<'a>>(
     alloc: Global,
     bytes: &'a [u8],

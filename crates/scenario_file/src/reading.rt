@@ -1,5 +1,5 @@
-//! The scenario file: bytes in, a scenario or the first fault out. A right scenario is read with little memory, also where what
-//! stood earlier at one of its names is at fault. Of any other text the first fault is told by `scenario_cut`.
+//! The scenario file: bytes in, a scenario or the first fault out. A valid scenario is read with little memory, even if
+//! an earlier value at one of its names is at fault. `scenario_cut` gives the first fault of any other text.
 
 ghost use Rattle.std.specs.Prelude.{IfOk, IfErr, IfSome};
 ghost use Rattle.scenario_data.specs.Content.{scenario_content};
@@ -43,9 +43,9 @@ fn again(alloc: Global, bytes: &[u8]) -> Option<Left> {
     }
 }
 
-/// Reads a scenario that is right without a tree of the whole: first all of it, and where that gives none, of equal names, its own and
-/// those of its master, the last alone. None where the text isn't right and where memory is wanting, mostly: which of these it is, `read`
-/// tells.
+/// Reads a valid scenario without a tree of the whole: first all of it, and if that gives none, only the last of equal
+/// names, its own and those of its master. None if the text isn't valid and, mostly, if memory runs out: `read` says
+/// which of these it is.
 pub fn scenario_of(alloc: Global, bytes: &[u8]) -> Option<Scenario>
     ensures scenario { IfSome result (λ s. IsScenario bytes.now (scenario_content s)) }
     ensures reads_back { IfSome result (λ s. IsScenario s.compact.items (scenario_content s)) }

@@ -1,5 +1,6 @@
-//! A scenario as the next value of a reader, with its text in parts: what stands beside the lists as a tree, and the text of each list,
-//! which mostly is a part of the file. The text takes further inputs and another schedule, and is written without being read again.
+//! A scenario as the next value of a reader, with its text in parts: the values other than the lists as a tree, and the
+//! text of each list, which mostly is a part of the file. The text takes further inputs and another schedule, and is
+//! written without being read again.
 
 ghost use Rattle.std.specs.Prelude.{◌≡◌, ◌<◌, ◌≤◌, [], ◌++◌, true, false, codes, length, is_some, Some, IfSome, string_bytes};
 ghost use Rattle.json.specs.Json.{value};
@@ -44,8 +45,8 @@ pub(crate) const SCENARIO_NAMES: [&str; 11] = [
     "faults",
 ];
 
-/// A scenario's text in parts: its members but for the lists, the text of each list between its brackets, and whether there is an
-/// input. After a change that had not the memory it is no text any more.
+/// A scenario's text in parts: its members except the lists, the text of each list between its brackets, and whether
+/// there is an input. After a change that lacked memory it isn't a text any more.
 #[derive(Drop)]
 pub struct ScenarioText<'a> {
     frame: Map<String, Value>,
@@ -130,10 +131,10 @@ pub(crate) fn source_of<'a>(alloc: Global, whole: Whole<'a>, room: usize) -> Opt
     })
 }
 
-/// Reads the scenario that is the reader's next value, in this file, nested at most 126 deep. Of equal names that `left` has counted the
-/// last alone is read, and so of equal names of the master, where `left` has names. Nothing, where the scenario is not right, where an
-/// earlier of equal names that is read holds what none may hold, where more were counted of a name than come, or where there is no
-/// memory.
+/// Reads the scenario that is the reader's next value, in this file, nested at most 126 deep. Of equal names that
+/// `left` has counted only the last is read, and so of equal names of the master, if `left` has names. Nothing if the
+/// scenario is not valid, if an earlier of equal names that is read holds a value that no scenario may have, if more
+/// were counted of a name than appear, or if memory runs out.
 pub fn scenario_at<'a>(
     alloc: Global,
     reader: &mut Reader<'_>,
@@ -219,7 +220,7 @@ impl<'a> ScenarioText<'a> {
         }
     }
 
-    /// The compact text, with room for so many bytes.
+    /// The compact text, with room for N bytes.
     pub fn write(&self, alloc: Global, room: usize) -> Option<String>
         ensures { IfSome result (λ text. (d : Data) → Writes self.now d → string_bytes text ≡ compact_text d) }
     {

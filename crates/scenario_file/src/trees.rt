@@ -1,6 +1,7 @@
-//! Values of the text as trees, each read for itself. What has no place in a scenario is passed over: null, a number that is
-//! not whole, is below 0 or has more than 64 bits, an array or an object where none may open, an array of too many items, and an
-//! object of too many names. Of equal names the last counts, so that such a value may stand before a right one.
+//! Values of the text as trees, each read for itself. What has no place in a scenario is skipped: null, a number that
+//! is not whole, is below 0 or has more than 64 bits, an array or an object where none may open, an array of too many
+//! items, and an object of too many names. Of equal names the last counts, so that such a value may precede a valid
+//! one.
 
 ghost use Rattle.std.specs.Prelude.{◌≡◌, ◌<◌, ℕ, List, true, length, Some, IfSome, string_bytes};
 ghost use Rattle.json.specs.Json.{value, items, members};

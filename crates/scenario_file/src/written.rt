@@ -1,5 +1,6 @@
-//! The compact text of a list as it grows. A file that is compact already has this text in itself, so that none of it stands in memory
-//! a second time: each piece is compared with what comes next in the file, and copied only from the first that differs.
+//! The compact text of a list as it grows. A file that is compact already has this text in itself, so that none of it
+//! is in memory a second time: each piece is compared with what comes next in the file, and copied only from the first
+//! that differs.
 
 ghost use Rattle.std.specs.Prelude.{◌≤◌, length};
 

@@ -94,7 +94,8 @@ fn drift_in(alloc: Global, object: &Value, place: Place, version: u32) -> Result
     Ok(Drift { gain, lose })
 }
 
-/// One cabinet, at a place counted from 0, in a scenario of this version, 1 or 2: in version 2 alone it may name a drift.
+/// One cabinet, at a place counted from 0, in a scenario of this version, 1 or 2: only in version 2 may it name a
+/// drift.
 pub fn cabinet_in(
     alloc: Global,
     object: &Value,

@@ -16,7 +16,7 @@ use scenario_data::{Fault, ReadFail};
 use serde_json::Value;
 use std::alloc::Global;
 
-/// One fault of a scenario with so many rounds and cabinets.
+/// One fault of a scenario with this number of rounds and cabinets.
 pub fn fault_in(
     alloc: Global,
     object: &Value,

@@ -37,7 +37,7 @@ fn octets_at(alloc: Global, object: &Value, place: Place) -> Result<FrameOctets,
     }
 }
 
-/// One frame of a scenario with so many rounds and cabinets.
+/// One frame of a scenario with this number of rounds and cabinets.
 pub fn frame_in(
     alloc: Global,
     object: &Value,

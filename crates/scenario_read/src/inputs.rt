@@ -104,7 +104,7 @@ fn field_in(alloc: Global, object: &Value, place: Place) -> Result<Field, ReadFa
     }
 }
 
-/// One input of a scenario with so many rounds and cabinets.
+/// One input of a scenario with this number of rounds and cabinets.
 pub fn input_in(
     alloc: Global,
     object: &Value,

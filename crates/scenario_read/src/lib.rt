@@ -1,5 +1,5 @@
-//! The scenario file, read whole and refused at its first fault. What a value may be stands in the table of names; the
-//! JSON reading is `serde_json`'s (RFC 8259).
+//! The scenario file, read whole and refused at its first fault. The table of names says what a value may be; the JSON
+//! reading is `serde_json`'s (RFC 8259).
 #![tactic(auto)]
 
 mod cabinets;
@@ -62,7 +62,7 @@ pub fn bytes_have_one_answer()
     ensures one_fault { (bytes : List ℕ) → (a b : Refusal) → IsFirstFault bytes a → IsFirstFault bytes b → SameFault a b }
 {}
 
-/// A law: a limit has the name of what is beyond it. That of the whole, `.`, comes for too many bytes alone.
+/// A law: a limit has the name of what is beyond it. That of the whole, `.`, is only for too many bytes.
 pub fn limits_have_names()
     ensures { (bytes : List ℕ) → (path : String Global) → IsFirstFault bytes (Refusal.Limit path) → string_bytes path ≡ codes "." → ⊥ }
 {}

@@ -88,7 +88,7 @@ fn counted(alloc: Global, place: Place, found: &Vec<LoadItem>, cabinet: u32) -> 
     }
 }
 
-/// One load behind those found, of a scenario with so many rounds and cabinets.
+/// One load behind those found, of a scenario with this number of rounds and cabinets.
 pub fn load_in(
     alloc: Global,
     object: &Value,

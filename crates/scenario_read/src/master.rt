@@ -100,7 +100,7 @@ fn master_in(alloc: Global, object: &Value) -> Result<MasterSetup, ReadFail>
     })
 }
 
-/// The master of a scenario; where none is said, one that neither polls nor sets.
+/// The master of a scenario; by default one that neither polls nor sets.
 pub fn master_at(alloc: Global, object: &Value) -> Result<MasterSetup, ReadFail>
     ensures { Answers result (field_faults (steps_of Place.Top) (view object.now) master) (λ m. master_content m ≡ master_of (held master (view object.now))) }
 {

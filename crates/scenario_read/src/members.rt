@@ -1,4 +1,4 @@
-//! The members of an object: which names may stand there, and what stands at a name.
+//! The members of an object: which names are allowed, and the value at a name.
 
 ghost use Rattle.std.specs.Prelude.{◌≡◌, ◌≤◌, map, codes, IfOk};
 ghost use Rattle.serde_json.specs.Data.{number, unsigned};
@@ -35,7 +35,7 @@ fn known_members(
     Ok(())
 }
 
-/// Refuses what is no object, and the least name, by bytes, that is not known.
+/// Refuses a value that isn't an object, and the first unknown name in byte order.
 pub fn known_names(
     alloc: Global,
     value: &Value,
@@ -50,7 +50,7 @@ pub fn known_names(
     }
 }
 
-/// A whole number that must stand at a name.
+/// A required whole number at a name.
 pub fn whole_at(
     alloc: Global,
     object: &Value,

@@ -144,7 +144,7 @@ fn timed(alloc: Global, place: Place, act: PriorityAct) -> Result<(), ReadFail>
     }
 }
 
-/// What is asked in one item of a scenario with so many rounds and cabinets.
+/// What is asked in one item of a scenario with this number of rounds and cabinets.
 pub fn priority_in(
     alloc: Global,
     object: &Value,

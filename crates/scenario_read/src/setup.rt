@@ -18,7 +18,7 @@ use scenario_data::{Cabinet, MasterSetup, ReadFail};
 use serde_json::Value;
 use std::alloc::Global;
 
-/// What stands for the whole run.
+/// What holds for the whole run.
 #[derive(Drop)]
 pub struct Setup {
     pub rounds: u32,
@@ -28,7 +28,7 @@ pub struct Setup {
     pub master: MasterSetup,
 }
 
-/// The community of a scenario, 1 to 32 characters; `public` where none is said.
+/// The community of a scenario, 1 to 32 characters; by default `public`.
 pub fn community_at(alloc: Global, object: &Value) -> Result<ArrayVec<u8, 32>, ReadFail>
     ensures { Answers result (field_faults (steps_of Place.Top) (view object.now) community) (λ found. found.items ≡ text_of (held community (view object.now))) }
 {

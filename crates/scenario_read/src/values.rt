@@ -1,4 +1,4 @@
-//! Values that stand alone: whole numbers, texts, words, and true or false. Nothing here takes memory.
+//! Single values: whole numbers, texts, words, and true or false. Nothing here takes memory.
 
 ghost use Rattle.std.specs.Prelude.{◌≡◌, ◌≤◌, map, codes, length, ◌∷◌, [], IfOk, OnOk};
 ghost use Rattle.serde_json.specs.View.{view, items_view};
@@ -11,7 +11,7 @@ use scenario_data::{Base, Direction, FaultKind};
 use serde_json::Value;
 use sig_types::Way;
 
-/// Why a value may not stand where it does: it is of the wrong kind, or beyond the range.
+/// Why a value isn't allowed: it is of the wrong kind, or beyond the range.
 #[derive(Clone, Copy)]
 pub enum Unfit {
     Wrong,

@@ -1,6 +1,5 @@
 //! What a session with cabinets is: what is asked of it request by request, what it answers, and that it is a run, by
-//! its own journals, of the scenario that results. The functions do nothing but cite: each stands for the laws of its
-//! contract.
+//! its own journals, of the scenario that results. The functions only cite: each represents the laws of its contract.
 #![tactic(auto)]
 
 ghost use Rattle.std.specs.Prelude.{◌≤◌, ℕ, List};

@@ -1,4 +1,4 @@
-//! The lines of a session: what each asks, and why it can't be taken; and the reader of lines.
+//! The lines of a session: what each asks, and why it isn't accepted; and the reader of lines.
 #![tactic(auto)]
 
 mod line_reader;

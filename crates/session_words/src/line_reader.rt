@@ -268,8 +268,8 @@ impl LineReader {
         }
     }
 
-    /// The first line, which a newline or the end of the input ends, of at most so many bytes. Of a longer one no more is read than
-    /// the limit and a piece.
+    /// The first line, which a newline or the end of the input ends, of at most N bytes. Of a longer one no more is
+    /// read than the limit and a piece.
     pub fn first<S: Source>(
         &mut self,
         alloc: Global,

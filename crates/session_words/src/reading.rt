@@ -260,7 +260,7 @@ fn request_in(words: Words<'_>, cabinets: u32, left: u32) -> Result<Request, Unt
     }
 }
 
-/// What a line, without its newline, asks of so many cabinets, where so many ticks are left in the round.
+/// What a line, without its newline, asks of this number of cabinets, if this number of ticks is left in the round.
 pub fn read_request(line: &[u8], cabinets: u32, left: u32) -> Result<Request, Untaken>
     requires cabinets { cabinets ≤ 64 }
     requires left { left ≤ 600 }
@@ -272,7 +272,7 @@ pub fn read_request(line: &[u8], cabinets: u32, left: u32) -> Result<Request, Un
     request_in(words_in(line), cabinets, left)
 }
 
-/// The word that says why a request can't be taken.
+/// The word that says why a request isn't accepted.
 pub fn word_of(untaken: Untaken) -> &'static str
     ensures { result.now ≡ untaken_word untaken }
 {

@@ -1,4 +1,4 @@
-//! What a line of a session asks, and why a line can't be taken.
+//! What a line of a session asks, and why a line isn't accepted.
 
 use sig_types::{Field, Octets, Way};
 
@@ -13,8 +13,8 @@ pub enum Request {
     Frame(u32, Way, Octets),
 }
 
-/// Why a request can't be taken: the word that isn't one that is asked for. `Request` is the first word, the number of words, or the
-/// length of the line; `Full` says that the round has no room for more.
+/// Why a request isn't accepted: the word that isn't one that is asked for. `Request` is the first word, the number of
+/// words, or the length of the line; `Full` says that the round has no room for more.
 #[derive(Clone, Copy, PartialEq, Eq)]
 pub enum Untaken {
     Request,

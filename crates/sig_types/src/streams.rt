@@ -1,6 +1,6 @@
 //! What passes between the master, the link and a cabinet in a round, as plain data: the frames that are sent, the
-//! streams that reach the cabinet, and what it answers. It stands below the link, the master and the cabinet, so that none of
-//! these stands on another.
+//! streams that reach the cabinet, and what it answers. It is below the link, the master and the cabinet, so that none
+//! of these depends on another.
 ghost use Rattle.std.specs.Prelude.{◌≡◌, ◌≤◌};
 ghost use Rattle.sig_types.specs.Passes.{Brings, number_of, pass_of};
 
@@ -24,8 +24,8 @@ pub struct Streams {
     pub ticks: u32,
 }
 
-/// What a cabinet answers in a round, or what of that arrives at the master: the replies on each stream, in order. A frame that
-/// is met with silence has none.
+/// What a cabinet answers in a round, or what of that arrives at the master: the replies on each stream, in order. A
+/// frame that is ignored has none.
 #[derive(PartialEq, Drop)]
 pub struct Answers {
     pub polls: Vec<Octets>,
@@ -33,7 +33,7 @@ pub struct Answers {
     pub prios: Vec<Octets>,
 }
 
-/// A stream of items that come to a cabinet in a round.
+/// A stream of items that reach a cabinet in a round.
 #[derive(Clone, Copy, PartialEq, Eq)]
 pub enum Stream {
     /// Inputs from the street.

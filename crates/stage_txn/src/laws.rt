@@ -21,7 +21,7 @@ pub fn nothing_after_done()
     ensures { (past : List Answered) → NothingAfterDone past }
 {}
 
-/// Each cell of the staged tables holds what may stand in it, where so did the tables in force at each begin.
+/// Each cell of the staged tables holds an allowed value, where so did the tables in force at each begin.
 pub fn staged_tables_in_range()
     ensures { (calls : List Call) → BeginInRange calls → EachFits (staged (answered calls)) }
 {}

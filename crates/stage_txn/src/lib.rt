@@ -120,8 +120,8 @@ impl Stage {
         self.answered(StageAnswer::Staged)
     }
 
-    /// The download has so many parts: whether all have come, and its tables keep the rules beside those in force, in a
-    /// cabinet that flashes or not.
+    /// The download has this number of parts: whether all have come, and its tables keep the rules with regard to those
+    /// in force, in a cabinet that flashes or not.
     pub fn verify(&mut self, id: u32, total: u16, in_force: &Tables, flashing: bool) -> StageAnswer
         requires some { 1 ≤ id }
         ensures answer { (calls : List Call) → StageStands self.old calls

@@ -1,4 +1,4 @@
-//! What `overlaps` does: a trace is checked, and the overlap at one of its cabinets is told or refused.
+//! What `overlaps` does: a trace is checked, and the overlap at one of its cabinets is written or refused.
 
 ghost use Rattle.std.specs.Prelude.{◌≡◌, ◌⊎◌, IfSome};
 ghost use Rattle.io_edge.specs.Edge.{Rises};

@@ -1,6 +1,6 @@
-//! What a cabinet keeps of the pattern that it seeks or is in step with: the pattern laid out over its cycle, what its split
-//! asks, and the phases in the order of its sequence (FHWA Signal Timing Manual, coordination). It is read once where the
-//! pattern comes into force, and not at each tick.
+//! What a cabinet keeps of the pattern that it seeks or is coordinated in: the pattern laid out over its cycle, what
+//! its split asks, and the phases in the order of its sequence (FHWA Signal Timing Manual, coordination). It is read
+//! once where the pattern comes into force, and not at each tick.
 
 ghost use Rattle.std.specs.Prelude.{◌≡◌, ◌<◌, ◌&&◌, ◌==◌, ℕ, true, Some};
 
@@ -9,13 +9,13 @@ use pattern_plan::{SplitOptions, plan};
 use sig_tables::{Layout, Plan, Tables};
 use sig_types::{Mode, PhaseSet};
 
-/// The pattern, 0 for none, and all that is kept of it. Phase p stands at place p - 1.
+/// The pattern, 0 for none, and all that is kept of it. Phase p is at place p - 1.
 #[derive(Clone, Copy)]
 pub struct ActivePattern {
     pub pattern: u8,
     pub plan: Plan,
     pub options: SplitOptions,
-    /// The least service of each phase, in ticks.
+    /// The minimum service of each phase, in ticks.
     pub services: [u32; 16],
     /// What the tables say of all phases, with the sequence of the pattern.
     pub layout: Layout,
@@ -102,7 +102,7 @@ impl ActivePattern {
         }
     }
 
-    /// Keeps the pattern that this mode seeks or is in step with. Where it is kept already, nothing is done.
+    /// Keeps the pattern that this mode seeks or is coordinated in. Where it is kept already, nothing is done.
     pub fn follow(&mut self, tables: &Tables, mode: Mode)
         ensures stands { ActivePatternStands self.old tables.now → ActivePatternStands self.new tables.now }
         ensures bound { ActivePatternStands self.old tables.now → Names tables.now mode → IsBound self.new tables.now mode }
@@ -146,7 +146,7 @@ impl ActivePattern {
         PhaseSet::of(coordinated[0]).union(PhaseSet::of(coordinated[1]))
     }
 
-    /// Where the target of the pattern's counter stands at this time of the day.
+    /// The target of the pattern's counter at this time of the day.
     pub fn target(&self, clock: u32) -> u32
         requires of_day { clock < 864000 }
         ensures planned { result ≡ planned_target self.now.plan clock }
@@ -159,7 +159,7 @@ impl ActivePattern {
             % u64::from(plan.cycle)) as u32
     }
 
-    /// Those of the phases that have room where they begin so many ticks after this counter.
+    /// Those of the phases that have room where they begin N ticks after this counter.
     pub fn with_room(&self, counter: u32, after: u32, among: PhaseSet) -> PhaseSet
         ensures room { (t : Tables) (n : ℕ) → ActivePatternIs self.now t n
             → Has result (λ p. has among p && has_room (Some n) t counter after p) }

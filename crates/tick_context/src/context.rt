@@ -1,5 +1,5 @@
-//! What a tick goes by beside past frames, whichever engine gives them: the tables in force, the last frame, and what was
-//! told.
+//! What a tick uses in addition to past frames, whichever engine gives them: the tables in force, the last frame,
+//! commands and requests.
 
 ghost use Rattle.std.specs.Prelude.{◌≡◌, ◌<◌, ◌≤◌, ◌+◌};
 
@@ -25,7 +25,7 @@ pub struct TickContext {
     pub requests: Queue,
     /// The pattern in command, the clock and its drift.
     pub unit_commands: UnitCommands,
-    /// The pattern that was sought or in step last.
+    /// The pattern that was sought, or coordinated in, last.
     pub active_pattern: ActivePattern,
     ghost adds: { 0 < tables.unit.add },
     ghost subtracts: { 0 < tables.unit.subtract },

@@ -1,5 +1,5 @@
-//! What the context alone says of ticks that come: whether the mode, the tables and the calls leave the last frame as it
-//! is, and for how many ticks more the pattern that is kept does. Both engines pass over ticks by it.
+//! What the context says by itself of the next ticks: whether the mode, the tables and the calls leave the last frame
+//! as it is, and for how many ticks more the pattern that is kept does. Both engines skip ticks by it.
 
 ghost use Rattle.std.specs.Prelude.{◌≡◌, ◌<◌, ◌≤◌, ◌+◌, ◌-◌, ◌&&◌, ◌==◌, ◌⊎◌, ◌∷◌, [], ℕ, Bool, false, true, not, IsTrue, get_or, List, None};
 
@@ -40,7 +40,7 @@ impl TickContext {
     ghost use Rattle.tick_context.specs.ComingTicks.{is_bound_in, is_left_free, ticks_to_force, ticks_unforced, ticks_in_cycle};
     ghost use Rattle.tick_context.specs.Lasting.{IsFresh, ComesBefore, StaysFree, StaysUnforced, opposed_with};
 
-    /// Whether the cabinet runs free, or is in step with the pattern that is kept.
+    /// Whether the cabinet runs free, or is coordinated in the pattern that is kept.
     pub fn is_bound(&self) -> bool
         ensures is { result ≡ is_bound_in self.now.frame.mode self.now.active_pattern.pattern }
         ensures bound { (past : Past) → ContextStands self.now past → IsTrue result → IsBound self.now.active_pattern past.tables self.now.frame.mode }
@@ -58,7 +58,7 @@ impl TickContext {
         }
     }
 
-    /// What the split of the pattern asks that the last frame is in step with; none where it is with none.
+    /// What the split asks of the pattern in which the last frame is coordinated; none if it isn't coordinated.
     pub fn options_kept(&self) -> Option<&SplitOptions>
         ensures options { (past : Past) → IsBound self.now.active_pattern past.tables self.now.frame.mode
             → AreActivePattern result (bound self.now.frame.mode) past.tables }

@@ -35,7 +35,7 @@ impl TickContext {
         }
     }
 
-    /// Those of the phases that have room where they begin after so many ticks: all of them where no pattern binds.
+    /// Those of the phases that have room where they begin after N ticks: all of them where no pattern binds.
     pub fn with_room(&self, tick_state: &TickState, after: u32, among: PhaseSet) -> PhaseSet
         ensures room { (past : Past) → ContextRuns self.now tick_state.now past
             → Has result (λ p. has among p && has_room (bound (mode_seen past)) past.tables (tick_state_of past).counter after p) }

@@ -37,7 +37,7 @@ impl TickContext {
         self.unit_commands.command_now(&self.tables)
     }
 
-    /// Keeps the pattern that this mode, which is that of this tick, seeks or is in step with.
+    /// Keeps the pattern that this mode, which is that of this tick, seeks or is coordinated in.
     pub fn follow(&mut self, mode: Mode)
         ensures stands { (past : Past) → ContextStands self.old past → ContextStands self.new past }
         ensures bound { (past : Past) → ContextStands self.old past → mode ≡ mode_seen past → IsBound self.new.active_pattern past.tables mode }
@@ -47,8 +47,8 @@ impl TickContext {
         self.active_pattern.follow(&self.tables, mode);
     }
 
-    /// Passes over so many ticks at which the command and the clock go on evenly; in step with a pattern this is the counter of
-    /// the last of them.
+    /// Skips N ticks at which the command and the clock go on evenly; while coordinated in a pattern this is the
+    /// counter of the last of them.
     pub fn pass(&mut self, ticks: u32, counter: u32)
         requires few { told_ticks self.old + ticks ≤ 4294967295 }
         requires even { IsEven self.old.unit_commands self.old.tables ticks }
@@ -134,8 +134,8 @@ impl TickContext {
         }
     }
 
-    /// What this tick is about, in this mode, with this pattern in command. The count is that of the cycle of the pattern in
-    /// which the last frame was in step.
+    /// What this tick is about, in this mode, with this commanded pattern. The count is that of the cycle of the
+    /// pattern in which the last frame was coordinated.
     pub fn tick_state(&self, mode: Mode, command: u8, count: Count) -> TickState
         requires few { told_ticks self.now < 4294967295 }
         ensures tick_state { (past : Past) → ContextStands self.now past → CountStandsFor count past

@@ -97,8 +97,8 @@ impl TickContext {
         }
     }
 
-    /// For how many ticks more both rings stay as they are, where what is on in them stays for so many, and these phases have
-    /// demand.
+    /// For how many ticks more both rings stay as they are, if what is on in them stays for this number of ticks, and
+    /// these phases have demand.
     pub fn rings_left(&self, demand: PhaseSet, first: u32, second: u32) -> u32
         ensures left { (past : Past) (k : ℕ) → ContextStands self.now past → IsBound self.now.active_pattern past.tables self.now.frame.mode
             → phases_of demand ≡ demand_with (bound self.now.frame.mode) past

@@ -1,5 +1,6 @@
-//! What a tick goes by beside what is kept of the frames: what was told, the pattern laid out, the state of a tick, and what
-//! is seen of the last frame. A controller, which keeps registers, and an observer, who looks back, both stand on it.
+//! What a tick uses in addition to what is kept of the frames: commands and requests, the pattern laid out, the state
+//! of a tick, and what is seen of the last frame. A controller, which keeps registers, and an observer, which looks
+//! back, both use it.
 #![tactic(auto)]
 
 mod active_pattern;

@@ -4,7 +4,7 @@ ghost use Rattle.std.specs.Prelude.{◌≡◌};
 
 use sig_types::Mode;
 
-/// Whether a cabinet in this mode is in step with a pattern.
+/// Whether a cabinet in this mode is coordinated.
 pub fn is_coord(mode: Mode) -> bool
     ensures { result ≡ is_coord mode }
 {
@@ -14,7 +14,7 @@ pub fn is_coord(mode: Mode) -> bool
     }
 }
 
-/// Whether a cabinet in this mode seeks a pattern or is in step with one.
+/// Whether a cabinet in this mode seeks a pattern or is coordinated in one.
 pub fn has_pattern(mode: Mode) -> bool
     ensures { result ≡ has_pattern mode }
 {
@@ -45,7 +45,7 @@ pub fn is_free(mode: Mode) -> bool
     }
 }
 
-/// Whether a cabinet in this mode is in step with this pattern.
+/// Whether a cabinet in this mode is coordinated in this pattern.
 pub fn is_coord_of(mode: Mode, pattern: u8) -> bool
     ensures { result ≡ same_mode mode (Coord pattern) }
 {

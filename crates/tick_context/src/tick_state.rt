@@ -19,7 +19,7 @@ pub struct TickState {
     pub ring_turn: RingTurn,
     /// The walk and the pedestrian clearance, in ticks, to which a preempt cuts those of the phases beside its goal.
     pub lesser: Option<(u32, u32)>,
-    /// Where the cabinet stands in the cycle of its pattern, and what its clock asks, in ticks.
+    /// The counter of the cabinet in the cycle of its pattern, and its target, in ticks.
     pub counter: u32,
     pub target: u32,
     /// The priority request that is active, if one is.

@@ -1,5 +1,5 @@
-//! What a cabinet was told last: the pattern in command, the clock and its drift. No step looks further back than these: of
-//! the pattern the time is kept since it was commanded, after which the backup time ends it.
+//! The last commands of a cabinet: the commanded pattern, the clock and its drift. No step looks further back than
+//! these: of the pattern the time is kept since it was commanded, after which the backup time ends it.
 
 ghost use Rattle.std.specs.Prelude.{◌≡◌, ◌<◌, ◌≤◌, ◌+◌};
 
@@ -157,8 +157,8 @@ impl UnitCommands {
         self.ticks += 1;
     }
 
-    /// For how many ticks that come, of at most so many, the same pattern stays in command and the clock rises by one at each
-    /// within the day; 0 where the clock drifts.
+    /// For how many of the next ticks, at most N, the same pattern stays commanded and the clock rises by one at each
+    /// within the day; 0 if the clock drifts.
     pub fn even(&self, tables: &Tables, most: u32) -> u32
         ensures is { result ≡ even_ticks self.now tables.now most }
         ensures within { result ≤ most }
@@ -176,7 +176,7 @@ impl UnitCommands {
         }
     }
 
-    /// Passes over so many such ticks.
+    /// Skips N such ticks.
     pub fn pass(&mut self, ticks: u32, tables: &Tables)
         requires few { counted_ticks self.old + ticks ≤ 4294967295 }
         requires even { IsEven self.old tables.now ticks }

@@ -1,6 +1,7 @@
-//! What a call is promised: it waits until its phase serves it, a walk that was asked for comes with the next green of free operation, and
-//! the green that stands in the way ends once the barrier allows it. The functions have no bodies: each stands for the law of its contract.
-//! (NEMA TS 2: locking memory, barrier; FHWA Signal Timing Manual: gap-out, max-out.)
+//! What a call is promised: it waits until its phase serves it, a walk that was asked for comes with the next green of
+//! free operation, and the green that is in the way ends once the barrier allows it. The functions have no bodies: each
+//! represents the laws of its contract. (NEMA TS 2: locking memory, barrier; FHWA Signal Timing Manual: gap-out,
+//! max-out.)
 ghost use Rattle.std.specs.Prelude.{ℕ, ◌≡◌, List, true, false};
 ghost use Rattle.sig_types.specs.declared.frame.Colour.TheVariants.{Red};
 ghost use Rattle.sig_types.specs.declared.frame.Field.{Field};
@@ -20,9 +21,9 @@ ghost use Rattle.tick_laws.specs.Search.{is_walk};
 ghost use Rattle.tick_laws.specs.Waiting.{with_more, is_served_in, BeginsFree};
 ghost use Rattle.tick_laws.specs.Barrier.{EachEndsInTurn, EachEndsForOther};
 
-/// A vehicle call that an input locks while its phase is not green stands at once, and from then on until a frame shows the phase
-/// green, whatever comes in between: other modes, commands and downloads too. While it stands the phase is called at each
-/// tick at which it is enabled, red and not omitted by the pattern that binds.
+/// A vehicle call that an input locks while its phase is not green is in place at once, and from then on until a frame
+/// shows the phase green, whatever comes in between: other modes, commands and also downloads. While it is in place the
+/// phase is called at each tick at which it is enabled, red and not omitted by the pattern that binds.
 pub fn calls_stay()
     ensures locked { (h : History) (field : Field) (p : ℕ) → is_phase p ≡ true → locks_vehicle (past_at h).tables field p ≡ true
         → is_green (last_frame_of h) p ≡ false → is_in (vehicle_seen (past_at (with_one h (Input field)))) p ≡ true }
@@ -35,9 +36,10 @@ pub fn calls_stay()
         → omits (bound (mode_seen (past_at h))) (past_at h).tables p ≡ false → is_in (demand_seen (past_at h)) p ≡ true }
 {}
 
-/// A pedestrian call that a button locks while its phase does not show walk stands at once, and until a frame shows walk. The next
-/// green of its phase that begins in free operation brings the walk, where the tables in force then have one. (A green that begins in a stage
-/// of a preempt, or on the way to flash, brings none: the call waits on.)
+/// A pedestrian call that a button locks while its phase does not show walk is in place at once, and until a frame
+/// shows walk. The next green of its phase that begins in free operation brings the walk, if the tables in force then
+/// have one. (A green that begins in a stage of a preempt, or on the way to flash, brings none: the call keeps
+/// waiting.)
 pub fn walks_come()
     ensures pressed { (h : History) (field : Field) (p : ℕ) → is_phase p ≡ true → locks_pedestrian (past_at h).tables field p ≡ true
         → is_walk (last_frame_of h) p ≡ false → is_in (pedestrian_seen (past_at (with_one h (Input field)))) p ≡ true }

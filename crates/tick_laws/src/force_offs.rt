@@ -1,6 +1,7 @@
-//! A pattern's force-offs: what one step of the counter keeps of each phase between two local zeros, so that a phase is forced off
-//! only once it is served, and at local zero only the coordinated phases are on. The functions have no bodies: each stands for the law of its
-//! contract. (FHWA Signal Timing Manual: force-off, permissive period, yield point.)
+//! A pattern's force-offs: what one step of the counter keeps of each phase between two local zeros, so that a phase is
+//! forced off only once it is served, and at local zero only the coordinated phases are on. The functions have no
+//! bodies: each represents the laws of its contract. (FHWA Signal Timing Manual: force-off, permissive period, yield
+//! point.)
 ghost use Rattle.std.specs.Prelude.{ℕ, ◌<◌, ◌≤◌, ◌≡◌, ◌⊎◌, ◌+◌, ◌∷◌, List, true};
 ghost use Rattle.sig_types.specs.declared.frame.Colour.TheVariants.{Green, Red};
 ghost use Rattle.sig_types.specs.Colour.{colour_of, signal_of};
@@ -33,8 +34,8 @@ pub fn others_in_time()
         → d ≡ 0 → c + 1 ≡ cycle_time t n → colour_of m.frame p ≡ Red }
 {}
 
-/// At a force-off it is served: its least green is over, and so are its walk and its pedestrian clearance, which began with
-/// its green.
+/// At a force-off it is served: its minimum green is over, and so are its walk and its pedestrian clearance, which
+/// began with its green.
 pub fn forced_off_served()
     ensures step { (t : Tables) (p : ℕ) (l : Moment) (past : List Moment) (m : Moment) → SignalMoves t p (l ∷ past) m
         → SignalStands t p (l ∷ past) (signal_of l.frame p) → SignalStands t p (m ∷ l ∷ past) (signal_of m.frame p) }

@@ -1,6 +1,6 @@
-//! What the definition of a tick gives: laws of safety, of calls, of the clock, of force-offs and of ticks in step with a pattern,
-//! for every history. The functions have no bodies: each stands for the law of its contract.
-//! What is shown, by whom and how long, follows NEMA TS 2 and the FHWA Signal Timing Manual.
+//! What the definition of a tick gives: laws of safety, of calls, of the clock, of force-offs and of coordinated ticks,
+//! for every history. The functions have no bodies: each represents the laws of its contract. What is shown, by whom
+//! and how long, follows NEMA TS 2 and the FHWA Signal Timing Manual.
 #![tactic(auto)]
 
 mod called;
@@ -51,9 +51,9 @@ pub fn one_each()
 {}
 
 /// Each yellow and each red clearance that has ended lasted exactly the time that was in force at its first tick (FHWA
-/// Signal Timing Manual, intervals): in every history, whatever its mode, its tables and its downloads. In a lawful one each green lasted at
-/// least the minimum green that was, also where a pattern forces it off; in a stage of a preempt one that stands in its way, at least as
-/// much of that as the preempt leaves it.
+/// Signal Timing Manual, intervals): in every history, whatever its mode, its tables and its downloads. In a lawful one
+/// each green lasted at least the minimum green that was, even if a pattern forces it off; in a stage of a preempt one
+/// that is in its way lasted at least as much of that as the preempt leaves it.
 pub fn intervals_last()
     ensures clearances { (h : History) → EachClearanceEnds (past_at h).moments }
     ensures greens { (h : History) → Lawful h.tables (since_opening h) → EachGreenEnds (past_at h).moments }
@@ -78,10 +78,10 @@ pub fn on_green()
     ensures { (h : History) → Lawful h.tables (since_opening h) → EachOnGreen (past_at h).moments }
 {}
 
-/// Each walk and each pedestrian clearance that has ended lasted exactly the time that was in force at its first tick; in a
-/// stage of a preempt one that stands in its way, at least as much of that as the preempt leaves it. Walk begins after
-/// steady don't walk, pedestrian clearance follows it, and steady don't walk follows that. Of walks that end this holds in
-/// every history, of the rest in every lawful one.
+/// Each walk and each pedestrian clearance that has ended lasted exactly the time that was in force at its first tick;
+/// in a stage of a preempt one that is in its way lasted at least as much of that as the preempt leaves it. Walk begins
+/// after steady don't walk, pedestrian clearance follows it, and steady don't walk follows that. Of walks that end this
+/// holds in every history, of the rest in every lawful one.
 pub fn signals_last()
     ensures walks { (h : History) → EachWalkEnds (past_at h).moments }
     ensures signals { (h : History) → Lawful h.tables (since_opening h) → EachSignalEnds (past_at h).moments }
@@ -111,9 +111,10 @@ pub fn quiet_phases()
     ensures signals { (h : History) → Lawful h.tables (since_opening h) → EachQuiet (past_at h).moments }
 {}
 
-/// In every lawful history a pattern forces off served phases alone (FHWA Signal Timing Manual, force-off): the minimum green of the
-/// phase is over, and so are its walk and its pedestrian clearance. The definition of a force-off asks for none of this. It follows
-/// from the plan: a phase begins only where its least service ends by its force point, and from there on the counter goes on as time does.
+/// In every lawful history a pattern forces off only served phases (FHWA Signal Timing Manual, force-off): the minimum
+/// green of the phase is over, and so are its walk and its pedestrian clearance. The definition of a force-off asks for
+/// none of this. It follows from the plan: a phase begins only if its minimum service ends by its force point, and from
+/// there on the counter advances as time does.
 pub fn forces_off_served()
     ensures { (h : History) → Lawful h.tables (since_opening h) → AllServed h.tables (since_opening h) }
 {}
@@ -155,9 +156,9 @@ pub fn detectors_found()
         → is_in (detectors_seen (past_at h)) p ≡ last_turned_on (since_opening h) p }
 {}
 
-/// The phases that are active by their own options and detectors are enabled ones whose detector is on, or was turned on since
-/// the last tick (also where it was on already), or that have maximum recall. (A pattern that binds keeps those active besides
-/// that its split recalls to their maximum.)
+/// The phases that are active by their own options and detectors are enabled ones whose detector is on, or was turned
+/// on since the last tick (even if it was on already), or that have maximum recall. (A pattern that binds also keeps
+/// those active that its split recalls to their maximum.)
 pub fn active_found()
     ensures { (h : History) (p : ℕ) → is_phase p ≡ true
         → is_active (past_at h).tables (past_at h).heard (detectors_seen (past_at h)) p

@@ -1,4 +1,5 @@
-//! A frame history that is pushed the frames of a cabinet, one by one and many at once; what is due was worked by hand.
+//! A frame history that receives the frames of a cabinet, one by one and many at once; expected values are
+//! hand-computed.
 
 ghost use Rattle.std.specs.Prelude.{◌<◌, ◌≤◌};
 

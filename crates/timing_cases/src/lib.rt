@@ -1,5 +1,5 @@
-//! Worked cases of the parts of a controller and of the rules of a street, each with its expected values from outside. They stand
-//! in a crate of their own, above the parts, so that a part is proved once and not again for its tests.
+//! Worked cases of the parts of a controller and of the rules of a street, each with its expected values from outside.
+//! They are in a crate of their own, above the parts, so that a part is proved once and not again for its tests.
 #![tactic(auto)]
 
 #[cfg(test)]

@@ -1,5 +1,6 @@
-//! Only octets go over the line: whatever octets come to a cabinet, it answers with the octets of a frame, and so does the master with
-//! what it sends, and the link with what it makes of both. There is no code here: the functions stand for the laws of their contracts.
+//! Only octets go over the link: whatever octets reach a cabinet, it answers with the octets of a frame, and so does
+//! the master with what it sends, and the link with what it makes of both. It has no code: the functions represent the
+//! laws of their contracts.
 ghost use Rattle.std.specs.Prelude.{◌≤◌, List, ℕ, length, IfSome};
 ghost use Rattle.std.specs.List.{AllByRecursion};
 ghost use Rattle.sig_tables.specs.declared.tables.Tables.{Tables};
@@ -28,8 +29,8 @@ pub fn messages_are_of_octets()
     ensures written { (m : Message) → IsOctetMessage m → length (shortest m) ≤ 1472 → IsFrame (shortest m) }
 {}
 
-/// Whatever octets have come to a cabinet, and whatever come next: the reply, where there is one, is 1 to 1,472 octets. The tables that
-/// a cabinet opens with may be any whose lists are of octets, as those of a scenario are.
+/// Whatever octets have reached a cabinet, and whatever follow: the reply, if there is one, is 1 to 1,472 octets. The
+/// tables that a cabinet opens with may be any whose lists are of octets, as those of a scenario are.
 pub fn replies_are_frames()
     ensures replies { (cabinet_history : CabinetHistory) (t : Tables) (d : Drift) (octets : List ℕ) → IsOpening t d cabinet_history.opening → EachHolds t
         → AreOctetItems cabinet_history.items → AreOctets octets → IfSome (reply_to cabinet_history octets) IsFrame }

@@ -1,8 +1,9 @@
 //! Which texts are traces, and which line of another text is the first at fault; the laws of both. A trace is the text of a run,
 //! for whatever journals; all runs of a scenario are one tree (`Script`), on which the laws stand.
 //!
-//! What may be seen of a cabinet in a trace: its frames, its tables by version and its ticks; that only octets go over the line,
-//! that each line of a run is one that a trace may have, and that a text has one list of lines. There is no code here.
+//! What may be seen of a cabinet in a trace: its frames, its tables by version and its ticks; that only octets go over
+//! the link, that each line of a run is one that a trace may have, and that a text has one list of lines. It has no
+//! code.
 #![tactic(auto)]
 
 mod frame_octets;
@@ -82,7 +83,7 @@ pub fn traces_have_no_fault()
     lines_are_proper();
 }
 
-/// There is nothing between: no text is no trace and has no first fault.
+/// There is nothing between: every text is a trace or has a first fault.
 pub fn nothing_is_between()
     ensures { NothingElse }
 {}
@@ -98,8 +99,8 @@ pub fn traces_are_safe()
     run_texts_are_safe();
 }
 
-/// What the smallest run writes behind its first line, and the faults of texts that depart from it: how many lines stand before the fault,
-/// and the rule.
+/// What the smallest run writes after its first line, and the faults of texts that depart from it: the number of lines
+/// before the fault, and the rule.
 pub fn small_faults()
     ensures whole { IsBehindFirst smallest (ended (small_lines ++ codes "Z 1" ∷ [])) }
     ensures nothing { FaultOf smallest [] 0 10 }

@@ -1,4 +1,4 @@
-//! A text has one list of lines: so what the lines of a run tell, its text tells, whoever reads it and however. There is no code here.
+//! A text has one list of lines: so what the lines of a run show, its text shows, to every reader. It has no code.
 ghost use Rattle.std.specs.Prelude.{◌≡◌, ℕ, List};
 ghost use Rattle.trace_text.specs.declared.lines.Line.{Line};
 ghost use Rattle.trace_text.specs.IsLine.{IsLine};

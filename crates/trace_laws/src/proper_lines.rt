@@ -1,5 +1,5 @@
-//! The lines of a run are lines that a trace may have, whatever its journals, so its text is that of no other lines. There is no code
-//! here: the functions stand for the laws of their contracts.
+//! The lines of a run are lines that a trace may have, whatever its journals, so its text is that of no other lines. It
+//! has no code: the functions represent the laws of their contracts.
 ghost use Rattle.std.specs.Prelude.{ℕ, List};
 ghost use Rattle.scenario_data.specs.Content.{ScenarioContent};
 ghost use Rattle.safety_laws.specs.TraceText.{AreLines};

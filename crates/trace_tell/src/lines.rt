@@ -15,7 +15,7 @@ use cabinet_history::{Load, Reply};
 use sig_types::{Frame, MasterNote};
 use trace_text::Line;
 
-/// TellsLines the line of what a cabinet shows after so many ticks.
+/// Passes the line of what a cabinet shows after N ticks to the teller.
 pub fn tell_frame<T: Teller>(
     teller: &mut T,
     cab: u32,

@@ -12,8 +12,8 @@ use crate::pieces::words_of;
 use sig_types::NoMemory;
 use std::alloc::{AllocError, Global};
 
-/// The line whose text these bytes are, to the last newline; none where they are no line's. `NoMemory` where memory was
-/// refused. It gives back what `write_line` wrote.
+/// The line whose text these bytes are, to the last newline; none if they aren't a line's. `NoMemory` if memory was
+/// refused. It returns what `write_line` wrote.
 pub fn read_line(alloc: Global, bytes: &[u8]) -> Result<Option<Line>, NoMemory>
     ensures found { IfOk result (λ found. IfSome found (λ line. IsLine line × (bytes.now ≡ line_text line))) }
     ensures only { (line : Line) → IsLine line → bytes.now ≡ line_text line → IfOk result (λ found. found ≡ Some line) }

@@ -1,6 +1,5 @@
-//! The pieces of a line of words: a word or a number behind one space, octets in hexadecimal, each put
-//! at the end of one buffer. Where memory is refused, what stood in the buffer stands there still, with
-//! at most the space behind it.
+//! The pieces of a line of words: a word or a number after one space, octets in hexadecimal, each put at the end of one
+//! buffer. If memory runs out, the buffer keeps what it had, with at most the space after it.
 ghost use Rattle.std.specs.Prelude.{◌≡◌, ◌⊎◌, ◌++◌, ◌∷◌, [], OnOk, OnErr};
 ghost use Rattle.hex.specs.Hex.{encode_lower};
 
@@ -25,7 +24,7 @@ pub fn number<I: Integer>(out: &mut Vec<u8>, n: I) -> Result<(), AllocError>
     digits(out, n)
 }
 
-/// The number alone, without leading zeros.
+/// The number, without leading zeros.
 pub fn digits<I: Integer>(out: &mut Vec<u8>, n: I) -> Result<(), AllocError>
     ensures ok { OnOk result (out.new.items ≡ out.old.items ++ I.text n) }
     ensures err { OnErr result (out.new.items ≡ out.old.items) }

@@ -56,7 +56,7 @@ impl Writer {
         }
     }
 
-    /// Takes the bytes over, and writes what is held where there is no room for them. It takes no memory.
+    /// Takes the bytes over, and writes what is held if there isn't room for them. It takes no memory.
     pub fn put<K: Sink>(&mut self, sink: &mut K, bytes: &[u8]) -> Result<(), Stop>
         ensures { HandsOver K.written K.faults K.counts_exactly result self.old self.new sink.old sink.new bytes.now }
     {

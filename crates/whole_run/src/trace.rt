@@ -140,9 +140,10 @@ fn put_trace<R: Threads + Sync, K: Sink, G: Gate + Sync>(
     put_rest(crew, alloc, writer, sink, s)
 }
 
-/// Writes the whole trace of a scenario, with the journals of some order in which its items come to the cabinets; where it stops short,
-/// a front of such a trace, and not all of it: with some journals for the rounds that were closed, beyond whose lines nothing was written
-/// where rounds are left. With no worker the order is the serial one; else the workers' threads settle it.
+/// Writes the whole trace of a scenario, with the journals of some order in which its items reach the cabinets; if it
+/// stops short, a proper prefix of such a trace: with some journals for the rounds that were closed, beyond whose lines
+/// nothing was written if rounds are left. With no worker the order is the serial one; otherwise the workers' threads
+/// settle it.
 pub fn write_trace<R: Threads + Sync, K: Sink, G: Gate + Sync>(
     crew: &Crew<R, G>,
     alloc: Global,

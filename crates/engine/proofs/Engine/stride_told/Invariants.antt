@@ -5,7 +5,7 @@ use Rattle.tick_context.specs.Strides.{is_told, ticks_more}
 use Rattle.engine.specs.EngineStands.{EngineStands, tick_count, install_count}
 use Rattle.engine.proofs.Engine.stride_told.Given as goal
 
--- so many ticks were taken, and all of them gave plain frames
+-- N ticks were taken, and all of them gave plain frames
 pub record Taken {M : Type 0} (remembers : M → Past → Type 0) (frames : M → ℕ) (old new : Engine M) (done n : ℕ) : Type 0 where
   pub within : done ≤ n
   pub stands : (h : History) → EngineStands remembers old h → EngineStands remembers new (ticks_more done h)

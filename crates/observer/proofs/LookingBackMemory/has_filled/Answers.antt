@@ -11,7 +11,7 @@ use Rattle.sig_tables.specs.Seen.{view_seen}
 use Rattle.observer.proofs.Ending.{unfilled, filled}
 use Rattle.observer.proofs.LookingBackMemory.has_filled.Goals as goal
 
--- the number of the pattern with which a mode is in step
+-- the number of the pattern in which a mode is coordinated
 abbrev number : Mode → ℕ
 number (Coord n) = n
 number mode = 0
