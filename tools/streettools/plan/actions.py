@@ -44,8 +44,9 @@ class Refused(Fault):
 def taken(path: str, named: str | None = None) -> Source:
     """Reads a file that must be without faults of its names and values."""
     source = sources.load(path, named)
-    if source.errors:
-        raise Refused("\n".join(f"{path}: {it}" for it in source.errors))
+    errors = source.errors or (check.card_errors(source.street) if source.text is None else [])
+    if errors:
+        raise Refused("\n".join(f"{path}: {it}" for it in errors))
     return source
 
 

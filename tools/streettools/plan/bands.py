@@ -7,7 +7,7 @@ from collections.abc import Iterator
 
 from ..shared.program import NoProgram, found
 from ..shared.cells import tables_of
-from .findings import Finding, Level
+from .findings import Finding, Level, Rank
 from .reading import Street
 
 SECONDS = 60
@@ -56,7 +56,8 @@ def told(street: Street, section: int, pattern: int, numbers: list[int], lines: 
     name = street.names.sections.get(section, f"section {section}")
     ends = f"{street.names.called(numbers[0])} to {street.names.called(numbers[-1])}"
     if len(none) == 2:
-        yield Finding(Level.WARNING, name, f"the offsets of pattern {pattern} leave no through band, {ends} or back")
+        words = f"the offsets of pattern {pattern} leave no through band, {ends} or back"
+        yield Finding(Level.WARNING, name, words, rank=Rank.LOOK)
     elif none:
         way, band = next((way, it) for way, it in ways.items() if way not in none)
         words = (

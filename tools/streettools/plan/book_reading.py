@@ -110,6 +110,8 @@ def from_json(value: object, name: str) -> object:
 def read_value(name: str, value: object) -> object:
     """Returns what a page's cell says."""
     last = (name.split() or [""])[0]
+    if last == "conflicts" and isinstance(value, str):
+        return from_json(value, name)
     if last in PHASE_LISTS:
         words = str(value).replace(",", " ").split()
         return [] if words == ["none"] else [int(it) if it.isdecimal() else it for it in words]

@@ -1,11 +1,12 @@
 """A check of a street: every broken rule in words, in the order of the program, and what else is doubtful."""
 
 from collections.abc import Iterator
+from dataclasses import replace
 
 from ..shared.tables import Tables
-from . import bands, rules, warnings
+from . import bands, conflicts, rules, warnings
 from ..shared.cells import tables_of
-from .findings import Finding, Level
+from .findings import Finding, Level, in_order, warn
 from .pattern_sentences import sentences
 from .reading import Street
 from .sources import Source
@@ -43,7 +44,15 @@ def broken_loads(street: Street, tables: list[Tables]) -> Iterator[Finding]:
             continue
         head = f"download {counts[number]}, due in round {load['round']}, will be refused: "
         for words in sentences(new, street.names.intersection(number), found[0], before):
-            yield Finding(Level.WARNING, street.names.called(number), head + words, found[0].rule)
+            yield replace(warn(street.names.called(number), head + words), rule=found[0].rule)
+
+
+def card_errors(street: Street | None) -> list[Finding]:
+    """Returns where a street contradicts the conflict cards of its sheet."""
+    if street is None or not any(it.conflicts for it in street.names.intersections):
+        return []
+    tables = [tables_of(it) for it in street.scenario["cabinets"]]
+    return [it for it in conflicts.contradictions(tables, street.names) if it.level is Level.ERROR]
 
 
 def findings(source: Source, program: str | None = None) -> list[Finding]:
@@ -53,9 +62,9 @@ def findings(source: Source, program: str | None = None) -> list[Finding]:
     if street is not None and not (source.errors and source.text is None):
         tables = [tables_of(it) for it in street.scenario["cabinets"]]
         sound = [not rules.broken(it) for it in tables]
-        found += broken_rules(street, tables)
+        found += [*broken_rules(street, tables), *conflicts.contradictions(tables, street.names), *street.doubts]
         if not source.errors:
             found += broken_loads(street, tables) if all(sound) else ()
             found += warnings.all_of(street, tables, sound)
             found += bands.findings(street, program) if all(sound) else ()
-    return sorted(found, key=lambda it: list(Level).index(it.level))
+    return in_order(found)

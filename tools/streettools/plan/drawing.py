@@ -56,7 +56,8 @@ def read(given: object) -> Drawing:
         rings.append([()] * len(rings[0]))
     if len(rings[0]) != len(rings[1]):
         raise Wrong(
-            f"ring 1 has {len(rings[0]) - 1} barriers and ring 2 {len(rings[1]) - 1}: both cross each barrier together"
+            f"ring 1 has {len(rings[0]) - 1} barriers and ring 2 {len(rings[1]) - 1}: both cross each barrier "
+            "together; draw - where a ring has no phase"
         )
     drawing = Drawing(tuple(zip(*rings, strict=True)))
     drawn = [*drawing.ring(1), *drawing.ring(2)]

@@ -4,6 +4,7 @@ A field turns what a sheet says into the value of a cell and back. What it can't
 """
 
 import enum
+import re
 import sys
 from dataclasses import dataclass, field
 from typing import Any, TypeGuard
@@ -39,6 +40,22 @@ def one_line(given: object) -> str:
     return found
 
 
+COMMA, CENT = re.compile(r"\s*(\d+),(\d+)\s*(?:s|sec)?\s*"), re.compile(r"\s*(\d+(?:\.\d+)?)\s*%\s*")
+WITH_UNIT = re.compile(r"\s*(\d+(?:\.\d+)?)\s*(?:s|sec|seconds|mph|km/h|ft|m)\s*")
+
+
+def number_hint(given: object) -> str:
+    """Returns how to write a number that is given as a text: with a point, in seconds, without its unit."""
+    if not isinstance(given, str):
+        return ""
+    if found := COMMA.fullmatch(given):
+        return f": write {found[1]}.{found[2]}, with a point and without quotes"
+    if CENT.fullmatch(given):
+        return ": a sheet has seconds, not per cent of the cycle"
+    found = WITH_UNIT.fullmatch(given)
+    return f": write {found[1]}, without unit and quotes" if found else ""
+
+
 def shown(number: float) -> str:
     """Returns a number as people write it."""
     return f"{number:g}"
@@ -55,7 +72,7 @@ class Time:
     def read(self, given: object) -> int:
         """Returns the cell's value."""
         if not is_number(given):
-            raise Wrong(f"{given!r} is no number")
+            raise Wrong(f"{given!r} is no number{number_hint(given)}")
         scale = self.unit.value or 1
         found = round(given * scale)
         if not self.range.least <= found <= self.range.most:

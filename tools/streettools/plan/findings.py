@@ -19,9 +19,21 @@ class Level(enum.Enum):
     """Something to know."""
 
 
+class Rank(enum.Enum):
+    """How much a warning matters."""
+
+    DANGEROUS = "dangerous"
+    """People may be hurt: movements that cross, times that are too short for the street."""
+    MISTAKE = "probably a mistake"
+    """The plan does something else than what its author meant."""
+    LOOK = "worth a look"
+    """Unusual, or close to a limit."""
+
+
 @dataclass(frozen=True)
 class Finding:
-    """A finding: where, in words; and the rule, the program's line and the place in the file, where there are such."""
+    """A finding: where, in words; and the rule, the program's line and the place in the file, where there are such. A
+    warning has a rank. `is_cause` says that errors may follow from it, so that it is shown before them."""
 
     level: Level
     where: str
@@ -29,15 +41,47 @@ class Finding:
     rule: int | None = None
     line: str | None = None
     place: str | None = None
+    rank: Rank | None = None
+    is_cause: bool = False
 
     def __str__(self) -> str:
         head = ", ".join(filter(None, (self.place, self.where)))
         level = self.level.value + (f", rule {self.rule}" if self.rule else "")
+        level += f" ({self.rank.value})" if self.rank else ""
         return visible(f"{head}: {level}: {self.words}" if head else f"{level}: {self.words}")
 
     def as_json(self) -> dict[str, Any]:
         """Returns the finding as an object of JSON."""
-        return {name: it.value if isinstance(it, Level) else it for name, it in asdict(self).items() if it is not None}
+        said = {name: it for name, it in asdict(self).items() if it is not None and name != "is_cause"}
+        return {name: it.value if isinstance(it, enum.Enum) else it for name, it in said.items()}
+
+
+def warn(where: str, words: str, rank: Rank = Rank.MISTAKE, is_cause: bool = False) -> Finding:
+    """Returns a warning."""
+    return Finding(Level.WARNING, where, words, rank=rank, is_cause=is_cause)
+
+
+def note(where: str, words: str) -> Finding:
+    """Returns a note."""
+    return Finding(Level.NOTE, where, words)
+
+
+def in_order(findings: list[Finding]) -> list[Finding]:
+    """Returns findings as they are shown: the causes of errors, errors, warnings by rank, notes."""
+    is_refused = any(it.level is Level.ERROR for it in findings)
+
+    def place(it: Finding) -> tuple[bool, int, int]:
+        rank = list(Rank).index(it.rank) if it.rank else 0
+        return not (is_refused and it.is_cause), list(Level).index(it.level), rank
+
+    return sorted(findings, key=place)
+
+
+def ranked(findings: list[Finding]) -> str:
+    """Returns how many warnings there are of each rank, in brackets; nothing if there is no warning."""
+    counts = [(sum(it.rank is rank for it in findings), rank.value) for rank in Rank]
+    words = ", ".join(f"{count} {rank}" for count, rank in counts if count)
+    return f" ({words})" if words else ""
 
 
 def counted(findings: list[Finding]) -> str:
@@ -49,5 +93,6 @@ def counted(findings: list[Finding]) -> str:
         (Level.NOTE, "note", "notes"),
     ):
         count = sum(it.level is level for it in findings)
-        words.append(f"{count or 'no'} {one if count == 1 else more}")
+        ranks = ranked(findings) if level is Level.WARNING else ""
+        words.append(f"{count or 'no'} {one if count == 1 else more}{ranks}")
     return ", ".join(words)

@@ -3,13 +3,14 @@ on."""
 
 import datetime
 import difflib
-from collections.abc import Callable, Iterable, Iterator
+import re
+from collections.abc import Callable, Iterable, Iterator, Mapping
 from dataclasses import dataclass, field
 from typing import Any
 
 from ..shared import clock, fault
 from ..shared.clock import DAY_TICKS
-from .fields import Wrong, is_number
+from .fields import Wrong, is_number, number_hint
 
 
 @dataclass(frozen=True)
@@ -48,13 +49,15 @@ class Given:
         """Keeps a fault."""
         self.faults.append(Fault(", ".join(filter(None, (self.where, name))), str(words)))
 
-    def allow(self, names: Iterable[str]) -> None:
-        """Keeps a fault for each name that may not stand here."""
+    def allow(self, names: Iterable[str], homes: Mapping[str, str] | None = None) -> None:
+        """Keeps a fault for each name that may not stand here; `homes` says where other names of a sheet stand."""
         known = list(names)
         for name in self.table:
             if name not in known:
+                home = (homes or {}).get(name)
                 near = difflib.get_close_matches(name, known, 1)
-                self.fault("no such name" + (f": {near[0]}?" if near else ""), name)
+                hint = f" here: write it in {home}" if home else f": {near[0]}?" if near else ""
+                self.fault("no such name" + hint, name)
 
     def take(self, name: str, read: Callable[[Any], Any], default: Any = None) -> Any:
         """Returns what stands at a name, as it is read; the default where nothing stands there or it can't be taken."""
@@ -135,8 +138,15 @@ def number(least: int, most: int) -> Callable[[object], int]:
 def measure(given: object) -> float:
     """Returns a number that isn't below 0."""
     if not is_number(given) or given < 0:
-        raise Wrong(f"{given!r} is no number from 0 on")
+        raise Wrong(f"{given!r} is no number from 0 on{number_hint(given)}")
     return given
+
+
+def travel(given: object) -> float:
+    """Returns the seconds from an intersection to the next."""
+    if isinstance(given, list):
+        raise Wrong(f"{given!r} is a list: write one number at each intersection, the seconds from it to the next")
+    return measure(given)
 
 
 def percent(given: object) -> float:
@@ -157,7 +167,9 @@ def day_ticks(given: object) -> int:
     else:
         seconds = given if is_number(given) else None
     if seconds is None:
-        raise Wrong(f"{given!r} is no time of day, as 07:30:00")
+        late = isinstance(given, str) and re.match(r"(2[4-9]|[3-9]\d):", given)
+        hint = "; a day has 24 hours: half past midnight is 00:30:00" if late else ""
+        raise Wrong(f"{given!r} is no time of day, as 07:30:00{hint}")
     ticks = 10 * seconds
     if abs(ticks - round(ticks)) > 1e-6 or not 0 <= ticks < DAY_TICKS:
         raise Wrong(f"{given!r} is no time of day in tenths of a second")

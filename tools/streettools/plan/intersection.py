@@ -4,7 +4,7 @@ says besides."""
 from typing import Any
 
 from ..shared.tables import Tables
-from . import drawing, fields, given, names
+from . import conflicts, drawing, fields, given, names
 from ..shared.cells import cells_between, put, value
 from .fields import one_line
 from .given import Given
@@ -14,9 +14,18 @@ from .started import Read, started, word_of
 NAMES = (
     "name", "note", "standard", "command", "clock", "section", "gain", "lose", "rings", "coordination", "phase",
     "sequence",
-    "pattern", "split", "preempt", "detector", "travel",
+    "pattern", "split", "preempt", "detector", "travel", "conflicts",
 )  # fmt: skip
-ABOUT = ("name", "kind", "speed", "grade", "crossing")
+HOMES = {
+    **dict.fromkeys(("standard", "clock", "section", "rings", "travel", "conflicts"), "[[intersection]]"),
+    **dict.fromkeys(fields.UNIT_FIELDS, "[intersection.coordination]"),
+    **dict.fromkeys((*fields.PHASE_FIELDS, *fields.OPTIONS), "[intersection.phase]"),
+    **dict.fromkeys(("speed", "grade", "crossing", "width"), "[intersection.phase]"),
+    **dict.fromkeys((*fields.PATTERN_FIELDS, *SPLIT_NAMES), "[intersection.pattern.1], or another pattern"),
+}  # fmt: skip
+"""Where names stand that people write elsewhere."""
+
+ABOUT = ("name", "kind", "speed", "grade", "crossing", "width")
 
 
 def read_phase(it: Given, number: int, found: Read) -> None:
@@ -37,7 +46,7 @@ def read_phase(it: Given, number: int, found: Read) -> None:
     about = names.Phase(
         name=it.take("name", one_line, ""), kind=it.take("kind", word_of("vehicle", "pedestrian"), "vehicle"),
         speed=it.take("speed", given.measure), grade=it.take("grade", given.percent),
-        crossing=it.take("crossing", given.measure),
+        crossing=it.take("crossing", given.measure), width=it.take("width", given.measure),
     )  # fmt: skip
     if about != names.Phase():
         found.names.phases[number] = about
@@ -63,7 +72,7 @@ def read_rows(it: Given, found: Read) -> None:
     for number, row in it.each("split", 32):
         row.allow(SPLIT_NAMES)
         used[number] = f"split {number}"
-        read_split(row, number, found, None)
+        read_split(row, number, found, None, f"split {number}")
     for number, row in it.each("pattern", 48):
         read_pattern(row, number, found, used)
     for number, row in it.each("preempt", 8):
@@ -105,11 +114,12 @@ def with_partners_in(order: tuple, ring: int, rings: list[tuple], found: Read) -
 
 def read(it: Given) -> tuple[Read, dict]:
     """Returns an intersection, and the cabinet that it is in a scenario."""
-    it.allow(NAMES)
+    it.allow(NAMES, HOMES)
     found = started(it)
     found.names.name = it.take("name", one_line, "")
     found.names.note = it.take("note", given.text, "")
-    found.names.travel = it.take("travel", given.measure)
+    found.names.travel = it.take("travel", given.travel)
+    found.names.conflicts = it.take("conflicts", conflicts.read, [])
     unit = it.below("coordination")
     unit.allow(fields.UNIT_FIELDS)
     for name, each in fields.UNIT_FIELDS.items():

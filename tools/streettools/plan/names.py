@@ -27,6 +27,7 @@ class Phase:
     speed: float | None = None
     grade: float | None = None
     crossing: float | None = None
+    width: float | None = None
 
 
 @dataclass
@@ -40,6 +41,7 @@ class Intersection:
     detectors: dict[int, str] = field(default_factory=dict)
     partners: list[int] = field(default_factory=list)
     travel: float | None = None
+    conflicts: list[list[int]] = field(default_factory=list)
 
     def phase(self, number: int) -> Phase:
         """Returns what is known of a phase."""
@@ -110,10 +112,22 @@ def is_measure(value: object) -> bool:
     return value is None or is_number(value)
 
 
+def lengths(it: Phase) -> tuple[float | None, ...]:
+    """Returns what was measured of a phase's approach."""
+    return it.speed, it.grade, it.crossing, it.width
+
+
+def is_card(value: object) -> bool:
+    """Tells whether a value is a conflict card: lists of phases."""
+    return isinstance(value, list) and all(
+        isinstance(pair, list) and all(type(it) is int and 1 <= it <= 16 for it in pair) for pair in value
+    )
+
+
 def taken(found: Intersection) -> Intersection:
     """Returns an intersection whose names are in one line each. What is no name, no measure or no phase is refused."""
     phases = {number: replace(it, name=one_line(it.name)) for number, it in found.phases.items()}
-    measures = [found.travel, *(value for it in phases.values() for value in (it.speed, it.grade, it.crossing))]
+    measures = [found.travel, *(value for it in phases.values() for value in lengths(it))]
     if not all(map(is_measure, measures)):
         raise Wrong(f"intersection {found.name!r} has a measure that is no number")
     if any(it.kind not in KINDS for it in phases.values()):
@@ -122,6 +136,8 @@ def taken(found: Intersection) -> Intersection:
         raise Wrong(f"intersection {found.name!r} has a note that is no text")
     if not isinstance(found.partners, list) or not all(type(it) is int and 1 <= it <= 16 for it in found.partners):
         raise Wrong(f"intersection {found.name!r} has partners that are no phases")
+    if not is_card(found.conflicts):
+        raise Wrong(f"intersection {found.name!r} has conflicts that are no lists of phases")
     preempts, detectors = (
         {number: one_line(it) for number, it in names.items()} for names in (found.preempts, found.detectors)
     )

@@ -1,18 +1,21 @@
 """Patterns and splits of a sheet: what it says, what is entered where it says nothing, and what partners get."""
 
+from collections.abc import Iterator
+
 from ..shared.tables import ALL
 from . import fields
 from ..shared.cells import SPLITS, put, value
 from .fields import Wrong
 from .given import Given
+from .layout import OMITTED
 from .started import Read
 
 SPLIT_NAMES = ("splits", "coordinated", "modes")
 
 
-def read_split(it: Given, number: int, found: Read, usual: tuple[int, ...] | None) -> None:
+def read_split(it: Given, number: int, found: Read, usual: tuple[int, ...] | None, called: str) -> None:
     """Takes up times, modes and coordinated phases of a split, and gives partners theirs. `usual` are the phases that
-    are coordinated where nothing is said."""
+    are coordinated where nothing is said; the messages have it as `called`."""
     said_times = set()
     for name, each, column in (("splits", fields.SPLIT_TIME, 3), ("modes", fields.SPLIT_MODES, 4)):
         below = it.spread(name, len(ALL))
@@ -29,6 +32,26 @@ def read_split(it: Given, number: int, found: Read, usual: tuple[int, ...] | Non
             put(found.tables, ("split", number, phase, 5), int(phase in pair))
     if said_times or "coordinated" in it.table:
         fill_split_partners(found, number, said_times, pair)
+    if said_times:
+        found.doubts += split_doubts(found, number, said_times, called)
+
+
+def split_doubts(found: Read, number: int, said: set[int], called: str) -> Iterator[str]:
+    """Yields the phases that the splits leave to the standard table, and those that they name though they aren't
+    enabled."""
+    enabled, left = set(found.tables.enabled()), []
+    for phase in sorted(enabled - said - set(found.partners)):
+        if value(found.tables, ("split", number, phase, 4)) != OMITTED:
+            left.append(f"{found.names.phase_name(phase)}, {value(found.tables, ('split', number, phase, 3))} s")
+    if left:
+        yield f"{called} leaves splits to the standard table: {'; '.join(left)}; write them in `splits`"
+    for phase in sorted(said - enabled):
+        time = value(found.tables, ("split", number, phase, 3))
+        if time:
+            yield (
+                f"{called} gives {found.names.phase_name(phase)} {time} s, but the phase isn't enabled: draw it in "
+                "`rings`, or take the split out"
+            )
 
 
 def coordinated(said: object, found: Read) -> tuple[int, ...]:
@@ -69,6 +92,7 @@ def read_pattern(it: Given, number: int, found: Read, used: dict[int, str]) -> N
     """Takes up a pattern, with its splits where they stand with it. A pattern that is named with a cycle has split and
     sequence of its own number and 1, where nothing else is said."""
     it.allow((*fields.PATTERN_FIELDS, *SPLIT_NAMES))
+    in_seconds(it)
     said = {name: it.take(name, each.read) for name, each in fields.PATTERN_FIELDS.items()}
     if said["cycle"]:
         for name, usual in (("split", number if number in SPLITS else 0), ("sequence", 1)):
@@ -77,6 +101,7 @@ def read_pattern(it: Given, number: int, found: Read, used: dict[int, str]) -> N
     for name, new in said.items():
         if new is not None:
             put(found.tables, ("pattern", number, fields.PATTERN_FIELDS[name].column), new)
+    doubt_cycle(it, number, found)
     if not any(name in it.table for name in SPLIT_NAMES):
         return
     split = value(found.tables, ("pattern", number, 4))
@@ -90,4 +115,22 @@ def read_pattern(it: Given, number: int, found: Read, used: dict[int, str]) -> N
         )
     else:
         used[split] = f"pattern {number}"
-        read_split(it, split, found, usual_pair(found, split))
+        read_split(it, split, found, usual_pair(found, split), used[split])
+
+
+def in_seconds(it: Given) -> None:
+    """Keeps a fault where an offset is in per cent of the cycle, with its seconds, and drops it."""
+    said, cycle = it.table.get("offset"), it.table.get("cycle")
+    cent = fields.CENT.fullmatch(said) if isinstance(said, str) else None
+    if cent and fields.is_number(cycle):
+        meant = f"{float(cent[1]) * cycle / 100:.0f}"
+        it.fault(f"{said!r} is in per cent, and a sheet has seconds: write {meant}", "offset")
+        it.table = {name: value for name, value in it.table.items() if name != "offset"}
+
+
+def doubt_cycle(it: Given, number: int, found: Read) -> None:
+    """Keeps a doubt about a pattern with splits or an offset that isn't defined, since it has no cycle."""
+    if value(found.tables, ("pattern", number, 2)) == 0 and any(it.table.get(name) for name in ("splits", "offset")):
+        zero = "its cycle is 0" if "cycle" in it.table else "it has no cycle"
+        words = f"pattern {number} isn't defined, since {zero}: its splits and offset do nothing; write its cycle"
+        found.doubts.append(words)

@@ -133,28 +133,47 @@ class PatternSentences(Sentences):
         """The coordinated phases stay green long enough together."""
         laid = self.laid(row)
         one, other = laid.coordinated
-        add, skip = (value(self.tables, ("unit", column)) for column in (3, 4))
-        needs = laid.window_needs()
-        what, need = max(needs.items(), key=lambda it: it[1])
-        if what == "add":
-            why = f"add_limit may hold a cycle for {seconds(add)}"
-        elif what == "skip":
-            why = f"skip_limit may take {seconds(skip)} from a cycle, which needs twice that"
-        else:
-            phase = int(what.split()[1])
-            service = least_service(self.tables, phase)
-            why = (
-                f"after a skip of {seconds(skip)} phase {phase} needs {service_words(self.tables, phase)}, "
-                f"{seconds(service + skip)} in all"
+        head = f"pattern {row} coordinates {self.phase(one)} and {self.phase(other)}"
+        if laid.window < 0:
+            return (
+                f"{head}, but they are never green together: the later one starts (local zero) after the other has "
+                f"ended; their greens must overlap for {seconds(max(laid.window_needs().values()))}: change the splits "
+                "or the sequence"
             )
-        green = f"both are green for {seconds(laid.window)}" if laid.window >= 0 else "they are never green together"
-        mend = f"give them {ceiling(need - laid.window)} s more"
-        if what == "add" and laid.window >= max([1, *(it for name, it in needs.items() if name != "add")]):
-            mend += f", or make add_limit {laid.window / 10:g} s or less"
+        shared = f"from local zero, the later of their starts, both are green for {seconds(laid.window)}"
+        return f"{head}: {shared}, but {self.why_short(laid)}; {self.longer(laid)}"
+
+    def why_short(self, laid: Layout) -> str:
+        """Returns why the green of the coordinated phases together is too short."""
+        add, skip = (value(self.tables, ("unit", column)) for column in (3, 4))
+        what, _ = max(laid.window_needs().items(), key=lambda it: it[1])
+        if what == "add":
+            return (
+                f"while coordination corrects its offset, a cycle may be drawn out by add_limit, {seconds(add)}, which "
+                "this green must have room for"
+            )
+        skipped = f"while coordination corrects its offset, a cycle may be shortened by skip_limit, {seconds(skip)}"
+        if what == "skip":
+            return f"{skipped} (a skip), which takes twice that, {seconds(2 * skip)}, of this green"
+        phase = int(what.split()[1])
         return (
-            f"pattern {row} coordinates {self.phase(one)} and {self.phase(other)}: from local zero on {green}, but "
-            f"{why}; {mend}"
+            f"{skipped} (a skip): {seconds(max(0, laid.window - skip))} of this green are left then, and "
+            f"{self.phase(phase)} needs {service_words(self.tables, phase)} = "
+            f"{seconds(least_service(self.tables, phase))}"
         )
+
+    def longer(self, laid: Layout) -> str:
+        """Returns the nearest limits that pass, and how much longer a green would pass."""
+        add, skip = (value(self.tables, ("unit", column)) for column in (3, 4))
+        service = max(least_service(self.tables, phase) for phase in laid.coordinated)
+        passing = {"add_limit": (add, laid.window), "skip_limit": (skip, min(laid.window // 2, laid.window - service))}
+        lower = {name: most for name, (now, most) in passing.items() if now > most}
+        missing = ceiling(max(laid.window_needs().values()) - laid.window)
+        green = f"the splits of {many(laid.coordinated)} so long that this green has {missing} s more (as --fix does)"
+        if any(most < 1 for most in lower.values()):
+            return f"make {green}"
+        limits = " and ".join(f"{name} {most / 10:g} s or less" for name, most in lower.items())
+        return f"make {limits}, or {green}"
 
 
 def sentences(tables: Tables, known: Intersection, broken: rules.Broken, before: Tables | None = None) -> list[str]:

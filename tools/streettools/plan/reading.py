@@ -6,8 +6,9 @@ from collections.abc import Callable
 from dataclasses import dataclass, field
 from typing import Any
 
-from . import given, intersection, names, started
-from .fields import Wrong, one_line
+from . import given, intersection, names
+from .fields import Wrong, is_number, one_line
+from .findings import Finding, warn
 from .given import Given, Unreadable
 
 TOP = ("title", "units", "run", "master", "schedule", "sections", "intersection", "events", "respond")
@@ -28,6 +29,9 @@ class Street:
     bank: list[dict] = field(default_factory=list)
     pulses: list | None = None
     respond: dict[str, Any] | None = None
+    doubts: list[Finding] = field(default_factory=list)
+    numbers: set[int] | None = None
+    """The places of the schedule's entries whose time is written as a number; None if it comes from no sheet."""
 
     def field_file(self) -> dict[str, Any]:
         """Returns the field file around the scenario."""
@@ -113,13 +117,20 @@ def read_detectors(it: Given, cabinet: int, ticks: int, found: names.Intersectio
     return bank
 
 
+def read_units(said: object) -> str:
+    """Returns the units of speeds and lengths."""
+    if said not in names.UNITS:
+        raise Wrong(f'{said!r} is no system of units: write "us" for mph and feet, "metric" for km/h and metres')
+    return str(said)
+
+
 def read_names(top: Given) -> names.Names:
     """Returns the names that stand at the top of a sheet."""
     sections = top.below("sections")
     sections.allow(map(str, range(1, 9)))
     called = {number: sections.take(str(number), one_line) for number in range(1, 9)}
     return names.Names(
-        title=top.take("title", one_line, ""), units=top.take("units", started.word_of("us", "metric"), "us"),
+        title=top.take("title", one_line, ""), units=top.take("units", read_units, "us"),
         sections={number: name for number, name in called.items() if name},
     )  # fmt: skip
 
@@ -161,7 +172,7 @@ def read_events(top: Given, scenario: dict[str, Any]) -> list | None:
 def read_sheet(sheet: dict[str, Any]) -> tuple[Street, list[given.Fault]]:
     """Returns what a sheet comes to, and all faults that were found in it."""
     top = Given(sheet)
-    top.allow(TOP)
+    top.allow(TOP, intersection.HOMES)
     found = read_names(top)
     rows = list(top.tables("intersection"))
     if not rows:
@@ -177,10 +188,12 @@ def read_sheet(sheet: dict[str, Any]) -> tuple[Street, list[given.Fault]]:
         scenario["cabinets"].append(cabinet)
         found.intersections.append(read.names)
         street.notes += [f"{it.where}: {note}" for note in read.notes]
+        street.doubts += [warn(found.called(number), words, is_cause=True) for words in read.doubts]
         street.bank += read_detectors(it, number, scenario["ticks"], read.names)
     master = read_master(top.below("master"), read_schedule(top))
     if master is not None:
         scenario["master"] = master
+    street.numbers = {place - 1 for place, it in top.tables("schedule") if is_number(it.table.get("at"))}
     street.pulses = read_events(top, scenario)
     street.respond = respond_of(top)
     return street, top.faults

@@ -17,6 +17,7 @@ class Read:
     tables: Tables
     names: names.Intersection
     notes: list[str] = field(default_factory=list)
+    doubts: list[str] = field(default_factory=list)
     drawn: drawing.Drawing = drawing.STANDARD
     partners: dict[int, int] = field(default_factory=dict)
 

@@ -1,5 +1,5 @@
-"""What speed and width ask of yellow changes and pedestrian clearances, after the FHWA Signal Timing Manual and the
-MUTCD."""
+"""What speed and width ask of yellow changes, red clearances and pedestrian clearances, after the FHWA Signal Timing
+Manual, the formula of the ITE and the MUTCD."""
 
 import math
 
@@ -10,6 +10,9 @@ REACTION, DECELERATION, GRAVITY = 1.0, 10.0, 32.2
 """Perception and reaction in seconds, deceleration and gravity in feet per second squared."""
 
 FEET_PER_SECOND = 5280 / 3600
+VEHICLE = 20.0
+"""The length of a vehicle in feet."""
+
 WALKING = 3.5
 """How many feet a second people walk (MUTCD)."""
 
@@ -24,6 +27,16 @@ def yellow_due(phase: Phase, metric: bool) -> float | None:
     miles = phase.speed * (MILES_IN_KILOMETRE if metric else 1)
     slowing = 2 * DECELERATION + 2 * GRAVITY * (phase.grade or 0) / 100
     return round(max(3.0, REACTION + miles * FEET_PER_SECOND / slowing), 1)
+
+
+def red_due(phase: Phase, metric: bool) -> float | None:
+    """Returns the red clearance in seconds, to tenths, that the width crossed and the speed ask: (width + length of a
+    vehicle) / speed. None where no speed or no width is known."""
+    if not phase.speed or not phase.width:
+        return None
+    miles = phase.speed * (MILES_IN_KILOMETRE if metric else 1)
+    feet = phase.width * (FEET_IN_METRE if metric else 1)
+    return round((feet + VEHICLE) / (miles * FEET_PER_SECOND), 1)
 
 
 def clearance_due(phase: Phase, metric: bool) -> int | None:

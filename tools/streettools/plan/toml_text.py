@@ -8,6 +8,7 @@ import tomli_w
 from typing import Any
 
 from ..shared.given import plain
+from . import toml_hints
 from .given import Fault, Unreadable
 
 HEAD = "# A timing sheet, in seconds. What isn't said is that of the standard table; docs/PLANS.md has all names.\n"
@@ -16,9 +17,6 @@ ROWS = ("phase", "detector", "sequence")
 
 BLOCKS = ("pattern", "split", "preempt")
 """Tables of an intersection with a block for each row."""
-
-SHORT_TIME = re.compile(r"= ?\d\d?:\d\d(?!:|\d)")
-"""A time without seconds, which TOML doesn't know."""
 
 AT = re.compile(r"(.*) \(at (?:line (\d+), column (\d+)|end of document)\)")
 
@@ -116,6 +114,8 @@ def read(content: str) -> dict[str, Any]:
         if not found:
             raise Unreadable([Fault("", f"no TOML: {fault}")]) from None
         where = f"line {found[2]}, column {found[3]}" if found[2] else "at the end"
-        line = content.splitlines()[int(found[2]) - 1] if found[2] else ""
-        hint = "; a time of day has its seconds too, as 07:30:00" if SHORT_TIME.search(line) else ""
-        raise Unreadable([Fault(where, f"no TOML: {found[1][:1].lower()}{found[1][1:]}{hint}")]) from None
+        line = content.split("\n")[int(found[2]) - 1] if found[2] else content.rstrip().rpartition("\n")[2]
+        hint = toml_hints.hint(line, int(found[3] or len(line)) - 1, found[1])
+        told = f"no TOML: {found[1][:1].lower()}{found[1][1:]}"
+        words = f"{hint} ({told})" if hint else told
+        raise Unreadable([Fault(where, words)]) from None

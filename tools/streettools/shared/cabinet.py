@@ -6,7 +6,7 @@ from typing import Any, NamedTuple
 
 from . import answers
 from .trace_records import Frame, Input, Load, NotATrace
-from .plans import Plan, plan
+from .plans import Plan, correction, cycles_needed, plan
 from .tables import ALL, Tables
 
 STAGES = {"e": "entry", "t": "track", "d": "dwell", "x": "exit"}
@@ -168,18 +168,13 @@ class Cabinet:
         return target if late or target == 0 else target - known.cycle
 
     def needed(self, cycle: Cycle) -> int | None:
-        """Returns in how many cycles at most an undisturbed cabinet comes onto its offset, from a cycle that begins: as
-        often as the limit of the correction mode goes into the way to the target, twice that with a clock that drifts.
+        """Returns in how many cycles at most an undisturbed cabinet comes onto its offset, from a cycle that begins;
         None where the pattern's cycle isn't told."""
         known = self.plan(cycle.pattern)
         if known is None:
             return None
-        (dwell, add, skip), length = (self.tables.unit(column) for column in (2, 3, 4)), known.cycle
-        ahead = (length - cycle.target) % length
-        mode = self.tables.unit(1)
-        ways = {2: [(ahead, dwell)], 4: [(ahead, add)]}.get(mode, [(ahead, add), (cycle.target, skip)])
-        least = min(-(-int(way) // int(limit)) for way, limit in ways)
-        return least * (2 if self.clock.gain or self.clock.lose else 1)
+        drifts = bool(self.clock.gain or self.clock.lose)
+        return cycles_needed(correction(self.tables), known.cycle, cycle.target, drifts)
 
     def is_met(self, cycle: Cycle) -> bool:
         """Returns whether a cycle begins on the offset: to within a tick where the clock drifts."""

@@ -21,6 +21,30 @@ class Plan(NamedTuple):
     shift: int
 
 
+class Correction(NamedTuple):
+    """How offsets are corrected: the mode (2 dwell, 3 shortway, 4 add only), and by how many ticks at most a cycle
+    dwells, is drawn out, and is shortened."""
+
+    mode: int
+    dwell: int
+    add: int
+    skip: int
+
+
+def correction(tables: Tables) -> Correction:
+    """Returns how tables correct offsets."""
+    return Correction(*(int(tables.unit(column)) for column in (1, 2, 3, 4)))
+
+
+def cycles_needed(by: Correction, cycle: int, target: int, drifts: bool) -> int:
+    """Returns in how many cycles at most an undisturbed cabinet comes onto its offset from a local zero with this
+    target (the promise of docs/GUARANTEES.md): as often as the limit of the correction goes into the way to the target,
+    twice that with a clock that drifts."""
+    ahead = (cycle - target) % cycle
+    ways = {2: [(ahead, by.dwell)], 4: [(ahead, by.add)]}.get(by.mode, [(ahead, by.add), (target, by.skip)])
+    return min(-(-way // limit) for way, limit in ways) * (2 if drifts else 1)
+
+
 def slots(tables: Tables, pattern: int) -> dict[int, tuple[int, int]]:
     """Returns where each phase's slot starts and ends, in ticks from the start of the sequence."""
     split, sequence = tables.pattern(pattern, 4), tables.pattern(pattern, 5)

@@ -70,7 +70,7 @@ WARNINGS = {
         "pedestrian clearance of 12 s; 60 ft at 3.5 ft/s take 17 s",
     ),
     "a split that only just fits": (
-        "[intersection.pattern.1]\nsplits = {3 = 10, 4 = 35}",
+        "[intersection.pattern.1]\nsplits = {1 = 15, 2 = 30, 3 = 10, 4 = 35, 5 = 15, 6 = 30, 7 = 15, 8 = 30}",
         "pattern 1 gives phase 3 10 s, which only just fits: 0.5 s to spare",
     ),
     "a red clearance in seconds": (
@@ -103,14 +103,18 @@ def test_schedules_are_looked_at():
     """A pattern that isn't defined, a section that nobody has, seconds that look like hours and minutes."""
     undefined = findings('schedule = [{at = 06:00:00, pattern = 9}]\n[[intersection]]\nname = "Main"\n')
     assert undefined == [
-        "Main: warning: the schedule commands pattern 9, which isn't defined: the cabinet refuses the command"
+        "Main: warning (probably a mistake): the schedule commands pattern 9 at 06:00:00, which isn't defined: the "
+        "cabinet refuses the command and stays in free operation"
     ]
     nobody = findings("schedule = [{at = 06:00:00, section = 2, pattern = 1}]\n[[intersection]]\n")
-    assert nobody == ["schedule: warning: section 2 has entries, but no intersection is of that section"]
+    assert nobody[1:] == [
+        "schedule: warning (probably a mistake): section 2 has entries, but no intersection is of that section"
+    ]
+    assert "cabinet 1: warning (probably a mistake): the schedule has no entry for section 1" in nobody[0]
     hours = findings("schedule = [{at = 700, pattern = 1}, {at = 1630, pattern = 1}]\n[[intersection]]\n")
     assert [it.split("; ")[1] for it in hours] == [
-        "is 7:00 meant? That is second 25200",
-        "is 16:30 meant? That is second 59400",
+        'is 7:00 meant? That is second 25200, or "07:00"',
+        'is 16:30 meant? That is second 59400, or "16:30"',
     ]
     assert findings("schedule = [{at = 06:00:00, pattern = 1}, {at = 70, pattern = 254}]\n[[intersection]]\n") == []
 
