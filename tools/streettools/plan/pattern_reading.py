@@ -101,11 +101,12 @@ def read_pattern(it: Given, number: int, found: Read, used: dict[int, str]) -> N
     for name, new in said.items():
         if new is not None:
             put(found.tables, ("pattern", number, fields.PATTERN_FIELDS[name].column), new)
-    doubt_cycle(it, number, found)
     if not any(name in it.table for name in SPLIT_NAMES):
         return
     split = value(found.tables, ("pattern", number, 4))
-    if split not in SPLITS:
+    if value(found.tables, ("pattern", number, 2)) == 0 and "splits" in it.table and said["split"] is None:
+        doubt_cycle(it, number, found)
+    elif split not in SPLITS:
         it.fault("say the number of the split in which these times stand, 1 to 32", "split")
     elif split in used:
         it.fault(
@@ -129,8 +130,6 @@ def in_seconds(it: Given) -> None:
 
 
 def doubt_cycle(it: Given, number: int, found: Read) -> None:
-    """Keeps a doubt about a pattern with splits or an offset that isn't defined, since it has no cycle."""
-    if value(found.tables, ("pattern", number, 2)) == 0 and any(it.table.get(name) for name in ("splits", "offset")):
-        zero = "its cycle is 0" if "cycle" in it.table else "it has no cycle"
-        words = f"pattern {number} isn't defined, since {zero}: its splits and offset do nothing; write its cycle"
-        found.doubts.append(words)
+    """Keeps a doubt about splits of a pattern that isn't defined, since it has no cycle."""
+    zero = "its cycle is 0" if "cycle" in it.table else "it has no cycle"
+    found.doubts.append(f"pattern {number} isn't defined, since {zero}: its splits do nothing; write its cycle")

@@ -107,16 +107,16 @@ def test_schedules_are_looked_at():
         "cabinet refuses the command and stays in free operation"
     ]
     nobody = findings("schedule = [{at = 06:00:00, section = 2, pattern = 1}]\n[[intersection]]\n")
-    assert nobody[1:] == [
+    assert nobody[:1] == [
         "schedule: warning (probably a mistake): section 2 has entries, but no intersection is of that section"
     ]
-    assert "cabinet 1: warning (probably a mistake): the schedule has no entry for section 1" in nobody[0]
+    assert "cabinet 1: warning (probably a mistake): the schedule has no entry for section 1" in nobody[1]
     hours = findings("schedule = [{at = 700, pattern = 1}, {at = 1630, pattern = 1}]\n[[intersection]]\n")
     assert [it.split("; ")[1] for it in hours] == [
         'is 7:00 meant? That is second 25200, or "07:00"',
         'is 16:30 meant? That is second 59400, or "16:30"',
     ]
-    assert findings("schedule = [{at = 06:00:00, pattern = 1}, {at = 70, pattern = 254}]\n[[intersection]]\n") == []
+    assert findings("schedule = [{at = 70, pattern = 254}, {at = 06:00:00, pattern = 1}]\n[[intersection]]\n") == []
 
 
 def test_a_scenario_in_which_whole_seconds_stand_for_tenths_is_warned_of(tmp_path):
