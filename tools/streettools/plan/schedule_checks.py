@@ -86,9 +86,9 @@ def refused(street: Street, tables: list[Tables]) -> Iterator[Finding]:
             if all(undefined(it, entry.pattern) for it in versions):
                 instead = kept(line, at, versions, cabinet.get("pattern", 0))
                 told.setdefault((entry.pattern, day_text(entry.second), instead), []).append(number)
-    for (pattern, at, instead), numbers in told.items():
+    for (pattern, time, instead), numbers in told.items():
         who = "each cabinet" if len(numbers) > 1 else "the cabinet"
-        words = f"the schedule commands pattern {pattern} at {at}, which isn't defined"
+        words = f"the schedule commands pattern {pattern} at {time}, which isn't defined"
         yield warn(many(map(names.called, numbers)), f"{words}: {who} refuses the command and stays in {instead}")
 
 

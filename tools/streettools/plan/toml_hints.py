@@ -4,8 +4,8 @@ import re
 
 HINTS: tuple[tuple[str, str], ...] = (
     (r"=\s*(?:2[4-9]|[3-9]\d):\d\d", "a day has 24 hours: half past midnight is 00:30:00"),
-    (r"=\s*\d:\d\d", "a time of day has two digits of hours, and its seconds too, as 07:30:00"),
-    (r"=\s*\d\d:\d\d(?!:|\d)", "a time of day has its seconds too, as 07:30:00"),
+    (r"=\s*\d\d?:\d\d(?!:|\d)", "a time of day has its seconds too, as 07:30:00"),
+    (r"=\s*\d:\d\d:", "the hours of a time of day have two digits, as 07:30:00"),
     (r"=[^#]*[\u201c\u201d\u2018\u2019]", 'quotes are the plain ones: "'),
     (r"=\s*[\d.]+\s*%", "a sheet has seconds: write per cent of the cycle as seconds"),
     (r"=\s*[\d.]+\s*(?:sec|s|mph|km/h|ft|m)\b", "a number has no unit: times are in seconds"),

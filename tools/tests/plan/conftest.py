@@ -11,6 +11,7 @@ import pytest
 TOP = pathlib.Path(__file__).resolve().parents[3]
 sys.dont_write_bytecode = True
 sys.path[:0] = [str(TOP / "tools"), str(TOP / "vectors")]
+sys.path.append(str(TOP))
 
 collect_ignore_glob = (
     [] if all(map(importlib.util.find_spec, ("tomli_w", "openpyxl", "numpy", "tqdm", "matplotlib"))) else ["test_*.py"]
