@@ -149,8 +149,8 @@ class PatternSentences(Sentences):
         what, _ = max(laid.window_needs().items(), key=lambda it: it[1])
         if what == "add":
             return (
-                f"while coordination corrects its offset, a cycle may be drawn out by add_limit, {seconds(add)}, which "
-                "this green must have room for"
+                f"while coordination corrects its offset, a cycle may be lengthened by add_limit, {seconds(add)}, "
+                "which this green must have room for"
             )
         skipped = f"while coordination corrects its offset, a cycle may be shortened by skip_limit, {seconds(skip)}"
         if what == "skip":

@@ -1,4 +1,4 @@
-"""Splits that only just fit: one line for a pattern in which every split does, else one for each that does."""
+"""Splits that only just fit: one line for each pattern in which some do, and one for all in which every split does."""
 
 from collections.abc import Iterator
 
@@ -19,12 +19,13 @@ def rooms(laid: Layout, partners: list[int]) -> dict[int, int]:
 
 
 def of_pattern(tables: Tables, pattern: int, number: int, names: Names) -> Iterator[Finding]:
-    """Yields what only just fits in a pattern, other than all of it."""
+    """Yields in one line what only just fits in a pattern, other than all of it."""
     where, known, laid = names.called(number), names.intersection(number), Layout(tables, pattern)
-    for phase, room in rooms(laid, known.partners).items():
-        if 0 <= room < TIGHT:
-            gives = f"pattern {pattern} gives {known.phase_name(phase)} {laid.time(phase) // 10} s"
-            yield warn(where, f"{gives}, which only just fits: {seconds(room)} to spare", Rank.LOOK)
+    tight = {phase: room for phase, room in rooms(laid, known.partners).items() if 0 <= room < TIGHT}
+    if tight:
+        given = many(f"{known.phase_name(phase)} {laid.time(phase) // 10} s" for phase in tight)
+        fits = f"which only just fit{'s' * (len(tight) == 1)}: {seconds(min(tight.values()))} to spare"
+        yield warn(where, f"pattern {pattern} gives {given}, {fits}", Rank.LOOK)
 
 
 def of_pair(tables: Tables, pattern: int, number: int, names: Names) -> Iterator[Finding]:

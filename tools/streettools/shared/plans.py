@@ -23,7 +23,7 @@ class Plan(NamedTuple):
 
 class Correction(NamedTuple):
     """How offsets are corrected: the mode (2 dwell, 3 shortway, 4 add only), and by how many ticks at most a cycle
-    dwells, is drawn out, and is shortened."""
+    dwells, is lengthened, and is shortened."""
 
     mode: int
     dwell: int

@@ -124,10 +124,12 @@ def test_rule_19_says_whose_seconds_what_a_skip_is_and_the_nearest_limit():
     assert "8.2 s" in refused[0] and refused[0].endswith(
         "; make the splits of 2 and 6 so long that this green has 16 s more (as --fix does)"
     )
-    near = found_in(LEAD_LAG.replace("1 = 14, 2 = 38", "1 = 10, 2 = 42").replace("5 = 24, 6 = 28", "5 = 14, 6 = 38"))
+    lagging = LEAD_LAG.replace("1 = 14, 2 = 38", "1 = 10, 2 = 42").replace("5 = 24, 6 = 28", "5 = 14, 6 = 38")
+    near = found_in(lagging)
     assert near[0] == (
         "Depot: error, rule 19: pattern 1 coordinates phase 2 and phase 6: from local zero, the later of their starts, "
-        "both are green for 22.2 s, but while coordination corrects its offset, a cycle may be shortened by skip_limit, "
-        "3 s (a skip): 19.2 s of this green are left then, and phase 2 needs walk 7 + flashing don't walk 14 = 21 s; "
-        "make skip_limit 1.2 s or less, or the splits of 2 and 6 so long that this green has 2 s more (as --fix does)"
+        "both are green for 22.2 s, but while coordination corrects its offset, a cycle may be shortened by "
+        "skip_limit, 3 s (a skip): 19.2 s of this green are left then, and phase 2 needs walk 7 + "
+        "flashing don't walk 14 = 21 s; make skip_limit 1.2 s or less, or the splits of 2 and 6 so long that "
+        "this green has 2 s more (as --fix does)"
     )

@@ -80,7 +80,10 @@ MISTAKE, DANGEROUS, LOOK = "warning (probably a mistake)", "warning (dangerous)"
 PHASE_2 = 'yellow = 4.0, red_clear = 1.5}'
 RINGS = '["1 2 | 3 4", "5 6 | 7 8"]'
 SPLITS = "splits = {1 = 15, 2 = 30, 3 = 15, 4 = 30, 5 = 15, 6 = 30, 7 = 15, 8 = 30}"
-BUS = "priority = [{round = 90, cabinet = 1, number = 1, class = 1, level = 1, phase = 2, arrival = 300, departure = 350}]"
+BUS = (
+    "priority = [{round = 90, cabinet = 1, number = 1, class = 1, level = 1, phase = 2, "
+    "arrival = 300, departure = 350}]"
+)
 HIGH = "[intersection.preempt.1]"
 
 FOUND = {
@@ -179,7 +182,8 @@ FOUND = {
     # from here on, others that a new user makes
     "a decimal comma": (
         {PHASE_2: "yellow = 4,3, red_clear = 1.5}"},
-        "line 24, column 63: error: a number has a decimal point, not a comma: write 4.3 (no TOML: expected '=' after a key in a key/value pair)",
+        "line 24, column 63: error: a number has a decimal point, not a comma: write 4.3 (no TOML: expected '=' after "
+        "a key in a key/value pair)",
     ),
     "a decimal comma in quotes": (
         {PHASE_2: 'yellow = "4,3"}'},
@@ -242,8 +246,8 @@ FOUND = {
     ),
     "a pattern that is there twice": (
         {"[intersection.pattern.2]\ncycle = 100\noffset": "[intersection.pattern.1]\ncycle = 100\noffset"},
-        "line 35, column 24: error: this is in the sheet twice: keep one, or give the second a number or name of its own "
-        "(no TOML: cannot declare ('intersection', 'pattern', '1') twice)",
+        "line 35, column 24: error: this is in the sheet twice: keep one, or give the second a number or name of its "
+        "own (no TOML: cannot declare ('intersection', 'pattern', '1') twice)",
     ),
     "a ring without phases": (
         {RINGS: '["1 2 | 3 4", ""]'},
@@ -338,4 +342,5 @@ def test_times_in_tenths_are_shown_before_the_sums_that_follow_from_them():
 def test_warnings_come_by_their_rank():
     """A short yellow, then a preempt that does nothing, then times out of order."""
     lines = found_in(changed({"yellow = 4.0": "yellow = 3.5", "dwell = [2]": "", "15:30:00": "05:30:00"}))
-    assert [line.split("(")[1].split(")")[0] for line in lines[:3]] == ["dangerous", "probably a mistake", "worth a look"]
+    ranks = [line.split("(")[1].split(")")[0] for line in lines[:3]]
+    assert ranks == ["dangerous", "probably a mistake", "worth a look"]

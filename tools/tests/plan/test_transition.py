@@ -55,20 +55,21 @@ def notes_of(text: str) -> list[str]:
 
 
 def test_a_change_of_plan_has_its_cycles_and_minutes():
-    """In a cycle of 110 s that is 41.2 s late, 14 skips of 3 s or 14 adds of 5 s are needed (68.8 / 5); each cycle
+    """In a cycle of 110 s that is 41.2 s late, 14 skips of 3 s or 14 adds of 5 s are needed (68.8 / 5). Each cycle
     lasts 115 s at most, and one more passes before local zero: 15 x 115 s are 28 min 45 s, from 6:30 until 6:58:45.
-    The coordinated phases are green for 37 - 5.5 = 31.5 s: an add of so many is allowed, and a skip of 12.5 s leaves
-    the 19 s of the crossing. 9.6 s late, that are 4 skips of 3 s or 4 adds of 31.5 s, and 5 x 141.5 s are 11 min 48 s;
-    78.6 s late, that are 7 skips of 12.5 s or 7 adds of 5 s (31.4 / 5), and 8 x 122.5 s are 16 min 20 s."""
+
+    The coordinated phases are green for 37 - 5.5 = 31.5 s: so much may be added, and a skip of 12.5 s leaves the 19 s
+    of the crossing. 9.6 s late, that are 4 skips of 3 s or 4 adds of 31.5 s, and 5 x 141.5 s are 11 min 48 s; 78.6 s
+    late, that are 7 skips of 12.5 s or 7 adds of 5 s (31.4 / 5), and 8 x 122.5 s are 16 min 20 s."""
     told = notes_of(SHEET)
     assert told[0] == (
         "Grant St: note: a change to pattern 2 takes up to 14 cycles (29 min) to come onto its offset (shortway, "
-        "add_limit 5 s, skip_limit 3 s); by the rules, add_limit = 31.5 makes that 4 cycles (12 min), skip_limit = 12.5 "
-        "makes that 7 cycles (17 min)"
+        "add_limit 5 s, skip_limit 3 s); by the rules, add_limit = 31.5 makes that 4 cycles (12 min), skip_limit = "
+        "12.5 makes that 7 cycles (17 min)"
     )
     assert told[1] == (
-        "schedule: note: at 06:30:00 pattern 2: every intersection is on its offset by 06:58:45 at the latest; Grant St "
-        "takes longest, 14 cycles"
+        "schedule: note: at 06:30:00 pattern 2: every intersection is on its offset by 06:58:45 at the latest; Grant "
+        "St takes longest, 14 cycles"
     )
 
 
@@ -87,8 +88,8 @@ def test_a_clock_that_gains_is_promised_nothing_by_other_corrections():
     assert "28 cycles" in notes_of(drifting)[0]
     told = notes_of(drifting.replace('"shortway"', '"add only"'))
     assert told == [
-        "Grant St: note: no time is promised in which it comes onto its offset: its clock gains, and only the correction "
-        '"shortway" follows that'
+        "Grant St: note: no time is promised in which it comes onto its offset: its clock gains, and only the "
+        'correction "shortway" follows that'
     ]
 
 
