@@ -5,6 +5,7 @@ pattern binds: `bound` is its number, None where none does.
 """
 
 from dataclasses import dataclass, replace
+from enum import Enum
 
 from model import plan
 from model.tables import (
@@ -22,6 +23,18 @@ from model.words import Frame, Signal
 
 Phases = frozenset[int]
 NONE: Phases = frozenset()
+
+
+class Caller(Enum):
+    """What gives a phase demand while it is Red."""
+
+    DETECTOR = "detector"
+    LOCKED = "locked call"
+    BUTTON = "button"
+    MINIMUM_RECALL = "minimum recall"
+    MAXIMUM_RECALL = "maximum recall"
+    PEDESTRIAN_RECALL = "pedestrian recall"
+    COORDINATED = "coordinated"
 
 
 @dataclass(frozen=True)
@@ -84,12 +97,21 @@ def walk_recall(tables: Tables, bound: int | None) -> Phases:
 
 
 @of_tables
+def standing_callers(tables: Tables, bound: int | None) -> dict[Caller, Phases]:
+    """Returns the phases that have demand whenever they are Red, by what calls them: a recall of any kind, or the
+    pattern that binds and coordinates them."""
+    return {
+        Caller.MINIMUM_RECALL: with_option(tables, MINIMUM_RECALL) | split_recall(tables, bound, (3,)),
+        Caller.MAXIMUM_RECALL: maximum_recall(tables, bound),
+        Caller.PEDESTRIAN_RECALL: walk_recall(tables, bound),
+        Caller.COORDINATED: NONE if bound is None else plan.coordinated(tables, bound),
+    }
+
+
+@of_tables
 def standing_demand(tables: Tables, bound: int | None) -> Phases:
-    """Returns the phases that have demand whenever they are Red: recalled in any way, or coordinated by the pattern
-    that binds."""
-    held = NONE if bound is None else plan.coordinated(tables, bound)
-    recalled = with_option(tables, MINIMUM_RECALL) | split_recall(tables, bound, (3,))
-    return recalled | maximum_recall(tables, bound) | walk_recall(tables, bound) | held
+    """Returns the phases that have demand whenever they are Red."""
+    return NONE.union(*standing_callers(tables, bound).values())
 
 
 @of_tables
@@ -104,11 +126,30 @@ def walkers(tables: Tables) -> Phases:
     return frozenset(p for p in enabled(tables) if rows(tables)[p].walk >= 1)
 
 
+def by_input(calls: Calls, tables: Tables) -> dict[Caller, Phases]:
+    """Returns the phases that inputs call: a vehicle on the detector, a locked call, a push button."""
+    return {
+        Caller.DETECTOR: calls.detectors,
+        Caller.LOCKED: calls.locked,
+        Caller.BUTTON: calls.pressed & walkers(tables),
+    }
+
+
+def callers(calls: Calls, tables: Tables, bound: int | None, p: int) -> tuple[Caller, ...]:
+    """Returns what calls a phase, whether it is Red or not."""
+    every = {**by_input(calls, tables), **standing_callers(tables, bound)}
+    return tuple(caller for caller, phases in every.items() if p in phases)
+
+
+def called(calls: Calls, tables: Tables, bound: int | None) -> Phases:
+    """Returns the phases that are called, by an input or always, whether they are Red or not."""
+    return standing_demand(tables, bound).union(*by_input(calls, tables).values())
+
+
 def demand(calls: Calls, tables: Tables, shown: Frame, bound: int | None) -> Phases:
     """Returns the phases with demand: Red, not left out, and called, with a vehicle on the detector, recalled or
     coordinated."""
-    called = calls.locked | calls.detectors | (calls.pressed & walkers(tables)) | standing_demand(tables, bound)
-    return called & shown.lights.red & servable(tables, bound)
+    return called(calls, tables, bound) & shown.lights.red & servable(tables, bound)
 
 
 def active(calls: Calls, tables: Tables, bound: int | None) -> Phases:

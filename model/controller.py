@@ -3,13 +3,14 @@
 docs/DEFINITIONS.md, "A history, and looking back over it": `Event`.
 """
 
+from collections.abc import Callable
 from dataclasses import replace
 
 from model import calls, priority
 from model.orders import Drift
 from model.past import Moment, Past
 from model.tables import Tables
-from model.tick import next_moment
+from model.tick import Decided, decided, moment_of
 from model.words import FLASH
 
 
@@ -19,11 +20,16 @@ class Controller:
     def __init__(self, tables: Tables, command: int, clock: int, drift: Drift = Drift()) -> None:
         self.past = Past(tables, command, clock)
         self.drift = drift
+        self.watch: Callable[[Decided], None] | None = None
+        """Is given what each tick decides, before it becomes past."""
 
     def tick(self) -> tuple[Moment, bool]:
         """Returns the moment that the next tick gives, and whether its frame has a line in a trace."""
         past = self.past
-        now, before = next_moment(past, self.drift), past.last.frame
+        at, before = decided(past, self.drift), past.last.frame
+        if self.watch is not None:
+            self.watch(at)
+        now = moment_of(at)
         past.moments.append(now)
         past.told = replace(past.told, command=None, clock=None, calls=now.calls, places=now.places)
         return now, now.frame.shows_other(before) or now.frame.is_local_zero(before)

@@ -34,9 +34,14 @@ def signal_next(past: Past, p: int, row: Preempt | None) -> Signal:
     return shown if run < time else Signal.DONT
 
 
-def is_served(past: Past, p: int, row: Preempt | None) -> bool:
-    """Tells whether a Green phase has had its least green, and no walk or pedestrian clearance of it runs on."""
+def has_least_green(past: Past, p: int, row: Preempt | None) -> bool:
+    """Tells whether a Green phase has had its least green."""
     least = rows(past.latched(p))[p].least_green
     if row is not None:
         least = max(1, min(least, row.least_green))
-    return past.run(p) >= least and signal_next(past, p, row) is Signal.DONT
+    return past.run(p) >= least
+
+
+def is_served(past: Past, p: int, row: Preempt | None) -> bool:
+    """Tells whether a Green phase has had its least green, and no walk or pedestrian clearance of it runs on."""
+    return has_least_green(past, p, row) and signal_next(past, p, row) is Signal.DONT

@@ -88,6 +88,16 @@ class Past:
         """Returns the last moment."""
         return self.moments[-1]
 
+    def thin(self) -> None:
+        """Puts in place of the moment before the last one the one before that, where both show the same: the tables of
+        a colour or a signal are read of the moment with which it began. A past that is thinned takes no memory for what
+        stays the same."""
+        if len(self.moments) < 3:
+            return
+        one, two = (it.frame for it in self.moments[-3:-1])
+        if one.lights is two.lights and one.signals is two.signals:
+            self.moments[-2] = self.moments[-3]
+
     def run(self, p: int) -> int:
         """Returns for how many last frames in a row a phase shows its colour."""
         return self.last.number - self.last.colour_began[p] + 1

@@ -6,6 +6,7 @@ pattern. A phase is wanted with k where it has demand and, with a pattern, room 
 
 import functools
 from dataclasses import dataclass
+from enum import Enum
 
 from model import sides
 from model.calls import maximum_recall, servable
@@ -17,6 +18,25 @@ from model.words import RINGS, Colour
 
 EXTENSION_LIMIT = 6
 """The column of the unit that holds the extension limit, in ticks."""
+
+
+class Ending(Enum):
+    """The reasons for which a Green phase that has been served may end."""
+
+    GAP = "gap"
+    MAXIMUM = "maximum"
+    FORCE_POINT = "force point"
+    PRIORITY = "priority"
+    SPLIT_FILLED = "split filled"
+
+
+class Hold(Enum):
+    """Why a Green phase does not end."""
+
+    UNSERVED = "it has not been served"
+    NO_REASON = "it has no reason to end"
+    BARRIER = "the other ring can't leave the side"
+    NOTHING_NEXT = "no next phase is wanted"
 
 
 def runs_out(past: Past, p: int) -> Colour | None:
@@ -83,8 +103,17 @@ class Rings:
         """Tells whether the pattern that binds leaves room for the service of a phase that begins after k ticks."""
         if self.plan is None or p in self.plan.coordinated:
             return True
-        least = self.row[p].least_service
-        return self.plan.window <= self.counter and self.counter + k + least <= self.plan.force[p]
+        return self.is_released() and self.too_few(p, k) <= 0
+
+    def is_released(self) -> bool:
+        """Tells whether the counter is at the end of the window or past it, so that other phases than the coordinated
+        ones may have room."""
+        return self.plan.window <= self.counter
+
+    def too_few(self, p: int, k: int) -> int:
+        """Returns how many ticks are missing before the force point of a phase for its service after k ticks more;
+        none are where it is 0 or less."""
+        return self.counter + k + self.row[p].least_service - self.plan.force[p]
 
     def is_wanted(self, p: int, k: int) -> bool:
         """Tells whether a phase has demand and room."""
@@ -107,22 +136,26 @@ class Rings:
         """Tells whether no vehicle has come for the passage time."""
         return p not in maximum_recall(self.tables, self.bound) and self.quiet.get(p, 0) >= self.row[p].passage
 
-    def has_reason(self, p: int) -> bool:
-        """Tells whether a served Green has a reason to end: in free operation gap or maximum; with a pattern gap, an
+    def reason(self, p: int) -> Ending | None:
+        """Returns the reason for which a Green phase may end: in free operation gap or maximum, with a pattern gap, an
         active priority request or its split filled, and for a coordinated phase its force point alone."""
-        if self.plan is None:
-            return self.has_gap(p) or self.opposed.get(p, 0) >= self.row[p].maximum
-        if p in self.plan.coordinated:
+        if self.plan is not None and p in self.plan.coordinated:
             extension = self.tables.unit(EXTENSION_LIMIT) if self.request else 0
-            return self.counter >= self.plan.force[p] + extension
+            return Ending.FORCE_POINT if self.counter >= self.plan.force[p] + extension else None
+        if self.has_gap(p):
+            return Ending.GAP
+        if self.plan is None:
+            return Ending.MAXIMUM if self.opposed.get(p, 0) >= self.row[p].maximum else None
+        if self.request:
+            return Ending.PRIORITY
         filled = self.past.run(p) + self.row[p].clearance >= split_time(self.tables, self.bound, p)
-        return self.has_gap(p) or bool(self.request) or (self.plan.is_floating and filled)
+        return Ending.SPLIT_FILLED if self.plan.is_floating and filled else None
 
     @functools.cached_property
     def done(self) -> frozenset[int]:
         """Returns the Green phases that have been served and have a reason to end."""
         green = self.past.last.frame.lights.green
-        return frozenset(p for p in green if is_served(self.past, p, None) and self.has_reason(p))
+        return frozenset(p for p in green if is_served(self.past, p, None) and self.reason(p))
 
     def has_later(self, ring: int, p: int) -> bool:
         """Tells whether a later phase of a ring is wanted once the Green phase p of it has cleared."""
@@ -132,19 +165,20 @@ class Rings:
         """Tells whether a phase that the pattern doesn't coordinate has reached its force point."""
         return self.plan is not None and p not in self.plan.coordinated and self.counter >= self.plan.force[p]
 
-    def ends(self, ring: int, p: int) -> bool:
-        """Tells whether the Green phase of a ring turns Yellow."""
+    def held(self, ring: int, p: int) -> Hold | None:
+        """Returns why the Green phase of a ring does not turn Yellow; None where it does."""
         if self.is_forced_off(p):
-            return True
+            return None
         if p not in self.done:
-            return False
+            return Hold.NO_REASON if is_served(self.past, p, None) else Hold.UNSERVED
         if self.has_later(ring, p):
-            return True
+            return None
         if self.elsewhere(self.clearance_on):
             other = 3 - ring
             q = self.on.get(other)
-            return q is None or (q in self.done and not self.has_later(other, q))
-        return any(self.is_wanted(q, self.row[p].clearance) for q in self.earlier(ring) if q != p)
+            return None if q is None or (q in self.done and not self.has_later(other, q)) else Hold.BARRIER
+        returns = any(self.is_wanted(q, self.row[p].clearance) for q in self.earlier(ring) if q != p)
+        return None if returns else Hold.NOTHING_NEXT
 
     def begins(self, ring: int, k: int) -> int | None:
         """Returns the phase that an open ring begins on the present side: the first later one, else, while no other
@@ -187,4 +221,4 @@ class Rings:
     def ending(self) -> set[int]:
         """Returns the phases that turn Yellow."""
         green = self.past.last.frame.lights.green
-        return {p for ring, p in self.on.items() if p in green and self.ends(ring, p)}
+        return {p for ring, p in self.on.items() if p in green and self.held(ring, p) is None}

@@ -93,22 +93,40 @@ def moves(past: Past, now: TickState, rings: Rings, started: set[int]) -> tuple[
     return rings.ending(), rings.beginning()
 
 
-def next_moment(past: Past, drift: Drift) -> Moment:
-    """Returns the moment that a tick gives."""
-    last, now = past.last, tick_state(past, drift)
+@dataclass
+class Decided:
+    """What a tick decides of greens, from the past before it: the phases that turn Green as Start ends, those that
+    turn Yellow, those that turn Green."""
+
+    past: Past
+    now: TickState
+    rings: Rings
+    started: set[int]
+    ended: set[int]
+    begun: set[int]
+
+
+def decided(past: Past, drift: Drift) -> Decided:
+    """Returns what the tick that comes decides."""
+    now = tick_state(past, drift)
     rings = rings_seen(past, now)
     started = start_up_phases(past, now.mode)
-    ended, begun = moves(past, now, rings, started)
+    return Decided(past, now, rings, started, *moves(past, now, rings, started))
+
+
+def moment_of(at: Decided) -> Moment:
+    """Returns the moment that a tick gives by what it decides."""
+    past, last, now = at.past, at.past.last, at.now
     over = {p: colour for p in last.frame.lights.clearing if (colour := runs_out(past, p)) is not None}
     lights = last.frame.lights.changed(
-        {**over, **dict.fromkeys(ended, Colour.YELLOW), **dict.fromkeys(begun, Colour.GREEN)}
+        {**over, **dict.fromkeys(at.ended, Colour.YELLOW), **dict.fromkeys(at.begun, Colour.GREEN)}
     )
     mode = modes.reached(past.tables, now.mode, lights)
     bare = Frame(lights, last.frame.signals, mode, now.counter, now.target, past.version)
-    crossing = Crossing(past, lights, mode, bare.is_local_zero(last.frame), bool(started), rings)
+    crossing = Crossing(past, lights, mode, bare.is_local_zero(last.frame), bool(at.started), at.rings)
     goal = modes.goal(past.tables, now.mode) if now.mode.kind in modes.GOALS else None
     frame = Frame(lights, signals_after(crossing, goal), mode, now.counter, now.target, past.version)
-    return moment(past, now, rings, frame)
+    return moment(past, now, at.rings, frame)
 
 
 def moment(past: Past, now: TickState, rings: Rings, frame: Frame) -> Moment:
