@@ -7,16 +7,15 @@ which takes the journals of the text.
 """
 
 import os
-import pathlib
 import re
 import subprocess
 import sys
 import time
 
+from streettools.shared.independent import has_model
 from streettools.shared.saying import say
 from streettools.shared.status import Status
 
-HERE = pathlib.Path(__file__).resolve()
 FAULT = re.compile(r"trace: line (\d+) breaks rule (\d+)")
 TOO_LONG = 1
 """The rule that a text with too many bytes breaks: no line of it was looked at."""
@@ -53,12 +52,9 @@ def by_program(program: str, scenario: bytes, before: bytes) -> bytes | None:
 
 
 def model_parts() -> tuple:
-    """Returns the parts of the model that are needed: it stands at the top of a checkout, and beside these tools where
-    they are installed."""
-    top = next((it for it in (HERE.parents[2], HERE.parents[3]) if (it / "model/run.py").is_file()), None)
-    if top is None:
+    """Returns the parts of the model that are needed."""
+    if not has_model():
         raise Untold("the model, which tells it where journals have this order, isn't here")
-    sys.path.insert(0, str(top))
     from model import lines, run, scenario_read
 
     return lines, run, scenario_read
