@@ -3,7 +3,12 @@
 The file also tells the partners: phases that were entered only because the rings need them. They are left out.
 """
 
+from typing import TYPE_CHECKING
+
 from ..shared.fault import Fault
+
+if TYPE_CHECKING:
+    from ..plan.names import Names
 
 
 def plain(name: str) -> str:
@@ -14,16 +19,16 @@ def plain(name: str) -> str:
 class Called:
     """The names of cabinets, phases and preempts; `is_given` tells whether there is a names file."""
 
-    def __init__(self, names=None):
+    def __init__(self, names: "Names | None" = None) -> None:
         self.names, self.is_given = names, names is not None
 
     def title(self) -> str:
         """Returns the name of the whole street, empty where it has none."""
-        return plain(self.names.title) if self.is_given else ""
+        return plain(self.names.title) if self.names else ""
 
     def street(self, number: int) -> str:
         """Returns the name of a cabinet's intersection, empty where it has none."""
-        return plain(self.names.intersection(number).name) if self.is_given else ""
+        return plain(self.names.intersection(number).name) if self.names else ""
 
     def cabinet(self, number: int) -> str:
         """Returns the title of a cabinet."""
@@ -32,16 +37,16 @@ class Called:
 
     def phase(self, number: int, phase: int) -> str:
         """Returns the name of a cabinet's phase, empty where it has none."""
-        return plain(self.names.intersection(number).phase(phase).name) if self.is_given else ""
+        return plain(self.names.intersection(number).phase(phase).name) if self.names else ""
 
     def preempt(self, number: int, preempt: int) -> str:
         """Returns the words for a cabinet's preempt."""
-        name = plain(self.names.intersection(number).preempts.get(preempt, "")) if self.is_given else ""
+        name = plain(self.names.intersection(number).preempts.get(preempt, "")) if self.names else ""
         return f"{name} (preempt {preempt})" if name else f"preempt {preempt}"
 
     def partners(self, number: int) -> frozenset[int]:
         """Returns the phases of a cabinet that are left out."""
-        return frozenset(range(1, 17)).intersection(self.names.intersection(number).partners if self.is_given else ())
+        return frozenset(range(1, 17)).intersection(self.names.intersection(number).partners if self.names else ())
 
     def left_out(self, number: int) -> str:
         """Returns the words that tell which phases of a cabinet are left out, empty where none is."""
@@ -68,3 +73,11 @@ def read(path: str) -> Called:
             return Called(names.read(file.read()))
     except (names.NoNames, UnicodeDecodeError) as fault:
         raise Fault(f"{path}: {fault}") from None
+
+
+def fitting(found: Called, path: str, cabinets: int) -> Called:
+    """Returns the names of a file; one that names more intersections than a trace has cabinets is another's."""
+    named = len(found.names.intersections) if found.names else 0
+    if named > cabinets:
+        raise Fault(f"{path}: it names {named} intersections, and the trace has {cabinets} cabinets")
+    return found

@@ -32,14 +32,8 @@ def span(words, reader, usual):
 
 
 def names_of(words, reader):
-    """Returns what things are called; a file that names more intersections than the trace has cabinets is another's."""
-    if not words.names:
-        return called.Called()
-    found = called.read(words.names)
-    named = len(found.names.intersections)
-    if named > reader.cabinets:
-        raise Fault(f"{words.names}: it names {named} intersections, and the trace has {reader.cabinets} cabinets")
-    return found
+    """Returns what things are called."""
+    return called.fitting(called.read(words.names), words.names, reader.cabinets) if words.names else called.Called()
 
 
 def street_of(words, reader):
