@@ -18,6 +18,7 @@ TOP = pathlib.Path(__file__).resolve().parents[3]
 
 MODULES = {
     "look": ["look.words"],
+    "why": ["why.command"],
     "plan": ["plan.command"],
     "sweep": ["sweep.words", "sweep.draw"],
     "cosim": [f"cosim.{module}" for module, _ in COSIM.values()],
