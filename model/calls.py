@@ -97,21 +97,21 @@ def walk_recall(tables: Tables, bound: int | None) -> Phases:
 
 
 @of_tables
-def standing_callers(tables: Tables, bound: int | None) -> dict[Caller, Phases]:
+def standing_callers(tables: Tables, bound: int | None) -> tuple[tuple[Caller, Phases], ...]:
     """Returns the phases that have demand whenever they are Red, by what calls them: a recall of any kind, or the
     pattern that binds and coordinates them."""
-    return {
-        Caller.MINIMUM_RECALL: with_option(tables, MINIMUM_RECALL) | split_recall(tables, bound, (3,)),
-        Caller.MAXIMUM_RECALL: maximum_recall(tables, bound),
-        Caller.PEDESTRIAN_RECALL: walk_recall(tables, bound),
-        Caller.COORDINATED: NONE if bound is None else plan.coordinated(tables, bound),
-    }
+    return (
+        (Caller.MINIMUM_RECALL, with_option(tables, MINIMUM_RECALL) | split_recall(tables, bound, (3,))),
+        (Caller.MAXIMUM_RECALL, maximum_recall(tables, bound)),
+        (Caller.PEDESTRIAN_RECALL, walk_recall(tables, bound)),
+        (Caller.COORDINATED, NONE if bound is None else plan.coordinated(tables, bound)),
+    )
 
 
 @of_tables
 def standing_demand(tables: Tables, bound: int | None) -> Phases:
     """Returns the phases that have demand whenever they are Red."""
-    return NONE.union(*standing_callers(tables, bound).values())
+    return NONE.union(*(phases for _, phases in standing_callers(tables, bound)))
 
 
 @of_tables
@@ -126,24 +126,20 @@ def walkers(tables: Tables) -> Phases:
     return frozenset(p for p in enabled(tables) if rows(tables)[p].walk >= 1)
 
 
-def by_input(calls: Calls, tables: Tables) -> dict[Caller, Phases]:
-    """Returns the phases that inputs call: a vehicle on the detector, a locked call, a push button."""
-    return {
-        Caller.DETECTOR: calls.detectors,
-        Caller.LOCKED: calls.locked,
-        Caller.BUTTON: calls.pressed & walkers(tables),
-    }
+def by_input(calls: Calls, tables: Tables) -> tuple[Phases, Phases, Phases]:
+    """Returns the phases that inputs call: by a vehicle on the detector, a locked call, a push button."""
+    return calls.detectors, calls.locked, calls.pressed & walkers(tables)
 
 
 def callers(calls: Calls, tables: Tables, bound: int | None, p: int) -> tuple[Caller, ...]:
     """Returns what calls a phase, whether it is Red or not."""
-    every = {**by_input(calls, tables), **standing_callers(tables, bound)}
-    return tuple(caller for caller, phases in every.items() if p in phases)
+    inputs = zip((Caller.DETECTOR, Caller.LOCKED, Caller.BUTTON), by_input(calls, tables))
+    return tuple(caller for caller, phases in (*inputs, *standing_callers(tables, bound)) if p in phases)
 
 
 def called(calls: Calls, tables: Tables, bound: int | None) -> Phases:
     """Returns the phases that are called, by an input or always, whether they are Red or not."""
-    return standing_demand(tables, bound).union(*by_input(calls, tables).values())
+    return standing_demand(tables, bound).union(*by_input(calls, tables))
 
 
 def demand(calls: Calls, tables: Tables, shown: Frame, bound: int | None) -> Phases:

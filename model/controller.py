@@ -4,11 +4,10 @@ docs/DEFINITIONS.md, "A history, and looking back over it": `Event`.
 """
 
 from collections.abc import Callable
-from dataclasses import replace
 
 from model import calls, priority
 from model.orders import Drift
-from model.past import Moment, Past
+from model.past import Moment, Past, ToldSinceFrame
 from model.tables import Tables
 from model.tick import Decided, decided, moment_of
 from model.words import FLASH
@@ -31,7 +30,7 @@ class Controller:
             self.watch(at)
         now = moment_of(at)
         past.moments.append(now)
-        past.told = replace(past.told, command=None, clock=None, calls=now.calls, places=now.places)
+        past.told = ToldSinceFrame(calls=now.calls, inputs=past.told.inputs, places=now.places)
         return now, now.frame.shows_other(before) or now.frame.is_local_zero(before)
 
     def detector(self, p: int, on: bool) -> None:

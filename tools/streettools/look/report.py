@@ -9,7 +9,7 @@ from collections import Counter
 
 from streettools.shared import answers
 from streettools.shared.answers import Cancelled, ClockNamed, Requested
-from streettools.shared.cabinet import changes, mode_of, opened
+from streettools.shared.cabinet import Mode, changes, mode_of, opened
 from streettools.shared.tables import ALL
 from streettools.shared.trace_records import Answered, Ended, Frame, Input, Noted
 
@@ -19,11 +19,29 @@ WAYS = {1: "polls", 2: "downloads", 3: "priority"}
 
 
 class Service:
-    """A phase's greens: those that ended, in ticks, and how; walks that began."""
+    """A phase's greens: those that ended, in ticks, and how; walks that began, and how long pedestrians waited for
+    them: from the first press of a button on."""
 
     def __init__(self):
         self.begun, self.ended, self.total, self.least, self.greatest = 0, 0, 0, None, 0
         self.endings, self.walks = Counter(), 0
+        self.pressed, self.waits = None, []
+
+    def walk(self, tick):
+        """Counts a walk that begins."""
+        self.walks += 1
+        if self.pressed is not None:
+            self.waits.append(tick - self.pressed)
+        self.pressed = None
+
+    def walk_wait(self):
+        """Returns how long pedestrians waited; nothing where none has pressed a button."""
+        if not self.waits and self.pressed is None:
+            return {}
+        mean = round(sum(self.waits) / len(self.waits) / 10, 2) if self.waits else None
+        least, greatest = seconds(min(self.waits, default=None)), seconds(max(self.waits, default=None))
+        served = {"served": len(self.waits), "least": least, "mean": mean, "greatest": greatest}
+        return {"walk_wait": served | {"still_waiting": int(self.pressed is not None)}}
 
     def end(self, length, ending):
         """Counts a green that ended."""
@@ -45,6 +63,7 @@ class Service:
             "ended": {word: self.endings[word] for word in ENDINGS if self.endings[word]},
             "still_green": self.begun - self.ended,
             "walks": self.walks,
+            **self.walk_wait(),
         }
 
 
@@ -110,6 +129,7 @@ class Tally:
                 self.shown(happening)
             case Input():
                 self.cabinet.sensed(happening)
+                self.pressed(happening)
             case Answered(way=way, digits=digits):
                 self.replies.setdefault(way, Counter())["silent" if digits is None else "answered"] += 1
                 if digits:
@@ -120,6 +140,15 @@ class Tally:
             case Noted(round=number, words=words):
                 count, first, _ = self.notes.get(words, (0, number, number))
                 self.notes[words] = (count + 1, first, number)
+
+    def pressed(self, item):
+        """Keeps when a push button was pressed first: of a phase with a walk, while it doesn't show walk."""
+        cabinet, service = self.cabinet, self.services.get(item.number)
+        if item.kind != "ped" or service is None or service.pressed is not None:
+            return
+        is_walk = cabinet.frame is not None and cabinet.frame.pedestrians[item.number - 1] == "W"
+        if not is_walk and not (cabinet.told and cabinet.tables.phase(item.number, 2) < 1):
+            service.pressed = item.tick
 
     def answered(self, digits, tick):
         """Counts the orders that a reply takes, or the Set that it refuses."""
@@ -150,7 +179,8 @@ class Tally:
                 known.take(cycle, cabinet.is_met(cycle), cabinet.needed(cycle) if cycle.pickup else None)
             self.coloured(before, frame)
             for phase, _, shows in changes(before.pedestrians, frame.pedestrians):
-                self.services[phase].walks += shows == "W"
+                if shows == "W":
+                    self.services[phase].walk(frame.tick)
         if frame.mode != self.mode:
             self.timed(frame.tick)
             self.mode, self.since = frame.mode, frame.tick
@@ -177,7 +207,8 @@ class Tally:
         self.timed(ticks)
         number, names = self.cabinet.number, self.names
         partners = names.partners(number)
-        shown = [(phase, it) for phase, it in self.services.items() if it.begun and phase not in partners]
+        asked = [(phase, it) for phase, it in self.services.items() if it.begun or it.pressed is not None]
+        shown = [(phase, it) for phase, it in asked if phase not in partners]
         modes = sorted(self.modes.items(), key=lambda it: it[1], reverse=True)
         return {
             "cabinet": number,
@@ -214,14 +245,28 @@ def seconds(ticks):
     return None if ticks is None else ticks / 10
 
 
+def has_traffic(scenario, tallies):
+    """Tells whether a run has traffic: a detector or a push button is called, or phases have maximum recall instead."""
+    if any("veh" in it or "ped" in it for it in scenario.get("inputs", ())):
+        return True
+    return any(
+        it.cabinet.recalled(phase, mode)
+        for it in tallies
+        for mode in (Mode("F", 0, ""), *(Mode("C", number, "") for number in it.cabinet.tables.patterns()))
+        for phase in it.cabinet.tables.enabled()
+    )
+
+
 def collect(reader, names):
     """Reads the trace and returns its report as one value."""
     tallies = [Tally(reader.scenario, number, names) for number in range(1, reader.cabinets + 1)]
+    comes = has_traffic(reader.scenario, tallies)
     for happening in reader.happenings(ends=False):
         tallies[happening.cabinet - 1].take(happening)
     ticks = reader.rounds * reader.ticks
     head = {"title": names.title()} if names.is_given else {}
     head |= {"rounds": reader.rounds, "seconds": seconds(ticks)}
+    head |= {} if comes else {"traffic": False}
     return head | {"cabinets": [it.value(ticks) for it in tallies]}
 
 

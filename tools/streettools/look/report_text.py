@@ -5,6 +5,13 @@ import pandas
 from .endings import ENDINGS
 
 
+NO_TRAFFIC = (
+    "no traffic: no detector and no push button is called. Maximum recall gives each phase a green in each cycle; "
+    "`arterial cosim queues` brings vehicles and pedestrians\n"
+)
+"""The line of a run without traffic."""
+
+
 def table(rows):
     """Returns rows of a table as text, with a blank where there is no value."""
     if not rows:
@@ -21,6 +28,15 @@ def phase_rows(phases):
         row |= {f"{name} green (s)": it["green"][name] for name in ("least", "mean", "greatest")}
         row |= {word: it["ended"].get(word, 0) for word in words}
         yield row | {"still green": it["still_green"], "walks": it["walks"]}
+
+
+def walk_rows(phases):
+    """Returns the table of waits for the walk."""
+    for it in phases:
+        if wait := it.get("walk_wait"):
+            row = {"phase": it["phase"], "walks on a press": wait["served"]}
+            row |= {f"{name} wait (s)": wait[name] for name in ("least", "mean", "greatest")}
+            yield row | {"still waiting": wait["still_waiting"]}
 
 
 def pattern_rows(patterns):
@@ -65,7 +81,7 @@ def cabinet_text(value, whole, names):
     number, modes = value["cabinet"], value["modes"].items()
     left_out = names.left_out(number)
     parts = [f"{names.cabinet(number)}\n" + (f"{left_out}\n" if left_out else "")]
-    parts.append(table(list(phase_rows(value["phases"]))))
+    parts += [table(list(phase_rows(value["phases"]))), table(list(walk_rows(value["phases"])))]
     rows = [{"mode": it, "seconds": time, "share": f"{100 * time / whole:.1f} %"} for it, time in modes if time]
     parts.append(table(rows))
     parts.append(table(list(pattern_rows(value["patterns"]))))
@@ -81,4 +97,5 @@ def text(value, names):
     head = f"{value['rounds']} rounds, {value['seconds']:g} seconds, cabinets: {len(value['cabinets'])}\n"
     if names.title():
         head = f"{names.title()}: {head}"
-    return "\n".join([head, *(cabinet_text(it, value["seconds"], names) for it in value["cabinets"])])
+    cabinets = [cabinet_text(it, value["seconds"], names) for it in value["cabinets"]]
+    return "\n".join([head, *cabinets, *([] if value.get("traffic", True) else [NO_TRAFFIC])])

@@ -1,13 +1,14 @@
 """The report against numbers worked out by hand, and against a plain count of lines."""
 
 import json
+import sys
 from collections import Counter
 
 import pytest
 from streettools.shared.answers import refused
 from streettools.shared.cabinet import Cabinet, Cycle
 
-from .conftest import SMALL, STREET, VECTORS, run
+from .conftest import SMALL, STREET, TOP, VECTORS, run
 
 
 def reported(look, path=None, given=None):
@@ -151,3 +152,35 @@ def test_the_bound_is_that_of_the_correction_mode_and_twice_that_with_drift():
         assert Cabinet({"cabinets": [{"cells": cells}]}, 1).needed(begins) == due
         assert Cabinet({"cabinets": [{"cells": cells, "lose": 12000}]}, 1).needed(begins) == 2 * due
     assert Cabinet({"cabinets": [{"cells": [["pattern", 1, 2, 0]]}]}, 1).needed(begins) is None
+
+
+PRESSES = """{"version":1,"rounds":7,"ticks":60,"cabinets":[{}],
+ "inputs":[{"round":2,"cabinet":1,"ped":4},{"round":3,"cabinet":1,"ped":4},{"round":5,"cabinet":1,"ped":4},
+           {"round":7,"cabinet":1,"ped":8}]}"""
+"""Presses after ticks 60, 120, 240 and 360. Phase 2 is green from tick 60 on, for its minimum green of 10 s and its
+clearance of 5.5 s: phase 4 turns green with walk at tick 215, and shows it for 7 s, so the third press calls nothing."""
+
+
+def test_pedestrians_wait_from_their_first_press_to_the_walk(look, tmp_path):
+    sys.path.append(str(TOP))
+    from model.commands import answer
+
+    text = answer(["run"], PRESSES.encode()).output.decode()
+    phases = {it["phase"]: it for it in reported(look, given=text)["cabinets"][0]["phases"]}
+    times = dict.fromkeys(("least", "mean", "greatest"), 15.5)
+    wait = {"served": 1, **times, "still_waiting": 0}
+    assert phases[4]["walk_wait"] == wait and phases[4]["walks"] == 1
+    assert phases[8]["walk_wait"] == {"served": 0, **dict.fromkeys(times), "still_waiting": 1}
+    assert "walk_wait" not in phases[2]
+    assert "phase walks on a press least wait (s)" in look("report", given=text)
+
+
+@pytest.mark.parametrize(
+    ("cabinet", "has_line"),
+    [("", True), ('"base":"max8"', False), ('"cells":[["split",1,4,4,4]],"pattern":1', False)],
+)
+def test_a_run_without_traffic_says_so_and_names_two_ways_to_get_some(look, cabinet, has_line):
+    first = f'S {{"cabinets":[{{{cabinet}}}],"rounds":1,"ticks":10,"version":1}}'
+    opening = "F 1 0 RRRRRRRRRRRRRRRR DDDDDDDDDDDDDDDD S 0 0 0"
+    said = look("report", given="".join(f"{it}\n" for it in (first, opening, "R 1", "J 1 4*10", "Z 1")))
+    assert ("no traffic: " in said and "aximum recall" in said and "`arterial cosim queues`" in said) is has_line
