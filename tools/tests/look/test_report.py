@@ -158,7 +158,7 @@ PRESSES = """{"version":1,"rounds":7,"ticks":60,"cabinets":[{}],
  "inputs":[{"round":2,"cabinet":1,"ped":4},{"round":3,"cabinet":1,"ped":4},{"round":5,"cabinet":1,"ped":4},
            {"round":7,"cabinet":1,"ped":8}]}"""
 """Presses after ticks 60, 120, 240 and 360. Phase 2 is green from tick 60 on, for its minimum green of 10 s and its
-clearance of 5.5 s: phase 4 turns green with walk at tick 215, and shows it for 7 s, so the third press calls nothing."""
+clearance of 5.5 s. Phase 4 turns green with walk at tick 215, and shows it for 7 s: the third press calls nothing."""
 
 
 def test_pedestrians_wait_from_their_first_press_to_the_walk(look, tmp_path):
